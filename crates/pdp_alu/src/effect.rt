@@ -1,0 +1,33 @@
+ghost use Rattle.std.specs.Prelude.{◌≡◌};
+ghost use Rattle.pdp_alu.specs.Effect.{effect};
+
+use pdp_word::{Codes, Size};
+
+/// What an instruction makes of its operands: the value, below the span of its size, and the codes.
+#[derive(Clone, Copy, Debug, PartialEq, Eq)]
+pub struct Effect {
+    pub value: u16,
+    pub codes: Codes,
+}
+
+impl Effect {
+    // The effect with this value, cut to the size, with N and Z of what is left.
+    #[inline]
+    pub(crate) fn new(size: Size, value: u16, overflow: bool, carry: bool) -> Effect
+        ensures { result ≡ effect size value overflow carry }
+    {
+        let (value, sign) = match size {
+            Size::Word => (value, 0o100000),
+            Size::Byte => (value & 0o377, 0o200),
+        };
+        Effect {
+            value,
+            codes: Codes {
+                n: value >= sign,
+                z: value == 0,
+                v: overflow,
+                c: carry,
+            },
+        }
+    }
+}

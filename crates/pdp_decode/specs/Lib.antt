@@ -1,0 +1,4 @@
+pub mod Fields
+pub mod Instruction
+pub mod Table
+pub mod Format

@@ -1,0 +1,6 @@
+use Rattle.std.specs.Prelude.{ℕ, ◌+◌, nat_lt, if◌then◌else◌}
+
+-- the physical address of a virtual one while mapping is off:
+-- 160000-177777 is the I/O page 760000-777777, the rest is itself
+unfoldable pub unmapped_address : ℕ → ℕ
+unmapped_address address = (if nat_lt address 0o160000 then address else address + 0o600000)

@@ -1,0 +1,35 @@
+ghost use Rattle.std.specs.Prelude.{◌≡◌, ◌<◌};
+
+/// A processor mode, as bits 15-14 (current) and 13-12 (previous) of the program status word give it.
+///
+/// DEC PDP-11/40 Processor Handbook (1972), Memory management. The bit patterns 01 and 10 name no mode of the
+/// handbook: they use the user's stack pointer (this project's profile).
+#[derive(Clone, Copy, Debug, PartialEq, Eq, Default)]
+pub enum Mode {
+    /// 00
+    #[default]
+    Kernel,
+    /// 01, which no handbook mode has
+    Bad1,
+    /// 10, which no handbook mode has
+    Bad2,
+    /// 11
+    User,
+}
+
+impl Mode {
+    ghost use Rattle.pdp_kt11.specs.Mode.{mode_bits};
+
+    /// The two bits of the mode in the program status word: 0 to 3.
+    pub fn bits(self) -> u16
+        ensures bits { result ≡ mode_bits self }
+        ensures two_bits { result < 4 }
+    {
+        match self {
+            Mode::Kernel => 0,
+            Mode::Bad1 => 1,
+            Mode::Bad2 => 2,
+            Mode::User => 3,
+        }
+    }
+}

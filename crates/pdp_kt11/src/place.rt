@@ -1,0 +1,23 @@
+ghost use Rattle.std.specs.Prelude.{◌≡◌, ◌<◌, ◌^◌};
+ghost use Rattle.pdp_kt11.specs.Place.{unmapped_address};
+
+/// What an access does with the word that it reaches.
+#[derive(Clone, Copy, Debug, PartialEq, Eq)]
+pub enum Access {
+    Read,
+    Write,
+}
+
+/// The physical byte address (18 bits) of a virtual byte address (16 bits) while mapping is off: the top 4K words
+/// 160000-177777 (octal) are the I/O page 760000-777777, and every other address is itself.
+///
+/// DEC PDP-11/40 Processor Handbook (1972), Memory management.
+#[inline(always)]
+#[tactic(auto, unfolding(crate::specs::Place::unmapped_address))]
+pub fn unmapped(address: u16) -> u32
+    ensures place { result ≡ unmapped_address address }
+    ensures fits { result < 2 ^ 18 }
+{
+    let address = u32::from(address);
+    if address < 0o160000 { address } else { address + 0o600000 }
+}

@@ -1,0 +1,89 @@
+//! A store in two arrays: the words, and their stamps where there are any.
+
+ghost use Rattle.std.specs.Prelude.{◌≡◌, ◌<◌, length, IfOk};
+ghost use Rattle.pdp_store.specs.Stored.{blank_store, with_word};
+
+use crate::{Stamp, Store};
+use pdp_word::NoMemory;
+use std::alloc::Global;
+use std::marker::Model;
+
+/// A store that keeps its words in one array and their stamps in another, so that a read or a write
+/// is an index and takes no memory.
+#[derive(Drop)]
+pub struct Flat {
+    words: Vec<u16>,
+
+    // As many as the words; or empty, in a store without stamps.
+    stamps: Vec<Option<Stamp>>,
+}
+
+impl Model for Flat {
+    ghost use Rattle.pdp_store.specs.Stored.{Stored, HasLastOfEachOrNone};
+
+    ghost Value = { Stored };
+
+    ghost view = { λ s. record { words = s.words.items; lasts = s.stamps.items } };
+
+    ghost invariant = { λ s. HasLastOfEachOrNone s.words.items s.stamps.items };
+}
+
+impl Flat {
+    /// A store of `len` words, each of them zero and none written yet; with stamps where `stamped`.
+    ///
+    /// [`NoMemory`] only where memory for the words or for the stamps was refused.
+    pub fn new(alloc: Global, len: usize, stamped: bool) -> Result<Flat, NoMemory>
+        ensures { IfOk result (λ store. store ≡ blank_store len stamped) }
+    {
+        let words = vec![in alloc; 0; len]?;
+        let stamps = if stamped {
+            vec![in alloc; None; len]?
+        } else {
+            Vec::new(alloc)
+        };
+        Ok(Flat { words, stamps })
+    }
+
+    // Makes word `i` equal to `w`, and its last stamp, where the store has stamps, equal to `last`.
+    #[inline(always)]
+    fn replace(&mut self, i: usize, w: u16, last: Option<Stamp>)
+        requires { i < length self.old.words }
+        ensures { self.new ≡ with_word self.old i w last }
+    {
+        self.words[i] = w;
+        if let Some(stamp) = self.stamps.get_mut(i) {
+            *stamp = last;
+        }
+    }
+}
+
+impl Store for Flat {
+    ghost words = { λ s. s.words };
+
+    ghost lasts = { λ s. s.lasts };
+
+    #[inline(always)]
+    fn len(&self) -> usize {
+        self.words.len()
+    }
+
+    #[inline(always)]
+    fn read(&self, i: usize) -> u16 {
+        self.words[i]
+    }
+
+    #[inline(always)]
+    fn write(&mut self, i: usize, w: u16, stamp: Stamp) {
+        self.replace(i, w, Some(stamp));
+    }
+
+    #[inline(always)]
+    fn last(&self, i: usize) -> Option<Stamp> {
+        self.stamps.get(i).copied().flatten()
+    }
+
+    #[inline(always)]
+    fn set(&mut self, i: usize, w: u16) {
+        self.replace(i, w, None);
+    }
+}

@@ -1,0 +1,43 @@
+use Rattle.std.specs.Prelude.{ℕ, List, Option, false}
+use Rattle.pdp_kt11.specs.declared.mode.Mode.TheVariants.{Kernel}
+use Rattle.pdp_store.specs.declared.Stamp.{Stamp}
+use Rattle.pdp_word.specs.declared.codes.Codes.{Codes}
+use Rattle.pdp_unibus.specs.declared.board.Board.{Board}
+use Rattle.pdp_unibus.specs.declared.priority.Priority.TheVariants.{Level0}
+
+-- the bus and all that is on it, as a contract sees it
+pub record BusWorld : Type 0 where
+  -- the program status word and the devices
+  pub board : Board
+  -- the words of core
+  pub core : List ℕ
+  -- for each word of core the stamp of its last write, if it was written; no list at all where core keeps no stamps
+  pub lasts : List (Option Stamp)
+  -- the turn of its cycles
+  pub turn : ℕ
+
+-- the board as of power-up: every bit of the program status word 0
+abbrev pub powered_board : Board
+powered_board = record {
+  status = record {
+    mode = Kernel;
+    previous = Kernel;
+    priority = Level0;
+    trace = false;
+    codes = record { n = false; z = false; v = false; c = false }
+  }
+}
+
+-- the bus as of power-up, over this core
+abbrev pub powered : List ℕ → List (Option Stamp) → BusWorld
+powered words lasts = record { board = powered_board; core = words; lasts = lasts; turn = 0 }
+
+abbrev pub with_board : BusWorld → Board → BusWorld
+with_board w board = record w { board = board }
+
+abbrev pub with_turn : BusWorld → ℕ → BusWorld
+with_turn w turn = record w { turn = turn }
+
+-- the bus with these condition codes
+abbrev pub with_codes : BusWorld → Codes → BusWorld
+with_codes w codes = record w { board = record w.board { status = record w.board.status { codes = codes } } }

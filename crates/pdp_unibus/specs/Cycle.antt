@@ -1,0 +1,69 @@
+use Rattle.std.specs.Prelude.{ℕ, ◌+◌, ◌-◌, ◌*◌, ◌/◌, ◌%◌, ◌==◌, List, Option, Some, Result, Ok, Err, length, slice_index, slice_set, nat_lt, if◌then◌else◌}
+use Rattle.pdp_store.specs.declared.Agent.TheVariants.{Cpu}
+use Rattle.pdp_store.specs.declared.Stamp.{Stamp}
+use Rattle.pdp_unibus.specs.BusWorld.{BusWorld}
+use Rattle.pdp_unibus.specs.declared.bus.Timeout.{Timeout}
+
+-- one bus cycle: what the master asks for, at a physical byte address
+pub data Cycle : Type 0 where
+  ReadAt : ℕ → Cycle
+  WriteAt : ℕ → ℕ → Cycle
+  WriteByteAt : ℕ → ℕ → Cycle
+
+-- what the master is told, and the bus after the cycle; a write is told 0
+pub record Answer : Type 0 where
+  pub value : Result ℕ Timeout
+  pub after : BusWorld
+
+-- who answers an address: a word of core, or nobody
+pub data Slave : Type 0 where
+  Core : ℕ → Slave
+  Nobody : Slave
+
+-- core of so many words is at the lowest addresses
+abbrev pub slave_at : ℕ → ℕ → Slave
+slave_at words address = (if nat_lt (address / 2) words then Core (address / 2) else Nobody)
+
+-- the word with the byte of this address replaced: the even address is the low half
+abbrev pub word_with_byte : ℕ → ℕ → ℕ → ℕ
+word_with_byte word address byte =
+    (if address % 2 == 0 then word - word % 256 + byte else byte * 256 + word % 256)
+
+-- the stamp that a write of the processor leaves in this turn
+abbrev pub stamp_of_cycle : BusWorld → Stamp
+stamp_of_cycle w = record { turn = w.turn; agent = Cpu }
+
+abbrev pub core_read : BusWorld → ℕ → BusWorld
+core_read w k = w
+
+abbrev pub core_written : BusWorld → ℕ → ℕ → BusWorld
+core_written w k word =
+    record w { core = slice_set w.core k word; lasts = slice_set w.lasts k (Some (stamp_of_cycle w)) }
+
+-- nobody answered: nothing changes
+abbrev pub timed_out : BusWorld → Answer
+timed_out w = record { value = Err (record {}); after = w }
+
+abbrev pub read_from : Slave → BusWorld → Answer
+read_from (Core k) w = record { value = Ok (slice_index w.core k); after = core_read w k }
+read_from Nobody w = timed_out w
+
+abbrev pub write_to : Slave → ℕ → BusWorld → Answer
+write_to (Core k) word w = record { value = Ok 0; after = core_written w k word }
+write_to Nobody word w = timed_out w
+
+abbrev pub write_byte_to : Slave → ℕ → ℕ → BusWorld → Answer
+write_byte_to (Core k) address byte w =
+    record { value = Ok 0; after = core_written w k (word_with_byte (slice_index w.core k) address byte) }
+write_byte_to Nobody address byte w = timed_out w
+
+-- one bus cycle: who answers, and what
+abbrev pub cycle : Cycle → BusWorld → Answer
+cycle (ReadAt address) w = read_from (slave_at (length w.core) address) w
+cycle (WriteAt address word) w = write_to (slave_at (length w.core) address) word w
+cycle (WriteByteAt address byte) w = write_byte_to (slave_at (length w.core) address) address byte w
+
+-- what a write is told, without a value
+abbrev pub done : Result ℕ Timeout → Result (Unit {0}) Timeout
+done (Ok value) = Ok tt
+done (Err timeout) = Err timeout

@@ -1,0 +1,4 @@
+pub mod Flag
+pub mod Status
+pub mod BusWorld
+pub mod Cycle

@@ -1,0 +1,38 @@
+ghost use Rattle.std.specs.Prelude.{◌≡◌, ◌<◌};
+
+/// The priority of the processor, as bits 7-5 of the program status word give it.
+///
+/// DEC PDP-11/40 Processor Handbook (1972), Processor status word.
+#[derive(Clone, Copy, Debug, PartialEq, Eq, Default)]
+pub enum Priority {
+    #[default]
+    Level0,
+    Level1,
+    Level2,
+    Level3,
+    Level4,
+    Level5,
+    Level6,
+    Level7,
+}
+
+impl Priority {
+    ghost use Rattle.pdp_unibus.specs.Status.{priority_bits};
+
+    /// The level, 0 to 7.
+    pub fn bits(self) -> u16
+        ensures bits { result ≡ priority_bits self }
+        ensures three_bits { result < 8 }
+    {
+        match self {
+            Priority::Level0 => 0,
+            Priority::Level1 => 1,
+            Priority::Level2 => 2,
+            Priority::Level3 => 3,
+            Priority::Level4 => 4,
+            Priority::Level5 => 5,
+            Priority::Level6 => 6,
+            Priority::Level7 => 7,
+        }
+    }
+}

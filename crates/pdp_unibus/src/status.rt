@@ -1,0 +1,42 @@
+ghost use Rattle.std.specs.Prelude.{◌≡◌, ◌<◌};
+
+use crate::priority::Priority;
+use pdp_kt11::Mode;
+use pdp_word::Codes;
+
+/// What the program status word says: modes, priority, the trace bit and the condition codes.
+///
+/// DEC PDP-11/40 Processor Handbook (1972), Processor status word.
+#[derive(Clone, Copy, Debug, PartialEq, Eq, Default)]
+pub struct Status {
+    pub mode: Mode,
+    pub previous: Mode,
+    pub priority: Priority,
+    pub trace: bool,
+    pub codes: Codes,
+}
+
+/// 1 for a bit that is set, 0 for one that is clear.
+fn bit(flag: bool) -> u16
+    ensures value { result ≡ flag_bit flag }
+    ensures one_bit { result < 2 }
+{
+    if flag { 1 } else { 0 }
+}
+
+ghost use Rattle.pdp_unibus.specs.Flag.{flag_bit};
+
+impl Status {
+    ghost use Rattle.pdp_unibus.specs.Status.{status_word};
+
+    /// The program status word: bits 15-14 current mode, 13-12 previous mode, 7-5 priority, 4 T, 3 N, 2 Z, 1 V, 0 C.
+    /// Bits 11-8 are 0 (this project's profile).
+    pub fn word(self) -> u16
+        ensures { result ≡ status_word self }
+    {
+        let Codes { n, z, v, c } = self.codes;
+        let modes = self.mode.bits() * 16384 + self.previous.bits() * 4096;
+        let codes = bit(n) * 8 + bit(z) * 4 + bit(v) * 2 + bit(c);
+        modes + self.priority.bits() * 32 + bit(self.trace) * 16 + codes
+    }
+}
