@@ -1,0 +1,9 @@
+pub mod Ending
+pub mod Execute
+pub mod Control
+pub mod Moves
+pub mod Instruction
+pub mod World
+pub mod MachineState
+pub mod Regs
+pub mod TurnLaws

@@ -1,0 +1,21 @@
+//! The processor of the PDP-11/40: one whole turn of the machine, by phases.
+#![tactic(auto)]
+
+mod act;
+mod control;
+mod execute;
+mod instruction;
+mod laws;
+mod machine;
+mod meter;
+mod moves;
+mod regs;
+
+pub use laws::{
+    stamps_are_last_writes, touches_are_of_their_turn, turns_end_within_32_phases,
+    turns_keep_the_size_of_core, turns_leave_what_they_never_touch,
+};
+pub use machine::Machine;
+pub use meter::Meter;
+pub use pdp_operand::RunState;
+pub use regs::Regs;

@@ -1,0 +1,130 @@
+ghost use Rattle.std.specs.Prelude.{◌≡◌, ◌+◌, ◌-◌, ◌^◌, ◌<◌, ◌≤◌, length, min, slice_index, slice_index_or, None, OnOk};
+ghost use Rattle.pdp_unibus.specs.BusWorld.{powered};
+ghost use Rattle.pdp_cpu.specs.MachineState.{IsReady, powered_machine, after_turn};
+ghost use Rattle.pdp_cpu.specs.Regs.{regs_of};
+
+use crate::act::Act;
+use crate::instruction::instruct;
+use crate::meter::Meter;
+use crate::regs::Regs;
+use pdp_operand::{Processor, RunState, Slot};
+use pdp_store::{Stamp, Store};
+use pdp_unibus::Bus;
+use pdp_word::NoMemory;
+use std::alloc::Global;
+use std::marker::Model;
+
+/// The most turns that a machine runs.
+pub const TURN_LIMIT: u32 = 1_000_000_000;
+
+/// The machine: processor, bus and core, for any store of core.
+///
+/// A contract sees it as a `MachineState`: the number of turns that it has run, and its world.
+#[derive(Drop)]
+pub struct Machine<S: Store> {
+    processor: Processor,
+    bus: Bus<S>,
+    turn: u32,
+}
+
+impl<S: Store> Model for Machine<S> {
+    ghost use Rattle.pdp_cpu.specs.MachineState.{MachineState};
+    ghost use Rattle.pdp_cpu.specs.World.{world};
+
+    ghost Value = { MachineState };
+
+    ghost view = { λ m. record { turn = m.turn; world = world m.processor m.bus } };
+}
+
+impl<S: Store> Machine<S> {
+    /// The machine as of power-up over this core: PC is the start address (octal, bytes), every other register and the
+    /// program status word 0 (this project's profile). It has run no turn. Takes no memory.
+    pub fn power(_alloc: Global, start: u16, words: S) -> Self
+        ensures { result ≡ powered_machine start (S.words words) (S.lasts words) }
+    {
+        Machine {
+            processor: Processor::power(start),
+            bus: Bus::new(words),
+            turn: 0,
+        }
+    }
+
+    /// Makes the room that one turn may need. There is nothing yet that grows, so it always answers Ok.
+    #[tactic(auto, unfolding(crate::specs::MachineState::IsReady))]
+    pub fn ready(&mut self) -> Result<(), NoMemory>
+        ensures ok { OnOk result (IsReady self.new) }
+        ensures same { self.new ≡ self.old }
+    {
+        Ok(())
+    }
+
+    /// One whole turn, and one tick of the meter.
+    #[inline(always)]
+    #[tactic(auto, unfolding(crate::specs::World::one_turn, pdp_operand::specs::Course::follow))]
+    pub fn turn(&mut self, meter: &mut Meter)
+        requires ready { IsReady self.old }
+        requires limit { self.old.turn < TURN_LIMIT }
+        ensures turn { self.new ≡ after_turn self.old }
+        ensures counted { meter.new ≡ min (meter.old + 1) (2 ^ 64 - 1) }
+        ensures grows { meter.old ≤ meter.new }
+    {
+        self.bus.set_turn(self.turn);
+        match act(&self.processor) {
+            Act::Instr => instruct(&mut self.processor, &mut self.bus),
+            Act::Idle => {}
+        }
+        self.turn += 1;
+        meter.tick();
+    }
+
+    /// The registers now.
+    pub fn regs(&self) -> Regs
+        ensures { result ≡ regs_of self.now.world }
+    {
+        let p = &self.processor;
+        Regs {
+            r: [
+                p.register(Slot::R0),
+                p.register(Slot::R1),
+                p.register(Slot::R2),
+                p.register(Slot::R3),
+                p.register(Slot::R4),
+                p.register(Slot::R5),
+            ],
+            ksp: p.register(Slot::KernelStack),
+            usp: p.register(Slot::UserStack),
+            pc: p.register(Slot::ProgramCounter),
+            ps: self.bus.status().word(),
+            state: p.run,
+        }
+    }
+
+    /// The core word of this number (half its byte address), without a bus cycle.
+    pub fn word(&self, number: usize) -> u16
+        requires { number < length self.now.world.bus.core }
+        ensures { result ≡ slice_index self.now.world.bus.core number }
+    {
+        self.bus.word(number)
+    }
+
+    /// The turn and the agent of the last write to the core word of this number; None where there was none.
+    pub fn last(&self, number: usize) -> Option<Stamp>
+        requires { number < length self.now.world.bus.core }
+        ensures { result ≡ slice_index_or self.now.world.bus.lasts number None }
+    {
+        self.bus.last(number)
+    }
+}
+
+ghost use Rattle.pdp_cpu.specs.World.{act_of};
+
+/// What this turn does: an instruction, unless the machine waits or is halted.
+#[inline(always)]
+fn act(processor: &Processor) -> Act
+    ensures { result ≡ act_of processor.now }
+{
+    match processor.run {
+        RunState::Run => Act::Instr,
+        RunState::Wait | RunState::Halted => Act::Idle,
+    }
+}

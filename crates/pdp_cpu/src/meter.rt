@@ -1,0 +1,41 @@
+ghost use Rattle.std.specs.Prelude.{◌≡◌, ◌+◌, ◌-◌, ◌^◌, ◌<◌, ◌≤◌, ℕ, min};
+
+use std::marker::Model;
+
+/// Counts the turns that machines have run.
+#[derive(Debug, Drop)]
+pub struct Meter {
+    turns: u64,
+}
+
+impl Model for Meter {
+    ghost Value = { ℕ };
+
+    ghost view = { λ m. m.turns };
+}
+
+impl Meter {
+    /// A meter at 0.
+    pub fn new() -> Self
+        ensures { result ≡ 0 }
+    {
+        Meter { turns: 0 }
+    }
+
+    /// How many turns it has counted, at most 18,446,744,073,709,551,615.
+    pub fn count(&self) -> u64
+        ensures count { result ≡ self.now }
+        ensures within { self.now < 2 ^ 64 }
+    {
+        self.turns
+    }
+
+    /// Counts a turn; at 18,446,744,073,709,551,615 it stays there.
+    #[inline(always)]
+    pub(crate) fn tick(&mut self)
+        ensures counted { self.new ≡ min (self.old + 1) (2 ^ 64 - 1) }
+        ensures grows { self.old ≤ self.new }
+    {
+        self.turns = self.turns.saturating_add(1);
+    }
+}

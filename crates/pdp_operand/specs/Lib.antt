@@ -1,0 +1,11 @@
+pub mod Slot
+pub mod Processor
+pub mod Reference
+pub mod Phase
+pub mod Plan
+pub mod Course
+pub mod Trace
+pub mod Operand
+pub mod Count
+pub mod Touched
+pub mod Page

@@ -1,0 +1,20 @@
+//! Accesses and operands of the PDP-11/40, and the phases that define them: the processor's registers, a reference over
+//! the bus, the eight addressing modes, and what an operand reads and writes.
+#![tactic(auto)]
+
+mod laws;
+mod operand;
+mod place;
+mod processor;
+mod reference;
+mod trap;
+
+pub use laws::{
+    courses_leave_what_they_never_touch, plan_is_its_phases, stamps_of_courses_are_last_writes,
+    touches_of_courses_are_of_their_turn,
+};
+pub use operand::{address, fetch, store};
+pub use place::{Cell, Place};
+pub use processor::{Processor, RunState, Slot};
+pub use reference::{read_byte, read_word, write_byte, write_word};
+pub use trap::Trap;

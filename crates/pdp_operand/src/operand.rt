@@ -1,0 +1,190 @@
+ghost use Rattle.std.specs.Prelude.{◌≡◌, ◌<◌, Result, Ok, IfOk, [], ◌∷◌};
+ghost use Rattle.pdp_word.specs.Size.{span};
+ghost use Rattle.pdp_operand.specs.Phase.{Latch, State, Fault, run, state_of};
+ghost use Rattle.pdp_operand.specs.Plan.{run_plan};
+ghost use Rattle.pdp_operand.specs.Operand.{grow, shrink, index, indirect, point, find, found, found_cell, read_operand, fetched, write_operand, stored, step_of};
+ghost use Rattle.pdp_operand.specs.declared.processor.Processor.{Processor};
+ghost use Rattle.pdp_operand.specs.declared.place.Place.TheVariants.{Mem};
+
+use crate::place::{Cell, Place};
+use crate::processor::{Processor, Slot};
+use crate::reference::{read_byte, read_word, write_byte, write_word};
+use crate::trap::Trap;
+use pdp_decode::Spec;
+use pdp_store::Store;
+use pdp_unibus::Bus;
+use pdp_word::Size;
+
+/// The virtual address, in the space of the mode of now.
+#[inline(always)]
+fn cell_at<S: Store>(bus: &Bus<S>, address: u16) -> Cell
+    ensures mode { result.mode ≡ bus.now.board.status.mode }
+    ensures address { result.address ≡ address }
+    ensures near { result.near ≡ false }
+{
+    Cell { mode: bus.status().mode, address, near: false }
+}
+
+ghost use Rattle.std.specs.Prelude.{false};
+
+/// The register that a number names in the mode of now.
+#[inline(always)]
+fn slot<S: Store>(bus: &Bus<S>, register: u8) -> Slot
+    requires { register < 8 }
+    ensures { result ≡ slot_of bus.now.board.status.mode register }
+{
+    Slot::of(bus.status().mode, register)
+}
+
+ghost use Rattle.pdp_operand.specs.Slot.{slot_of};
+
+/// (R)
+#[inline(always)]
+#[tactic(auto, unfolding(crate::specs::Phase::run, crate::specs::Operand::point))]
+fn pointed<S: Store>(processor: &Processor, bus: &Bus<S>, register: u8) -> Cell
+    requires { register < 8 }
+    ensures { (latch : Latch) → run (point register ∷ []) (state_of processor.now bus.now latch) ≡ found_cell (Ok result) processor.now bus.now latch }
+{
+    cell_at(bus, processor.register(slot(bus, register)))
+}
+
+/// (R)+
+#[inline(always)]
+#[tactic(auto, unfolding(crate::specs::Phase::run, crate::specs::Operand::grow))]
+fn grown<S: Store>(processor: &mut Processor, bus: &Bus<S>, register: u8, step: u16) -> Cell
+    requires { register < 8 }
+    ensures { (latch : Latch) → run (grow register step ∷ []) (state_of processor.old bus.now latch) ≡ found_cell (Ok result) processor.new bus.now latch }
+{
+    let slot = slot(bus, register);
+    let cell = cell_at(bus, processor.register(slot));
+    processor.advance(slot, step);
+    cell
+}
+
+/// -(R)
+#[inline(always)]
+#[tactic(auto, unfolding(crate::specs::Phase::run, crate::specs::Operand::shrink))]
+fn shrunk<S: Store>(processor: &mut Processor, bus: &Bus<S>, register: u8, step: u16) -> Cell
+    requires register { register < 8 }
+    requires step { (0 < step) × (step < 3) }
+    ensures { (latch : Latch) → run (shrink register step ∷ []) (state_of processor.old bus.now latch) ≡ found_cell (Ok result) processor.new bus.now latch }
+{
+    let slot = slot(bus, register);
+    let back = u16::MAX - step + 1;
+    let cell = cell_at(bus, processor.register(slot).wrapping_add(back));
+    processor.advance(slot, back);
+    cell
+}
+
+/// X(R)
+#[inline(always)]
+#[tactic(auto, unfolding(crate::specs::Phase::run, crate::specs::Operand::index))]
+fn indexed<S: Store>(processor: &mut Processor, bus: &mut Bus<S>, register: u8) -> Result<Cell, Trap>
+    requires { register < 8 }
+    ensures { (latch : Latch) → run (index register ∷ []) (state_of processor.old bus.old latch) ≡ found_cell result processor.new bus.new latch }
+{
+    let mode = bus.status().mode;
+    let word = read_word(bus, mode, processor.register(Slot::ProgramCounter))?;
+    processor.advance(Slot::ProgramCounter, 2);
+    let base = processor.register(slot(bus, register));
+    Ok(cell_at(bus, base.wrapping_add(word)))
+}
+
+/// The cell whose address is the word in this one.
+#[inline(always)]
+#[tactic(auto, unfolding(crate::specs::Phase::run, crate::specs::Operand::indirect))]
+fn deferred<S: Store>(bus: &mut Bus<S>, cell: Cell) -> Result<Cell, Trap>
+    ensures { (p : Processor) (latch : Latch) → latch.place ≡ Mem cell → run (indirect ∷ []) (state_of p bus.old latch) ≡ found_cell result p bus.new latch }
+{
+    let address = read_word(bus, cell.mode, cell.address)?;
+    Ok(cell_at(bus, address))
+}
+
+/// By how much (R)+ and -(R) change the register, in bytes.
+#[inline(always)]
+fn step(size: Size, register: u8) -> u16
+    ensures step { result ≡ step_of size register }
+    ensures small { (0 < result) × (result < 3) }
+{
+    match size {
+        Size::Byte if register < 6 => 1,
+        _ => 2,
+    }
+}
+
+/// Finds the operand that a specifier names, with the changes of registers and the references that this makes.
+///
+/// DEC PDP-11/40 Processor Handbook (1972), Addressing modes: a register changes before the access that it serves, and
+/// keeps its change where the access faults (this project's profile).
+#[inline(always)]
+#[tactic(auto, unfolding(crate::specs::Operand::find), using(crate::proofs::Steps::run_name_register))]
+pub fn address<S: Store>(processor: &mut Processor, bus: &mut Bus<S>, operand: Spec, size: Size) -> Result<Place, Trap>
+    requires mode { operand.mode < 8 }
+    requires register { operand.reg < 8 }
+    ensures { (latch : Latch) → run_plan (find size operand) (state_of processor.old bus.old latch) ≡ found result processor.new bus.new latch }
+{
+    let register = operand.reg;
+    let cell = match operand.mode {
+        0 => return Ok(Place::Reg(slot(bus, register))),
+        1 => pointed(processor, bus, register),
+        2 => grown(processor, bus, register, step(size, register)),
+        3 => {
+            let cell = grown(processor, bus, register, 2);
+            deferred(bus, cell)?
+        }
+        4 => shrunk(processor, bus, register, step(size, register)),
+        5 => {
+            let cell = shrunk(processor, bus, register, 2);
+            deferred(bus, cell)?
+        }
+        6 => indexed(processor, bus, register)?,
+        _ => {
+            let cell = indexed(processor, bus, register)?;
+            deferred(bus, cell)?
+        }
+    };
+    Ok(Place::Mem(cell))
+}
+
+/// Reads the operand at a place: a word, or a byte as a number below 400 (octal).
+///
+/// Err where the reference to memory faults.
+#[inline(always)]
+#[tactic(auto, unfolding(crate::specs::Phase::run, crate::specs::Operand::read_operand))]
+pub fn fetch<S: Store>(processor: &Processor, bus: &mut Bus<S>, place: Place, size: Size) -> Result<u16, Trap>
+    ensures run { (latch : Latch) → latch.place ≡ place → run (read_operand size ∷ []) (state_of processor.now bus.old latch) ≡ fetched result processor.now bus.new latch }
+    ensures fits { IfOk result (λ value. value < span size) }
+{
+    match (place, size) {
+        (Place::Reg(slot), Size::Word) => Ok(processor.register(slot)),
+        (Place::Reg(slot), Size::Byte) => Ok(processor.register(slot) % 256),
+        (Place::Mem(cell), Size::Word) => Ok(read_word(bus, cell.mode, cell.address)?),
+        (Place::Mem(cell), Size::Byte) => Ok(u16::from(read_byte(bus, cell.mode, cell.address)?)),
+    }
+}
+
+/// Writes a word, or a byte as a number below 400 (octal), to a place. A byte that goes to a register changes its low
+/// byte alone.
+///
+/// Err where the reference to memory faults; nothing is written then.
+#[inline(always)]
+#[tactic(auto, unfolding(crate::specs::Phase::run, crate::specs::Operand::write_operand))]
+pub fn store<S: Store>(processor: &mut Processor, bus: &mut Bus<S>, place: Place, size: Size, value: u16) -> Result<(), Trap>
+    requires { value < span size }
+    ensures { (latch : Latch) → latch.place ≡ place → latch.result ≡ value → run (write_operand size ∷ []) (state_of processor.old bus.old latch) ≡ stored result processor.new bus.new latch }
+{
+    match (place, size) {
+        (Place::Reg(slot), Size::Word) => processor.set_register(slot, value),
+        (Place::Reg(slot), Size::Byte) => {
+            let old = processor.register(slot);
+            processor.set_register(slot, old - old % 256 + value);
+        }
+        (Place::Mem(cell), Size::Word) => {
+            write_word(bus, cell.mode, cell.address, value)?;
+        }
+        (Place::Mem(cell), Size::Byte) => {
+            write_byte(bus, cell.mode, cell.address, value as u8)?;
+        }
+    }
+    Ok(())
+}

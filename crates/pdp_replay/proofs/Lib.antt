@@ -1,0 +1,5 @@
+pub mod Lists
+pub mod CoreWords
+pub mod Patches
+pub mod Setups
+pub mod States

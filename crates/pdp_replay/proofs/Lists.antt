@@ -1,0 +1,35 @@
+-- Lists of words as they are filled.
+use Rattle.std.proofs.Common.{◌≡◌, ℕ, suc, zero, ◌+◌, ◌<◌, ◌≤◌, List, [], ◌∷◌, ◌++◌, Option, None, Some, length, ◌-◌, take, get_or, refl, sym, ◌∙◌, ap, append_assoc, replicate, slice_set, slice_get, option_to_list, add-one}
+use Rattle.std.proofs.Math.Seq.{set-append_seam, take-suc}
+use Rattle.std.proofs.lemmas.List.{length-take-le}
+use Rattle.std.proofs.Common.{arith}
+
+-- one more word of an image over a list of zeros
+filled : (image : List ℕ) (i rest word : ℕ) → i < length image → word ≡ get_or image i 0
+    → slice_set (take i image ++ replicate (suc rest) 0) i word ≡ take (suc i) image ++ replicate rest 0
+filled image i rest word below is =
+    let front : length (take i image) ≡ i = length-take-le i image (omega arith) in
+    ap (λ j. slice_set (take i image ++ 0 ∷ replicate rest 0) j word) (sym front)
+    ∙ set-append_seam (take i image) 0 (replicate rest 0) word
+    ∙ ap (λ w. take i image ++ w ∷ replicate rest 0) is
+    ∙ sym (ap (λ xs. xs ++ replicate rest 0) (take-suc image i 0 below) ∙ append_assoc (take i image) (get_or image i 0 ∷ []) (replicate rest 0))
+
+filled_to : (image : List ℕ) (words i rest : ℕ) → words - i ≡ suc rest → words - (i + 1) ≡ rest → i < length image
+    → slice_set (take i image ++ replicate (words - i) 0) i (get_or image i 0) ≡ take (i + 1) image ++ replicate (words - (i + 1)) 0
+filled_to image words i rest now then below = rw (now, then, add-one) (filled image i rest (get_or image i 0) below refl)
+
+pub filled_one_more : (image : List ℕ) (words i : ℕ) → i < length image → length image ≤ words
+    → slice_set (take i image ++ replicate (words - i) 0) i (get_or image i 0) ≡ take (i + 1) image ++ replicate (words - (i + 1)) 0
+filled_one_more image words i below within = filled_to image words i (words - (i + 1)) (omega arith) refl below
+
+-- a word without a stamp gets none
+pub blank_stays : {X : Type 0} (n i : ℕ) (x : X) → slice_set (replicate n x) i x ≡ replicate n x
+blank_stays zero i x = refl
+blank_stays (suc n) zero x = refl
+blank_stays (suc n) (suc i) x = ap (λ xs. x ∷ xs) (blank_stays n i x)
+
+pub take_one_more : {X : Type 0} (xs : List X) (i : ℕ) → take (suc i) xs ≡ take i xs ++ option_to_list (slice_get xs i)
+take_one_more [] zero = refl
+take_one_more [] (suc i) = refl
+take_one_more (x ∷ xs) zero = refl
+take_one_more (x ∷ xs) (suc i) = ap (λ ys. x ∷ ys) (take_one_more xs i)

@@ -1,0 +1,56 @@
+ghost use Rattle.std.specs.Prelude.{◌≡◌, Result};
+ghost use Rattle.pdp_script.specs.Refusal.{result_map};
+
+use pdp_script::Fault;
+
+/// The words of one unit of core.
+pub const UNIT_WORDS: usize = 4_096;
+
+/// The words of a drive: 203 cylinders of 2 surfaces of 12 sectors of 256 words.
+pub const DISK_WORDS: usize = 1_247_232;
+
+/// The most bytes of a paper tape.
+pub const TAPE_BYTES: usize = 1_048_576;
+
+/// The one stride for now, in turns.
+pub const ONLY_STRIDE: u32 = 2_000_000_000;
+
+/// What a run starts from.
+#[derive(Debug, Drop)]
+pub struct Setup {
+    /// The size of core in units of 4,096 words: 1 to 31.
+    pub units: u8,
+    /// The address of the first instruction (octal, bytes, even).
+    pub start: u16,
+    /// The words of core from address 0 on; core past them is 0.
+    pub core: Vec<u16>,
+    /// The words of the drive from its first word on; the drive past them is 0.
+    pub disk: Vec<u16>,
+    /// The bytes of the paper tape.
+    pub tape: Vec<u8>,
+    /// How many turns apart states are kept: 2,000,000,000 for now.
+    pub stride: u32,
+}
+
+ghost use Rattle.pdp_replay.specs.Start.{given, start_of};
+
+impl Setup {
+    /// Whether a run can start from this setup.
+    ///
+    /// Err(BadSetup) where the units, the start or the stride is out of range; else Err(BadImage) where core's image,
+    /// the drive's or the tape is too long.
+    #[tactic(auto, unfolding(crate::specs::Start::start_of))]
+    pub fn check(&self) -> Result<(), Fault>
+        ensures { result ≡ result_map (λ _. tt) (start_of (given self.now)) }
+    {
+        let units = self.units;
+        if units < 1 || units > 31 || self.start % 2 != 0 || self.stride != ONLY_STRIDE {
+            return Err(Fault::BadSetup);
+        }
+        let words = usize::from(units) * UNIT_WORDS;
+        if self.core.len() > words || self.disk.len() > DISK_WORDS || self.tape.len() > TAPE_BYTES {
+            return Err(Fault::BadImage);
+        }
+        Ok(())
+    }
+}

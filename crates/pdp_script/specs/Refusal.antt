@@ -1,0 +1,34 @@
+-- Want of memory is the one thing that a definition of an answer can't know. So a definition takes
+-- it as a flag, and a contract computes that flag from the call's own result by `for_memory`.
+use Rattle.std.specs.Prelude.{Bool, true, false, Result, Ok, Err}
+use Rattle.pdp_script.specs.declared.faults.Fault.{Fault}
+use Rattle.pdp_script.specs.declared.faults.Fault.TheVariants.{NoMemory}
+
+-- was this refused for want of memory?
+abbrev pub for_memory : {X : Type 0} → Result X Fault → Bool
+for_memory (Ok x) = false
+for_memory (Err NoMemory) = true
+for_memory (Err _) = false
+
+-- what an edit answers, that would come out as `due`: an earlier refusal wins over want of memory
+abbrev pub answered : {X Y : Type 0} → Result X Fault → Bool → Y → Result Y Fault
+answered (Err fault) refused y = Err fault
+answered (Ok x) true y = Err NoMemory
+answered (Ok x) false y = Ok y
+
+-- what a question answers, that would come out as `due`
+abbrev pub asked : {X : Type 0} → Result X Fault → Bool → Result X Fault
+asked (Err fault) refused = Err fault
+asked (Ok x) true = Err NoMemory
+asked (Ok x) false = Ok x
+
+-- what an edit leaves: the new state, and after any refusal the old one
+abbrev pub left : {S : Type 0} → Result S Fault → Bool → S → S
+left (Err fault) refused old = old
+left (Ok new) true old = old
+left (Ok new) false old = new
+
+-- a result with its value changed by f, and its refusal as it is
+abbrev pub result_map : {X Y E : Type 0} → (X → Y) → Result X E → Result Y E
+result_map f (Ok x) = Ok (f x)
+result_map f (Err e) = Err e
