@@ -15,7 +15,7 @@ pub use laws::{
     stamps_are_last_writes, touches_are_of_their_turn, turns_end_within_32_phases,
     turns_keep_the_size_of_core, turns_leave_what_they_never_touch,
 };
-pub use machine::Machine;
+pub use machine::{Machine, TURN_LIMIT};
 pub use meter::Meter;
 pub use pdp_operand::RunState;
 pub use regs::Regs;

@@ -14,7 +14,7 @@ use pdp_word::NoMemory;
 use std::alloc::Global;
 use std::marker::Model;
 
-/// The most turns that a machine runs.
+/// The most turns that a machine runs, and the last turn that can be asked about (this project's profile).
 pub const TURN_LIMIT: u32 = 1_000_000_000;
 
 /// The machine: processor, bus and core, for any store of core.
@@ -77,7 +77,7 @@ impl<S: Store> Machine<S> {
         meter.tick();
     }
 
-    /// The registers now.
+    /// The registers now (DEC PDP-11/40 Processor Handbook (1972), General registers and Processor status word).
     pub fn regs(&self) -> Regs
         ensures { result ≡ regs_of self.now.world }
     {
@@ -107,7 +107,8 @@ impl<S: Store> Machine<S> {
         self.bus.word(number)
     }
 
-    /// The turn and the agent of the last write to the core word of this number; None where there was none.
+    /// The turn and the agent of the last write to the core word of this number (half its byte address); None where there was
+    /// none since power-up. A byte write counts for its word (this project's profile).
     pub fn last(&self, number: usize) -> Option<Stamp>
         requires { number < length self.now.world.bus.core }
         ensures { result ≡ slice_index_or self.now.world.bus.lasts number None }

@@ -2,7 +2,7 @@ ghost use Rattle.std.specs.Prelude.{◌≡◌, ◌+◌, ◌-◌, ◌^◌, ◌<�
 
 use std::marker::Model;
 
-/// Counts the turns that machines have run.
+/// Counts the turns that machines have run (this project's profile).
 #[derive(Debug, Drop)]
 pub struct Meter {
     turns: u64,

@@ -148,6 +148,8 @@ pub fn address<S: Store>(processor: &mut Processor, bus: &mut Bus<S>, operand: S
 
 /// Reads the operand at a place: a word, or a byte as a number below 400 (octal).
 ///
+/// DEC PDP-11/40 Processor Handbook (1972), Addressing modes; a byte read reads its whole word on the bus (this project's profile).
+///
 /// Err where the reference to memory faults.
 #[inline(always)]
 #[tactic(auto, unfolding(crate::specs::Phase::run, crate::specs::Operand::read_operand))]
@@ -165,6 +167,8 @@ pub fn fetch<S: Store>(processor: &Processor, bus: &mut Bus<S>, place: Place, si
 
 /// Writes a word, or a byte as a number below 400 (octal), to a place. A byte that goes to a register changes its low
 /// byte alone.
+///
+/// DEC PDP-11/40 Processor Handbook (1972), Addressing modes.
 ///
 /// Err where the reference to memory faults; nothing is written then.
 #[inline(always)]

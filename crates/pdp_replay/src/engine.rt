@@ -11,13 +11,10 @@ use crate::question::{Answer, Question, Value};
 use crate::setup::{Setup, UNIT_WORDS};
 use crate::travel::machine_at;
 use indexmap::IndexMap;
-use pdp_cpu::Meter;
+use pdp_cpu::{Meter, TURN_LIMIT};
 use pdp_script::Fault;
 use std::alloc::Global;
 use std::marker::Model;
-
-/// The last turn that can be asked about.
-const LAST_TURN: u32 = 1_000_000_000;
 
 /// A setup with its patches, and all that can be asked of the run from it.
 ///
@@ -46,7 +43,7 @@ impl Engine {
     /// An engine over this setup, without patches; nothing is known yet.
     ///
     /// Err(BadSetup) where units, start or stride is out of range; else Err(BadImage) where an image or the tape is too
-    /// long; else Err(NoMemory) where a growth was refused.
+    /// long; else Err(NoMemory) where a growth was refused. (This project's profile.)
     #[tactic(auto, using(crate::proofs::Setups::good_is), unfolding(crate::specs::Start::start_of))]
     pub fn new(alloc: Global, setup: Setup) -> Result<Engine, Fault>
         ensures engine { result ≡ result_map fresh (asked (start_of (given setup)) (for_memory result)) }
@@ -65,7 +62,7 @@ impl Engine {
     /// its place among the patches. The known turn becomes 0; no turn is run.
     ///
     /// Err(OutsideCore) where the address is not in core; else Err(OddAddress) where it is odd; else Err(NoMemory) where
-    /// a growth was refused. A refused edit changes nothing.
+    /// a growth was refused. A refused edit changes nothing. (This project's profile.)
     #[tactic(auto, unfolding(crate::specs::Edit::core_edit))]
     pub fn set_core(&mut self, address: u32, word: u16) -> Result<(), Fault>
         ensures answer { result ≡ answered (core_edit address word self.old.setup) (for_memory result) tt }
@@ -91,7 +88,7 @@ impl Engine {
     /// of what it was and the turn asked about.
     ///
     /// Err(TurnTooLarge) where its turn is above 1,000,000,000; else Err(NoMemory) where a growth was refused. No refusal
-    /// changes the setup, and one for another cause than memory changes nothing.
+    /// changes the setup, and one for another cause than memory changes nothing. (This project's profile.)
     #[tactic(auto, unfolding(crate::specs::Answer::answer_to, crate::specs::Answer::answer))]
     pub fn ask(&mut self, alloc: Global, question: Question) -> Result<Answer, Fault>
         // The answer is that of the run from power-up, and want of memory is the last refusal.
@@ -113,7 +110,7 @@ impl Engine {
     {
         let before = self.meter.count();
         let turn = question.turn();
-        if turn > LAST_TURN {
+        if turn > TURN_LIMIT {
             return Err(Fault::TurnTooLarge);
         }
         let machine = machine_at(alloc, &self.setup, &self.patches, &mut self.meter, turn)?;

@@ -3,7 +3,7 @@ ghost use Rattle.pdp_replay.specs.Answer.{turn_asked};
 
 use pdp_cpu::Regs;
 
-/// What can be asked of a run; each question names the turn before which the machine is looked at.
+/// What can be asked of a run (this project's profile); each question names the turn before which the machine is looked at.
 #[derive(Clone, Copy, Debug, PartialEq, Eq)]
 pub enum Question {
     /// The registers before this turn, counted from 0 at power-up.

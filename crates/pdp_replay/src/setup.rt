@@ -4,18 +4,18 @@ ghost use Rattle.pdp_script.specs.Refusal.{result_map};
 use pdp_script::Fault;
 
 /// The words of one unit of core.
-pub const UNIT_WORDS: usize = 4_096;
+pub(crate) const UNIT_WORDS: usize = 4_096;
 
 /// The words of a drive: 203 cylinders of 2 surfaces of 12 sectors of 256 words.
-pub const DISK_WORDS: usize = 1_247_232;
+pub(crate) const DISK_WORDS: usize = 1_247_232;
 
 /// The most bytes of a paper tape.
-pub const TAPE_BYTES: usize = 1_048_576;
+pub(crate) const TAPE_BYTES: usize = 1_048_576;
 
 /// The one stride for now, in turns.
-pub const ONLY_STRIDE: u32 = 2_000_000_000;
+pub(crate) const ONLY_STRIDE: u32 = 2_000_000_000;
 
-/// What a run starts from.
+/// What a run starts from (this project's profile).
 #[derive(Debug, Drop)]
 pub struct Setup {
     /// The size of core in units of 4,096 words: 1 to 31.
@@ -40,7 +40,7 @@ impl Setup {
     /// Err(BadSetup) where the units, the start or the stride is out of range; else Err(BadImage) where core's image,
     /// the drive's or the tape is too long.
     #[tactic(auto, unfolding(crate::specs::Start::start_of))]
-    pub fn check(&self) -> Result<(), Fault>
+    pub(crate) fn check(&self) -> Result<(), Fault>
         ensures { result ≡ result_map (λ _. tt) (start_of (given self.now)) }
     {
         let units = self.units;
