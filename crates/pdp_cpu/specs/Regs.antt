@@ -1,5 +1,5 @@
 -- The registers as a person reads them.
-use Rattle.std.specs.Prelude.{List, [], ◌∷◌}
+use Rattle.std.specs.Prelude.{[], ◌∷◌}
 use Rattle.pdp_unibus.specs.Status.{status_word}
 use Rattle.pdp_operand.specs.Processor.{register_of}
 use Rattle.pdp_operand.specs.declared.processor.Slot.TheVariants.{R0, R1, R2, R3, R4, R5, KernelStack, ProgramCounter, UserStack}
@@ -15,5 +15,5 @@ regs_of w =
       usp = register_of p UserStack;
       pc = register_of p ProgramCounter;
       ps = status_word w.bus.board.status;
-      state = p.run
+      state = p.run;
     }

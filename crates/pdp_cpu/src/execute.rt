@@ -14,7 +14,13 @@ use pdp_word::Size;
 /// Writes the value of an effect to its place, and then stores its codes. Where the write faults the codes stay.
 #[inline(always)]
 #[tactic(auto, using(crate::proofs::Steps::run_store_codes), unfolding(crate::specs::Execute::finish))]
-pub fn finish<S: Store>(processor: &mut Processor, bus: &mut Bus<S>, place: Place, size: Size, effect: Effect) -> Result<(), Trap>
+pub fn finish<S: Store>(
+    processor: &mut Processor,
+    bus: &mut Bus<S>,
+    place: Place,
+    size: Size,
+    effect: Effect,
+) -> Result<(), Trap>
     requires { effect.value < span size }
     ensures { (latch : Latch) → latch.place ≡ place → latch.result ≡ effect.value → latch.codes ≡ Some effect.codes → closed (run_plan (finish_plan size) (state_of processor.old bus.old latch)) ≡ ended result processor.new bus.new }
 {

@@ -10,6 +10,8 @@ mod machine;
 mod meter;
 mod moves;
 mod regs;
+#[cfg(test)]
+mod tests;
 
 pub use laws::{
     stamps_are_last_writes, touches_are_of_their_turn, turns_end_within_32_phases,

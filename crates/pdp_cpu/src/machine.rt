@@ -58,7 +58,9 @@ impl<S: Store> Machine<S> {
         Ok(())
     }
 
-    /// One whole turn, and one tick of the meter.
+    /// One whole turn, and one tick of the meter: one instruction, or nothing where the machine waits or is halted. Once asked it
+    /// always takes place. Where the instruction can't go on (odd address, timeout, reserved word) the turn ends there, with the
+    /// registers as changed so far and the codes as before, and the machine is halted (this project's profile, until traps come).
     #[inline(always)]
     #[tactic(auto, unfolding(crate::specs::World::one_turn, pdp_operand::specs::Course::follow))]
     pub fn turn(&mut self, meter: &mut Meter)

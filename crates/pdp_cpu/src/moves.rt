@@ -16,7 +16,12 @@ use pdp_word::Size;
 /// MOV.
 #[inline(never)]
 #[tactic(auto, using(crate::proofs::Steps::run_execute_mov), unfolding(crate::specs::Moves::mov_plan))]
-pub fn mov_word<S: Store>(processor: &mut Processor, bus: &mut Bus<S>, source: Spec, destination: Spec) -> Result<(), Trap>
+pub fn mov_word<S: Store>(
+    processor: &mut Processor,
+    bus: &mut Bus<S>,
+    source: Spec,
+    destination: Spec,
+) -> Result<(), Trap>
     requires source { IsSpec source }
     requires destination { IsSpec destination }
     ensures { (latch : Latch) → closed (run_plan (mov_plan source destination) (state_of processor.old bus.old latch)) ≡ ended result processor.new bus.new }

@@ -5,6 +5,8 @@
 
 mod mode;
 mod place;
+#[cfg(test)]
+mod tests;
 
 pub use mode::Mode;
 pub use place::{Access, unmapped};

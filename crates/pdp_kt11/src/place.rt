@@ -19,5 +19,9 @@ pub fn unmapped(address: u16) -> u32
     ensures fits { result < 2 ^ 18 }
 {
     let address = u32::from(address);
-    if address < 0o160000 { address } else { address + 0o600000 }
+    if address < 0o160000 {
+        address
+    } else {
+        address + 0o600000
+    }
 }

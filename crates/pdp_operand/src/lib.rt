@@ -7,6 +7,8 @@ mod operand;
 mod place;
 mod processor;
 mod reference;
+#[cfg(test)]
+mod tests;
 mod trap;
 
 pub use laws::{

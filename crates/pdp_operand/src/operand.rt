@@ -22,7 +22,11 @@ fn cell_at<S: Store>(bus: &Bus<S>, address: u16) -> Cell
     ensures address { result.address ≡ address }
     ensures near { result.near ≡ false }
 {
-    Cell { mode: bus.status().mode, address, near: false }
+    Cell {
+        mode: bus.status().mode,
+        address,
+        near: false,
+    }
 }
 
 ghost use Rattle.std.specs.Prelude.{false};
@@ -79,7 +83,11 @@ fn shrunk<S: Store>(processor: &mut Processor, bus: &Bus<S>, register: u8, step:
 /// X(R)
 #[inline(always)]
 #[tactic(auto, unfolding(crate::specs::Phase::run, crate::specs::Operand::index))]
-fn indexed<S: Store>(processor: &mut Processor, bus: &mut Bus<S>, register: u8) -> Result<Cell, Trap>
+fn indexed<S: Store>(
+    processor: &mut Processor,
+    bus: &mut Bus<S>,
+    register: u8,
+) -> Result<Cell, Trap>
     requires { register < 8 }
     ensures { (latch : Latch) → run (index register ∷ []) (state_of processor.old bus.old latch) ≡ found_cell result processor.new bus.new latch }
 {
@@ -118,7 +126,12 @@ fn step(size: Size, register: u8) -> u16
 /// keeps its change where the access faults (this project's profile).
 #[inline(always)]
 #[tactic(auto, unfolding(crate::specs::Operand::find), using(crate::proofs::Steps::run_name_register))]
-pub fn address<S: Store>(processor: &mut Processor, bus: &mut Bus<S>, operand: Spec, size: Size) -> Result<Place, Trap>
+pub fn address<S: Store>(
+    processor: &mut Processor,
+    bus: &mut Bus<S>,
+    operand: Spec,
+    size: Size,
+) -> Result<Place, Trap>
     requires mode { operand.mode < 8 }
     requires register { operand.reg < 8 }
     ensures { (latch : Latch) → run_plan (find size operand) (state_of processor.old bus.old latch) ≡ found result processor.new bus.new latch }
@@ -153,7 +166,12 @@ pub fn address<S: Store>(processor: &mut Processor, bus: &mut Bus<S>, operand: S
 /// Err where the reference to memory faults.
 #[inline(always)]
 #[tactic(auto, unfolding(crate::specs::Phase::run, crate::specs::Operand::read_operand))]
-pub fn fetch<S: Store>(processor: &Processor, bus: &mut Bus<S>, place: Place, size: Size) -> Result<u16, Trap>
+pub fn fetch<S: Store>(
+    processor: &Processor,
+    bus: &mut Bus<S>,
+    place: Place,
+    size: Size,
+) -> Result<u16, Trap>
     ensures run { (latch : Latch) → latch.place ≡ place → run (read_operand size ∷ []) (state_of processor.now bus.old latch) ≡ fetched result processor.now bus.new latch }
     ensures fits { IfOk result (λ value. value < span size) }
 {
@@ -173,7 +191,13 @@ pub fn fetch<S: Store>(processor: &Processor, bus: &mut Bus<S>, place: Place, si
 /// Err where the reference to memory faults; nothing is written then.
 #[inline(always)]
 #[tactic(auto, unfolding(crate::specs::Phase::run, crate::specs::Operand::write_operand))]
-pub fn store<S: Store>(processor: &mut Processor, bus: &mut Bus<S>, place: Place, size: Size, value: u16) -> Result<(), Trap>
+pub fn store<S: Store>(
+    processor: &mut Processor,
+    bus: &mut Bus<S>,
+    place: Place,
+    size: Size,
+    value: u16,
+) -> Result<(), Trap>
     requires { value < span size }
     ensures { (latch : Latch) → latch.place ≡ place → latch.result ≡ value → run (write_operand size ∷ []) (state_of processor.old bus.old latch) ≡ stored result processor.new bus.new latch }
 {

@@ -1,5 +1,5 @@
 -- Lists of words as they are filled.
-use Rattle.std.proofs.Common.{◌≡◌, ℕ, suc, zero, ◌+◌, ◌<◌, ◌≤◌, List, [], ◌∷◌, ◌++◌, Option, None, Some, length, ◌-◌, take, get_or, refl, sym, ◌∙◌, ap, append_assoc, replicate, slice_set, slice_get, option_to_list, add-one}
+use Rattle.std.proofs.Common.{◌≡◌, ℕ, suc, zero, ◌+◌, ◌<◌, ◌≤◌, List, [], ◌∷◌, ◌++◌, length, ◌-◌, take, get_or, refl, sym, ◌∙◌, ap, append_assoc, replicate, slice_set, slice_get, option_to_list, add-one}
 use Rattle.std.proofs.Math.Seq.{set-append_seam, take-suc}
 use Rattle.std.proofs.lemmas.List.{length-take-le}
 use Rattle.std.proofs.Common.{arith}

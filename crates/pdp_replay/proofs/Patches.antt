@@ -1,5 +1,5 @@
 -- Patches put into a list of words.
-use Rattle.std.proofs.Common.{◌≡◌, ℕ, suc, zero, ◌+◌, ◌<◌, ◌≤◌, ◌==◌, Bool, true, false, List, [], ◌∷◌, ◌++◌, Option, None, Some, length, take, refl, sym, ◌∙◌, ap, slice_set, slice_get, option_to_list, nat_eq, add-one, if◌then◌else◌}
+use Rattle.std.proofs.Common.{◌≡◌, ℕ, suc, zero, ◌+◌, ◌<◌, Bool, true, false, List, [], ◌∷◌, ◌++◌, length, take, refl, sym, ◌∙◌, ap, slice_set, slice_get, option_to_list, nat_eq, add-one, if◌then◌else◌}
 use Rattle.std.proofs.lemmas.List.{length-set}
 use Rattle.indexmap.specs.IndexMap.{insert_entry}
 use Rattle.pdp_replay.specs.Core.{put_all, AllBelow}
@@ -35,4 +35,4 @@ pub below_inserted : (n : ℕ) (ps : List (ℕ × ℕ)) (number word : ℕ) → 
 below_inserted n [] number word small below = (small, tt)
 below_inserted n (p ∷ ps) number word small below =
     below_when n (nat_eq number p.0) (p.0, word) p ps (insert_entry nat_eq ps number word) below.0 below.0 below.1
-        (below_inserted n ps number word small below.1)
+    (below_inserted n ps number word small below.1)

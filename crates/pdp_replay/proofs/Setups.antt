@@ -1,5 +1,5 @@
 -- What a run can start from.
-use Rattle.std.proofs.Common.{◌≡◌, ◌≤◌, ◌&&◌, Bool, true, false, Result, Ok, Err, refl, arith, length, if◌then◌else◌}
+use Rattle.std.proofs.Common.{◌≡◌, Bool, true, false, Result, Ok, Err, refl, arith, if◌then◌else◌}
 use Rattle.std.proofs.lemmas.Grind.{common_steps}
 use Rattle.pdp_script.specs.Refusal.{result_map}
 use Rattle.pdp_script.specs.declared.faults.Fault.{Fault}
@@ -17,7 +17,7 @@ good_by : (s : Start) (numbers images : Bool) → has_good_numbers s ≡ numbers
 good_by s true true numbers images is = record {
   units = grind (arith, common_steps);
   stride = grind (arith, common_steps);
-  core = grind (arith, common_steps)
+  core = grind (arith, common_steps);
 }
 good_by s true false numbers images is = absurd cc
 good_by s false images_are numbers images is = absurd cc

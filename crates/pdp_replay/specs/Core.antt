@@ -1,5 +1,5 @@
 -- The words of core as of power-up.
-use Rattle.std.specs.Prelude.{ℕ, ◌-◌, ◌*◌, ◌<◌, ◌==◌, List, [], ◌∷◌, ◌++◌, Option, None, Some, length, replicate, slice_index, slice_set, unwrap_or, if◌then◌else◌}
+use Rattle.std.specs.Prelude.{ℕ, ◌-◌, ◌<◌, ◌==◌, List, [], ◌∷◌, ◌++◌, Option, None, Some, length, replicate, slice_index, slice_set, unwrap_or, if◌then◌else◌}
 use Rattle.pdp_replay.specs.Start.{Start, core_size}
 
 -- the patch of a word: the last one that was given for it

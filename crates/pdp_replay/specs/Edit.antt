@@ -10,8 +10,8 @@ use Rattle.pdp_replay.specs.Start.{Start, core_size}
 unfoldable pub core_edit : ℕ → ℕ → Start → Result Start Fault
 core_edit address word s = (
     if nat_lt (address / 2) (core_size s) then
-        if address % 2 == 0 then Ok (record s { patches = insert_entry nat_eq s.patches (address / 2) word })
-        else Err OddAddress
+    if address % 2 == 0 then Ok (record s { patches = insert_entry nat_eq s.patches (address / 2) word })
+    else Err OddAddress
     else Err OutsideCore)
 
 -- the known turn after an edit that reaches back to this turn; a refused edit leaves it

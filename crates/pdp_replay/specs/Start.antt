@@ -30,7 +30,7 @@ with_patches setup patches = record {
   disk = setup.disk.items;
   tape = setup.tape.items;
   stride = setup.stride;
-  patches = patches
+  patches = patches;
 }
 
 -- a setup with the patches of an engine

@@ -10,8 +10,11 @@ mod setup;
 mod travel;
 
 pub use engine::Engine;
-pub use laws::{core_words_are_first_words};
+pub use laws::core_words_are_first_words;
 pub use pdp_cpu::{Regs, RunState};
 pub use pdp_script::Fault;
 pub use question::{Answer, Question, Value};
 pub use setup::Setup;
+
+#[cfg(test)]
+mod tests;

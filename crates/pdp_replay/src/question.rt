@@ -24,6 +24,7 @@ impl Question {
 /// What a question is answered.
 #[derive(Clone, Copy, Debug, PartialEq, Eq)]
 pub enum Value {
+    /// The registers, and whether the processor runs.
     Regs(Regs),
 }
 

@@ -15,7 +15,11 @@ use std::alloc::Global;
 ///
 /// Err where there is no memory for its core.
 #[tactic(auto, using(crate::proofs::CoreWords::length_padded), unfolding(crate::specs::Turns::power, crate::specs::Core::core_words))]
-fn powered(alloc: Global, setup: &Setup, patches: &IndexMap<u32, u16>) -> Result<Machine<Flat>, NoMemory>
+fn powered(
+    alloc: Global,
+    setup: &Setup,
+    patches: &IndexMap<u32, u16>,
+) -> Result<Machine<Flat>, NoMemory>
     requires good { IsGood (start_from setup.now patches.now) }
     requires below { AllBelow (setup.now.units * UNIT_WORDS) patches.now.entries }
     ensures { IfOk result (λ m. m ≡ record { turn = 0; world = power (start_from setup.now patches.now) }) }
@@ -30,7 +34,13 @@ fn powered(alloc: Global, setup: &Setup, patches: &IndexMap<u32, u16>) -> Result
 ///
 /// Err where there is no memory for it.
 #[tactic(auto, using(crate::proofs::States::state_first, crate::proofs::States::state_next))]
-pub fn machine_at(alloc: Global, setup: &Setup, patches: &IndexMap<u32, u16>, meter: &mut Meter, turn: u32) -> Result<Machine<Flat>, NoMemory>
+pub fn machine_at(
+    alloc: Global,
+    setup: &Setup,
+    patches: &IndexMap<u32, u16>,
+    meter: &mut Meter,
+    turn: u32,
+) -> Result<Machine<Flat>, NoMemory>
     requires good { IsGood (start_from setup.now patches.now) }
     requires below { AllBelow (setup.now.units * UNIT_WORDS) patches.now.entries }
     requires limit { turn ≤ 1000000000 }

@@ -24,8 +24,8 @@ powered_board = record {
     previous = Kernel;
     priority = Level0;
     trace = false;
-    codes = record { n = false; z = false; v = false; c = false }
-  }
+    codes = record { n = false; z = false; v = false; c = false };
+  };
 }
 
 -- the bus as of power-up, over this core

@@ -6,6 +6,8 @@ mod bus;
 mod laws;
 mod priority;
 mod status;
+#[cfg(test)]
+mod tests;
 
 pub use board::Board;
 pub use bus::{Bus, Timeout};

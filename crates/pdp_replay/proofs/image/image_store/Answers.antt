@@ -5,5 +5,5 @@ pub loop-number-preserved : goal.loop-number-preserved
 loop-number-preserved c = record {
   words = rw (c.set.ensures.words, c.loop-number.invariant.words)
       (filled_one_more c.args.image.now c.args.words c.loop-number.number c.loop-number-test.true c.requires);
-  lasts = rw (c.set.ensures.lasts, c.loop-number.invariant.lasts) (blank_stays c.args.words c.loop-number.number _)
+  lasts = rw (c.set.ensures.lasts, c.loop-number.invariant.lasts) (blank_stays c.args.words c.loop-number.number _);
 }

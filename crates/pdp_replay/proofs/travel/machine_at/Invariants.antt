@@ -8,5 +8,5 @@ invariant-loop-turn l = record {
   turn : l.machine.turn ≡ l._turn;
   world : l.machine.world ≡ state_at (start_from l.setup l.patches) l._turn;
   least : l.fn.meter ≤ l.meter;
-  most : l.meter ≤ l.fn.meter + l._turn
+  most : l.meter ≤ l.fn.meter + l._turn;
 }

@@ -1,4 +1,4 @@
-use Rattle.std.proofs.Common.{arith, ◌<◌, ◌*◌, ◌/◌}
+use Rattle.std.proofs.Common.{arith}
 use Rattle.pdp_replay.proofs.Patches.{below_inserted}
 use Rattle.pdp_replay.proofs.engine.Engine.set_core.Goals as goal
 
@@ -7,5 +7,5 @@ invariant_of-self-2 c = record {
   good = record { units = c.self.invariant.good.units; stride = c.self.invariant.good.stride; core = c.self.invariant.good.core };
   below = rw c.in_ok-insert.ensures.entries (below_inserted _ _ _ _ (omega arith) c.self.invariant.below);
   reached = omega arith;
-  limit = c.self.invariant.limit
+  limit = c.self.invariant.limit;
 }

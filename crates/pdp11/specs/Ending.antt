@@ -1,0 +1,44 @@
+-- The exit statuses and the lines on standard error (this project's profile).
+use Rattle.std.specs.Prelude.{ℕ, ◌≡◌, List, [], Result, Ok, Err, codes}
+use Rattle.pdp_script.specs.declared.faults.Fault.{Fault}
+use Rattle.pdp_script.specs.declared.faults.Fault.TheVariants.{NoMemory as FaultNoMemory, Input, Output, BadImage as FaultBadImage, BadSetup as FaultBadSetup}
+use Rattle.pdp11.specs.declared.ending.Ending.{Ending}
+use Rattle.pdp11.specs.declared.ending.Ending.TheVariants.{Done, BadArguments, InputOrOutput, NoMemory, BadImage, BadSetup}
+
+abbrev pub status_of : Ending → ℕ
+status_of Done = 0
+status_of BadArguments = 2
+status_of InputOrOutput = 3
+status_of NoMemory = 4
+status_of BadImage = 5
+status_of BadSetup = 5
+
+abbrev pub line_of : Ending → List ℕ
+line_of Done = []
+line_of BadArguments = codes "pdp11: bad arguments"
+line_of InputOrOutput = codes "pdp11: input or output"
+line_of NoMemory = codes "pdp11: refused 1 NoMemory"
+line_of BadImage = codes "pdp11: refused 14 BadImage"
+line_of BadSetup = codes "pdp11: refused 15 BadSetup"
+
+-- a status and a line that stand in one row of the table
+abbrev pub IsListed : ℕ → List ℕ → Type 0
+IsListed status line = (ending : Ending) × (status ≡ status_of ending) × (line ≡ line_of ending)
+
+-- how the program ends after a session: faults 2 to 11 are replies, and end none, so the last row is 12 and 13
+abbrev pub ending_of : Result (Unit {0}) Fault → Ending
+ending_of (Ok x) = Done
+ending_of (Err FaultNoMemory) = NoMemory
+ending_of (Err FaultBadImage) = BadImage
+ending_of (Err FaultBadSetup) = BadSetup
+ending_of (Err _) = InputOrOutput
+
+-- the faults that end a session: those of its start, and those of its streams
+abbrev pub CanEnd : Result (Unit {0}) Fault → Type 0
+CanEnd (Ok x) = Unit {0}
+CanEnd (Err FaultNoMemory) = Unit {0}
+CanEnd (Err Input) = Unit {0}
+CanEnd (Err Output) = Unit {0}
+CanEnd (Err FaultBadImage) = Unit {0}
+CanEnd (Err FaultBadSetup) = Unit {0}
+CanEnd (Err _) = ⊥

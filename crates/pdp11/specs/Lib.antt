@@ -1,0 +1,4 @@
+pub mod Ending
+pub mod Numbers
+pub mod Outcome
+pub mod Words

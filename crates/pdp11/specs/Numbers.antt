@@ -1,0 +1,22 @@
+-- The numbers that the options give.
+use Rattle.std.specs.Prelude.{ℕ, List, Option, Some, None, min, option_map}
+use Rattle.pdp_word.specs.Number.{number_of}
+use Rattle.pdp11.specs.declared.options.Options.{Options}
+
+-- The number of an option whose field holds numbers up to `largest`: its default where the option isn't given, and
+-- none where its text is no number in this base. A number that the field can't hold becomes the largest that it can.
+abbrev pub number_given : ℕ → ℕ → ℕ → Option (List ℕ) → Option ℕ
+number_given base largest default None = Some default
+number_given base largest default (Some text) = option_map (λ number. min number largest) (number_of base text)
+
+-- the options, where each has its number
+abbrev pub all_given : Option ℕ → Option ℕ → Option ℕ → Option Options
+all_given None start stride = None
+all_given (Some units) None stride = None
+all_given (Some units) (Some start) None = None
+all_given (Some units) (Some start) (Some stride) = Some (record { units = units; start = start; stride = stride })
+
+-- what the texts of --units, --start and --stride ask for: without them 31, 1000 octal and 2,000,000,000
+abbrev pub options_given : Option (List ℕ) → Option (List ℕ) → Option (List ℕ) → Option Options
+options_given units start stride =
+    all_given (number_given 10 255 31 units) (number_given 8 65535 512 start) (number_given 10 4294967295 2000000000 stride)

@@ -1,0 +1,68 @@
+ghost use Rattle.std.specs.Prelude.{◌≡◌, option_map};
+ghost use Rattle.pdp11.specs.Numbers.{number_given, options_given};
+
+use pdp_word::{read_decimal, read_octal};
+
+const UNITS: u8 = 31;
+
+const START: u16 = 0o1000;
+
+const STRIDE: u32 = 2_000_000_000;
+
+/// The numbers that a run starts from, each as its field holds it: a number that its field can't hold is the
+/// field's largest one, which is out of range too.
+#[derive(Clone, Copy, Debug, PartialEq, Eq)]
+pub struct Options {
+    /// The size of core, in units of 4,096 words.
+    pub units: u8,
+    /// The address that PC has at power-up.
+    pub start: u16,
+    /// The stride, in turns.
+    pub stride: u32,
+}
+
+/// The options with these texts, decimal, octal and decimal: without them 31 units, start address 1000 and a
+/// stride of 2,000,000,000 turns. `None` where a text is no number of 1 to 10 digits.
+pub fn read_options(
+    units: Option<&str>,
+    start: Option<&str>,
+    stride: Option<&str>,
+) -> Option<Options>
+    ensures { result ≡ options_given (option_map (λ text. text.now) units.entry)
+        (option_map (λ text. text.now) start.entry) (option_map (λ text. text.now) stride.entry) }
+{
+    let units = units_given(units)?;
+    let start = start_given(start)?;
+    let stride = stride_given(stride)?;
+    Some(Options {
+        units,
+        start,
+        stride,
+    })
+}
+
+fn units_given(text: Option<&str>) -> Option<u8>
+    ensures { result ≡ number_given 10 255 31 (option_map (λ text. text.now) text.entry) }
+{
+    let Some(text) = text else { return Some(UNITS) };
+    let units = read_decimal(text.as_bytes())?;
+    Some(u8::try_from(units).unwrap_or(u8::MAX))
+}
+
+fn start_given(text: Option<&str>) -> Option<u16>
+    ensures { result ≡ number_given 8 65535 512 (option_map (λ text. text.now) text.entry) }
+{
+    let Some(text) = text else { return Some(START) };
+    let start = read_octal(text.as_bytes())?;
+    Some(u16::try_from(start).unwrap_or(u16::MAX))
+}
+
+fn stride_given(text: Option<&str>) -> Option<u32>
+    ensures { result ≡ number_given 10 4294967295 2000000000 (option_map (λ text. text.now) text.entry) }
+{
+    let Some(text) = text else {
+        return Some(STRIDE)
+    };
+    let stride = read_decimal(text.as_bytes())?;
+    Some(u32::try_from(stride).unwrap_or(u32::MAX))
+}

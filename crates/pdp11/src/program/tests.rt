@@ -1,0 +1,154 @@
+use super::*;
+use crate::files::FileFailure;
+use pdp_script::Fault;
+use pdp_session::{FromRead, ToWrite};
+use std::io;
+use std::io::Read;
+use std::test::Fail;
+
+const HELP: &str = "\
+A PDP-11/40 whose past can be edited: it reads the lines of a session and writes their replies
+
+Usage: pdp11 [OPTIONS]
+
+Options:
+      --units <N>   Units of core, of 4096 words each, 1 to 31 [default: 31]
+      --start <A>   Start address, octal and even [default: 1000]
+      --stride <N>  Stride in turns, 2000000000 for now [default: 2000000000]
+  -h, --help        Print help
+";
+
+#[derive(Drop)]
+struct NoFiles;
+
+impl Files for NoFiles {
+    fn bytes(&mut self, _alloc: Global, _name: &str) -> Result<Vec<u8>, FileFailure> {
+        Err(FileFailure::Unreadable)
+    }
+}
+
+#[derive(Drop)]
+struct Broken;
+
+impl Read for Broken {
+    fn read(&mut self, _buf: &mut [u8]) -> io::Result<usize> {
+        Err(io::Error::from(io::ErrorKind::Other))
+    }
+}
+
+const DONE: (u8, &str) = (0, "");
+
+const BAD_ARGUMENTS: (u8, &str) = (2, "pdp11: bad arguments");
+
+const INPUT_OR_OUTPUT: (u8, &str) = (3, "pdp11: input or output");
+
+const BAD_SETUP: (u8, &str) = (5, "pdp11: refused 15 BadSetup");
+
+// The outcome of these words on an empty input, and what was written.
+fn outcome_of(alloc: Global, words: &[&str], written: &mut Vec<u8>) -> (u8, &'static str) {
+    let input: &[u8] = &[];
+    let mut reader = FromRead::new(input);
+    let mut writer = ToWrite::new(written);
+    outcome(alloc, words, &mut NoFiles, &mut reader, &mut writer)
+}
+
+#[test]
+fn words_and_statuses(rt: HostRuntime) -> Result<(), Fail> {
+    let rows: [(&[&str], (u8, &str)); 19] = [
+        (&["pdp11"], DONE),
+        (
+            &[
+                "pdp11",
+                "--units",
+                "1",
+                "--start",
+                "2000",
+                "--stride",
+                "2000000000",
+            ],
+            DONE,
+        ),
+        (&["pdp11", "--units=031"], DONE),
+        (&["pdp11", "--units", "32"], BAD_SETUP),
+        (&["pdp11", "--units", "0"], BAD_SETUP),
+        (&["pdp11", "--units", "257"], BAD_SETUP),
+        (&["pdp11", "--start", "1001"], BAD_SETUP),
+        (&["pdp11", "--start", "201000"], BAD_SETUP),
+        (&["pdp11", "--stride", "4294967297"], BAD_SETUP),
+        (&["pdp11", "--stride", "10000"], BAD_SETUP),
+        (&["pdp11", "--units", "x"], BAD_ARGUMENTS),
+        (&["pdp11", "--units", ""], BAD_ARGUMENTS),
+        (&["pdp11", "--units", "00000000031"], BAD_ARGUMENTS),
+        (&["pdp11", "--start", "1008"], BAD_ARGUMENTS),
+        (&["pdp11", "--stride", "1e4"], BAD_ARGUMENTS),
+        (&["pdp11", "--units"], BAD_ARGUMENTS),
+        (&["pdp11", "--units", "1", "--units", "1"], BAD_ARGUMENTS),
+        (&["pdp11", "--version"], BAD_ARGUMENTS),
+        (&["pdp11", "help"], BAD_ARGUMENTS),
+    ];
+    for (words, told) in rows {
+        let mut written = Vec::new(rt.alloc());
+        assert_eq!(rt;
+            outcome_of(rt.alloc(), words, &mut written),
+            told,
+            "{words:?}"
+        );
+    }
+    Ok(())
+}
+
+#[test]
+fn writes_help(rt: HostRuntime) -> Result<(), Fail> {
+    let rows: [&[&str]; 3] = [
+        &["pdp11", "--help"],
+        &["pdp11", "-h"],
+        &["pdp11", "--units", "x", "--help"],
+    ];
+    for words in rows {
+        let mut written = Vec::new(rt.alloc());
+        assert_eq!(rt; outcome_of(rt.alloc(), words, &mut written), DONE);
+        assert_eq!(rt; str::from_utf8(written.as_slice())?, HELP);
+    }
+    Ok(())
+}
+
+#[test]
+fn tells_of_failed_streams(rt: HostRuntime) -> Result<(), Fail> {
+    let alloc = rt.alloc();
+    let mut no_room: [u8; 0] = [];
+    let mut full = ToWrite::new(no_room.as_mut_slice());
+    let mut empty = FromRead::new(b"".as_slice());
+    let told = outcome(
+        alloc,
+        &["pdp11", "--help"],
+        &mut NoFiles,
+        &mut empty,
+        &mut full,
+    );
+    assert_eq!(rt; told, INPUT_OR_OUTPUT);
+    let mut no_room: [u8; 0] = [];
+    let mut full = ToWrite::new(no_room.as_mut_slice());
+    let mut lines = FromRead::new(b"regs 0\n".as_slice());
+    let told = outcome(alloc, &["pdp11"], &mut NoFiles, &mut lines, &mut full);
+    assert_eq!(rt; told, INPUT_OR_OUTPUT);
+    let mut written = Vec::new(alloc);
+    let mut writer = ToWrite::new(&mut written);
+    let mut broken = FromRead::new(Broken);
+    let told = outcome(alloc, &["pdp11"], &mut NoFiles, &mut broken, &mut writer);
+    assert_eq!(rt; told, INPUT_OR_OUTPUT);
+    Ok(())
+}
+
+#[test]
+fn tells_of_refused_setups(rt: HostRuntime) {
+    let no_memory = Ending::of_session(Err(Fault::NoMemory));
+    assert_eq!(rt;
+        (no_memory.status(), no_memory.line()),
+        (4, "pdp11: refused 1 NoMemory")
+    );
+    let bad_image = Ending::of_session(Err(Fault::BadImage));
+    assert_eq!(rt;
+        (bad_image.status(), bad_image.line()),
+        (5, "pdp11: refused 14 BadImage")
+    );
+}

@@ -1,0 +1,10 @@
+pub mod Arguments
+pub mod Commands
+pub mod Grammar
+pub mod Lines
+pub mod Progress
+pub mod Replies
+pub mod Sends
+pub mod Session
+pub mod Streams
+pub mod Words

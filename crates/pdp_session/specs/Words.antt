@@ -1,0 +1,10 @@
+-- The words of a line: what stands between its spaces and tabs (this project's profile).
+use Rattle.std.specs.Prelude.{ℕ, Bool, ◌||◌, ◌==◌, nat_lt, List, length}
+use Rattle.std.specs.List.{slice_split, filter}
+
+-- a space or a tab; any other byte is part of a word
+abbrev pub is_blank : ℕ → Bool
+is_blank byte = byte == 32 || byte == 9
+
+unfoldable pub words_of : List ℕ → List (List ℕ)
+words_of text = filter (λ word. nat_lt 0 (length word)) (slice_split is_blank text)

@@ -1,0 +1,97 @@
+ghost use Rattle.std.specs.Prelude.{◌≡◌};
+ghost use Rattle.pdp_session.specs.Words.{words_of};
+ghost use Rattle.pdp_session.specs.Grammar.{set_core_with, regs_with, command_with, line_means};
+
+use crate::arguments::{one_word, read_turn, read_word, two_words};
+use crate::words::next_word;
+use pdp_replay::{Fault, Question};
+use pdp_word::read_octal;
+
+// A command of the session language.
+#[derive(Clone, Copy, Debug, PartialEq, Eq)]
+pub enum Command {
+    SetCore { address: u32, word: u16 },
+    Ask(Question),
+}
+
+// The most bytes that a line may have.
+const LONGEST: usize = 200;
+
+// A line, less what ended it, as a command; `None` for a line without words and for a comment.
+// `LineTooLong` comes where the line has more than 200 bytes, and `BadLine` where it is not in the grammar.
+#[tactic(auto, unfolding(crate::specs::Grammar::line_means))]
+pub fn read_line(line: &[u8]) -> Result<Option<Command>, Fault>
+    ensures { result ≡ line_means line.now }
+{
+    if line.len() > LONGEST {
+        return Err(Fault::LineTooLong);
+    }
+    if line.first() == Some(&b'#') {
+        return Ok(None);
+    }
+    match next_word(line) {
+        None => Ok(None),
+        Some((name, arguments)) => {
+            let command = read_command(name, arguments).ok_or(Fault::BadLine)?;
+            Ok(Some(command))
+        }
+    }
+}
+
+// The command of a name, with the words that follow it.
+#[tactic(auto, unfolding(crate::specs::Grammar::command_with))]
+fn read_command(name: &[u8], arguments: &[u8]) -> Option<Command>
+    ensures { result ≡ command_with name.now (words_of arguments.now) }
+{
+    if name == b"core".as_slice() {
+        read_core(arguments)
+    } else if name == b"regs".as_slice() {
+        read_regs(arguments)
+    } else {
+        None
+    }
+}
+
+// `core A W`
+fn read_core(arguments: &[u8]) -> Option<Command>
+    ensures { result ≡ set_core_with (words_of arguments.now) }
+{
+    let (address, word) = two_words(arguments)?;
+    let address = read_octal(address)?;
+    let word = read_word(word)?;
+    Some(Command::SetCore { address, word })
+}
+
+// `regs N`
+fn read_regs(arguments: &[u8]) -> Option<Command>
+    ensures { result ≡ regs_with (words_of arguments.now) }
+{
+    let turn = read_turn(one_word(arguments)?)?;
+    Some(Command::Ask(Question::Regs(turn)))
+}
+
+#[cfg(test)]
+mod tests {
+    use super::*;
+
+    #[test]
+    fn commands(rt: HostRuntime) {
+        let set = Command::SetCore {
+            address: 0o1000,
+            word: 0o12700,
+        };
+        assert_eq!(rt; read_line(b"core 1000 012700"), Ok(Some(set)));
+        assert_eq!(rt;
+            read_line(b"regs 2"),
+            Ok(Some(Command::Ask(Question::Regs(2))))
+        );
+        assert_eq!(rt;
+            read_line(b"regs 9999999999"),
+            Ok(Some(Command::Ask(Question::Regs(u32::MAX))))
+        );
+        assert_eq!(rt; read_line(b"core 1000 200000"), Err(Fault::BadLine));
+        assert_eq!(rt; read_line(b"core 1000"), Err(Fault::BadLine));
+        assert_eq!(rt; read_line(b"patches"), Err(Fault::BadLine));
+        assert_eq!(rt; read_line(b""), Ok(None));
+    }
+}

@@ -1,0 +1,56 @@
+ghost use Rattle.std.specs.Prelude.{◌≡◌, ℕ, ◌<◌, ◌≤◌, Option, List, Bool, ◌||◌, is_err, length, IfOk, OnOk};
+ghost use Rattle.std.specs.Io.KnownBytes.{ReadConsumes, WriteAppends};
+ghost use Rattle.pdp_session.specs.Streams.{put_failed};
+
+/// A stream failed: a read or a write was refused, or the reader has no pulls left.
+#[derive(Clone, Copy, Debug, PartialEq, Eq)]
+pub struct Failed;
+
+/// Where a session's bytes come from.
+pub trait Feed {
+    // the bytes that are still to come, where they are known
+    ghost remaining: { Self → Option (List ℕ) };
+
+    // how many pulls are left
+    ghost pulls: { Self → ℕ };
+
+    // whether a pull has failed since the feed was made
+    ghost has_failed: { Self → Bool };
+
+    /// Takes the next bytes into the front of `buf` and answers how many there were: 0 only at the end
+    /// of the input, or where `buf` has no room. Each pull that doesn't fail lowers what [`left`](Feed::left)
+    /// answers. [`Failed`] comes where the input can't be read or no pulls are left, and then no byte was taken.
+    fn pull(&mut self, buf: &mut [u8]) -> Result<usize, Failed>
+        ensures bound { IfOk result (λ n. n ≤ length buf.new) }
+        ensures bytes { ReadConsumes (remaining self.old) (remaining self.new) result buf.new }
+        ensures falls { OnOk result (pulls self.new < pulls self.old) }
+        ensures fails { has_failed self.new ≡ (has_failed self.old || is_err result) };
+
+    /// How many pulls are left: at 0 the next one fails.
+    fn left(&self) -> u64
+        ensures { result ≡ pulls self.now };
+
+    /// Whether a pull has failed since the feed was made.
+    fn failed(&self) -> bool
+        ensures { result ≡ has_failed self.now };
+}
+
+/// Where a session's bytes go.
+pub trait Drain {
+    // the bytes that were put, where they are known
+    ghost written: { Self → Option (List ℕ) };
+
+    // whether a put has failed since the drain was made, or took none of some bytes
+    ghost has_failed: { Self → Bool };
+
+    /// Writes a front part of `bytes` and answers how many bytes that was. [`Failed`] comes where the
+    /// output can't be written, and then no byte was.
+    fn put(&mut self, bytes: &[u8]) -> Result<usize, Failed>
+        ensures bound { IfOk result (λ n. n ≤ length bytes.now) }
+        ensures bytes { WriteAppends (written self.old) (written self.new) result bytes.now }
+        ensures fails { has_failed self.new ≡ (has_failed self.old || put_failed result (length bytes.now)) };
+
+    /// Whether a put has failed since the drain was made, or took none of some bytes.
+    fn failed(&self) -> bool
+        ensures { result ≡ has_failed self.now };
+}

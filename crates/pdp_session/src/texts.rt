@@ -1,0 +1,87 @@
+ghost use Rattle.std.specs.Prelude.{◌≡◌, ◌+◌, ◌≤◌, ◌++◌, length, codes};
+ghost use Rattle.pdp_session.specs.Replies.{field, regs_line, state_name, refusal_line};
+
+use arrayvec::ArrayVec;
+use itoa::Buffer;
+use pdp_replay::{Fault, Regs, RunState};
+use pdp_word::write_octal6;
+
+// The most bytes that a reply has.
+const LONGEST: usize = 128;
+
+// The text of one reply. It takes no memory.
+pub type Text = ArrayVec<u8, LONGEST>;
+
+// Adds `bytes` at the end.
+pub fn add(text: &mut Text, bytes: &[u8])
+    requires { length text.old.items + length bytes.now ≤ 128 }
+    ensures { text.new.items ≡ text.old.items ++ bytes.now }
+{
+    let _ = text.try_extend_from_slice(bytes);
+}
+
+// A name, the word in six octal digits, and the space after it.
+fn add_field(text: &mut Text, name: &str, word: u16)
+    requires { length text.old.items + length name.now + 8 ≤ 128 }
+    ensures field { text.new.items ≡ text.old.items ++ field name.now word }
+    ensures length { length text.new.items ≡ length text.old.items + length name.now + 8 }
+{
+    add(text, name.as_bytes());
+    add(text, b" ");
+    add(text, &write_octal6(u32::from(word)));
+    add(text, b" ");
+}
+
+// The reply to an edit that was made.
+pub fn done_text() -> Text
+    ensures { result.items ≡ codes "ok" }
+{
+    let mut text = Text::new();
+    add(&mut text, b"ok");
+    text
+}
+
+// The registers and the run state.
+pub fn regs_text(regs: Regs) -> Text
+    ensures text { result.items ≡ regs_line regs }
+    ensures length { length result.items ≤ 120 }
+{
+    let mut text = Text::new();
+    add_field(&mut text, "R0", regs.r[0]);
+    add_field(&mut text, "R1", regs.r[1]);
+    add_field(&mut text, "R2", regs.r[2]);
+    add_field(&mut text, "R3", regs.r[3]);
+    add_field(&mut text, "R4", regs.r[4]);
+    add_field(&mut text, "R5", regs.r[5]);
+    add_field(&mut text, "KSP", regs.ksp);
+    add_field(&mut text, "USP", regs.usp);
+    add_field(&mut text, "PC", regs.pc);
+    add_field(&mut text, "PS", regs.ps);
+    add(&mut text, state_name(regs.state).as_bytes());
+    text
+}
+
+fn state_name(state: RunState) -> &'static str
+    ensures name { result.now ≡ state_name state }
+    ensures length { length result.now ≤ 6 }
+{
+    match state {
+        RunState::Run => "run",
+        RunState::Wait => "wait",
+        RunState::Halted => "halted",
+    }
+}
+
+// The number and the name of a refusal.
+pub fn refusal_text(fault: Fault) -> Text
+    ensures text { result.items ≡ refusal_line fault }
+    ensures length { length result.items ≤ 120 }
+{
+    let mut text = Text::new();
+    let mut buffer = Buffer::new();
+    add(&mut text, b"refused ");
+    add(&mut text, buffer.format(fault.number()).as_bytes());
+    add(&mut text, b" ");
+    add(&mut text, fault.name().as_bytes());
+    text
+}

@@ -1,0 +1,51 @@
+"""The stored sessions of a folder: NAME.session is standard input, NAME.args the arguments (one a line),
+NAME.expected standard output, NAME.status the exit status (no file: 0), NAME.stderr standard error (no file: empty)."""
+import os
+import subprocess
+from collections import namedtuple
+
+SECONDS = 60
+
+Ended = namedtuple("Ended", "output status error")
+Session = namedtuple("Session", "name lines args expected")
+
+
+def stored(path, default=b""):
+    if not os.path.exists(path):
+        return default
+    with open(path, "rb") as file:
+        return file.read()
+
+
+def sessions_of(folder):
+    """Every session in the folder and the folders below it, in the order of their names."""
+    found = []
+    for at, folders, files in os.walk(folder):
+        folders.sort()
+        for file in sorted(files):
+            base, ending = os.path.splitext(os.path.join(at, file))
+            if ending == ".session":
+                args = stored(base + ".args").decode().splitlines()
+                status = int(stored(base + ".status", b"0"))
+                expected = Ended(stored(base + ".expected"), status, stored(base + ".stderr"))
+                found.append(Session(base, stored(base + ".session"), args, expected))
+    return found
+
+
+def run(program, args, lines, **more):
+    """Runs the program over these lines; `more` goes to subprocess.run."""
+    try:
+        ran = subprocess.run([program, *args], input=lines, capture_output=True, timeout=SECONDS, **more)
+    except subprocess.TimeoutExpired:
+        return Ended(b"", f"no answer in {SECONDS} seconds", b"")
+    return Ended(ran.stdout, ran.returncode, ran.stderr)
+
+
+def difference(got, wanted):
+    """Says where they differ first."""
+    for name in ("status", "error"):
+        if getattr(got, name) != getattr(wanted, name):
+            return f"{name} is {getattr(got, name)!r}, and not {getattr(wanted, name)!r}"
+    ours, theirs = got.output.split(b"\n"), wanted.output.split(b"\n")
+    at = next(i for i in range(max(len(ours), len(theirs))) if ours[i : i + 1] != theirs[i : i + 1])
+    return f"line {at + 1} of the output is {ours[at : at + 1]}, and not {theirs[at : at + 1]}"
