@@ -2,6 +2,7 @@ ghost use Rattle.std.specs.Prelude.{◌≡◌, ◌+◌, ◌-◌, ◌^◌, ◌<�
 ghost use Rattle.pdp_unibus.specs.BusWorld.{powered};
 ghost use Rattle.pdp_cpu.specs.MachineState.{IsReady, powered_machine, after_turn};
 ghost use Rattle.pdp_cpu.specs.Regs.{regs_of};
+ghost use Rattle.pdp_cpu.specs.World.{act_of};
 
 use crate::act::Act;
 use crate::instruction::instruct;
@@ -118,8 +119,6 @@ impl<S: Store> Machine<S> {
         self.bus.last(number)
     }
 }
-
-ghost use Rattle.pdp_cpu.specs.World.{act_of};
 
 /// What this turn does: an instruction, unless the machine waits or is halted.
 #[inline(always)]

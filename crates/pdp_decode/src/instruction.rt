@@ -1,5 +1,6 @@
 // The instructions, one variant for each row of the opcode table.
 ghost use Rattle.std.specs.Prelude.{◌≡◌};
+ghost use Rattle.pdp_decode.specs.Instruction.{mnemonic};
 
 /// An operand specifier, six bits of an instruction word: the addressing mode above, the register
 /// below, each from 0 to 7.
@@ -28,8 +29,6 @@ pub enum Instr {
     /// Any word that the table doesn't name (this project's profile).
     Reserved,
 }
-
-ghost use Rattle.pdp_decode.specs.Instruction.{mnemonic};
 
 /// The mnemonic of an instruction, as the handbook spells it; `Reserved` for a reserved word.
 ///

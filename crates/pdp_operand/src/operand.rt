@@ -1,10 +1,11 @@
-ghost use Rattle.std.specs.Prelude.{◌≡◌, ◌<◌, Result, Ok, IfOk, [], ◌∷◌};
+ghost use Rattle.std.specs.Prelude.{◌≡◌, ◌<◌, Result, Ok, IfOk, [], ◌∷◌, false};
 ghost use Rattle.pdp_word.specs.Size.{span};
 ghost use Rattle.pdp_operand.specs.Phase.{Latch, State, Fault, run, state_of};
 ghost use Rattle.pdp_operand.specs.Plan.{run_plan};
 ghost use Rattle.pdp_operand.specs.Operand.{grow, shrink, index, indirect, point, find, found, found_cell, read_operand, fetched, write_operand, stored, step_of};
 ghost use Rattle.pdp_operand.specs.declared.processor.Processor.{Processor};
 ghost use Rattle.pdp_operand.specs.declared.place.Place.TheVariants.{Mem};
+ghost use Rattle.pdp_operand.specs.Slot.{slot_of};
 
 use crate::place::{Cell, Place};
 use crate::processor::{Processor, Slot};
@@ -29,8 +30,6 @@ fn cell_at<S: Store>(bus: &Bus<S>, address: u16) -> Cell
     }
 }
 
-ghost use Rattle.std.specs.Prelude.{false};
-
 /// The register that a number names in the mode of now.
 #[inline(always)]
 fn slot<S: Store>(bus: &Bus<S>, register: u8) -> Slot
@@ -39,8 +38,6 @@ fn slot<S: Store>(bus: &Bus<S>, register: u8) -> Slot
 {
     Slot::of(bus.status().mode, register)
 }
-
-ghost use Rattle.pdp_operand.specs.Slot.{slot_of};
 
 /// (R)
 #[inline(always)]

@@ -1,4 +1,4 @@
-ghost use Rattle.std.specs.Prelude.{◌≡◌, ◌+◌, ◌-◌, ◌*◌, ◌<◌, ◌≤◌, ◌++◌, length, replicate, None, IfOk, All};
+ghost use Rattle.std.specs.Prelude.{◌≡◌, ◌+◌, ◌-◌, ◌*◌, ◌<◌, ◌≤◌, ◌++◌, length, replicate, None, IfOk, All, slice_get, unwrap_or, option_to_list};
 ghost use Rattle.pdp_store.specs.Stored.{Stored};
 ghost use Rattle.pdp_replay.specs.Core.{padded, put_all, AllBelow};
 ghost use Rattle.indexmap.specs.IndexMap.{IndexMap};
@@ -33,8 +33,6 @@ pub fn put_patches(store: &mut Flat, patches: &IndexMap<u32, u16>)
         put_patch(store, patches, index);
     }
 }
-
-ghost use Rattle.std.specs.Prelude.{slice_get, unwrap_or, option_to_list};
 
 /// Puts the patch of this index into the store.
 #[tactic(auto, using(crate::proofs::Lists::blank_stays))]

@@ -1,5 +1,6 @@
 ghost use Rattle.std.specs.Prelude.{◌≡◌, Result};
 ghost use Rattle.pdp_script.specs.Refusal.{result_map};
+ghost use Rattle.pdp_replay.specs.Start.{given, start_of};
 
 use pdp_script::Fault;
 
@@ -31,8 +32,6 @@ pub struct Setup {
     /// How many turns apart states are kept: 2,000,000,000 for now.
     pub stride: u32,
 }
-
-ghost use Rattle.pdp_replay.specs.Start.{given, start_of};
 
 impl Setup {
     /// Whether a run can start from this setup.

@@ -1,4 +1,5 @@
 ghost use Rattle.std.specs.Prelude.{◌≡◌, ◌<◌};
+ghost use Rattle.pdp_unibus.specs.Flag.{flag_bit};
 
 use crate::priority::Priority;
 use pdp_kt11::Mode;
@@ -23,8 +24,6 @@ fn bit(flag: bool) -> u16
 {
     if flag { 1 } else { 0 }
 }
-
-ghost use Rattle.pdp_unibus.specs.Flag.{flag_bit};
 
 impl Status {
     ghost use Rattle.pdp_unibus.specs.Status.{status_word};
