@@ -1,4 +1,5 @@
-ghost use Rattle.std.specs.Prelude.{◌≡◌};
+ghost use Rattle.std.specs.Prelude.{◌≡◌, ◌<◌};
+ghost use Rattle.pdp_word.specs.Size.{span};
 ghost use Rattle.pdp_alu.specs.Effect.{effect};
 
 use pdp_word::{Codes, Size};
@@ -14,7 +15,8 @@ impl Effect {
     // The effect with this value, cut to the size, with N and Z of what is left.
     #[inline]
     pub(crate) fn new(size: Size, value: u16, overflow: bool, carry: bool) -> Effect
-        ensures { result ≡ effect size value overflow carry }
+        ensures effect { result ≡ effect size value overflow carry }
+        ensures fits { result.value < span size }
     {
         let (value, sign) = match size {
             Size::Word => (value, 0o100000),

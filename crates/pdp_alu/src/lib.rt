@@ -3,10 +3,12 @@
 
 mod effect;
 mod moves;
+mod single_operand;
 
 pub use effect::Effect;
-pub use moves::mov;
+pub use moves::{mov, sign_extend};
 pub use pdp_word::{Codes, Size};
+pub use single_operand::tst;
 
 #[cfg(test)]
 mod tests;

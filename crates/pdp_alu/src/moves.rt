@@ -1,5 +1,6 @@
-ghost use Rattle.std.specs.Prelude.{◌≡◌};
-ghost use Rattle.pdp_alu.specs.Effect.{mov_effect};
+ghost use Rattle.std.specs.Prelude.{◌≡◌, ◌<◌};
+ghost use Rattle.pdp_word.specs.Size.{span};
+ghost use Rattle.pdp_alu.specs.Effect.{mov_effect, sign_extended};
 
 use crate::effect::Effect;
 use pdp_word::{Codes, Size};
@@ -10,7 +11,17 @@ use pdp_word::{Codes, Size};
 #[inline]
 #[tactic(auto, unfolding(crate::specs::Effect::mov_effect))]
 pub fn mov(size: Size, value: u16, codes: Codes) -> Effect
-    ensures { result ≡ mov_effect size value codes }
+    ensures effect { result ≡ mov_effect size value codes }
+    ensures fits { result.value < span size }
 {
     Effect::new(size, value, false, codes.c)
+}
+
+/// The word that MOVB leaves in a register: the byte below, its top bit in all of the high byte
+/// (DEC PDP-11/40 Processor Handbook (1972), Instruction set, MOV).
+#[inline]
+pub fn sign_extend(byte: u8) -> u16
+    ensures { result ≡ sign_extended byte }
+{
+    i16::from(byte.cast_signed()).cast_unsigned()
 }

@@ -50,3 +50,41 @@ fn moves_bytes(rt: HostRuntime) {
         }
     );
 }
+
+#[test]
+fn extends_signs(rt: HostRuntime) {
+    for (byte, want) in [
+        (0, 0),
+        (0o101, 0o000101),
+        (0o177, 0o000177),
+        (0o200, 0o177600),
+        (0o377, 0o177777),
+    ] {
+        assert_eq!(rt; sign_extend(byte), want, "at {byte:03o}");
+    }
+}
+
+#[test]
+fn tests_words_and_bytes(rt: HostRuntime) {
+    for (size, value, want, n, z) in [
+        (Size::Word, 0o177777, 0o177777, true, false),
+        (Size::Word, 0o000200, 0o000200, false, false),
+        (Size::Word, 0, 0, false, true),
+        (Size::Byte, 0o000200, 0o200, true, false),
+        (Size::Byte, 0o177400, 0, false, true),
+        (Size::Byte, 0o000101, 0o101, false, false),
+    ] {
+        let tested = tst(size, value);
+        assert_eq!(rt; tested.value, want, "at {value:06o}");
+        assert_eq!(rt;
+            tested.codes,
+            Codes {
+                n,
+                z,
+                v: false,
+                c: false
+            },
+            "at {value:06o}"
+        );
+    }
+}

@@ -1,3 +1,4 @@
 pub mod Steps
 pub mod Endings
+pub mod Events
 pub mod TurnLaws

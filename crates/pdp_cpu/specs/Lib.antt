@@ -1,7 +1,9 @@
 pub mod Ending
 pub mod Execute
 pub mod Control
+pub mod Operands
 pub mod Moves
+pub mod SingleOperand
 pub mod Instruction
 pub mod World
 pub mod MachineState

@@ -2,6 +2,7 @@
 use Rattle.std.specs.Prelude.{ℕ, ◌+◌, List, Option}
 use Rattle.pdp_store.specs.declared.Stamp.{Stamp}
 use Rattle.pdp_unibus.specs.BusWorld.{powered}
+use Rattle.pdp_unibus.specs.declared.event.Event.{Event}
 use Rattle.pdp_operand.specs.Processor.{powered_processor}
 use Rattle.pdp_cpu.specs.World.{World, world, one_turn}
 
@@ -21,6 +22,6 @@ powered_machine start words lasts = record { turn = 0; world = powered_world sta
 unfoldable pub IsReady : MachineState → Type 0
 IsReady m = Unit {0}
 
--- the machine after its next turn
-abbrev pub after_turn : MachineState → MachineState
-after_turn m = record { turn = m.turn + 1; world = one_turn m.turn m.world }
+-- the machine after its next turn, with these events
+abbrev pub after_turn : List Event → MachineState → MachineState
+after_turn events m = record { turn = m.turn + 1; world = one_turn m.turn events m.world }

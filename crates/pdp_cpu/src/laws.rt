@@ -1,7 +1,8 @@
-//! Laws of turns, for every turn and every world.
+//! Laws of turns, for every turn, its events and every world.
 
-ghost use Rattle.std.specs.Prelude.{◌≡◌, ◌<◌, ◌≤◌, ℕ, All, None, length, slice_index_or};
+ghost use Rattle.std.specs.Prelude.{◌≡◌, ◌<◌, ◌≤◌, ℕ, All, List, None, length, slice_index_or};
 ghost use Rattle.pdp_unibus.specs.BusWorld.{BusWorld};
+ghost use Rattle.pdp_unibus.specs.declared.event.Event.{Event};
 ghost use Rattle.pdp_operand.specs.Page.{AlikeOutside};
 ghost use Rattle.pdp_operand.specs.Touched.{IsOfTurn};
 ghost use Rattle.pdp_operand.specs.Trace.{Avoids, last_write};
@@ -9,34 +10,34 @@ ghost use Rattle.pdp_operand.specs.declared.processor.Processor.{Processor};
 ghost use Rattle.pdp_cpu.specs.TurnLaws.{Undisturbed, turn_phases};
 ghost use Rattle.pdp_cpu.specs.World.{World, one_turn, turn_trace, world};
 
-/// A law of turns: a turn runs at most 32 phases, one that faults counted too, so no chain of faults goes on for ever.
+/// A law of turns: a turn runs at most 32 phases, one that faults counted too.
 #[tactic(auto, using(crate::proofs::TurnLaws::turn_at_most_32))]
 pub fn turns_end_within_32_phases()
-    ensures { (t : ℕ) (w : World) → turn_phases t w ≤ 32 }
+    ensures { (t : ℕ) (events : List Event) (w : World) → turn_phases t events w ≤ 32 }
 {}
 
 /// A law of turns: after a turn, the last stamp of each word is that of its last write in the trace of the turn, or the
 /// one from before where the turn did not write it.
 #[tactic(auto, using(crate::proofs::TurnLaws::turn_lasts))]
 pub fn stamps_are_last_writes()
-    ensures { (t : ℕ) (w : World) (k : ℕ) → k < length w.bus.lasts → slice_index_or (one_turn t w).bus.lasts k None ≡ last_write (turn_trace t w) k (slice_index_or w.bus.lasts k None) }
+    ensures { (t : ℕ) (events : List Event) (w : World) (k : ℕ) → k < length w.bus.lasts → slice_index_or (one_turn t events w).bus.lasts k None ≡ last_write (turn_trace t events w) k (slice_index_or w.bus.lasts k None) }
 {}
 
 /// A law of turns: every access in the trace of a turn is by the processor, in that turn, to a word that core has.
 #[tactic(auto, using(crate::proofs::TurnLaws::turn_touches))]
 pub fn touches_are_of_their_turn()
-    ensures { (t : ℕ) (w : World) → All (IsOfTurn t (length w.bus.core)) (turn_trace t w) }
+    ensures { (t : ℕ) (events : List Event) (w : World) → All (IsOfTurn t (length w.bus.core)) (turn_trace t events w) }
 {}
 
 /// A law of turns: core and its stamps keep their lengths.
 #[tactic(auto, using(crate::proofs::TurnLaws::turn_keeps_words, crate::proofs::TurnLaws::turn_keeps_lasts))]
 pub fn turns_keep_the_size_of_core()
-    ensures words { (t : ℕ) (w : World) → length (one_turn t w).bus.core ≡ length w.bus.core }
-    ensures lasts { (t : ℕ) (w : World) → length (one_turn t w).bus.lasts ≡ length w.bus.lasts }
+    ensures words { (t : ℕ) (events : List Event) (w : World) → length (one_turn t events w).bus.core ≡ length w.bus.core }
+    ensures lasts { (t : ℕ) (events : List Event) (w : World) → length (one_turn t events w).bus.lasts ≡ length w.bus.lasts }
 {}
 
 /// A law of turns: a turn whose trace avoids a page of 256 words leaves the page as it was, and does the same in every
 /// other way whatever words the page holds.
 pub fn turns_leave_what_they_never_touch()
-    ensures { (page t : ℕ) (p : Processor) (b c : BusWorld) → AlikeOutside page b c → Avoids page (turn_trace t (world p b)) → Undisturbed page t p b c }
+    ensures { (page t : ℕ) (events : List Event) (p : Processor) (b c : BusWorld) → AlikeOutside page b c → Avoids page (turn_trace t events (world p b)) → Undisturbed page t events p b c }
 {}

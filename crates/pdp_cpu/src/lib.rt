@@ -2,6 +2,7 @@
 #![tactic(auto)]
 
 mod act;
+mod condition;
 mod control;
 mod execute;
 mod instruction;
@@ -9,7 +10,9 @@ mod laws;
 mod machine;
 mod meter;
 mod moves;
+mod operands;
 mod regs;
+mod single_operand;
 #[cfg(test)]
 mod tests;
 

@@ -10,7 +10,7 @@ use crate::meter::Meter;
 use crate::regs::Regs;
 use pdp_operand::{Processor, RunState, Slot};
 use pdp_store::{Stamp, Store};
-use pdp_unibus::Bus;
+use pdp_unibus::{Bus, Event};
 use pdp_word::NoMemory;
 use std::alloc::Global;
 use std::marker::Model;
@@ -59,19 +59,22 @@ impl<S: Store> Machine<S> {
         Ok(())
     }
 
-    /// One whole turn, and one tick of the meter: one instruction, or nothing where the machine waits or is halted. Once asked it
-    /// always takes place. Where the instruction can't go on (odd address, timeout, reserved word) the turn ends there, with the
-    /// registers as changed so far and the codes as before, and the machine is halted (this project's profile, until traps come).
+    /// One whole turn, and one tick of the meter: the events of the turn in their order, and then one instruction, or nothing
+    /// where the machine waits or is halted. `Continue` ends a halt, and the act of that turn runs; a halted machine still gets
+    /// events. Once asked it always takes place. Where the instruction can't go on (odd address, timeout, reserved word) the turn
+    /// ends there, with the registers as changed so far and the codes as before, and the machine is halted (this project's
+    /// profile, until traps come).
     #[inline(always)]
     #[tactic(auto, unfolding(crate::specs::World::one_turn, pdp_operand::specs::Course::follow))]
-    pub fn turn(&mut self, meter: &mut Meter)
+    pub fn turn(&mut self, meter: &mut Meter, events: &[Event])
         requires ready { IsReady self.old }
         requires limit { self.old.turn < TURN_LIMIT }
-        ensures turn { self.new ≡ after_turn self.old }
+        ensures turn { self.new ≡ after_turn events.now self.old }
         ensures counted { meter.new ≡ min (meter.old + 1) (2 ^ 64 - 1) }
         ensures grows { meter.old ≤ meter.new }
     {
-        self.bus.set_turn(self.turn);
+        take_events(&mut self.processor, events);
+        self.bus.events(self.turn, events);
         match act(&self.processor) {
             Act::Instr => instruct(&mut self.processor, &mut self.bus),
             Act::Idle => {}
@@ -128,5 +131,46 @@ fn act(processor: &Processor) -> Act
     match processor.run {
         RunState::Run => Act::Instr,
         RunState::Wait | RunState::Halted => Act::Idle,
+    }
+}
+
+ghost use Rattle.pdp_cpu.specs.World.{after_event, after_events};
+
+/// What an event does to the processor: `Continue` ends a halt, every other event does nothing.
+fn take_event(processor: &mut Processor, event: Event)
+    ensures { processor.new ≡ after_event event processor.old }
+{
+    match event {
+        Event::Continue => processor.set_run(resumed(processor.run)),
+        Event::Key(_)
+        | Event::Switches(_)
+        | Event::Tick
+        | Event::PrinterDone
+        | Event::ReaderDone
+        | Event::PunchDone
+        | Event::DiskDone => {}
+    }
+}
+
+ghost use Rattle.pdp_cpu.specs.World.{resumed as resumed_run};
+
+/// How a processor goes on after the console's continue.
+fn resumed(run: RunState) -> RunState
+    ensures { result ≡ resumed_run run }
+{
+    match run {
+        RunState::Wait => RunState::Wait,
+        RunState::Run | RunState::Halted => RunState::Run,
+    }
+}
+
+/// What events do to the processor, in their order.
+#[inline(always)]
+#[tactic(auto, using(crate::proofs::Events::after_more_events))]
+fn take_events(processor: &mut Processor, events: &[Event])
+    ensures { processor.new ≡ after_events events.now processor.old }
+{
+    for event in events {
+        take_event(processor, *event);
     }
 }

@@ -6,7 +6,8 @@ use crate::{
     Machine, Meter, Regs, RunState, TURN_LIMIT, stamps_are_last_writes, touches_are_of_their_turn,
     turns_end_within_32_phases, turns_keep_the_size_of_core, turns_leave_what_they_never_touch,
 };
-use pdp_store::{Flat, Store};
+use pdp_store::{Agent, Flat, Stamp, Store};
+use pdp_unibus::Event;
 use pdp_word::NoMemory;
 use std::alloc::Global;
 
@@ -32,7 +33,7 @@ fn run_turns(machine: &mut Machine<Flat>, meter: &mut Meter, turns: u16) -> Resu
 {
     for _done in 0..turns {
         machine.ready()?;
-        machine.turn(meter);
+        machine.turn(meter, &[]);
     }
     Ok(())
 }
@@ -110,6 +111,17 @@ fn ends_as_the_handbook_says(rt: HostRuntime) -> Result<(), NoMemory> {
             1,
             regs(0o100000, 0, 0o001004, 0o000010, Run),
         ),
+        // MOVB to a register extends the sign, TSTB and BPL go by the byte
+        (
+            [0o112700, 0o000200, 0],
+            1,
+            regs(0o177600, 0, 0o001004, 0o000010, Run),
+        ),
+        (
+            [0o105700, 0o100002, 0],
+            2,
+            regs(0, 0, 0o001010, 0o000004, Run),
+        ),
         // branches by 2 words and by -2
         ([0o000402, 0, 0], 1, regs(0, 0, 0o001006, 0, Run)),
         ([0o000776, 0, 0], 1, regs(0, 0, 0o000776, 0, Run)),
@@ -156,12 +168,79 @@ fn leaves_core_unwritten(rt: HostRuntime) -> Result<(), NoMemory> {
     let mut meter = Meter::new();
     let mut machine = machine_over(rt.alloc(), 0o001000, [0o012700, 5, 0])?;
     machine.ready()?;
-    machine.turn(&mut meter);
+    machine.turn(&mut meter, &[]);
     turns_keep_the_size_of_core();
     assert_eq!(rt; machine.word(0o001000 / 2), 0o012700);
     for number in 0..WORDS {
         assert_eq!(rt; machine.last(number), None, "word {number}");
     }
+    Ok(())
+}
+
+// MOV #7,@#001006 leaves the stamp of its turn.
+#[test]
+fn writes_core_with_its_stamp(rt: HostRuntime) -> Result<(), NoMemory> {
+    let mut meter = Meter::new();
+    let mut machine = machine_over(rt.alloc(), 0o001000, [0o012737, 0o000007, 0o001006])?;
+    machine.ready()?;
+    machine.turn(&mut meter, &[]);
+    turns_keep_the_size_of_core();
+    let stamp = Stamp {
+        turn: 0,
+        agent: Agent::Cpu,
+    };
+    assert_eq!(rt; machine.regs(), regs(0, 0, 0o001006, 0, RunState::Run));
+    assert_eq!(rt; machine.word(0o001006 / 2), 7);
+    assert_eq!(rt; machine.last(0o001006 / 2), Some(stamp));
+    assert_eq!(rt; machine.last(0o001004 / 2), None);
+    Ok(())
+}
+
+// MOV R7,@#001006: the register is read once the address was formed, so PC is past the address word.
+#[test]
+fn reads_a_register_late(rt: HostRuntime) -> Result<(), NoMemory> {
+    let mut meter = Meter::new();
+    let mut machine = machine_over(rt.alloc(), 0o001000, [0o010737, 0o001006, 0])?;
+    machine.ready()?;
+    machine.turn(&mut meter, &[]);
+    turns_keep_the_size_of_core();
+    assert_eq!(rt; machine.word(0o001006 / 2), 0o001004);
+    Ok(())
+}
+
+// TSTB @#177560, BPL back to it, MOVB @#177562,R1: a key of turn 4 is in R1 after turn 6.
+#[test]
+fn takes_a_key(rt: HostRuntime) -> Result<(), NoMemory> {
+    let mut core = Flat::new(rt.alloc(), WORDS, true)?;
+    core.set(0o001000 / 2, 0o105737);
+    core.set(0o001002 / 2, 0o177560);
+    core.set(0o001004 / 2, 0o100375);
+    core.set(0o001006 / 2, 0o113701);
+    core.set(0o001010 / 2, 0o177562);
+    let mut machine = Machine::power(rt.alloc(), 0o001000, core);
+    let mut meter = Meter::new();
+    run_turns(&mut machine, &mut meter, 4)?;
+    assert_eq!(rt;
+        machine.regs(),
+        regs(0, 0, 0o001000, 0o000004, RunState::Run)
+    );
+    machine.ready()?;
+    machine.turn(&mut meter, &[Event::Key(0o101)]);
+    run_turns(&mut machine, &mut meter, 2)?;
+    assert_eq!(rt; machine.regs(), regs(0, 0o101, 0o001012, 0, RunState::Run));
+    Ok(())
+}
+
+// Continue ends a halt, and the act of its turn runs.
+#[test]
+fn continues_after_a_halt(rt: HostRuntime) -> Result<(), NoMemory> {
+    let mut machine = machine_over(rt.alloc(), 0o001000, [0, 0, 0])?;
+    let mut meter = Meter::new();
+    run_turns(&mut machine, &mut meter, 3)?;
+    assert_eq!(rt; machine.regs(), regs(0, 0, 0o001002, 0, RunState::Halted));
+    machine.ready()?;
+    machine.turn(&mut meter, &[Event::Continue]);
+    assert_eq!(rt; machine.regs(), regs(0, 0, 0o001004, 0, RunState::Halted));
     Ok(())
 }
 

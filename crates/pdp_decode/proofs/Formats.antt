@@ -5,7 +5,7 @@ use Rattle.std.specs.Int.RustNames.{FitsSigned}
 use Rattle.std.proofs.lemmas.Int.{ints, to_z-of_z, of_z-to_z}
 use Rattle.pdp_decode.specs.declared.instruction.Spec.{Spec}
 use Rattle.pdp_decode.specs.Fields.{IsSpec, source_in, destination_in, offset_in}
-use Rattle.pdp_decode.specs.Format.{branch_word, double_operand_word}
+use Rattle.pdp_decode.specs.Format.{branch_word, double_operand_word, single_operand_word}
 
 pub source_in_double : (opcode : ℕ) (s d : Spec) → IsSpec s → IsSpec d → source_in (double_operand_word opcode s d) ≡ s
 source_in_double opcode s d p q =
@@ -18,6 +18,16 @@ destination_in_double opcode s d p q =
     let m : (opcode * 0o10000 + (s.mode * 8 + s.reg) * 0o100 + (d.mode * 8 + d.reg)) / 8 % 8 ≡ d.mode = omega arith in
     let r : (opcode * 0o10000 + (s.mode * 8 + s.reg) * 0o100 + (d.mode * 8 + d.reg)) % 8 ≡ d.reg = omega arith in
     λ i. record { mode = m i; reg = r i }
+
+pub destination_in_single : (opcode : ℕ) (d : Spec) → IsSpec d → destination_in (single_operand_word opcode d) ≡ d
+destination_in_single opcode d q =
+    let m : (opcode * 0o100 + (d.mode * 8 + d.reg)) / 8 % 8 ≡ d.mode = omega arith in
+    let r : (opcode * 0o100 + (d.mode * 8 + d.reg)) % 8 ≡ d.reg = omega arith in
+    λ i. record { mode = m i; reg = r i }
+
+pub single_of_fields : (opcode word : ℕ) → opcode * 0o100 ≤ word → word ≤ opcode * 0o100 + 0o77
+    → single_operand_word opcode (destination_in word) ≡ word
+single_of_fields opcode word p q = omega arith
 
 pub double_of_fields : (opcode word : ℕ) → opcode * 0o10000 ≤ word → word ≤ opcode * 0o10000 + 0o7777
     → double_operand_word opcode (source_in word) (destination_in word) ≡ word

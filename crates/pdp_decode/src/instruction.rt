@@ -8,8 +8,8 @@ ghost use Rattle.pdp_decode.specs.Instruction.{mnemonic};
 /// Source: DEC PDP-11/40 Processor Handbook (1972), Addressing modes.
 #[derive(Clone, Copy, Debug, PartialEq, Eq)]
 pub struct Spec {
-    /// The addressing mode: 0 is the register itself, 2 with register 7 the word after the
-    /// instruction.
+    /// The addressing mode: 0 is the register itself; with register 7, 2 is the word after the
+    /// instruction, and 3 the word or byte at the address in that word.
     pub mode: u8,
     /// The register: 6 is the stack pointer, 7 the program counter.
     pub reg: u8,
@@ -24,8 +24,14 @@ pub enum Instr {
     Halt,
     /// BR, 000400 to 000777: the offset counts words from the PC that follows the instruction.
     Br { offset: i8 },
+    /// BPL, 100000 to 100377: BR where N is clear.
+    Bpl { offset: i8 },
     /// MOV, 01SSDD: the source goes to the destination.
     Mov { source: Spec, destination: Spec },
+    /// MOVB, 11SSDD: the source byte goes to the destination.
+    Movb { source: Spec, destination: Spec },
+    /// TSTB, 1057DD: the condition codes are set by the byte.
+    Tstb { destination: Spec },
     /// Any word that the table doesn't name (this project's profile).
     Reserved,
 }
@@ -39,7 +45,10 @@ pub const fn name_of(instr: &Instr) -> &'static str
     match instr {
         Instr::Halt => "HALT",
         Instr::Br { .. } => "BR",
+        Instr::Bpl { .. } => "BPL",
         Instr::Mov { .. } => "MOV",
+        Instr::Movb { .. } => "MOVB",
+        Instr::Tstb { .. } => "TSTB",
         Instr::Reserved => "Reserved",
     }
 }

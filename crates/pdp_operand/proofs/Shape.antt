@@ -1,10 +1,12 @@
 -- What a reference comes to. Nothing else opens `perform` and `touches`.
-use Rattle.std.proofs.Common.{◌≡◌, ℕ, ◌<◌, ◌/◌, Bool, true, false, List, [], refl, Ok, Err, Result, length, slice_index, nat_lt, if◌then◌else◌, ltb-true}
+use Rattle.std.proofs.Common.{◌≡◌, ℕ, ◌<◌, ◌/◌, Bool, true, false, List, [], refl, Ok, Err, Option, None, Some, Result, length, slice_index, nat_lt, if◌then◌else◌, ltb-true}
 use Rattle.pdp_kt11.specs.Place.{unmapped_address}
 use Rattle.pdp_kt11.specs.declared.place.Access.TheVariants.{Read, Write}
 use Rattle.pdp_unibus.specs.BusWorld.{BusWorld, with_board}
 use Rattle.pdp_unibus.specs.declared.board.Board.{Board}
-use Rattle.pdp_unibus.specs.Cycle.{Slave, Core, Nobody, Answer, slave_at, read_from, write_to, write_byte_to, core_written, word_with_byte}
+use Rattle.pdp_unibus.specs.Cycle.{Slave, Core, Device, Nobody, Answer, device_slave, slave_at, read_from, write_to, write_byte_to, core_written, word_with_byte}
+use Rattle.pdp_unibus.specs.Register.{register_at, value_in, after_read, after_write}
+use Rattle.pdp_unibus.specs.declared.register.Register.{Register}
 use Rattle.pdp_operand.specs.Reference.{Kind, ReadWord, ReadByte, WriteWord, WriteByte, Reference, Reply, is_odd, half_at, reply_of, at_place, perform, access_of}
 use Rattle.pdp_operand.specs.Trace.{Touch, touch_at, touches}
 use Rattle.pdp_operand.specs.declared.trap.Trap.{Trap}
@@ -38,6 +40,11 @@ shape_at ReadWord physical board (Core k) = Looked board (λ word. word) k
 shape_at ReadByte physical board (Core k) = Looked board (half_at physical) k
 shape_at (WriteWord word) physical board (Core k) = Wrote board physical (λ _. word) k
 shape_at (WriteByte byte) physical board (Core k) = Wrote board physical (λ word. word_with_byte word physical byte) k
+shape_at ReadWord physical board (Device r) = Apart (after_read r board) (Ok (value_in r board))
+shape_at ReadByte physical board (Device r) = Apart (after_read r board) (Ok (half_at physical (value_in r board)))
+shape_at (WriteWord word) physical board (Device r) = Apart (after_write r word board) (Ok physical)
+shape_at (WriteByte byte) physical board (Device r) =
+    Apart (after_write r (word_with_byte (value_in r board) physical byte) board) (Ok physical)
 shape_at _ physical board Nobody = Apart board (Err BusTimeout)
 
 abbrev shape_if : Bool → Shape → Board → Shape
@@ -57,12 +64,16 @@ answer_by (WriteByte byte) physical b slave = write_byte_to slave physical byte 
 reply_at : (kind : Kind) (physical : ℕ) (b : BusWorld) (slave : Slave)
     → reply_of kind physical (answer_by kind physical b slave) ≡ reply_by (shape_at kind physical b.board slave) b
 reply_at ReadWord physical b (Core k) = refl
+reply_at ReadWord physical b (Device r) = refl
 reply_at ReadWord physical b Nobody = refl
 reply_at ReadByte physical b (Core k) = refl
+reply_at ReadByte physical b (Device r) = refl
 reply_at ReadByte physical b Nobody = refl
 reply_at (WriteWord word) physical b (Core k) = refl
+reply_at (WriteWord word) physical b (Device r) = refl
 reply_at (WriteWord word) physical b Nobody = refl
 reply_at (WriteByte byte) physical b (Core k) = refl
+reply_at (WriteByte byte) physical b (Device r) = refl
 reply_at (WriteByte byte) physical b Nobody = refl
 
 placed : (kind : Kind) (b : BusWorld) (physical : ℕ)
@@ -84,9 +95,13 @@ perform_is r b = odd_or (is_odd r.kind r.address) b _ _ (placed r.kind b (unmapp
 touched_at : (kind : Kind) (physical : ℕ) (b : BusWorld) (slave : Slave)
     → touch_at (access_of kind) b slave ≡ touches_by (shape_at kind physical b.board slave) b
 touched_at ReadWord physical b (Core k) = refl
+touched_at ReadWord physical b (Device r) = refl
 touched_at ReadByte physical b (Core k) = refl
+touched_at ReadByte physical b (Device r) = refl
 touched_at (WriteWord word) physical b (Core k) = refl
+touched_at (WriteWord word) physical b (Device r) = refl
 touched_at (WriteByte byte) physical b (Core k) = refl
+touched_at (WriteByte byte) physical b (Device r) = refl
 touched_at ReadWord physical b Nobody = refl
 touched_at ReadByte physical b Nobody = refl
 touched_at (WriteWord word) physical b Nobody = refl
@@ -103,16 +118,24 @@ touches_is r b =
     odd_touches (is_odd r.kind r.address) b _ _
     (touched_at r.kind (unmapped_address r.address) b (slave_at (length b.core) (unmapped_address r.address)))
 
+in_core_apart : (kind : Kind) (physical words : ℕ) (board : Board) (register : Option Register)
+    → InCore words (shape_at kind physical board (device_slave register))
+in_core_apart ReadWord physical words board (Some r) = tt
+in_core_apart ReadByte physical words board (Some r) = tt
+in_core_apart (WriteWord word) physical words board (Some r) = tt
+in_core_apart (WriteByte byte) physical words board (Some r) = tt
+in_core_apart ReadWord physical words board None = tt
+in_core_apart ReadByte physical words board None = tt
+in_core_apart (WriteWord word) physical words board None = tt
+in_core_apart (WriteByte byte) physical words board None = tt
+
 in_core_at : (kind : Kind) (physical words : ℕ) (board : Board) (below : Bool) → nat_lt (physical / 2) words ≡ below
-    → InCore words (shape_at kind physical board (if below then Core (physical / 2) else Nobody))
+    → InCore words (shape_at kind physical board (if below then Core (physical / 2) else device_slave (register_at physical)))
 in_core_at ReadWord physical words board true is = ltb-true _ _ is
 in_core_at ReadByte physical words board true is = ltb-true _ _ is
 in_core_at (WriteWord word) physical words board true is = ltb-true _ _ is
 in_core_at (WriteByte byte) physical words board true is = ltb-true _ _ is
-in_core_at ReadWord physical words board false is = tt
-in_core_at ReadByte physical words board false is = tt
-in_core_at (WriteWord word) physical words board false is = tt
-in_core_at (WriteByte byte) physical words board false is = tt
+in_core_at kind physical words board false is = in_core_apart kind physical words board (register_at physical)
 
 odd_in_core : (odd : Bool) (words : ℕ) (board : Board) (shape : Shape) → InCore words shape → InCore words (shape_if odd shape board)
 odd_in_core true words board shape is = tt

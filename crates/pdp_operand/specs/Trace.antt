@@ -7,7 +7,7 @@ use Rattle.pdp_store.specs.declared.Agent.{Agent}
 use Rattle.pdp_store.specs.declared.Agent.TheVariants.{Cpu}
 use Rattle.pdp_store.specs.declared.Stamp.{Stamp}
 use Rattle.pdp_unibus.specs.BusWorld.{BusWorld}
-use Rattle.pdp_unibus.specs.Cycle.{Slave, Core, Nobody, slave_at}
+use Rattle.pdp_unibus.specs.Cycle.{Slave, Core, Device, Nobody, slave_at}
 use Rattle.pdp_operand.specs.Reference.{Reference, is_odd, access_of}
 use Rattle.pdp_operand.specs.Phase.{Phase, State, Fault, Request, Nothing, Ask, Raise, Latch, step, inner_of}
 use Rattle.pdp_operand.specs.Plan.{phases_of, run_plan}
@@ -24,6 +24,7 @@ pub record Touch : Type 0 where
 -- a reference touches the word of core that answers it, if one does
 abbrev pub touch_at : Access → BusWorld → Slave → List Touch
 touch_at access w (Core k) = record { turn = w.turn; agent = Cpu; access = access; word = k } ∷ []
+touch_at access w (Device register) = []
 touch_at access w Nobody = []
 
 unfoldable pub touches : Reference → BusWorld → List Touch

@@ -51,7 +51,7 @@ pub fn machine_at(
     let mut machine = powered(alloc, setup, patches)?;
     for _turn in 0..turn {
         machine.ready()?;
-        machine.turn(meter);
+        machine.turn(meter, &[]);
     }
     Ok(machine)
 }

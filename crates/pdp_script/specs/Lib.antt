@@ -1,2 +1,5 @@
+pub mod Entries
 pub mod Fault
 pub mod Refusal
+pub mod Script
+pub mod Slots

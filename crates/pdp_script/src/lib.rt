@@ -2,5 +2,10 @@
 #![tactic(auto)]
 
 mod faults;
+mod laws;
+mod script;
+mod slots;
 
 pub use faults::Fault;
+pub use laws::edits_leave_other_turns;
+pub use script::{LAST_TURN, MOST_EVENTS, Script};

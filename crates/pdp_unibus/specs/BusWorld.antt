@@ -16,7 +16,7 @@ pub record BusWorld : Type 0 where
   -- the turn of its cycles
   pub turn : ℕ
 
--- the board as of power-up: every bit of the program status word 0
+-- the board as of power-up: every bit of the program status word 0, no key, the switches 0
 abbrev pub powered_board : Board
 powered_board = record {
   status = record {
@@ -26,6 +26,8 @@ powered_board = record {
     trace = false;
     codes = record { n = false; z = false; v = false; c = false };
   };
+  keyboard = record { done = false; enable = false; key = 0 };
+  switches = 0;
 }
 
 -- the bus as of power-up, over this core
@@ -34,9 +36,6 @@ powered words lasts = record { board = powered_board; core = words; lasts = last
 
 abbrev pub with_board : BusWorld → Board → BusWorld
 with_board w board = record w { board = board }
-
-abbrev pub with_turn : BusWorld → ℕ → BusWorld
-with_turn w turn = record w { turn = turn }
 
 -- the bus with these condition codes
 abbrev pub with_codes : BusWorld → Codes → BusWorld

@@ -1,7 +1,9 @@
-use Rattle.std.specs.Prelude.{ℕ, ◌+◌, ◌-◌, ◌*◌, ◌/◌, ◌%◌, ◌==◌, Some, Result, Ok, Err, length, slice_index, slice_set, nat_lt, if◌then◌else◌}
+use Rattle.std.specs.Prelude.{ℕ, ◌+◌, ◌-◌, ◌*◌, ◌/◌, ◌%◌, ◌==◌, List, Option, Some, None, Result, Ok, Err, length, slice_index, slice_set, nat_lt, if◌then◌else◌}
 use Rattle.pdp_store.specs.declared.Agent.TheVariants.{Cpu}
 use Rattle.pdp_store.specs.declared.Stamp.{Stamp}
-use Rattle.pdp_unibus.specs.BusWorld.{BusWorld}
+use Rattle.pdp_unibus.specs.BusWorld.{BusWorld, with_board}
+use Rattle.pdp_unibus.specs.Register.{register_at, value_in, after_read, after_write}
+use Rattle.pdp_unibus.specs.declared.register.Register.{Register}
 use Rattle.pdp_unibus.specs.declared.bus.Timeout.{Timeout}
 
 -- one bus cycle: what the master asks for, at a physical byte address
@@ -15,14 +17,20 @@ pub record Answer : Type 0 where
   pub value : Result ℕ Timeout
   pub after : BusWorld
 
--- who answers an address: a word of core, or nobody
+-- who answers an address: a word of core, a register of a device, or nobody
 pub data Slave : Type 0 where
   Core : ℕ → Slave
+  Device : Register → Slave
   Nobody : Slave
+
+abbrev pub device_slave : Option Register → Slave
+device_slave (Some register) = Device register
+device_slave None = Nobody
 
 -- core of so many words is at the lowest addresses
 abbrev pub slave_at : ℕ → ℕ → Slave
-slave_at words address = (if nat_lt (address / 2) words then Core (address / 2) else Nobody)
+slave_at words address =
+    (if nat_lt (address / 2) words then Core (address / 2) else device_slave (register_at address))
 
 -- the word with the byte of this address replaced: the even address is the low half
 abbrev pub word_with_byte : ℕ → ℕ → ℕ → ℕ
@@ -46,15 +54,20 @@ timed_out w = record { value = Err (record {}); after = w }
 
 abbrev pub read_from : Slave → BusWorld → Answer
 read_from (Core k) w = record { value = Ok (slice_index w.core k); after = core_read w k }
+read_from (Device r) w = record { value = Ok (value_in r w.board); after = with_board w (after_read r w.board) }
 read_from Nobody w = timed_out w
 
 abbrev pub write_to : Slave → ℕ → BusWorld → Answer
 write_to (Core k) word w = record { value = Ok 0; after = core_written w k word }
+write_to (Device r) word w = record { value = Ok 0; after = with_board w (after_write r word w.board) }
 write_to Nobody word w = timed_out w
 
+-- a byte that is written to a register goes with the other half as a read would give it, without the effect of a read
 abbrev pub write_byte_to : Slave → ℕ → ℕ → BusWorld → Answer
 write_byte_to (Core k) address byte w =
     record { value = Ok 0; after = core_written w k (word_with_byte (slice_index w.core k) address byte) }
+write_byte_to (Device r) address byte w =
+    record { value = Ok 0; after = with_board w (after_write r (word_with_byte (value_in r w.board) address byte) w.board) }
 write_byte_to Nobody address byte w = timed_out w
 
 -- one bus cycle: who answers, and what

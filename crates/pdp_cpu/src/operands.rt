@@ -1,0 +1,90 @@
+ghost use Rattle.std.specs.Prelude.{◌≡◌, ◌<◌, IfOk};
+ghost use Rattle.pdp_word.specs.Size.{span};
+ghost use Rattle.pdp_decode.specs.Fields.{IsSpec};
+ghost use Rattle.pdp_operand.specs.Phase.{Latch, state_of};
+ghost use Rattle.pdp_operand.specs.Plan.{run_plan};
+ghost use Rattle.pdp_cpu.specs.Operands.{operands as operands_plan, source_first, place_first, found_both};
+
+use pdp_decode::Spec;
+use pdp_operand::{Place, Processor, Slot, Trap, address, fetch};
+use pdp_store::Store;
+use pdp_unibus::Bus;
+use pdp_word::Size;
+
+/// The source's value and the destination's place. A source in a register is read after the address of a destination in
+/// memory was formed, any other source before.
+#[inline(always)]
+#[tactic(auto, unfolding(crate::specs::Operands::operands))]
+pub fn operands<S: Store>(
+    processor: &mut Processor,
+    bus: &mut Bus<S>,
+    source: Spec,
+    destination: Spec,
+    size: Size,
+) -> Result<(u16, Place), Trap>
+    requires source { IsSpec source }
+    requires destination { IsSpec destination }
+    ensures run { (latch : Latch) → run_plan (operands_plan size source destination) (state_of processor.old bus.old latch) ≡ found_both result processor.new bus.new latch }
+    ensures fits { IfOk result (λ both. both.0 < span size) }
+{
+    let is_late = source.mode == 0 && destination.mode != 0;
+    if is_late {
+        read_late(processor, bus, source, destination, size)
+    } else {
+        read_first(processor, bus, source, destination, size)
+    }
+}
+
+#[inline(always)]
+#[tactic(auto, using(crate::proofs::Steps::run_keep_source), unfolding(crate::specs::Operands::source_first))]
+fn read_first<S: Store>(
+    processor: &mut Processor,
+    bus: &mut Bus<S>,
+    source: Spec,
+    destination: Spec,
+    size: Size,
+) -> Result<(u16, Place), Trap>
+    requires source { IsSpec source }
+    requires destination { IsSpec destination }
+    ensures run { (latch : Latch) → run_plan (source_first size source destination) (state_of processor.old bus.old latch) ≡ found_both result processor.new bus.new latch }
+    ensures fits { IfOk result (λ both. both.0 < span size) }
+{
+    let place = address(processor, bus, source, size)?;
+    let value = fetch(processor, bus, place, size)?;
+    let place = address(processor, bus, destination, size)?;
+    Ok((value, place))
+}
+
+#[inline(always)]
+#[tactic(auto, using(crate::proofs::Steps::run_take_register), unfolding(crate::specs::Operands::place_first))]
+fn read_late<S: Store>(
+    processor: &mut Processor,
+    bus: &mut Bus<S>,
+    source: Spec,
+    destination: Spec,
+    size: Size,
+) -> Result<(u16, Place), Trap>
+    requires source { IsSpec source }
+    requires destination { IsSpec destination }
+    ensures run { (latch : Latch) → run_plan (place_first size source destination) (state_of processor.old bus.old latch) ≡ found_both result processor.new bus.new latch }
+    ensures fits { IfOk result (λ both. both.0 < span size) }
+{
+    let place = address(processor, bus, destination, size)?;
+    let slot = Slot::of(bus.status().mode, source.reg);
+    let value = cut(processor.register(slot), size);
+    Ok((value, place))
+}
+
+/// A word, or its low byte.
+#[inline(always)]
+fn cut(word: u16, size: Size) -> u16
+    ensures value { result ≡ word % span size }
+    ensures fits { result < span size }
+{
+    match size {
+        Size::Word => word,
+        Size::Byte => word % 256,
+    }
+}
+
+ghost use Rattle.std.specs.Prelude.{◌%◌};

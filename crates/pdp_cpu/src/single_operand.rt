@@ -1,0 +1,31 @@
+ghost use Rattle.std.specs.Prelude.{◌≡◌};
+ghost use Rattle.pdp_decode.specs.Fields.{IsSpec};
+ghost use Rattle.pdp_operand.specs.Phase.{Latch, state_of};
+ghost use Rattle.pdp_operand.specs.Plan.{run_plan};
+ghost use Rattle.pdp_cpu.specs.Ending.{closed, ended};
+ghost use Rattle.pdp_cpu.specs.SingleOperand.{tst_plan};
+
+use pdp_alu::tst;
+use pdp_decode::Spec;
+use pdp_operand::{Processor, Trap, address, fetch};
+use pdp_store::Store;
+use pdp_unibus::Bus;
+use pdp_word::Size;
+
+/// TST and TSTB.
+#[inline(always)]
+#[tactic(auto, using(crate::proofs::Steps::run_execute_tst, crate::proofs::Steps::run_store_codes), unfolding(crate::specs::SingleOperand::tst_plan))]
+pub fn test<S: Store>(
+    processor: &mut Processor,
+    bus: &mut Bus<S>,
+    destination: Spec,
+    size: Size,
+) -> Result<(), Trap>
+    requires { IsSpec destination }
+    ensures { (latch : Latch) → closed (run_plan (tst_plan size destination) (state_of processor.old bus.old latch)) ≡ ended result processor.new bus.new }
+{
+    let place = address(processor, bus, destination, size)?;
+    let value = fetch(processor, bus, place, size)?;
+    bus.set_codes(tst(size, value).codes);
+    Ok(())
+}

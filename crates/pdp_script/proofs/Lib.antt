@@ -1,0 +1,5 @@
+pub mod Edits
+pub mod Events
+pub mod Joined
+pub mod Kept
+pub mod Places

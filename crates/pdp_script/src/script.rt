@@ -1,0 +1,171 @@
+ghost use Rattle.std.specs.Prelude.{◌≡◌, ℕ, ◌+◌, [], Option, true, false};
+ghost use Rattle.pdp_script.specs.Entries.{entry_of, events_at, turn_from, IsNextTurn};
+ghost use Rattle.pdp_script.specs.Refusal.{answered, for_memory, left};
+ghost use Rattle.pdp_script.specs.Script.{insert_edit, alter_edit, drop_edit, IsScript};
+ghost use Rattle.std.specs.Option.{option_map};
+
+use crate::faults::Fault;
+use crate::slots::{Slot, place_after, place_from, place_of, put_last};
+use pdp_unibus::Event;
+use std::alloc::Global;
+use std::marker::Model;
+
+/// The greatest turn that an event may have (this project's profile).
+pub const LAST_TURN: u32 = 1_000_000_000;
+
+/// How many events a script may have at a time (this project's profile).
+pub const MOST_EVENTS: usize = 65_536;
+
+/// What happens to the machine from outside: events in the order of their turns, each under a
+/// number of its own (this project's profile).
+#[derive(Debug, Drop)]
+pub struct Script {
+    slots: Vec<Slot>,
+    events: Vec<Event>,
+    given: u32,
+}
+
+impl Model for Script {
+    ghost use Rattle.pdp_script.specs.Script.{ScriptData};
+
+    ghost Value = { ScriptData };
+
+    ghost use Rattle.pdp_script.specs.Slots.{joined, IsKept};
+
+    ghost view = { λ s. record { entries = joined s.slots.items s.events.items; given = s.given } };
+
+    ghost invariant = { λ s. IsKept s.slots.items s.events.items s.given };
+}
+
+impl Script {
+    /// A script with no events, of which no number was given. It takes no memory.
+    pub fn new(alloc: Global) -> Self
+        ensures empty { result.entries ≡ [] }
+        ensures none_given { result.given ≡ 0 }
+    {
+        Script {
+            slots: Vec::new(alloc),
+            events: Vec::new(alloc),
+            given: 0,
+        }
+    }
+
+    /// The events of this turn, in their order. It takes no memory.
+    pub fn at(&self, turn: u32) -> &[Event]
+        ensures events { result.now ≡ events_at self.now.entries turn }
+        ensures kept { IsScript self.now }
+    {
+        let from = place_from(&self.slots, turn);
+        let to = place_after(&self.slots, turn);
+        &self.events[from..to]
+    }
+
+    /// The turn of the event of this number, if it is there.
+    pub fn turn_of(&self, number: u32) -> Option<u32>
+        ensures turn { result ≡ option_map (λ e. e.turn) (entry_of self.now.entries number) }
+        ensures kept { IsScript self.now }
+    {
+        let Some(place) = place_of(&self.slots, number) else {
+            return None;
+        };
+        Some(self.slots[place].turn)
+    }
+
+    /// The least turn of an event that is not below `from`, if there is one.
+    pub fn next_turn(&self, from: u32) -> Option<u32>
+        ensures turn { result ≡ turn_from self.now.entries from }
+        ensures least { IsNextTurn self.now.entries from result }
+        ensures kept { IsScript self.now }
+    {
+        let first = place_from(&self.slots, from);
+        if first < self.slots.len() {
+            Some(self.slots[first].turn)
+        } else {
+            None
+        }
+    }
+
+    /// Adds an event at a turn, last among those of the turn, and answers its number: one more than
+    /// the last that was given, 1 at first.
+    ///
+    /// # Errors
+    ///
+    /// In this order: `TurnTooLarge` at a turn above 1,000,000,000; `ScriptFull` where 65,536 events
+    /// are there, or 4,294,967,295 numbers were given; `NoMemory` where a growth was refused. The
+    /// script is then as it was, and no number is used up.
+    pub fn insert(&mut self, turn: u32, event: Event) -> Result<u32, Fault>
+        ensures answer { result ≡ answered (insert_edit turn event self.old) (for_memory result) (self.old.given + 1) }
+        ensures after { self.new ≡ left (insert_edit turn event self.old) (for_memory result) self.old }
+    {
+        if turn > LAST_TURN {
+            return Err(Fault::TurnTooLarge);
+        }
+        if self.events.len() >= MOST_EVENTS || self.given == u32::MAX {
+            return Err(Fault::ScriptFull);
+        }
+        self.slots.reserve(1)?;
+        self.events.reserve(1)?;
+        let number = self.given + 1;
+        put_last(
+            &mut self.slots,
+            &mut self.events,
+            Slot { number, turn },
+            event,
+        );
+        self.given = number;
+        Ok(number)
+    }
+
+    /// Takes the event of this number out of the script. Its number is never given again. It takes
+    /// no memory.
+    ///
+    /// # Errors
+    ///
+    /// `NoSuchEvent` where no event has this number. The script is then as it was.
+    pub fn drop_event(&mut self, number: u32) -> Result<(), Fault>
+        ensures answer { result ≡ answered (drop_edit number self.old) false tt }
+        ensures after { self.new ≡ left (drop_edit number self.old) false self.old }
+    {
+        let Some(dropped) = place_of(&self.slots, number) else {
+            return Err(Fault::NoSuchEvent);
+        };
+        self.slots.remove(dropped);
+        self.events.remove(dropped);
+        Ok(())
+    }
+
+    /// Gives the event of this number another turn and event. At the same turn it keeps its place;
+    /// at another it goes last among those of the turn. It takes no memory.
+    ///
+    /// # Errors
+    ///
+    /// In this order: `TurnTooLarge` at a turn above 1,000,000,000; `NoSuchEvent` where no event has
+    /// this number. The script is then as it was.
+    pub fn alter(&mut self, number: u32, turn: u32, event: Event) -> Result<(), Fault>
+        ensures answer { result ≡ answered (alter_edit number turn event self.old) false tt }
+        ensures after { self.new ≡ left (alter_edit number turn event self.old) false self.old }
+    {
+        if turn > LAST_TURN {
+            return Err(Fault::TurnTooLarge);
+        }
+        let Some(place) = place_of(&self.slots, number) else {
+            return Err(Fault::NoSuchEvent);
+        };
+        if self.slots[place].turn == turn {
+            self.events[place] = event;
+        } else {
+            self.slots.remove(place);
+            self.events.remove(place);
+            put_last(
+                &mut self.slots,
+                &mut self.events,
+                Slot { number, turn },
+                event,
+            );
+        }
+        Ok(())
+    }
+}
+
+#[cfg(test)]
+mod tests;
