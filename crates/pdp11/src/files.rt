@@ -16,16 +16,10 @@ pub trait Files {
     fn bytes(&mut self, alloc: Global, name: &str) -> Result<Vec<u8>, FileFailure>;
 }
 
-/// The files of the system.
+/// The files of the system, through this runtime.
 #[derive(Drop)]
 pub struct HostFiles<'a> {
-    rt: &'a HostRuntime,
-}
-
-impl<'a> HostFiles<'a> {
-    pub fn new(rt: &'a HostRuntime) -> HostFiles<'a> {
-        HostFiles { rt }
-    }
+    pub rt: &'a HostRuntime,
 }
 
 impl Files for HostFiles<'_> {

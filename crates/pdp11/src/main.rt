@@ -17,7 +17,7 @@ use std::{env, io};
 fn main(rt: HostRuntime) -> ExitCode {
     let (status, line) = match words_of(&rt) {
         Ok(words) => {
-            let mut files = HostFiles::new(&rt);
+            let mut files = HostFiles { rt: &rt };
             let mut reader = FromRead::new(rt.stdin());
             let mut writer = ToWrite::new(rt.stdout());
             program::outcome(
