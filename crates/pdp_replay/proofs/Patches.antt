@@ -1,7 +1,7 @@
 -- Patches put into a list of words.
-use Rattle.std.proofs.Common.{◌≡◌, ℕ, suc, zero, ◌+◌, ◌<◌, Bool, true, false, List, [], ◌∷◌, ◌++◌, length, take, refl, sym, ◌∙◌, ap, slice_set, slice_get, option_to_list, nat_eq, add-one, if◌then◌else◌}
+use Rattle.std.proofs.Common.{◌≡◌, ℕ, suc, zero, ◌+◌, ◌<◌, Bool, true, false, cond, Some, subst, List, [], ◌∷◌, ◌++◌, length, take, refl, sym, ◌∙◌, ap, slice_set, slice_get, option_to_list, nat_eq, add-one, if◌then◌else◌}
 use Rattle.std.proofs.lemmas.List.{length-set}
-use Rattle.indexmap.specs.IndexMap.{insert_entry}
+use Rattle.indexmap.specs.IndexMap.{insert_entry, shift_remove_entry}
 use Rattle.pdp_replay.specs.Core.{put_all, AllBelow}
 use Rattle.pdp_replay.proofs.Lists.{take_one_more}
 
@@ -36,3 +36,19 @@ below_inserted n [] number word small below = (small, tt)
 below_inserted n (p ∷ ps) number word small below =
     below_when n (nat_eq number p.0) (p.0, word) p ps (insert_entry nat_eq ps number word) below.0 below.0 below.1
     (below_inserted n ps number word small below.1)
+
+rest_below : (n : ℕ) (taken : Bool) (p : ℕ × ℕ) (ps qs : List (ℕ × ℕ)) → p.0 < n → AllBelow n ps → AllBelow n qs
+    → AllBelow n (cond taken ps (p ∷ qs))
+rest_below n true p ps qs small below below_qs = below
+rest_below n false p ps qs small below below_qs = (small, below_qs)
+
+-- so does taking a patch back
+pub below_removed : (n : ℕ) (test : ℕ → Bool) (ps : List (ℕ × ℕ)) → AllBelow n ps → AllBelow n (shift_remove_entry test ps)
+below_removed n test [] below = tt
+below_removed n test (p ∷ ps) below =
+    rest_below n (test p.0) p ps (shift_remove_entry test ps) below.0 below.1 (below_removed n test ps below.1)
+
+pub entry_below : (n : ℕ) (ps : List (ℕ × ℕ)) (i : ℕ) (p : ℕ × ℕ) → AllBelow n ps → slice_get ps i ≡ Some p → p.0 < n
+entry_below n [] i p below is = absurd (cc is)
+entry_below n (q ∷ ps) zero p below is = let same : q ≡ p = cc is in subst (λ r. r.0 < n) same below.0
+entry_below n (q ∷ ps) (suc i) p below is = entry_below n ps i p below.1 is

@@ -1,6 +1,8 @@
 pub mod Start
 pub mod Core
+pub mod Past
 pub mod Turns
+pub mod Quiet
 pub mod Answer
 pub mod Edit
 pub mod Known

@@ -1,46 +1,47 @@
 ghost use Rattle.std.specs.Prelude.{◌≡◌, ◌+◌, ◌≤◌, ◌<◌, ◌^◌, min, max, Err, IfOk};
-ghost use Rattle.pdp_script.specs.Refusal.{for_memory, answered, asked, left, result_map};
+ghost use Rattle.pdp_script.specs.Refusal.{for_memory, asked, result_map};
 ghost use Rattle.pdp_replay.specs.Start.{given, start_of};
-ghost use Rattle.pdp_replay.specs.Edit.{core_edit, known_after_edit};
 ghost use Rattle.pdp_replay.specs.Answer.{answer_to, turn_asked, first_turn_needed};
 ghost use Rattle.pdp_replay.specs.Known.{known_after, IsStride};
 ghost use Rattle.pdp_replay.specs.Timeline.{fresh};
 ghost use Rattle.pdp_script.specs.declared.faults.Fault.TheVariants.{TurnTooLarge};
 
 use crate::question::{Answer, Question, Value};
-use crate::setup::{Setup, UNIT_WORDS};
+use crate::setup::Setup;
 use crate::travel::machine_at;
 use indexmap::IndexMap;
 use pdp_cpu::{Meter, TURN_LIMIT};
-use pdp_script::Fault;
+use pdp_script::{Fault, Script};
 use std::alloc::Global;
 use std::marker::Model;
 
-/// A setup with its patches, and all that can be asked of the run from it.
+/// A setup with its patches, a script, and all that can be asked of the run that they determine.
 ///
-/// A contract sees it as a `Timeline`. Answers are always those of the run from power-up of the setup as it is now.
+/// A contract sees it as a `Timeline`. Answers are always those of the run from power-up of the past as it is now.
 #[derive(Drop)]
 pub struct Engine {
-    setup: Setup,
-    patches: IndexMap<u32, u16>,
+    pub(crate) setup: Setup,
+    pub(crate) patches: IndexMap<u32, u16>,
+    pub(crate) script: Script,
     meter: Meter,
-    known: u32,
+    pub(crate) known: u32,
     highest: u32,
 }
 
 impl Model for Engine {
     ghost use Rattle.pdp_replay.specs.Timeline.{Timeline, IsTimeline};
+    ghost use Rattle.pdp_replay.specs.Past.{past_from};
     ghost use Rattle.pdp_replay.specs.Start.{start_from};
 
     ghost Value = { Timeline };
 
-    ghost view = { λ e. record { setup = start_from e.setup e.patches; known = e.known; highest = e.highest; stride = e.setup.stride; turns = e.meter } };
+    ghost view = { λ e. record { past = past_from e.setup e.patches e.script; known = e.known; highest = e.highest; stride = e.setup.stride; turns = e.meter } };
 
     ghost invariant = { λ e. IsTimeline (start_from e.setup e.patches) e.known e.highest };
 }
 
 impl Engine {
-    /// An engine over this setup, without patches; nothing is known yet.
+    /// An engine over this setup, without patches or events; nothing is known yet.
     ///
     /// Err(BadSetup) where units, start or stride is out of range; else Err(BadImage) where an image or the tape is too
     /// long; else Err(NoMemory) where a growth was refused. (This project's profile.)
@@ -52,48 +53,23 @@ impl Engine {
         Ok(Engine {
             setup,
             patches: IndexMap::new(alloc),
+            script: Script::new(alloc),
             meter: Meter::new(),
             known: 0,
             highest: 0,
         })
     }
 
-    /// Makes the core word at this address (octal, bytes) equal to `word` as of power-up. A word that has a patch keeps
-    /// its place among the patches. The known turn becomes 0; no turn is run.
-    ///
-    /// Err(OutsideCore) where the address is not in core; else Err(OddAddress) where it is odd; else Err(NoMemory) where
-    /// a growth was refused. A refused edit changes nothing. (This project's profile.)
-    #[tactic(auto, unfolding(crate::specs::Edit::core_edit))]
-    pub fn set_core(&mut self, address: u32, word: u16) -> Result<(), Fault>
-        ensures answer { result ≡ answered (core_edit address word self.old.setup) (for_memory result) tt }
-        ensures after { self.new.setup ≡ left (core_edit address word self.old.setup) (for_memory result) self.old.setup }
-        ensures known { self.new.known ≡ known_after_edit result 0 self.old.known }
-        ensures ran { self.new.turns ≡ self.old.turns }
-        ensures highest { self.new.highest ≡ self.old.highest }
-        ensures stride { self.new.stride ≡ self.old.stride }
-    {
-        let number = address / 2;
-        if number as usize >= usize::from(self.setup.units) * UNIT_WORDS {
-            return Err(Fault::OutsideCore);
-        }
-        if address % 2 != 0 {
-            return Err(Fault::OddAddress);
-        }
-        self.patches.insert(number, word)?;
-        self.known = 0;
-        Ok(())
-    }
-
-    /// Answers a question about the run from power-up of the setup as it is now. Once answered, the known turn is the larger
+    /// Answers a question about the run from power-up of the past as it is now. Once answered, the known turn is the larger
     /// of what it was and the turn asked about.
     ///
     /// Err(TurnTooLarge) where its turn is above 1,000,000,000; else Err(NoMemory) where a growth was refused. No refusal
-    /// changes the setup, and one for another cause than memory changes nothing. (This project's profile.)
+    /// changes the past, and one for another cause than memory changes nothing. (This project's profile.)
     #[tactic(auto, unfolding(crate::specs::Answer::answer_to, crate::specs::Answer::answer))]
     pub fn ask(&mut self, alloc: Global, question: Question) -> Result<Answer, Fault>
         // The answer is that of the run from power-up, and want of memory is the last refusal.
-        ensures value { result_map (λ a. a.value) result ≡ asked (answer_to question self.old.setup) (for_memory result) }
-        ensures setup { self.new.setup ≡ self.old.setup }
+        ensures value { result_map (λ a. a.value) result ≡ asked (answer_to question self.old.past) (for_memory result) }
+        ensures past { self.new.past ≡ self.old.past }
 
         // It ran at most one stride of turns more than those past what was known, also where it is then refused.
         ensures bound { self.new.turns + min (first_turn_needed question) self.old.known + 1 ≤ self.old.turns + turn_asked question + self.old.stride }
@@ -105,7 +81,7 @@ impl Engine {
         ensures known_most { self.new.known ≤ known_after question self.old.known }
         ensures highest { self.new.highest ≡ max self.old.highest self.new.known }
         ensures stride { IfOk result (λ a. a.stride ≡ self.new.stride) }
-        ensures doubled { IsStride self.new.setup.stride self.new.highest self.new.stride }
+        ensures doubled { IsStride self.new.past.setup.stride self.new.highest self.new.stride }
         ensures refused { result ≡ Err TurnTooLarge → self.new ≡ self.old }
     {
         let before = self.meter.count();
@@ -113,7 +89,14 @@ impl Engine {
         if turn > TURN_LIMIT {
             return Err(Fault::TurnTooLarge);
         }
-        let machine = machine_at(alloc, &self.setup, &self.patches, &mut self.meter, turn)?;
+        let machine = machine_at(
+            alloc,
+            &self.setup,
+            &self.patches,
+            &self.script,
+            &mut self.meter,
+            turn,
+        )?;
         self.known = self.known.max(turn);
         self.highest = self.highest.max(self.known);
         Ok(Answer {

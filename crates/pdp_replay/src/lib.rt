@@ -1,20 +1,26 @@
-//! Edits and questions: a setup that can be patched, and the machine's answer about any turn, always as if the edited
-//! setup had run from power-up.
+//! Edits and questions: a setup that can be patched, a script of events that can be edited, and the machine's answer about
+//! any turn, always as if the edited past had run from power-up.
 #![tactic(auto)]
 
+mod edits;
 mod engine;
 mod image;
 mod laws;
+mod patch;
 mod question;
 mod setup;
 mod travel;
 
 pub use engine::Engine;
 pub use laws::core_words_are_first_words;
+pub use patch::Patch;
 pub use pdp_cpu::{Regs, RunState};
 pub use pdp_script::Fault;
+pub use pdp_unibus::Event;
 pub use question::{Answer, Question, Value};
 pub use setup::Setup;
 
+#[cfg(test)]
+mod script_tests;
 #[cfg(test)]
 mod tests;

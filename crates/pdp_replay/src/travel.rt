@@ -1,12 +1,16 @@
-ghost use Rattle.std.specs.Prelude.{◌≡◌, ◌+◌, ◌≤◌, ◌*◌, IfOk};
+ghost use Rattle.std.specs.Prelude.{◌≡◌, ◌+◌, ◌-◌, ◌≤◌, ◌<◌, ◌*◌, [], ℕ, IfOk, OnOk};
+ghost use Rattle.pdp_script.specs.Entries.{events_at};
 ghost use Rattle.pdp_replay.specs.Start.{start_from, IsGood};
 ghost use Rattle.pdp_replay.specs.Core.{AllBelow};
+ghost use Rattle.pdp_replay.specs.Past.{Past, past_from};
+ghost use Rattle.pdp_replay.specs.Quiet.{quiet_turns};
 ghost use Rattle.pdp_replay.specs.Turns.{power, state_at};
 
 use crate::image::{image_store, put_patches};
 use crate::setup::{Setup, UNIT_WORDS};
 use indexmap::IndexMap;
 use pdp_cpu::{Machine, Meter};
+use pdp_script::Script;
 use pdp_store::Flat;
 use pdp_word::NoMemory;
 use std::alloc::Global;
@@ -30,28 +34,87 @@ fn powered(
     Ok(Machine::power(alloc, setup.start, store))
 }
 
-/// The machine before this turn, run there from power-up; the meter counts each turn.
+/// The machine before this turn, run there from power-up with the events of the script; the meter counts each turn.
 ///
 /// Err where there is no memory for it.
-#[tactic(auto, using(crate::proofs::States::state_first, crate::proofs::States::state_next))]
+#[tactic(auto, using(crate::proofs::States::state_first))]
 pub fn machine_at(
     alloc: Global,
     setup: &Setup,
     patches: &IndexMap<u32, u16>,
+    script: &Script,
     meter: &mut Meter,
     turn: u32,
 ) -> Result<Machine<Flat>, NoMemory>
     requires good { IsGood (start_from setup.now patches.now) }
     requires below { AllBelow (setup.now.units * UNIT_WORDS) patches.now.entries }
     requires limit { turn ≤ 1000000000 }
-    ensures machine { IfOk result (λ m. m ≡ record { turn = turn; world = state_at (start_from setup.now patches.now) turn }) }
+    ensures machine { IfOk result (λ m. m ≡ record { turn = turn; world = state_at (past_from setup.now patches.now script.now) turn }) }
     ensures least { meter.old ≤ meter.new }
     ensures most { meter.new ≤ meter.old + turn }
 {
     let mut machine = powered(alloc, setup, patches)?;
-    for _turn in 0..turn {
+    run_to(&mut machine, script, meter, turn)?;
+    Ok(machine)
+}
+
+/// Runs a machine as of power-up to this turn, with the events of the script; the meter counts each turn.
+///
+/// Err where a turn's room was refused.
+#[tactic(auto, using(crate::proofs::States::quiet_reaches, crate::proofs::States::state_next))]
+fn run_to(
+    machine: &mut Machine<Flat>,
+    script: &Script,
+    meter: &mut Meter,
+    to: u32,
+) -> Result<(), NoMemory>
+    requires first { machine.old.turn ≡ 0 }
+    requires limit { to ≤ 1000000000 }
+    ensures machine { (past : Past) → past.script ≡ script.now → machine.old.world ≡ state_at past 0 → OnOk result (machine.new ≡ record { turn = to; world = state_at past to }) }
+    ensures least { meter.old ≤ meter.new }
+    ensures most { meter.new ≤ meter.old + to }
+{
+    let mut turn = 0;
+    while turn < to {
+        let next = quiet_until(script, turn, to);
+        run_quiet(machine, meter, next - turn)?;
+        turn = next;
+        if turn < to {
+            machine.ready()?;
+            machine.turn(meter, script.at(turn));
+            turn += 1;
+        }
+    }
+    Ok(())
+}
+
+/// The first turn with events from this turn on, or `to` where none comes before it.
+fn quiet_until(script: &Script, from: u32, to: u32) -> u32
+    requires { from ≤ to }
+    ensures least { from ≤ result }
+    ensures most { result ≤ to }
+    ensures quiet { (turn : ℕ) → from ≤ turn → turn < result → events_at script.now.entries turn ≡ [] }
+{
+    match script.next_turn(from) {
+        Some(turn) => turn.min(to),
+        None => to,
+    }
+}
+
+/// Runs so many turns without events; the meter counts each.
+///
+/// Err where a turn's room was refused.
+#[tactic(auto, using(crate::proofs::States::quiet_none, crate::proofs::States::quiet_next))]
+fn run_quiet(machine: &mut Machine<Flat>, meter: &mut Meter, turns: u32) -> Result<(), NoMemory>
+    requires { machine.old.turn + turns ≤ 1000000000 }
+    ensures machine { OnOk result (machine.new ≡ quiet_turns turns machine.old) }
+    ensures turn { OnOk result (machine.new.turn ≡ machine.old.turn + turns) }
+    ensures least { meter.old ≤ meter.new }
+    ensures most { meter.new ≤ meter.old + turns }
+{
+    for _turn in 0..turns {
         machine.ready()?;
         machine.turn(meter, &[]);
     }
-    Ok(machine)
+    Ok(())
 }

@@ -1,0 +1,11 @@
+use Rattle.std.proofs.Common.{arith}
+use Rattle.pdp_replay.proofs.Patches.{below_removed}
+use Rattle.pdp_replay.proofs.engine.Engine.revert_core.Goals as goal
+
+pub invariant_of-self-2 : goal.invariant_of-self-2
+invariant_of-self-2 c = record {
+  good = record { units = c.self.invariant.good.units; stride = c.self.invariant.good.stride; core = c.self.invariant.good.core };
+  below = rw c.shift_remove.ensures.entries (below_removed _ _ _ c.self.invariant.below);
+  reached = omega arith;
+  limit = c.self.invariant.limit;
+}

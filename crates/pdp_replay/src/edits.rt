@@ -1,0 +1,147 @@
+ghost use Rattle.std.specs.Prelude.{◌≡◌, ◌+◌, ◌*◌, ◌<◌, Ok, IfOk, false, unwrap_or};
+ghost use Rattle.pdp_script.specs.Refusal.{for_memory, answered, left, result_map};
+ghost use Rattle.pdp_replay.specs.Start.{Start};
+ghost use Rattle.pdp_replay.specs.Edit.{core_word_at, core_edit, revert_edit, event_insertion, event_alteration, event_drop, turn_of_event, lesser_turn, known_after_edit, patch_at, patch_count};
+
+use crate::engine::Engine;
+use crate::patch::Patch;
+use crate::setup::UNIT_WORDS;
+use pdp_script::Fault;
+use pdp_unibus::Event;
+
+impl Engine {
+    /// Makes the core word at this address (octal, bytes) equal to `word` as of power-up. A word that has a patch keeps
+    /// its place among the patches. The known turn becomes 0; no turn is run.
+    ///
+    /// Err(OutsideCore) where the address is not in core; else Err(OddAddress) where it is odd; else Err(NoMemory) where
+    /// a growth was refused. A refused edit changes nothing. (This project's profile.)
+    #[tactic(auto, unfolding(crate::specs::Edit::core_edit))]
+    pub fn set_core(&mut self, address: u32, word: u16) -> Result<(), Fault>
+        ensures answer { result ≡ answered (core_edit address word self.old.past) (for_memory result) tt }
+        ensures after { self.new.past ≡ left (core_edit address word self.old.past) (for_memory result) self.old.past }
+        ensures known { self.new.known ≡ known_after_edit result 0 self.old.known }
+        ensures ran { self.new.turns ≡ self.old.turns }
+        ensures highest { self.new.highest ≡ self.old.highest }
+        ensures stride { self.new.stride ≡ self.old.stride }
+    {
+        let number = core_word(self.setup.units, address)?;
+        self.patches.insert(number, word)?;
+        self.known = 0;
+        Ok(())
+    }
+
+    /// Takes back the patch of the core word at this address (octal, bytes): as of power-up it is its image's word again,
+    /// or 0. The other patches keep their order. The known turn becomes 0; no turn is run. Takes no memory.
+    ///
+    /// Err(OutsideCore) where the address is not in core; else Err(OddAddress) where it is odd; else Err(NoSuchPatch) where
+    /// the word has no patch. A refused edit changes nothing. (This project's profile.)
+    #[tactic(auto, unfolding(crate::specs::Edit::revert_edit))]
+    pub fn revert_core(&mut self, address: u32) -> Result<(), Fault>
+        ensures answer { result ≡ result_map (λ _. tt) (revert_edit address self.old.past) }
+        ensures after { self.new.past ≡ left (revert_edit address self.old.past) false self.old.past }
+        ensures known { self.new.known ≡ known_after_edit result 0 self.old.known }
+        ensures ran { self.new.turns ≡ self.old.turns }
+        ensures highest { self.new.highest ≡ self.old.highest }
+        ensures stride { self.new.stride ≡ self.old.stride }
+    {
+        let number = core_word(self.setup.units, address)?;
+        if self.patches.shift_remove(&number).is_none() {
+            return Err(Fault::NoSuchPatch);
+        }
+        self.known = 0;
+        Ok(())
+    }
+
+    /// Puts an event into the script at a turn, last among those of the turn, and answers its number: one more than the
+    /// last that was given, 1 at first. The known turn becomes at most that turn; no turn is run.
+    ///
+    /// Err(TurnTooLarge) at a turn above 1,000,000,000; else Err(ScriptFull) where 65,536 events are there, or
+    /// 4,294,967,295 numbers were given; else Err(NoMemory) where a growth was refused. A refused edit changes nothing, and
+    /// uses up no number. (This project's profile.)
+    #[tactic(auto, unfolding(crate::specs::Edit::event_insertion))]
+    pub fn insert(&mut self, turn: u32, event: Event) -> Result<u32, Fault>
+        ensures answer { result ≡ answered (event_insertion turn event self.old.past) (for_memory result) (self.old.past.script.given + 1) }
+        ensures after { self.new.past ≡ left (event_insertion turn event self.old.past) (for_memory result) self.old.past }
+        ensures known { self.new.known ≡ known_after_edit result turn self.old.known }
+        ensures ran { self.new.turns ≡ self.old.turns }
+        ensures highest { self.new.highest ≡ self.old.highest }
+        ensures stride { self.new.stride ≡ self.old.stride }
+    {
+        let number = self.script.insert(turn, event)?;
+        self.known = self.known.min(turn);
+        Ok(number)
+    }
+
+    /// Gives the event of this number another turn and event: at the same turn it keeps its place, at another it goes last
+    /// among those of the turn. The known turn becomes at most the lesser of both turns; no turn is run. Takes no memory.
+    ///
+    /// Err(TurnTooLarge) at a turn above 1,000,000,000; else Err(NoSuchEvent) where no event has this number. A refused edit
+    /// changes nothing. (This project's profile.)
+    #[tactic(auto, unfolding(crate::specs::Edit::event_alteration))]
+    pub fn alter(&mut self, number: u32, turn: u32, event: Event) -> Result<(), Fault>
+        ensures answer { result ≡ result_map (λ _. tt) (event_alteration number turn event self.old.past) }
+        ensures after { self.new.past ≡ left (event_alteration number turn event self.old.past) false self.old.past }
+        ensures known { self.new.known ≡ known_after_edit result (lesser_turn (turn_of_event number self.old.past) turn) self.old.known }
+        ensures ran { self.new.turns ≡ self.old.turns }
+        ensures highest { self.new.highest ≡ self.old.highest }
+        ensures stride { self.new.stride ≡ self.old.stride }
+    {
+        let before = self.script.turn_of(number).unwrap_or(turn);
+        self.script.alter(number, turn, event)?;
+        self.known = self.known.min(before).min(turn);
+        Ok(())
+    }
+
+    /// Takes the event of this number out of the script. Its number is never given again. The known turn becomes at most
+    /// its turn; no turn is run. Takes no memory.
+    ///
+    /// Err(NoSuchEvent) where no event has this number; nothing changes then. (This project's profile.)
+    #[tactic(auto, unfolding(crate::specs::Edit::event_drop))]
+    pub fn drop_event(&mut self, number: u32) -> Result<(), Fault>
+        ensures answer { result ≡ result_map (λ _. tt) (event_drop number self.old.past) }
+        ensures after { self.new.past ≡ left (event_drop number self.old.past) false self.old.past }
+        ensures known { self.new.known ≡ known_after_edit result (unwrap_or (turn_of_event number self.old.past) 0) self.old.known }
+        ensures ran { self.new.turns ≡ self.old.turns }
+        ensures highest { self.new.highest ≡ self.old.highest }
+        ensures stride { self.new.stride ≡ self.old.stride }
+    {
+        let before = self.script.turn_of(number).unwrap_or(0);
+        self.script.drop_event(number)?;
+        self.known = self.known.min(before);
+        Ok(())
+    }
+
+    /// How many words have a patch.
+    pub fn patch_count(&self) -> usize
+        ensures { result ≡ patch_count self.now.past }
+    {
+        self.patches.len()
+    }
+
+    /// The patch of this index, counted from 0 in the order in which the words were first given one; None past the last.
+    /// Takes no memory.
+    pub fn patches(&self, index: usize) -> Option<Patch>
+        ensures { result ≡ patch_at self.now.past index }
+    {
+        let (number, word) = self.patches.get_index(index)?;
+        Some(Patch::Core(*number * 2, *word))
+    }
+}
+
+/// The number of the core word at this address (octal, bytes), of a core of so many units.
+///
+/// Err(OutsideCore) where the address is not in core; else Err(OddAddress) where it is odd.
+#[tactic(auto, unfolding(crate::specs::Edit::core_word_at))]
+fn core_word(units: u8, address: u32) -> Result<u32, Fault>
+    ensures number { (s : Start) → s.units ≡ units → core_word_at address s ≡ result }
+    ensures below { IfOk result (λ number. number < units * UNIT_WORDS) }
+{
+    let number = address / 2;
+    if number as usize >= usize::from(units) * UNIT_WORDS {
+        return Err(Fault::OutsideCore);
+    }
+    if address % 2 != 0 {
+        return Err(Fault::OddAddress);
+    }
+    Ok(number)
+}
