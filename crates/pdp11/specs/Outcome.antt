@@ -3,7 +3,8 @@ use Rattle.std.specs.Prelude.{◌≡◌, ℕ, ◌++◌, List, [], Option, Result
 use Rattle.std.specs.Io.KnownBytes.{Appends, Keeps}
 use Rattle.clap.specs.Words.{Text, fault_of}
 use Rattle.pdp_script.specs.declared.faults.Fault.{Fault}
-use Rattle.pdp_replay.specs.Start.{Start, start_of}
+use Rattle.pdp_replay.specs.Past.{beginning}
+use Rattle.pdp_replay.specs.Start.{Start}
 use Rattle.pdp_session.specs.Session.{Session}
 use Rattle.pdp11.specs.Ending.{status_of, line_of, ending_of}
 use Rattle.pdp11.specs.Words.{Asks, command_line}
@@ -34,7 +35,7 @@ Shows text before after _ = ⊥
 -- the session of these options was answered, and the program ends as its result says
 pub record Answers (options : Options) (before after before_out after_out : Option (List ℕ)) (ending : Ending) : Type 0 where
   pub answer : Result (Unit {0}) Fault
-  pub session : Session (start_of (start_given options)) before after before_out after_out answer
+  pub session : Session (beginning (start_given options)) before after before_out after_out answer
   pub ends : ending ≡ ending_of answer
 
 -- what was done where the words ask for this: the reader's known bytes before and after, and the writer's

@@ -6,7 +6,7 @@ use Rattle.indexmap.specs.IndexMap.{IndexMap}
 use Rattle.pdp_script.specs.Refusal.{result_map}
 use Rattle.pdp_script.specs.Script.{ScriptData}
 use Rattle.pdp_script.specs.declared.faults.Fault.{Fault}
-use Rattle.pdp_replay.specs.Start.{Start, start_from}
+use Rattle.pdp_replay.specs.Start.{Start, start_from, start_of}
 use Rattle.pdp_replay.specs.declared.setup.Setup.{Setup}
 
 pub record Past : Type 0 where
@@ -20,6 +20,10 @@ past_from setup patches script = record { setup = start_from setup patches; scri
 -- without events, and no number given
 abbrev pub unscripted : Start → Past
 unscripted setup = record { setup = setup; script = record { entries = []; given = 0 } }
+
+-- the past that a run begins with, or why there is none
+abbrev pub beginning : Start → Result Past Fault
+beginning setup = result_map unscripted (start_of setup)
 
 abbrev pub with_setup : Past → Start → Past
 with_setup p setup = record p { setup = setup }

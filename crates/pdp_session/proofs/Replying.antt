@@ -1,15 +1,17 @@
 -- Each line that is answered adds its reply to those that were given.
-use Rattle.std.proofs.Common.{◌≡◌, ℕ, zero, suc, ◌+◌, ◌<◌, Bool, true, false, cond, eqb, Some, List, [], ◌∷◌, ◌++◌, length, refl, sym, ap, ◌∙◌, subst, arith, append_assoc, append-nil, length-append}
+use Rattle.std.proofs.Common.{◌≡◌, ℕ, zero, suc, ◌+◌, ◌<◌, Bool, true, false, cond, eqb, Some, Result, Ok, Err, List, [], ◌∷◌, ◌++◌, length, refl, sym, ap, ◌∙◌, subst, arith, append_assoc, append-nil, length-append}
 use Rattle.std.specs.List.{concat, slice_get}
 use Rattle.std.proofs.lemmas.Bool.{eqb-true, eq-eqb, false≢true}
 use Rattle.std.proofs.lemmas.List.Folds.{concat-append}
 use Rattle.pdp_script.specs.declared.faults.Fault.TheVariants.{NoMemory}
-use Rattle.pdp_replay.specs.Start.{Start}
+use Rattle.pdp_replay.specs.Past.{Past}
 use Rattle.pdp_session.specs.declared.replies.Reply.TheVariants.{Refused}
-use Rattle.pdp_session.specs.Commands.{reply_to, setup_after}
+use Rattle.pdp_script.specs.Refusal.{result_map}
+use Rattle.pdp_script.specs.declared.faults.Fault.{Fault}
+use Rattle.pdp_session.specs.Commands.{edit_reply, reply_to, past_after}
 use Rattle.pdp_session.specs.Grammar.{line_means}
 use Rattle.pdp_session.specs.Progress.{Replied}
-use Rattle.pdp_session.specs.Replies.{text_of}
+use Rattle.pdp_session.specs.Replies.{text_of, text_to, refusal_text}
 use Rattle.pdp_session.specs.Session.{replies, Answers, BeginsAnswers}
 
 slice_get-front : {X : Type 0} (xs ys : List X) (k : ℕ) (x : X) → slice_get xs k ≡ Some x → slice_get (xs ++ ys) k ≡ Some x
@@ -44,8 +46,8 @@ only_next given text wanted refused flag memory only n = by_test (eqb n (length 
     by_test true e set = ap (slice_get (given ++ text ∷ [])) (eqb-true n (length given) e) ∙ slice_get-push given text ∙ ap Some (memory set)
     by_test false e set = slice_get-front given (text ∷ []) n wanted (only n set)
 
-pub nothing_replied : (setup : Start) → Replied setup [] [] setup
-nothing_replied setup = record {
+pub nothing_replied : (past : Past) → Replied past [] [] past
+nothing_replied past = record {
   given = [];
   count = 0;
   refused = λ _. false;
@@ -56,35 +58,35 @@ nothing_replied setup = record {
 }
 
 -- one line more, that means what was heard of it
-pub next_replied : (setup : Start) (lines : List (List ℕ)) (out : List ℕ) (now : Start) (line heard : List ℕ) (flag : Bool)
-    → line_means heard ≡ line_means line → (flag ≡ true → reply_to heard flag now ≡ Refused NoMemory) → Replied setup lines out now
-    → Replied setup (lines ++ line ∷ []) (out ++ text_of (reply_to heard flag now)) (setup_after heard flag now)
-unfolding replies reply_to setup_after
-next_replied setup lines out now line heard flag means memory before =
-    let text = text_of (reply_to heard flag now) in
-    let after = setup_after heard flag now in
+pub next_replied : (past : Past) (lines : List (List ℕ)) (out : List ℕ) (now : Past) (line heard : List ℕ) (flag : Bool)
+    → line_means heard ≡ line_means line → (flag ≡ true → reply_to heard flag now ≡ Refused NoMemory) → Replied past lines out now
+    → Replied past (lines ++ line ∷ []) (out ++ text_to heard flag now) (past_after heard flag now)
+unfolding replies reply_to past_after text_of
+next_replied past lines out now line heard flag means memory before =
+    let text = text_to heard flag now in
+    let after = past_after heard flag now in
     let refused : ℕ → Bool = with_line before.count flag before.refused in
     record {
       given = before.given ++ text ∷ [];
       count = before.count + 1;
       refused = refused;
       counted = omega (arith, length-append before.given (text ∷ []), before.counted);
-      only = subst (λ n. (k : ℕ) → with_line n flag before.refused k ≡ true → slice_get (before.given ++ text ∷ []) k ≡ Some (text_of (Refused NoMemory))) before.counted
-          (only_next before.given text (text_of (Refused NoMemory)) before.refused flag (λ set. ap text_of (memory set)) before.only);
+      only = subst (λ n. (k : ℕ) → with_line n flag before.refused k ≡ true → slice_get (before.given ++ text ∷ []) k ≡ Some (refusal_text NoMemory)) before.counted
+          (only_next before.given text (refusal_text NoMemory) before.refused flag (λ set. ap (λ reply. text_of reply after) (memory set)) before.only);
       text = ap (λ front. front ++ text) before.text ∙ ap (λ back. concat before.given ++ back) (sym (append-nil text)) ∙ sym (concat-append before.given (text ∷ []));
       goes = λ other next agrees.
           let same : other before.count ≡ flag = agrees before.count (omega arith) ∙ with_line-same before.count flag before.refused in
-          ap (λ all. replies 0 all other setup) (append_assoc lines (line ∷ []) next)
+          ap (λ all. replies 0 all other past) (append_assoc lines (line ∷ []) next)
           ∙ before.goes other (line ∷ next) (λ k less. agrees k (omega arith) ∙ with_line-other before.count k flag before.refused less)
           ∙ rw (same, ← means) (sym (append_assoc before.given (text ∷ []) (replies (before.count + 1) next other after)));
     }
 
 -- all lines were answered
-pub answers : (setup : Start) (lines : List (List ℕ)) (out : List ℕ) (now : Start) → Replied setup lines out now → Answers setup lines out
+pub answers : (past : Past) (lines : List (List ℕ)) (out : List ℕ) (now : Past) → Replied past lines out now → Answers past lines out
 unfolding replies
-answers setup lines out now before =
-    let whole : replies 0 lines before.refused setup ≡ before.given =
-    ap (λ all. replies 0 all before.refused setup) (sym (append-nil lines)) ∙ before.goes before.refused [] (λ k less. refl) ∙ append-nil before.given in
+answers past lines out now before =
+    let whole : replies 0 lines before.refused past ≡ before.given =
+    ap (λ all. replies 0 all before.refused past) (sym (append-nil lines)) ∙ before.goes before.refused [] (λ k less. refl) ∙ append-nil before.given in
     record {
       refused = before.refused;
       only = λ n set. ap (λ texts. slice_get texts n) whole ∙ before.only n set;
@@ -92,14 +94,19 @@ answers setup lines out now before =
     }
 
 -- and then the writer failed, whatever lines come next
-pub begins_answers : (setup : Start) (lines : List (List ℕ)) (out unwritten : List ℕ) (now : Start) (next : List (List ℕ))
-    → Replied setup lines (out ++ unwritten) now → BeginsAnswers setup (lines ++ next) out
-begins_answers setup lines out unwritten now next before =
+pub begins_answers : (past : Past) (lines : List (List ℕ)) (out unwritten : List ℕ) (now : Past) (next : List (List ℕ))
+    → Replied past lines (out ++ unwritten) now → BeginsAnswers past (lines ++ next) out
+begins_answers past lines out unwritten now next before =
     let later = replies before.count next before.refused now in
-    let whole : replies 0 (lines ++ next) before.refused setup ≡ before.given ++ later = before.goes before.refused next (λ k less. refl) in
+    let whole : replies 0 (lines ++ next) before.refused past ≡ before.given ++ later = before.goes before.refused next (λ k less. refl) in
     record {
       refused = before.refused;
       only = λ n set. ap (λ texts. slice_get texts n) whole ∙ slice_get-front before.given later n _ (before.only n set);
       unwritten = unwritten ++ concat later;
       text = ap concat whole ∙ concat-append before.given later ∙ ap (λ front. front ++ concat later) (sym before.text) ∙ append_assoc out unwritten (concat later);
     }
+
+-- an edit that takes no memory is answered as its definition says
+pub reply_of_edit : {X : Type 0} (edited : Result X Fault) → edit_reply (result_map (λ _. tt {0}) edited) ≡ edit_reply edited
+reply_of_edit (Ok x) = refl
+reply_of_edit (Err fault) = refl

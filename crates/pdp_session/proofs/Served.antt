@@ -2,11 +2,11 @@
 use Rattle.std.proofs.Common.{◌≡◌, ℕ, ◌+◌, ◌<◌, Result, Ok, Err, Option, List, [], ◌∷◌, ◌++◌, length, take, drop, get_or, sym, ap, ◌∙◌, append_assoc, append-nil, take-append-drop}
 use Rattle.std.proofs.KnownBytes.{Appends-nil, Appends-trans}
 use Rattle.std.proofs.lemmas.List.{take_more}
-use Rattle.pdp_replay.specs.Start.{Start}
-use Rattle.pdp_session.specs.Commands.{reply_to, setup_after}
+use Rattle.pdp_replay.specs.Past.{Past}
+use Rattle.pdp_session.specs.Commands.{past_after}
 use Rattle.pdp_session.specs.Lines.{without_return, lines_of}
 use Rattle.pdp_session.specs.Progress.{Reached, Goes, Breaks, Serves, Moves, Finishes}
-use Rattle.pdp_session.specs.Replies.{text_of}
+use Rattle.pdp_session.specs.Replies.{text_to}
 use Rattle.pdp_session.specs.Session.{BeginsAnswers}
 use Rattle.pdp_session.proofs.Reaching.{line_reached, broken, last_replied}
 use Rattle.pdp_session.proofs.Replying.{answers, begins_answers}
@@ -16,37 +16,37 @@ cut_text : (out text taken unwritten : List ℕ) → text ≡ taken ++ unwritten
 cut_text out text taken unwritten split = ap (λ back. out ++ back) split ∙ sym (append_assoc out taken unwritten)
 
 -- the line that an LF ended was served
-pub line_moves : {T E : Type 0} (setup : Start) (done out held : List ℕ) (now after : Start) (written written_after : Option (List ℕ)) (result : Result T E)
-    → Reached setup done out held now → Serves (without_return held) now after written written_after result
-    → Moves setup (done ++ 10 ∷ []) out written written_after [] after result
-line_moves setup done out held now after written written_after (Ok x) r s = record {
-  more = text_of (reply_to (without_return held) s.refused now);
+pub line_moves : {T E : Type 0} (past : Past) (done out held : List ℕ) (now after : Past) (written written_after : Option (List ℕ)) (result : Result T E)
+    → Reached past done out held now → Serves (without_return held) now after written written_after result
+    → Moves past (done ++ 10 ∷ []) out written written_after [] after result
+line_moves past done out held now after written written_after (Ok x) r s = record {
+  more = text_to (without_return held) s.refused now;
   writes = s.sends;
-  reached = rw s.after (line_reached setup done out held now s.refused s.only r);
+  reached = rw s.after (line_reached past done out held now s.refused s.only r);
 }
-line_moves setup done out held now after written written_after (Err e) r s =
-    let text = text_of (reply_to (without_return held) s.refused now) in
-    let reached : Reached setup (done ++ 10 ∷ []) ((out ++ s.sends.taken) ++ s.sends.unwritten) [] (setup_after (without_return held) s.refused now) =
-    rw (← cut_text out text s.sends.taken s.sends.unwritten s.sends.split) (line_reached setup done out held now s.refused s.only r) in
+line_moves past done out held now after written written_after (Err e) r s =
+    let text = text_to (without_return held) s.refused now in
+    let reached : Reached past (done ++ 10 ∷ []) ((out ++ s.sends.taken) ++ s.sends.unwritten) [] (past_after (without_return held) s.refused now) =
+    rw (← cut_text out text s.sends.taken s.sends.unwritten s.sends.split) (line_reached past done out held now s.refused s.only r) in
     record {
       more = s.sends.taken;
       writes = s.sends.writes;
-      broken = broken setup (done ++ 10 ∷ []) (out ++ s.sends.taken) s.sends.unwritten [] _ reached;
+      broken = broken past (done ++ 10 ∷ []) (out ++ s.sends.taken) s.sends.unwritten [] _ reached;
     }
 
 -- the line that the end of the input left open was served
-pub last_finishes : {T E : Type 0} (setup : Start) (done out held : List ℕ) (now after : Start) (written written_after : Option (List ℕ)) (result : Result T E)
-    → 0 < length held → Reached setup done out held now → Serves held now after written written_after result → Finishes setup done out written written_after result
-last_finishes setup done out held now after written written_after (Ok x) some r s = record {
-  more = text_of (reply_to held s.refused now);
+pub last_finishes : {T E : Type 0} (past : Past) (done out held : List ℕ) (now after : Past) (written written_after : Option (List ℕ)) (result : Result T E)
+    → 0 < length held → Reached past done out held now → Serves held now after written written_after result → Finishes past done out written written_after result
+last_finishes past done out held now after written written_after (Ok x) some r s = record {
+  more = text_to held s.refused now;
   writes = s.sends;
-  answers = answers setup (lines_of done) _ _ (last_replied setup done out held now s.refused s.only some r);
+  answers = answers past (lines_of done) _ _ (last_replied past done out held now s.refused s.only some r);
 }
-last_finishes setup done out held now after written written_after (Err e) some r s =
-    let text = text_of (reply_to held s.refused now) in
-    let begins : BeginsAnswers setup (lines_of done ++ []) (out ++ s.sends.taken) =
-    begins_answers setup (lines_of done) (out ++ s.sends.taken) s.sends.unwritten (setup_after held s.refused now) []
-    (rw (← cut_text out text s.sends.taken s.sends.unwritten s.sends.split) (last_replied setup done out held now s.refused s.only some r)) in
+last_finishes past done out held now after written written_after (Err e) some r s =
+    let text = text_to held s.refused now in
+    let begins : BeginsAnswers past (lines_of done ++ []) (out ++ s.sends.taken) =
+    begins_answers past (lines_of done) (out ++ s.sends.taken) s.sends.unwritten (past_after held s.refused now) []
+    (rw (← cut_text out text s.sends.taken s.sends.unwritten s.sends.split) (last_replied past done out held now s.refused s.only some r)) in
     record {
       more = s.sends.taken;
       writes = s.sends.writes;
@@ -54,33 +54,33 @@ last_finishes setup done out held now after written written_after (Err e) some r
     }
 
 -- nothing was written
-pub nothing_more : (setup : Start) (done out held : List ℕ) (now : Start) (written : Option (List ℕ)) → Reached setup done out held now
-    → Goes setup done out written written held now
-nothing_more setup done out held now written r = record {
+pub nothing_more : (past : Past) (done out held : List ℕ) (now : Past) (written : Option (List ℕ)) → Reached past done out held now
+    → Goes past done out written written held now
+nothing_more past done out held now written r = record {
   more = [];
   writes = Appends-nil written;
   reached = rw (append-nil out) r;
 }
 
 -- some bytes, and then some more
-pub then_moves : {T E : Type 0} (setup : Start) (done all out held now_held : List ℕ) (between now : Start) (written written_between written_after : Option (List ℕ)) (result : Result T E)
-    → (g : Goes setup done out written written_between held between) → Moves setup all (out ++ g.more) written_between written_after now_held now result
-    → Moves setup all out written written_after now_held now result
-then_moves setup done all out held now_held between now written written_between written_after (Ok x) g m = record {
+pub then_moves : {T E : Type 0} (past : Past) (done all out held now_held : List ℕ) (between now : Past) (written written_between written_after : Option (List ℕ)) (result : Result T E)
+    → (g : Goes past done out written written_between held between) → Moves past all (out ++ g.more) written_between written_after now_held now result
+    → Moves past all out written written_after now_held now result
+then_moves past done all out held now_held between now written written_between written_after (Ok x) g m = record {
   more = g.more ++ m.more;
   writes = Appends-trans written written_between written_after g.more m.more g.writes m.writes;
   reached = rw (← append_assoc out g.more m.more) m.reached;
 }
-then_moves setup done all out held now_held between now written written_between written_after (Err e) g m = record {
+then_moves past done all out held now_held between now written written_between written_after (Err e) g m = record {
   more = g.more ++ m.more;
   writes = Appends-trans written written_between written_after g.more m.more g.writes m.writes;
   broken = rw (← append_assoc out g.more m.more) m.broken;
 }
 
 -- the writer failed before the rest was taken
-pub breaks_early : (setup : Start) (done rest out : List ℕ) (written written_after : Option (List ℕ)) → Breaks setup done out written written_after
-    → Breaks setup (done ++ rest) out written written_after
-breaks_early setup done rest out written written_after b = record {
+pub breaks_early : (past : Past) (done rest out : List ℕ) (written written_after : Option (List ℕ)) → Breaks past done out written written_after
+    → Breaks past (done ++ rest) out written written_after
+breaks_early past done rest out written written_after b = record {
   more = b.more;
   writes = b.writes;
   broken = λ next. rw append_assoc (b.broken (rest ++ next));

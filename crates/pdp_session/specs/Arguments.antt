@@ -7,6 +7,11 @@ use Rattle.pdp_word.specs.Number.{number_of}
 abbrev pub ◌>>=◌ : {T U : Type 0} → Option T → (T → Option U) → Option U
 ◌>>=◌ found next = option_and_then next found
 
+-- the first word and the others
+abbrev pub first_of : List (List ℕ) → Option (List ℕ × List (List ℕ))
+first_of (first ∷ others) = Some (first, others)
+first_of [] = None
+
 -- the word, where there is one
 abbrev pub one_of : List (List ℕ) → Option (List ℕ)
 one_of (word ∷ []) = Some word
@@ -22,6 +27,16 @@ abbrev pub word_named : List ℕ → Option ℕ
 word_named text = do
   number ← number_of 8 text
   if nat_lt number 0o200000 then Some number else None
+
+-- a byte, in octal: at most 377
+abbrev pub byte_named : List ℕ → Option ℕ
+byte_named text = do
+  number ← number_of 8 text
+  if nat_lt number 0o400 then Some number else None
+
+-- an event by its number, in decimal: one that 32 bits can't hold stands for 0, which no event has
+abbrev pub event_named : List ℕ → Option ℕ
+event_named text = option_map (λ number. if nat_lt number 4294967296 then number else 0) (number_of 10 text)
 
 -- a turn, in decimal: one that 32 bits can't hold stands for the largest that they hold
 abbrev pub turn_named : List ℕ → Option ℕ

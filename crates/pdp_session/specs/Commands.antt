@@ -1,53 +1,68 @@
--- What a line is answered, and the setup that it leaves. Want of memory comes in as a flag: it is
+-- What a line is answered, and the past that it leaves. Want of memory comes in as a flag: it is
 -- told only where nothing else refuses the line, and only of a command.
-use Rattle.std.specs.Prelude.{Bool, true, false, List, ℕ, Option, None, Some, Result, Ok, Err}
+use Rattle.std.specs.Prelude.{Bool, true, false, List, ℕ, ◌+◌, Option, None, Some, Result, Ok, Err}
 use Rattle.pdp_script.specs.Refusal.{answered, asked, left}
 use Rattle.pdp_script.specs.declared.faults.Fault.{Fault}
 use Rattle.pdp_script.specs.declared.faults.Fault.TheVariants.{NoMemory}
 use Rattle.pdp_replay.specs.Answer.{answer_to}
-use Rattle.pdp_replay.specs.Edit.{core_edit}
-use Rattle.pdp_replay.specs.Start.{Start}
+use Rattle.pdp_replay.specs.Edit.{core_edit, revert_edit, event_insertion, event_alteration, event_drop}
+use Rattle.pdp_replay.specs.Past.{Past}
 use Rattle.pdp_replay.specs.declared.question.Value.{Value}
 use Rattle.pdp_session.specs.declared.grammar.Command.{Command}
-use Rattle.pdp_session.specs.declared.grammar.Command.TheVariants.{SetCore, Ask}
+use Rattle.pdp_session.specs.declared.grammar.Command.TheVariants.{SetCore, RevertCore, Insert, Alter, DropEvent, ListPatches, Ask}
 use Rattle.pdp_session.specs.declared.replies.Reply.{Reply}
-use Rattle.pdp_session.specs.declared.replies.Reply.TheVariants.{Nothing, Done, Shown, Refused}
+use Rattle.pdp_session.specs.declared.replies.Reply.TheVariants.{Nothing, Done, Inserted, Shown, Listed, Refused}
 use Rattle.pdp_session.specs.Grammar.{line_means}
 
 -- of an edit's result
-abbrev pub edit_reply : Result (Unit {0}) Fault → Reply
+abbrev pub edit_reply : {X : Type 0} → Result X Fault → Reply
 edit_reply (Ok x) = Done
 edit_reply (Err fault) = Refused fault
+
+-- of an insertion's result
+abbrev pub insertion_reply : Result ℕ Fault → Reply
+insertion_reply (Ok number) = Inserted number
+insertion_reply (Err fault) = Refused fault
 
 -- of a question's result
 abbrev pub ask_reply : Result Value Fault → Reply
 ask_reply (Ok value) = Shown value
 ask_reply (Err fault) = Refused fault
 
-abbrev pub command_reply : Command → Bool → Start → Reply
-command_reply (SetCore address word) refused setup = edit_reply (answered (core_edit address word setup) refused tt)
-command_reply (Ask question) refused setup = ask_reply (asked (answer_to question setup) refused)
+abbrev pub command_reply : Command → Bool → Past → Reply
+command_reply (SetCore address word) refused past = edit_reply {X = Unit {0}} (answered (core_edit address word past) refused tt)
+command_reply (RevertCore address) refused past = edit_reply (revert_edit address past)
+command_reply (Insert turn event) refused past = insertion_reply (answered (event_insertion turn event past) refused (past.script.given + 1))
+command_reply (Alter number turn event) refused past = edit_reply (event_alteration number turn event past)
+command_reply (DropEvent number) refused past = edit_reply (event_drop number past)
+command_reply ListPatches refused past = Listed
+command_reply (Ask question) refused past = ask_reply (asked (answer_to question past) refused)
 
-abbrev pub command_leaves : Command → Bool → Start → Start
-command_leaves (SetCore address word) refused setup = left (core_edit address word setup) refused setup
-command_leaves (Ask question) refused setup = setup
+abbrev pub command_leaves : Command → Bool → Past → Past
+command_leaves (SetCore address word) refused past = left (core_edit address word past) refused past
+command_leaves (RevertCore address) refused past = left (revert_edit address past) false past
+command_leaves (Insert turn event) refused past = left (event_insertion turn event past) refused past
+command_leaves (Alter number turn event) refused past = left (event_alteration number turn event past) false past
+command_leaves (DropEvent number) refused past = left (event_drop number past) false past
+command_leaves ListPatches refused past = past
+command_leaves (Ask question) refused past = past
 
-abbrev pub reply_meant : Result (Option Command) Fault → Bool → Start → Reply
-reply_meant (Err fault) refused setup = Refused fault
-reply_meant (Ok None) refused setup = Nothing
-reply_meant (Ok (Some command)) refused setup = command_reply command refused setup
+abbrev pub reply_meant : Result (Option Command) Fault → Bool → Past → Reply
+reply_meant (Err fault) refused past = Refused fault
+reply_meant (Ok None) refused past = Nothing
+reply_meant (Ok (Some command)) refused past = command_reply command refused past
 
-abbrev pub setup_meant : Result (Option Command) Fault → Bool → Start → Start
-setup_meant (Err fault) refused setup = setup
-setup_meant (Ok None) refused setup = setup
-setup_meant (Ok (Some command)) refused setup = command_leaves command refused setup
+abbrev pub past_meant : Result (Option Command) Fault → Bool → Past → Past
+past_meant (Err fault) refused past = past
+past_meant (Ok None) refused past = past
+past_meant (Ok (Some command)) refused past = command_leaves command refused past
 
--- what a line is answered, and the setup after it
-unfoldable pub reply_to : List ℕ → Bool → Start → Reply
-reply_to line refused setup = reply_meant (line_means line) refused setup
+-- what a line is answered, and the past after it
+unfoldable pub reply_to : List ℕ → Bool → Past → Reply
+reply_to line refused past = reply_meant (line_means line) refused past
 
-unfoldable pub setup_after : List ℕ → Bool → Start → Start
-setup_after line refused setup = setup_meant (line_means line) refused setup
+unfoldable pub past_after : List ℕ → Bool → Past → Past
+past_after line refused past = past_meant (line_means line) refused past
 
 -- was this line refused for want of memory?
 abbrev pub wants_memory : Reply → Bool

@@ -8,8 +8,9 @@ use Rattle.pdp_script.specs.declared.faults.Fault.{Fault}
 use Rattle.pdp_script.specs.declared.faults.Fault.TheVariants.{BadLine, LineTooLong}
 use Rattle.pdp_replay.specs.declared.question.Question.TheVariants.{Regs}
 use Rattle.pdp_session.specs.declared.grammar.Command.{Command}
-use Rattle.pdp_session.specs.declared.grammar.Command.TheVariants.{SetCore, Ask}
-use Rattle.pdp_session.specs.Arguments.{◌>>=◌, one_of, two_of, word_named, turn_named}
+use Rattle.pdp_session.specs.declared.grammar.Command.TheVariants.{SetCore, RevertCore, Insert, Alter, DropEvent, ListPatches, Ask}
+use Rattle.pdp_session.specs.Arguments.{◌>>=◌, first_of, one_of, two_of, word_named, event_named, turn_named}
+use Rattle.pdp_session.specs.Events.{event_of}
 use Rattle.pdp_session.specs.Words.{words_of}
 
 -- `core A W`: an address and a word, in octal
@@ -19,6 +20,43 @@ set_core_with arguments = do
   a ← number_of 8 address
   w ← word_named word
   Some (SetCore a w)
+
+-- `uncore A`: an address, in octal
+abbrev pub revert_core_with : List (List ℕ) → Option Command
+revert_core_with arguments = do
+  address ← one_of arguments
+  a ← number_of 8 address
+  Some (RevertCore a)
+
+-- `at T event`: a turn, in decimal, and an event
+abbrev pub insert_with : List (List ℕ) → Option Command
+insert_with arguments = do
+  (turn, event) ← first_of arguments
+  t ← turn_named turn
+  e ← event_of event
+  Some (Insert t e)
+
+-- `alter E T event`: the number of an event and a turn, in decimal, and an event
+abbrev pub alter_with : List (List ℕ) → Option Command
+alter_with arguments = do
+  (number, others) ← first_of arguments
+  (turn, event) ← first_of others
+  n ← event_named number
+  t ← turn_named turn
+  e ← event_of event
+  Some (Alter n t e)
+
+-- `drop E`: the number of an event, in decimal
+abbrev pub drop_with : List (List ℕ) → Option Command
+drop_with arguments = do
+  number ← one_of arguments
+  n ← event_named number
+  Some (DropEvent n)
+
+-- `patches`
+abbrev pub patches_with : List (List ℕ) → Option Command
+patches_with [] = Some ListPatches
+patches_with _ = None
 
 -- `regs N`: a turn, in decimal
 abbrev pub regs_with : List (List ℕ) → Option Command
@@ -31,6 +69,11 @@ regs_with arguments = do
 unfoldable pub command_with : List ℕ → List (List ℕ) → Option Command
 command_with name arguments =
     if bytes_eq name (codes "core") then set_core_with arguments
+    else if bytes_eq name (codes "uncore") then revert_core_with arguments
+    else if bytes_eq name (codes "at") then insert_with arguments
+    else if bytes_eq name (codes "alter") then alter_with arguments
+    else if bytes_eq name (codes "drop") then drop_with arguments
+    else if bytes_eq name (codes "patches") then patches_with arguments
     else if bytes_eq name (codes "regs") then regs_with arguments
     else None
 

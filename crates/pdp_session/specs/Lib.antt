@@ -1,5 +1,6 @@
 pub mod Arguments
 pub mod Commands
+pub mod Events
 pub mod Grammar
 pub mod Lines
 pub mod Progress

@@ -3,28 +3,28 @@ use Rattle.std.specs.Prelude.{◌≡◌, ℕ, ◌<◌, Bool, true, false, List, 
 use Rattle.std.specs.List.{All, concat}
 use Rattle.std.specs.Io.KnownBytes.{Appends}
 use Rattle.pdp_script.specs.declared.faults.Fault.TheVariants.{NoMemory}
-use Rattle.pdp_replay.specs.Start.{Start}
+use Rattle.pdp_replay.specs.Past.{Past}
 use Rattle.pdp_session.specs.declared.replies.Reply.TheVariants.{Refused}
-use Rattle.pdp_session.specs.Commands.{reply_to, setup_after}
+use Rattle.pdp_session.specs.Commands.{reply_to, past_after}
 use Rattle.pdp_session.specs.Lines.{is_line_feed, ended_lines, lines_of}
-use Rattle.pdp_session.specs.Replies.{text_of}
+use Rattle.pdp_session.specs.Replies.{text_to}
 use Rattle.pdp_session.specs.Sends.{Sends}
 use Rattle.pdp_session.specs.Session.{replies, OnlyForMemory, Answers, BeginsAnswers}
 
 -- what answering one line does
-pub record Serves {T E : Type 0} (line : List ℕ) (setup now : Start) (written written_after : Option (List ℕ)) (result : Result T E) : Type 0 where
+pub record Serves {T E : Type 0} (line : List ℕ) (past now : Past) (written written_after : Option (List ℕ)) (result : Result T E) : Type 0 where
   pub refused : Bool
-  pub only : refused ≡ true → reply_to line refused setup ≡ Refused NoMemory
-  pub after : now ≡ setup_after line refused setup
-  pub sends : Sends (text_of (reply_to line refused setup)) written written_after result
+  pub only : refused ≡ true → reply_to line refused past ≡ Refused NoMemory
+  pub after : now ≡ past_after line refused past
+  pub sends : Sends (text_to line refused past) written written_after result
 
 -- two sets have the same of the first n lines
 abbrev pub Agrees : ℕ → (ℕ → Bool) → (ℕ → Bool) → Type 0
 Agrees n refused other = (k : ℕ) → k < n → other k ≡ refused k
 
--- From `setup`, `lines` were answered with `out`, and the setup is `now`. Whatever lines come next, and
+-- From this past, `lines` were answered with `out`, and the past is `now`. Whatever lines come next, and
 -- whichever of those are refused for want of memory, the replies begin with those that were given.
-pub record Replied (setup : Start) (lines : List (List ℕ)) (out : List ℕ) (now : Start) : Type 0 where
+pub record Replied (past : Past) (lines : List (List ℕ)) (out : List ℕ) (now : Past) : Type 0 where
   pub given : List (List ℕ)
   pub count : ℕ
   pub refused : ℕ → Bool
@@ -32,11 +32,11 @@ pub record Replied (setup : Start) (lines : List (List ℕ)) (out : List ℕ) (n
   pub only : OnlyForMemory refused given
   pub text : out ≡ concat given
   pub goes : (other : ℕ → Bool) (next : List (List ℕ)) → Agrees count refused other →
-      replies 0 (lines ++ next) other setup ≡ given ++ replies count next other now
+      replies 0 (lines ++ next) other past ≡ given ++ replies count next other now
 
 -- The bytes `done` were read and `out` was written: all lines that ended were answered, and the line buffer
 -- has what it holds of the line that is open.
-pub record Reached (setup : Start) (done out held : List ℕ) (now : Start) : Type 0 where
+pub record Reached (past : Past) (done out held : List ℕ) (now : Past) : Type 0 where
   pub whole : List ℕ
   pub tail : List ℕ
   pub lines : List (List ℕ)
@@ -45,36 +45,36 @@ pub record Reached (setup : Start) (done out held : List ℕ) (now : Start) : Ty
   pub kept : held ≡ take 202 tail
   pub every : (next : List ℕ) → lines_of (whole ++ next) ≡ lines ++ lines_of next
   pub ended : (next : List ℕ) → ended_lines (whole ++ next) ≡ lines ++ ended_lines next
-  pub replied : Replied setup lines out now
+  pub replied : Replied past lines out now
 
 -- `more` was written, and the session goes on
-pub record Goes (setup : Start) (done out : List ℕ) (written written_after : Option (List ℕ)) (held : List ℕ) (now : Start) : Type 0 where
+pub record Goes (past : Past) (done out : List ℕ) (written written_after : Option (List ℕ)) (held : List ℕ) (now : Past) : Type 0 where
   pub more : List ℕ
   pub writes : Appends written written_after more
-  pub reached : Reached setup done (out ++ more) held now
+  pub reached : Reached past done (out ++ more) held now
 
 -- `more` was written before the writer failed, within the replies to whatever begins with `done`
-pub record Breaks (setup : Start) (done out : List ℕ) (written written_after : Option (List ℕ)) : Type 0 where
+pub record Breaks (past : Past) (done out : List ℕ) (written written_after : Option (List ℕ)) : Type 0 where
   pub more : List ℕ
   pub writes : Appends written written_after more
-  pub broken : (next : List ℕ) → BeginsAnswers setup (lines_of (done ++ next)) (out ++ more)
+  pub broken : (next : List ℕ) → BeginsAnswers past (lines_of (done ++ next)) (out ++ more)
 
 -- what the next bytes do, after which `done` was read
-abbrev pub Moves : {T E : Type 0} → Start → List ℕ → List ℕ → Option (List ℕ) → Option (List ℕ) → List ℕ → Start → Result T E → Type 0
-Moves setup done out written written_after held now (Ok x) = Goes setup done out written written_after held now
-Moves setup done out written written_after held now (Err e) = Breaks setup done out written written_after
+abbrev pub Moves : {T E : Type 0} → Past → List ℕ → List ℕ → Option (List ℕ) → Option (List ℕ) → List ℕ → Past → Result T E → Type 0
+Moves past done out written written_after held now (Ok x) = Goes past done out written written_after held now
+Moves past done out written written_after held now (Err e) = Breaks past done out written written_after
 
 -- what the end of the input does
-pub record Answered (setup : Start) (done out : List ℕ) (written written_after : Option (List ℕ)) : Type 0 where
+pub record Answered (past : Past) (done out : List ℕ) (written written_after : Option (List ℕ)) : Type 0 where
   pub more : List ℕ
   pub writes : Appends written written_after more
-  pub answers : Answers setup (lines_of done) (out ++ more)
+  pub answers : Answers past (lines_of done) (out ++ more)
 
-pub record BreaksOff (setup : Start) (done out : List ℕ) (written written_after : Option (List ℕ)) : Type 0 where
+pub record BreaksOff (past : Past) (done out : List ℕ) (written written_after : Option (List ℕ)) : Type 0 where
   pub more : List ℕ
   pub writes : Appends written written_after more
-  pub begins : BeginsAnswers setup (lines_of done) (out ++ more)
+  pub begins : BeginsAnswers past (lines_of done) (out ++ more)
 
-abbrev pub Finishes : {T E : Type 0} → Start → List ℕ → List ℕ → Option (List ℕ) → Option (List ℕ) → Result T E → Type 0
-Finishes setup done out written written_after (Ok x) = Answered setup done out written written_after
-Finishes setup done out written written_after (Err e) = BreaksOff setup done out written written_after
+abbrev pub Finishes : {T E : Type 0} → Past → List ℕ → List ℕ → Option (List ℕ) → Option (List ℕ) → Result T E → Type 0
+Finishes past done out written written_after (Ok x) = Answered past done out written written_after
+Finishes past done out written written_after (Err e) = BreaksOff past done out written written_after

@@ -1,14 +1,19 @@
 -- What a reply is as text: lines that each end in LF (this project's profile).
-use Rattle.std.specs.Prelude.{ℕ, List, [], ◌++◌, codes, decimal, slice_index}
+use Rattle.std.specs.Prelude.{ℕ, Bool, List, [], ◌∷◌, ◌++◌, codes, decimal, slice_index}
 use Rattle.pdp_word.specs.Number.{octal_digits}
 use Rattle.pdp_script.specs.Fault.{number_of_fault, name_of_fault}
 use Rattle.pdp_script.specs.declared.faults.Fault.{Fault}
 use Rattle.pdp_cpu.specs.declared.regs.Regs.{Regs}
 use Rattle.pdp_operand.specs.declared.processor.RunState.{RunState}
 use Rattle.pdp_operand.specs.declared.processor.RunState.TheVariants.{Run, Wait, Halted}
+use Rattle.pdp_replay.specs.Edit.{patch_shown, patch_count}
+use Rattle.pdp_replay.specs.Past.{Past}
+use Rattle.pdp_replay.specs.declared.patch.Patch.{Patch}
+use Rattle.pdp_replay.specs.declared.patch.Patch.TheVariants.{Core}
 use Rattle.pdp_replay.specs.declared.question.Value.TheVariants.{Regs as RegsAre}
 use Rattle.pdp_session.specs.declared.replies.Reply.{Reply}
-use Rattle.pdp_session.specs.declared.replies.Reply.TheVariants.{Nothing, Done, Shown, Refused}
+use Rattle.pdp_session.specs.declared.replies.Reply.TheVariants.{Nothing, Done, Inserted, Shown, Listed, Refused}
+use Rattle.pdp_session.specs.Commands.{reply_to, past_after}
 
 -- a name, a word in six octal digits, and the space after it
 abbrev pub field : List ℕ → ℕ → List ℕ
@@ -36,8 +41,33 @@ regs_line regs =
 abbrev pub refusal_line : Fault → List ℕ
 refusal_line fault = codes "refused " ++ decimal (number_of_fault fault) ++ codes " " ++ name_of_fault fault
 
-unfoldable pub text_of : Reply → List ℕ
-text_of Nothing = []
-text_of Done = codes "ok" ++ codes "\n"
-text_of (Shown (RegsAre regs)) = regs_line regs ++ codes "\n"
-text_of (Refused fault) = refusal_line fault ++ codes "\n"
+abbrev pub refusal_text : Fault → List ℕ
+refusal_text fault = refusal_line fault ++ codes "\n"
+
+-- a patch as the line that makes it
+abbrev pub patch_line : Patch → List ℕ
+patch_line (Core address word) = codes "core " ++ octal_digits 6 address ++ codes " " ++ octal_digits 6 word ++ codes "\n"
+
+abbrev pub patch_lines : List (ℕ × ℕ) → List ℕ
+patch_lines [] = []
+patch_lines (entry ∷ entries) = patch_line (patch_shown entry) ++ patch_lines entries
+
+abbrev pub count_line : ℕ → List ℕ
+count_line count = codes "patches " ++ decimal count ++ codes "\n"
+
+-- how many patches there are, and a line for each
+unfoldable pub patches_text : Past → List ℕ
+patches_text past = count_line (patch_count past) ++ patch_lines past.setup.patches
+
+-- a reply as text; a list of patches is that of the past as it is then
+unfoldable pub text_of : Reply → Past → List ℕ
+text_of Nothing past = []
+text_of Done past = codes "ok" ++ codes "\n"
+text_of (Inserted number) past = codes "event " ++ decimal number ++ codes "\n"
+text_of (Shown (RegsAre regs)) past = regs_line regs ++ codes "\n"
+text_of Listed past = patches_text past
+text_of (Refused fault) past = refusal_text fault
+
+-- the text that a line is answered
+abbrev pub text_to : List ℕ → Bool → Past → List ℕ
+text_to line refused past = text_of (reply_to line refused past) (past_after line refused past)

@@ -4,11 +4,10 @@ use Rattle.std.specs.List.{concat, slice_get}
 use Rattle.std.specs.Io.KnownBytes.{Appends, Consumes, IsAtEnd}
 use Rattle.pdp_script.specs.declared.faults.Fault.{Fault}
 use Rattle.pdp_script.specs.declared.faults.Fault.TheVariants.{NoMemory, Input, Output, BadImage, BadSetup}
-use Rattle.pdp_replay.specs.Start.{Start}
-use Rattle.pdp_session.specs.declared.replies.Reply.TheVariants.{Refused}
-use Rattle.pdp_session.specs.Commands.{reply_to, setup_after}
+use Rattle.pdp_replay.specs.Past.{Past}
+use Rattle.pdp_session.specs.Commands.{past_after}
 use Rattle.pdp_session.specs.Lines.{ended_lines, lines_of}
-use Rattle.pdp_session.specs.Replies.{text_of}
+use Rattle.pdp_session.specs.Replies.{text_to, refusal_text}
 
 -- the faults of a start: told before anything is read or written, or not at all
 abbrev pub is_told_first : Fault → Bool
@@ -19,46 +18,46 @@ is_told_first _ = false
 
 -- The replies to lines, one text for each, where the first has number n and `refused` is the set of the
 -- numbers of those lines that are refused for want of memory. Such a line leaves the session.
-unfoldable pub replies : ℕ → List (List ℕ) → (ℕ → Bool) → Start → List (List ℕ)
-replies n [] refused setup = []
-replies n (line ∷ lines) refused setup =
-    text_of (reply_to line (refused n) setup) ∷ replies (n + 1) lines refused (setup_after line (refused n) setup)
+unfoldable pub replies : ℕ → List (List ℕ) → (ℕ → Bool) → Past → List (List ℕ)
+replies n [] refused past = []
+replies n (line ∷ lines) refused past =
+    text_to line (refused n) past ∷ replies (n + 1) lines refused (past_after line (refused n) past)
 
 -- the set has those lines alone that are answered `refused 1 NoMemory`
 abbrev pub OnlyForMemory : (ℕ → Bool) → List (List ℕ) → Type 0
-OnlyForMemory refused texts = (n : ℕ) → refused n ≡ true → slice_get texts n ≡ Some (text_of (Refused NoMemory))
+OnlyForMemory refused texts = (n : ℕ) → refused n ≡ true → slice_get texts n ≡ Some (refusal_text NoMemory)
 
 -- `out` is the replies to these lines
-pub record Answers (setup : Start) (lines : List (List ℕ)) (out : List ℕ) : Type 0 where
+pub record Answers (past : Past) (lines : List (List ℕ)) (out : List ℕ) : Type 0 where
   pub refused : ℕ → Bool
-  pub only : OnlyForMemory refused (replies 0 lines refused setup)
-  pub text : concat (replies 0 lines refused setup) ≡ out
+  pub only : OnlyForMemory refused (replies 0 lines refused past)
+  pub text : concat (replies 0 lines refused past) ≡ out
 
 -- `out` is a beginning of the replies to these lines
-pub record BeginsAnswers (setup : Start) (lines : List (List ℕ)) (out : List ℕ) : Type 0 where
+pub record BeginsAnswers (past : Past) (lines : List (List ℕ)) (out : List ℕ) : Type 0 where
   pub refused : ℕ → Bool
-  pub only : OnlyForMemory refused (replies 0 lines refused setup)
+  pub only : OnlyForMemory refused (replies 0 lines refused past)
   pub unwritten : List ℕ
-  pub text : concat (replies 0 lines refused setup) ≡ out ++ unwritten
+  pub text : concat (replies 0 lines refused past) ≡ out ++ unwritten
 
--- How a session over a good setup ends that has read `read` and written `out`, with `rest` left to read
+-- How a session that begins with this past ends that has read `read` and written `out`, with `rest` left to read
 -- where that is known: after all its input; or where the reader failed, after all lines that had ended;
 -- or where the writer failed, within the replies to the whole input; or before it began, for want of memory.
-abbrev pub SessionEnds : Start → List ℕ → List ℕ → Option (List ℕ) → Result (Unit {0}) Fault → Type 0
-SessionEnds setup read out rest (Ok x) = IsAtEnd rest × Answers setup (lines_of read) out
-SessionEnds setup read out rest (Err Input) = Answers setup (ended_lines read) out
-SessionEnds setup read out rest (Err Output) = IfSome rest (λ more. BeginsAnswers setup (lines_of (read ++ more)) out)
-SessionEnds setup read out rest (Err NoMemory) = (read ≡ []) × (out ≡ [])
-SessionEnds setup read out rest (Err _) = ⊥
+abbrev pub SessionEnds : Past → List ℕ → List ℕ → Option (List ℕ) → Result (Unit {0}) Fault → Type 0
+SessionEnds past read out rest (Ok x) = IsAtEnd rest × Answers past (lines_of read) out
+SessionEnds past read out rest (Err Input) = Answers past (ended_lines read) out
+SessionEnds past read out rest (Err Output) = IfSome rest (λ more. BeginsAnswers past (lines_of (read ++ more)) out)
+SessionEnds past read out rest (Err NoMemory) = (read ≡ []) × (out ≡ [])
+SessionEnds past read out rest (Err _) = ⊥
 
 -- a setup that is refused is told as such, with nothing read and nothing written
-abbrev pub Ends : Result Start Fault → List ℕ → List ℕ → Option (List ℕ) → Result (Unit {0}) Fault → Type 0
-Ends (Ok setup) read out rest result = SessionEnds setup read out rest result
+abbrev pub Ends : Result Past Fault → List ℕ → List ℕ → Option (List ℕ) → Result (Unit {0}) Fault → Type 0
+Ends (Ok past) read out rest result = SessionEnds past read out rest result
 Ends (Err fault) read out rest result = (result ≡ Err fault) × (read ≡ []) × (out ≡ [])
 
 -- A session over what a setup makes, from the bytes that its reader has and its writer holds before it to
 -- those after it, where they are known.
-pub record Session (due : Result Start Fault) (unread read_after written written_after : Option (List ℕ)) (result : Result (Unit {0}) Fault) : Type 0 where
+pub record Session (due : Result Past Fault) (unread read_after written written_after : Option (List ℕ)) (result : Result (Unit {0}) Fault) : Type 0 where
   pub read : List ℕ
   pub out : List ℕ
   pub takes : Consumes unread read_after read

@@ -1,6 +1,6 @@
 ghost use Rattle.std.specs.Prelude.{◌≡◌};
 ghost use Rattle.std.specs.Option.{option_map};
-ghost use Rattle.pdp_session.specs.Arguments.{one_of, two_of, word_named, turn_named};
+ghost use Rattle.pdp_session.specs.Arguments.{one_of, two_of, word_named, byte_named, event_named, turn_named};
 ghost use Rattle.pdp_session.specs.Words.{words_of};
 
 use crate::words::next_word;
@@ -32,6 +32,22 @@ pub fn read_word(text: &[u8]) -> Option<u16>
 {
     let number = read_octal(text)?;
     u16::try_from(number).ok()
+}
+
+// A byte, in octal; `None` above 377.
+pub fn read_byte(text: &[u8]) -> Option<u8>
+    ensures { result ≡ byte_named text.now }
+{
+    let number = read_octal(text)?;
+    u8::try_from(number).ok()
+}
+
+// An event by its number, in decimal; one that 32 bits can't hold becomes 0, which no event has.
+pub fn read_event_number(text: &[u8]) -> Option<u32>
+    ensures { result ≡ event_named text.now }
+{
+    let number = read_decimal(text)?;
+    Some(u32::try_from(number).unwrap_or(0))
 }
 
 // A turn, in decimal; one that 32 bits can't hold becomes the largest that they hold, which no run reaches.

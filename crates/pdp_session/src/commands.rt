@@ -1,16 +1,16 @@
 ghost use Rattle.std.specs.Prelude.{◌≡◌};
-ghost use Rattle.pdp_session.specs.Commands.{command_reply, command_leaves, reply_to, setup_after, wants_memory};
+ghost use Rattle.pdp_session.specs.Commands.{edit_reply, command_reply, command_leaves, reply_to, past_after, wants_memory};
 
 use crate::grammar::{Command, read_line};
 use crate::replies::Reply;
-use pdp_replay::Engine;
+use pdp_replay::{Engine, Fault};
 use std::alloc::Global;
 
 // Does what a line says, and answers its reply. The line comes without what ended it.
-#[tactic(auto, unfolding(crate::specs::Commands::reply_to, crate::specs::Commands::setup_after))]
+#[tactic(auto, unfolding(crate::specs::Commands::reply_to, crate::specs::Commands::past_after))]
 pub fn answer_line(alloc: Global, engine: &mut Engine, line: &[u8]) -> Reply
-    ensures reply { result ≡ reply_to line.now (wants_memory result) engine.old.setup }
-    ensures after { engine.new.setup ≡ setup_after line.now (wants_memory result) engine.old.setup }
+    ensures reply { result ≡ reply_to line.now (wants_memory result) engine.old.past }
+    ensures after { engine.new.past ≡ past_after line.now (wants_memory result) engine.old.past }
 {
     match read_line(line) {
         Ok(None) => Reply::Nothing,
@@ -19,18 +19,38 @@ pub fn answer_line(alloc: Global, engine: &mut Engine, line: &[u8]) -> Reply
     }
 }
 
+#[tactic(auto, using(crate::proofs::Replying::reply_of_edit))]
 fn run_command(alloc: Global, engine: &mut Engine, command: Command) -> Reply
-    ensures reply { result ≡ command_reply command (wants_memory result) engine.old.setup }
-    ensures after { engine.new.setup ≡ command_leaves command (wants_memory result) engine.old.setup }
+    ensures reply { result ≡ command_reply command (wants_memory result) engine.old.past }
+    ensures after { engine.new.past ≡ command_leaves command (wants_memory result) engine.old.past }
 {
     match command {
-        Command::SetCore { address, word } => match engine.set_core(address, word) {
-            Ok(()) => Reply::Done,
+        Command::SetCore { address, word } => edit_reply(engine.set_core(address, word)),
+        Command::RevertCore { address } => edit_reply(engine.revert_core(address)),
+        Command::Insert { turn, event } => match engine.insert(turn, event) {
+            Ok(number) => Reply::Inserted(number),
             Err(fault) => Reply::Refused(fault),
         },
+        Command::Alter {
+            number,
+            turn,
+            event,
+        } => edit_reply(engine.alter(number, turn, event)),
+        Command::DropEvent { number } => edit_reply(engine.drop_event(number)),
+        Command::ListPatches => Reply::Listed,
         Command::Ask(question) => match engine.ask(alloc, question) {
             Ok(answer) => Reply::Shown(answer.value),
             Err(fault) => Reply::Refused(fault),
         },
+    }
+}
+
+// The reply to an edit.
+fn edit_reply(edited: Result<(), Fault>) -> Reply
+    ensures { result ≡ edit_reply edited }
+{
+    match edited {
+        Ok(()) => Reply::Done,
+        Err(fault) => Reply::Refused(fault),
     }
 }

@@ -1,16 +1,36 @@
 ghost use Rattle.std.specs.Prelude.{◌≡◌};
 ghost use Rattle.pdp_session.specs.Words.{words_of};
-ghost use Rattle.pdp_session.specs.Grammar.{set_core_with, regs_with, command_with, line_means};
+ghost use Rattle.pdp_session.specs.Grammar.{set_core_with, revert_core_with, insert_with, alter_with, drop_with, patches_with, regs_with, command_with, line_means};
 
-use crate::arguments::{one_word, read_turn, read_word, two_words};
+use crate::arguments::{one_word, read_event_number, read_turn, read_word, two_words};
+use crate::events::read_event;
 use crate::words::next_word;
-use pdp_replay::{Fault, Question};
+use pdp_replay::{Event, Fault, Question};
 use pdp_word::read_octal;
 
 // A command of the session language.
 #[derive(Clone, Copy, Debug, PartialEq, Eq)]
 pub enum Command {
-    SetCore { address: u32, word: u16 },
+    SetCore {
+        address: u32,
+        word: u16,
+    },
+    RevertCore {
+        address: u32,
+    },
+    Insert {
+        turn: u32,
+        event: Event,
+    },
+    Alter {
+        number: u32,
+        turn: u32,
+        event: Event,
+    },
+    DropEvent {
+        number: u32,
+    },
+    ListPatches,
     Ask(Question),
 }
 
@@ -45,6 +65,16 @@ fn read_command(name: &[u8], arguments: &[u8]) -> Option<Command>
 {
     if name == b"core".as_slice() {
         read_core(arguments)
+    } else if name == b"uncore".as_slice() {
+        read_uncore(arguments)
+    } else if name == b"at".as_slice() {
+        read_at(arguments)
+    } else if name == b"alter".as_slice() {
+        read_alter(arguments)
+    } else if name == b"drop".as_slice() {
+        read_drop(arguments)
+    } else if name == b"patches".as_slice() {
+        read_patches(arguments)
     } else if name == b"regs".as_slice() {
         read_regs(arguments)
     } else {
@@ -60,6 +90,58 @@ fn read_core(arguments: &[u8]) -> Option<Command>
     let address = read_octal(address)?;
     let word = read_word(word)?;
     Some(Command::SetCore { address, word })
+}
+
+// `uncore A`
+fn read_uncore(arguments: &[u8]) -> Option<Command>
+    ensures { result ≡ revert_core_with (words_of arguments.now) }
+{
+    let address = read_octal(one_word(arguments)?)?;
+    Some(Command::RevertCore { address })
+}
+
+// `at T event`
+fn read_at(arguments: &[u8]) -> Option<Command>
+    ensures { result ≡ insert_with (words_of arguments.now) }
+{
+    let (turn, event) = next_word(arguments)?;
+    let turn = read_turn(turn)?;
+    let event = read_event(event)?;
+    Some(Command::Insert { turn, event })
+}
+
+// `alter E T event`
+fn read_alter(arguments: &[u8]) -> Option<Command>
+    ensures { result ≡ alter_with (words_of arguments.now) }
+{
+    let (number, others) = next_word(arguments)?;
+    let (turn, event) = next_word(others)?;
+    let number = read_event_number(number)?;
+    let turn = read_turn(turn)?;
+    let event = read_event(event)?;
+    Some(Command::Alter {
+        number,
+        turn,
+        event,
+    })
+}
+
+// `drop E`
+fn read_drop(arguments: &[u8]) -> Option<Command>
+    ensures { result ≡ drop_with (words_of arguments.now) }
+{
+    let number = read_event_number(one_word(arguments)?)?;
+    Some(Command::DropEvent { number })
+}
+
+// `patches`
+fn read_patches(arguments: &[u8]) -> Option<Command>
+    ensures { result ≡ patches_with (words_of arguments.now) }
+{
+    if next_word(arguments).is_some() {
+        return None;
+    }
+    Some(Command::ListPatches)
 }
 
 // `regs N`
@@ -91,7 +173,34 @@ mod tests {
         );
         assert_eq!(rt; read_line(b"core 1000 200000"), Err(Fault::BadLine));
         assert_eq!(rt; read_line(b"core 1000"), Err(Fault::BadLine));
-        assert_eq!(rt; read_line(b"patches"), Err(Fault::BadLine));
+        assert_eq!(rt; read_line(b"patches"), Ok(Some(Command::ListPatches)));
+        assert_eq!(rt; read_line(b"patches 1"), Err(Fault::BadLine));
+        assert_eq!(rt;
+            read_line(b"uncore 1002"),
+            Ok(Some(Command::RevertCore { address: 0o1002 }))
+        );
+        assert_eq!(rt;
+            read_line(b"at 4 key 101"),
+            Ok(Some(Command::Insert {
+                turn: 4,
+                event: Event::Key(0o101)
+            }))
+        );
+        assert_eq!(rt;
+            read_line(b"alter 1 9999999999 tick"),
+            Ok(Some(Command::Alter {
+                number: 1,
+                turn: u32::MAX,
+                event: Event::Tick
+            }))
+        );
+        assert_eq!(rt;
+            read_line(b"drop 4294967296"),
+            Ok(Some(Command::DropEvent { number: 0 }))
+        );
+        assert_eq!(rt; read_line(b"at 4"), Err(Fault::BadLine));
+        assert_eq!(rt; read_line(b"at 2000000000 key 400"), Err(Fault::BadLine));
+        assert_eq!(rt; read_line(b"drop"), Err(Fault::BadLine));
         assert_eq!(rt; read_line(b""), Ok(None));
     }
 }

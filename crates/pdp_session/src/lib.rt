@@ -3,6 +3,7 @@
 
 mod arguments;
 mod commands;
+mod events;
 mod grammar;
 mod lines;
 mod readers;

@@ -1,31 +1,70 @@
-use crate::texts::{Text, add, done_text, refusal_text, regs_text};
-use pdp_replay::{Fault, Value};
+ghost use Rattle.std.specs.Prelude.{◌≡◌, ◌||◌, is_err, option_to_list, slice_get};
+ghost use Rattle.pdp_session.specs.Replies.{text_of, patches_text, patch_lines};
+ghost use Rattle.pdp_session.specs.Sends.{Sends};
+
+use crate::sending::send;
+use crate::streams::{Drain, Failed};
+use crate::texts::{
+    Text, count_text, done_text, insertion_text, patch_text, refusal_text, regs_text,
+};
+use pdp_replay::{Engine, Fault, Value};
 
 // What a line is answered.
 #[derive(Clone, Copy, Debug, PartialEq, Eq)]
 pub enum Reply {
     Nothing,
     Done,
+    Inserted(u32),
     Shown(Value),
+    // The patches of the past as it is then.
+    Listed,
     Refused(Fault),
 }
 
-impl Reply {
-    ghost use Rattle.std.specs.Prelude.{◌≡◌};
-    ghost use Rattle.pdp_session.specs.Replies.{text_of};
+// Writes a reply: nothing, or lines that each end in LF.
+#[tactic(auto, unfolding(crate::specs::Replies::text_of))]
+pub fn send_reply<W: Drain>(engine: &Engine, reply: Reply, writer: &mut W) -> Result<(), Failed>
+    ensures sends { Sends (text_of reply engine.now.past) (W.written writer.old) (W.written writer.new) result }
+    ensures fails { W.has_failed writer.new ≡ (W.has_failed writer.old || is_err result) }
+{
+    let text = match reply {
+        Reply::Nothing => Text::new(),
+        Reply::Done => done_text(),
+        Reply::Inserted(number) => insertion_text(number),
+        Reply::Shown(Value::Regs(regs)) => regs_text(regs),
+        Reply::Listed => return send_patches(engine, writer),
+        Reply::Refused(fault) => refusal_text(fault),
+    };
+    send(writer, text.as_slice())
+}
 
-    // The reply as it is written: nothing, or a line that ends in LF.
-    #[tactic(auto, unfolding(crate::specs::Replies::text_of))]
-    pub fn text(self) -> Text
-        ensures { result.items ≡ text_of self }
-    {
-        let mut text = match self {
-            Reply::Nothing => return Text::new(),
-            Reply::Done => done_text(),
-            Reply::Shown(Value::Regs(regs)) => regs_text(regs),
-            Reply::Refused(fault) => refusal_text(fault),
-        };
-        add(&mut text, b"\n");
-        text
+// Writes how many patches there are, and a line for each.
+fn send_patches<W: Drain>(engine: &Engine, writer: &mut W) -> Result<(), Failed>
+    ensures sends { Sends (patches_text engine.now.past) (W.written writer.old) (W.written writer.new) result }
+    ensures fails { W.has_failed writer.new ≡ (W.has_failed writer.old || is_err result) }
+{
+    let count = engine.patch_count();
+    match send(writer, count_text(count).as_slice()) {
+        Ok(()) => {}
+        Err(failed) => return Err(failed),
     }
+    for index in 0..count {
+        match send_patch(engine, index, writer) {
+            Ok(()) => {}
+            Err(failed) => return Err(failed),
+        }
+    }
+    Ok(())
+}
+
+// Writes the line of the patch of this index, where there is one.
+fn send_patch<W: Drain>(engine: &Engine, index: usize, writer: &mut W) -> Result<(), Failed>
+    ensures sends { Sends (patch_lines (option_to_list (slice_get engine.now.past.setup.patches index))) (W.written writer.old) (W.written writer.new) result }
+    ensures fails { W.has_failed writer.new ≡ (W.has_failed writer.old || is_err result) }
+{
+    let text = match engine.patches(index) {
+        Some(patch) => patch_text(patch),
+        None => Text::new(),
+    };
+    send(writer, text.as_slice())
 }

@@ -1,10 +1,10 @@
 ghost use Rattle.std.specs.Prelude.{◌≡◌, ◌∷◌, ◌++◌, [], ◌||◌, ℕ, List, is_err};
-ghost use Rattle.pdp_replay.specs.Start.{Start};
+ghost use Rattle.pdp_replay.specs.Past.{Past};
 ghost use Rattle.pdp_session.specs.Progress.{Serves, Reached, Moves, Finishes};
 
 use crate::commands::answer_line;
 use crate::lines::{Held, hold, without_return};
-use crate::sending::send;
+use crate::replies::send_reply;
 use crate::streams::{Drain, Failed};
 use pdp_replay::Engine;
 use std::alloc::Global;
@@ -16,12 +16,11 @@ fn serve_line<W: Drain>(
     line: &[u8],
     writer: &mut W,
 ) -> Result<(), Failed>
-    ensures serves { Serves line.now engine.old.setup engine.new.setup (W.written writer.old) (W.written writer.new) result }
+    ensures serves { Serves line.now engine.old.past engine.new.past (W.written writer.old) (W.written writer.new) result }
     ensures fails { W.has_failed writer.new ≡ (W.has_failed writer.old || is_err result) }
 {
     let reply = answer_line(alloc, engine, line);
-    let text = reply.text();
-    send(writer, text.as_slice())
+    send_reply(engine, reply, writer)
 }
 
 // Takes one byte of input: an LF ends the line, and any other byte is held.
@@ -32,8 +31,8 @@ fn take_byte<W: Drain>(
     byte: u8,
     writer: &mut W,
 ) -> Result<(), Failed>
-    ensures moves { (setup : Start) (done out : List ℕ) → Reached setup done out held.old.items engine.old.setup →
-        Moves setup (done ++ byte ∷ []) out (W.written writer.old) (W.written writer.new) held.new.items engine.new.setup result }
+    ensures moves { (past : Past) (done out : List ℕ) → Reached past done out held.old.items engine.old.past →
+        Moves past (done ++ byte ∷ []) out (W.written writer.old) (W.written writer.new) held.new.items engine.new.past result }
     ensures fails { W.has_failed writer.new ≡ (W.has_failed writer.old || is_err result) }
 {
     if byte != b'\n' {
@@ -53,8 +52,8 @@ pub fn take_bytes<W: Drain>(
     bytes: &[u8],
     writer: &mut W,
 ) -> Result<(), Failed>
-    ensures moves { (setup : Start) (done out : List ℕ) → Reached setup done out held.old.items engine.old.setup →
-        Moves setup (done ++ bytes.now) out (W.written writer.old) (W.written writer.new) held.new.items engine.new.setup result }
+    ensures moves { (past : Past) (done out : List ℕ) → Reached past done out held.old.items engine.old.past →
+        Moves past (done ++ bytes.now) out (W.written writer.old) (W.written writer.new) held.new.items engine.new.past result }
     ensures fails { W.has_failed writer.new ≡ (W.has_failed writer.old || is_err result) }
 {
     for byte in bytes {
@@ -73,8 +72,8 @@ pub fn finish<W: Drain>(
     held: &Held,
     writer: &mut W,
 ) -> Result<(), Failed>
-    ensures finishes { (setup : Start) (done out : List ℕ) → Reached setup done out held.now.items engine.old.setup →
-        Finishes setup done out (W.written writer.old) (W.written writer.new) result }
+    ensures finishes { (past : Past) (done out : List ℕ) → Reached past done out held.now.items engine.old.past →
+        Finishes past done out (W.written writer.old) (W.written writer.new) result }
     ensures fails { W.has_failed writer.new ≡ (W.has_failed writer.old || is_err result) }
 {
     if held.is_empty() {

@@ -1,5 +1,6 @@
 ghost use Rattle.std.specs.Prelude.{◌≡◌, true, false, Ok, OnOk, IfErr, IsErrOf};
-ghost use Rattle.pdp_replay.specs.Start.{start_of, given};
+ghost use Rattle.pdp_replay.specs.Start.{given};
+ghost use Rattle.pdp_replay.specs.Past.{beginning};
 ghost use Rattle.pdp_session.specs.Session.{Session, is_told_first};
 
 use crate::lines::Held;
@@ -28,7 +29,7 @@ pub fn run<R: Feed, W: Drain>(
 ) -> Result<(), Fault>
     requires reader_sound { R.has_failed reader.old ≡ false }
     requires writer_sound { W.has_failed writer.old ≡ false }
-    ensures session { Session (start_of (given setup)) (R.remaining reader.old) (R.remaining reader.new) (W.written writer.old) (W.written writer.new) result }
+    ensures session { Session (beginning (given setup)) (R.remaining reader.old) (R.remaining reader.new) (W.written writer.old) (W.written writer.new) result }
     ensures untouched { IfErr result (λ fault. is_told_first fault ≡ true → (reader.new ≡ reader.old) × (writer.new ≡ writer.old)) }
     ensures input { IsErrOf result Fault.Input → R.has_failed reader.new ≡ true }
     ensures output { IsErrOf result Fault.Output → W.has_failed writer.new ≡ true }
@@ -49,7 +50,7 @@ fn serve<R: Feed, W: Drain>(
 ) -> Result<(), Fault>
     requires reader_sound { R.has_failed reader.old ≡ false }
     requires writer_sound { W.has_failed writer.old ≡ false }
-    ensures session { Session (Ok engine.old.setup) (R.remaining reader.old) (R.remaining reader.new) (W.written writer.old) (W.written writer.new) result }
+    ensures session { Session (Ok engine.old.past) (R.remaining reader.old) (R.remaining reader.new) (W.written writer.old) (W.written writer.new) result }
     ensures began { IfErr result (λ fault. is_told_first fault ≡ false) }
     ensures input { IsErrOf result Fault.Input → R.has_failed reader.new ≡ true }
     ensures output { IsErrOf result Fault.Output → W.has_failed writer.new ≡ true }

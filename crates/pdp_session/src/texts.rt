@@ -1,19 +1,19 @@
-ghost use Rattle.std.specs.Prelude.{◌≡◌, ◌+◌, ◌≤◌, ◌++◌, length, codes};
-ghost use Rattle.pdp_session.specs.Replies.{field, regs_line, state_name, refusal_line};
+ghost use Rattle.std.specs.Prelude.{◌≡◌, ◌+◌, ◌≤◌, ◌++◌, length, codes, decimal};
+ghost use Rattle.pdp_session.specs.Replies.{field, regs_line, state_name, refusal_text, count_line, patch_line};
 
 use arrayvec::ArrayVec;
 use itoa::Buffer;
-use pdp_replay::{Fault, Regs, RunState};
+use pdp_replay::{Fault, Patch, Regs, RunState};
 use pdp_word::write_octal6;
 
-// The most bytes that a reply has.
+// The most bytes that a line of a reply has.
 const LONGEST: usize = 128;
 
-// The text of one reply. It takes no memory.
+// A line of a reply, with its LF. It takes no memory.
 pub type Text = ArrayVec<u8, LONGEST>;
 
 // Adds `bytes` at the end.
-pub fn add(text: &mut Text, bytes: &[u8])
+fn add(text: &mut Text, bytes: &[u8])
     requires { length text.old.items + length bytes.now ≤ 128 }
     ensures { text.new.items ≡ text.old.items ++ bytes.now }
 {
@@ -34,17 +34,54 @@ fn add_field(text: &mut Text, name: &str, word: u16)
 
 // The reply to an edit that was made.
 pub fn done_text() -> Text
-    ensures { result.items ≡ codes "ok" }
+    ensures { result.items ≡ codes "ok" ++ codes "\n" }
 {
     let mut text = Text::new();
-    add(&mut text, b"ok");
+    add(&mut text, b"ok\n");
+    text
+}
+
+// The reply to an insertion that was made.
+pub fn insertion_text(number: u32) -> Text
+    ensures { result.items ≡ codes "event " ++ decimal number ++ codes "\n" }
+{
+    let mut text = Text::new();
+    let mut buffer = Buffer::new();
+    add(&mut text, b"event ");
+    add(&mut text, buffer.format(number).as_bytes());
+    add(&mut text, b"\n");
+    text
+}
+
+// The first line of a list of so many patches.
+pub fn count_text(count: usize) -> Text
+    ensures { result.items ≡ count_line count }
+{
+    let mut text = Text::new();
+    let mut buffer = Buffer::new();
+    add(&mut text, b"patches ");
+    add(&mut text, buffer.format(count).as_bytes());
+    add(&mut text, b"\n");
+    text
+}
+
+// A patch as the line that makes it.
+pub fn patch_text(patch: Patch) -> Text
+    ensures { result.items ≡ patch_line patch }
+{
+    let Patch::Core(address, word) = patch;
+    let mut text = Text::new();
+    add(&mut text, b"core ");
+    add(&mut text, &write_octal6(address));
+    add(&mut text, b" ");
+    add(&mut text, &write_octal6(u32::from(word)));
+    add(&mut text, b"\n");
     text
 }
 
 // The registers and the run state.
 pub fn regs_text(regs: Regs) -> Text
-    ensures text { result.items ≡ regs_line regs }
-    ensures length { length result.items ≤ 120 }
+    ensures { result.items ≡ regs_line regs ++ codes "\n" }
 {
     let mut text = Text::new();
     add_field(&mut text, "R0", regs.r[0]);
@@ -58,6 +95,7 @@ pub fn regs_text(regs: Regs) -> Text
     add_field(&mut text, "PC", regs.pc);
     add_field(&mut text, "PS", regs.ps);
     add(&mut text, state_name(regs.state).as_bytes());
+    add(&mut text, b"\n");
     text
 }
 
@@ -74,8 +112,7 @@ fn state_name(state: RunState) -> &'static str
 
 // The number and the name of a refusal.
 pub fn refusal_text(fault: Fault) -> Text
-    ensures text { result.items ≡ refusal_line fault }
-    ensures length { length result.items ≤ 120 }
+    ensures { result.items ≡ refusal_text fault }
 {
     let mut text = Text::new();
     let mut buffer = Buffer::new();
@@ -83,5 +120,6 @@ pub fn refusal_text(fault: Fault) -> Text
     add(&mut text, buffer.format(fault.number()).as_bytes());
     add(&mut text, b" ");
     add(&mut text, fault.name().as_bytes());
+    add(&mut text, b"\n");
     text
 }

@@ -55,6 +55,61 @@ fn first_run(rt: HostRuntime) -> Result<(), Fail> {
 }
 
 #[test]
+fn a_key_one_turn_sooner(rt: HostRuntime) -> Result<(), Fail> {
+    let input =
+        b"core 1000 105737\ncore 1002 177560\ncore 1004 100375\ncore 1006 113701\ncore 1010 177562\ncore 1012 0\n\
+        at 4 key 101\nregs 7\nalter 1 5 key 101\nregs 7\nregs 9\ndrop 1\nregs 9\ndrop 1\nat 4 key 102\n";
+    let output = replies(rt.alloc(), input)?;
+    assert_eq!(rt;
+        output.as_slice(),
+        b"ok\nok\nok\nok\nok\nok\nevent 1\n\
+        R0 000000 R1 000101 R2 000000 R3 000000 R4 000000 R5 000000 KSP 000000 USP 000000 PC 001012 PS 000000 run\n\
+        ok\n\
+        R0 000000 R1 000000 R2 000000 R3 000000 R4 000000 R5 000000 KSP 000000 USP 000000 PC 001004 PS 000010 run\n\
+        R0 000000 R1 000101 R2 000000 R3 000000 R4 000000 R5 000000 KSP 000000 USP 000000 PC 001012 PS 000000 run\n\
+        ok\n\
+        R0 000000 R1 000000 R2 000000 R3 000000 R4 000000 R5 000000 KSP 000000 USP 000000 PC 001004 PS 000004 run\n\
+        refused 5 NoSuchEvent\nevent 2\n"
+            .as_slice()
+    );
+    Ok(())
+}
+
+#[test]
+fn patches_in_first_given_order(rt: HostRuntime) -> Result<(), Fail> {
+    let input =
+        b"patches\ncore 2 177777\ncore 757776 1\ncore 2 5\nuncore 4\npatches\nuncore 2\npatches\n\
+        uncore 760000\nuncore 760001\nuncore 3\nuncore 2\n";
+    let output = replies(rt.alloc(), input)?;
+    assert_eq!(rt;
+        output.as_slice(),
+        b"patches 0\nok\nok\nok\nrefused 9 NoSuchPatch\n\
+        patches 2\ncore 000002 000005\ncore 757776 000001\n\
+        ok\npatches 1\ncore 757776 000001\n\
+        refused 2 OutsideCore\nrefused 2 OutsideCore\nrefused 3 OddAddress\nrefused 9 NoSuchPatch\n"
+            .as_slice()
+    );
+    Ok(())
+}
+
+#[test]
+fn refused_event_lines(rt: HostRuntime) -> Result<(), Fail> {
+    let input =
+        b"at 1000000001 tick\nat 9999999999 tick\nat 1000000001 key 400\nat 5\nat 5 key\nat 5 Tick\n\
+        alter 1 5 tick\nalter 1 1000000001 tick\nalter 9999999999 5 tick\ndrop 4294967297\ndrop 00000000001\ndrop\n\
+        at 1000000000 switches 177777\nalter 1 0 disk\ndrop 1\ndrop 1\n";
+    let output = replies(rt.alloc(), input)?;
+    assert_eq!(rt;
+        output.as_slice(),
+        b"refused 7 TurnTooLarge\nrefused 7 TurnTooLarge\nrefused 10 BadLine\nrefused 10 BadLine\nrefused 10 BadLine\nrefused 10 BadLine\n\
+        refused 5 NoSuchEvent\nrefused 7 TurnTooLarge\nrefused 5 NoSuchEvent\nrefused 5 NoSuchEvent\nrefused 10 BadLine\nrefused 10 BadLine\n\
+        event 1\nok\nok\nrefused 5 NoSuchEvent\n"
+            .as_slice()
+    );
+    Ok(())
+}
+
+#[test]
 fn refusals(rt: HostRuntime) -> Result<(), Fail> {
     let input = b"regs\nregs 9x\nmem 0 1000 1\nregs 1000000001\nregs 9999999999\nregs 00000000001\n\
         core 1001 0\ncore 777560 0\ncore 777561 0\ncore 1000 200000\nCORE 1000 0\nregs 0 0\n";

@@ -2,36 +2,38 @@
 use Rattle.std.proofs.Common.{ℕ, List, Option, Bool, true, false, Result, Ok, Err, rules, if◌then◌else◌}
 use Rattle.pdp_script.specs.declared.faults.Fault.{Fault}
 use Rattle.pdp_script.specs.declared.faults.Fault.TheVariants.{NoMemory, OutsideCore, OddAddress, OutsideDisk, NoSuchEvent, ScriptFull, TurnTooLarge, CountOutOfRange, NoSuchPatch, BadLine, LineTooLong, Input, Output, BadImage, BadSetup}
+use Rattle.pdp_script.specs.Refusal.{result_map}
+use Rattle.pdp_replay.specs.Past.{Past, unscripted, beginning}
 use Rattle.pdp_replay.specs.Start.{Start, given, start_of, has_good_images, has_good_numbers}
 use Rattle.pdp_session.specs.Session.{Ends, SessionEnds}
 use Rattle.pdp11.specs.Ending.{CanEnd}
 use Rattle.pdp11.proofs.program.answer_lines.Goals as goal
 
-ends_good : (s : Start) (read out : List ℕ) (rest : Option (List ℕ)) (r : Result (Unit {0}) Fault) → SessionEnds s read out rest r → CanEnd r
-ends_good s read out rest (Ok x) h = tt
-ends_good s read out rest (Err NoMemory) h = tt
-ends_good s read out rest (Err Input) h = tt
-ends_good s read out rest (Err Output) h = tt
-ends_good s read out rest (Err BadImage) h = tt
-ends_good s read out rest (Err BadSetup) h = tt
-ends_good s read out rest (Err OutsideCore) h = absurd h
-ends_good s read out rest (Err OddAddress) h = absurd h
-ends_good s read out rest (Err OutsideDisk) h = absurd h
-ends_good s read out rest (Err NoSuchEvent) h = absurd h
-ends_good s read out rest (Err ScriptFull) h = absurd h
-ends_good s read out rest (Err TurnTooLarge) h = absurd h
-ends_good s read out rest (Err CountOutOfRange) h = absurd h
-ends_good s read out rest (Err NoSuchPatch) h = absurd h
-ends_good s read out rest (Err BadLine) h = absurd h
-ends_good s read out rest (Err LineTooLong) h = absurd h
+ends_good : (p : Past) (read out : List ℕ) (rest : Option (List ℕ)) (r : Result (Unit {0}) Fault) → SessionEnds p read out rest r → CanEnd r
+ends_good p read out rest (Ok x) h = tt
+ends_good p read out rest (Err NoMemory) h = tt
+ends_good p read out rest (Err Input) h = tt
+ends_good p read out rest (Err Output) h = tt
+ends_good p read out rest (Err BadImage) h = tt
+ends_good p read out rest (Err BadSetup) h = tt
+ends_good p read out rest (Err OutsideCore) h = absurd h
+ends_good p read out rest (Err OddAddress) h = absurd h
+ends_good p read out rest (Err OutsideDisk) h = absurd h
+ends_good p read out rest (Err NoSuchEvent) h = absurd h
+ends_good p read out rest (Err ScriptFull) h = absurd h
+ends_good p read out rest (Err TurnTooLarge) h = absurd h
+ends_good p read out rest (Err CountOutOfRange) h = absurd h
+ends_good p read out rest (Err NoSuchPatch) h = absurd h
+ends_good p read out rest (Err BadLine) h = absurd h
+ends_good p read out rest (Err LineTooLong) h = absurd h
 
 ends_started : (b c : Bool) (s : Start) (read out : List ℕ) (rest : Option (List ℕ)) (r : Result (Unit {0}) Fault)
-    → Ends (if b then if c then Ok s else Err BadImage else Err BadSetup) read out rest r → CanEnd r
-ends_started true true s read out rest r h = ends_good s read out rest r h
+    → Ends (result_map unscripted (if b then if c then Ok s else Err BadImage else Err BadSetup)) read out rest r → CanEnd r
+ends_started true true s read out rest r h = ends_good (unscripted s) read out rest r h
 ends_started true false s read out rest r h = rw h.0 tt
 ends_started false c s read out rest r h = rw h.0 tt
 
-can_end : (s : Start) (read out : List ℕ) (rest : Option (List ℕ)) (r : Result (Unit {0}) Fault) → Ends (start_of s) read out rest r → CanEnd r
+can_end : (s : Start) (read out : List ℕ) (rest : Option (List ℕ)) (r : Result (Unit {0}) Fault) → Ends (beginning s) read out rest r → CanEnd r
 unfolding start_of
 can_end s read out rest r h = ends_started (has_good_numbers s) (has_good_images s) s read out rest r h
 

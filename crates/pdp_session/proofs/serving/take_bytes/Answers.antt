@@ -5,15 +5,15 @@ use Rattle.pdp_session.proofs.Served.{then_moves, breaks_early, one_more_byte, a
 use Rattle.pdp_session.proofs.serving.take_bytes.Goals as goal
 
 pub returns-in-Err-clause-moves : goal.returns-in-Err-clause-moves
-returns-in-Err-clause-moves g c = λ setup done out r.
+returns-in-Err-clause-moves g c = λ past done out r.
     let i = c.loop-byte.byte-index in
     let bytes = c.args.bytes.now in
     let within : i < length bytes = omega arith in
-    let before = c.loop-byte.invariant.moves setup done out r in
-    let breaks = c.in-Err.ensures.moves setup (done ++ take i bytes) (out ++ before.more) before.reached in
+    let before = c.loop-byte.invariant.moves past done out r in
+    let breaks = c.in-Err.ensures.moves past (done ++ take i bytes) (out ++ before.more) before.reached in
     rw (← all_bytes done bytes i within)
-    (breaks_early setup ((done ++ take i bytes) ++ get_or bytes i 0 ∷ []) (drop (i + 1) bytes) out _ _
-    (then_moves {T = Unit {0}} {E = Failed} setup _ _ out c.loop-byte.held.items c.take_byte.new.held.items c.loop-byte.engine.setup c.take_byte.new.engine.setup _ _ _ (Err c.in-Err.failed) before breaks))
+    (breaks_early past ((done ++ take i bytes) ++ get_or bytes i 0 ∷ []) (drop (i + 1) bytes) out _ _
+    (then_moves {T = Unit {0}} {E = Failed} past _ _ out c.loop-byte.held.items c.take_byte.new.held.items c.loop-byte.engine.past c.take_byte.new.engine.past _ _ _ (Err c.in-Err.failed) before breaks))
 
 pub loop-byte-preserved : goal.loop-byte-preserved
 loop-byte-preserved g c =
@@ -21,15 +21,15 @@ loop-byte-preserved g c =
     let bytes = c.args.bytes.now in
     let within : i < length bytes = omega arith in
     record {
-      moves = λ setup done out r.
-          let before = c.loop-byte.invariant.moves setup done out r in
-          let goes = c.in-Ok.ensures.moves setup (done ++ take i bytes) (out ++ before.more) before.reached in
+      moves = λ past done out r.
+          let before = c.loop-byte.invariant.moves past done out r in
+          let goes = c.in-Ok.ensures.moves past (done ++ take i bytes) (out ++ before.more) before.reached in
           rw (← one_more_byte done bytes i within)
-          (then_moves {T = Unit {0}} {E = Failed} setup _ _ out c.loop-byte.held.items c.take_byte.new.held.items c.loop-byte.engine.setup c.take_byte.new.engine.setup _ _ _ (Ok c.in-Ok.field-0) before goes);
+          (then_moves {T = Unit {0}} {E = Failed} past _ _ out c.loop-byte.held.items c.take_byte.new.held.items c.loop-byte.engine.past c.take_byte.new.engine.past _ _ _ (Ok c.in-Ok.field-0) before goes);
       sound = search rules;
     }
 
 pub returns-clause-moves : goal.returns-clause-moves
-returns-clause-moves g c = λ setup done out r.
+returns-clause-moves g c = λ past done out r.
     let all : take c.loop-byte.byte-index c.args.bytes.now ≡ c.args.bytes.now = take_all _ _ (omega arith) in
-    rw all at (c.loop-byte.invariant.moves setup done out r)
+    rw all at (c.loop-byte.invariant.moves past done out r)

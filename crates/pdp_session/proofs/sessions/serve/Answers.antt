@@ -12,7 +12,7 @@ loop-engine-init g c = record {
   out = [];
   takes = Consumes-nil _;
   writes = Appends-nil _;
-  reached = rw c.new-held.ensures (nothing_reached c.args.engine.now.setup);
+  reached = rw c.new-held.ensures (nothing_reached c.args.engine.now.past);
   room = refl;
   reads = c.requires.reader_sound;
   drains = c.requires.writer_sound;
@@ -24,7 +24,7 @@ returns-in-Ok-finish-clause-session g c =
     let none : c.in-Ok-eq0.field-0 ≡ 0 = search rules in
     let bytes = rw none at c.in-Ok-eq0.ensures.bytes in
     let room : 0 < length c.pull.new.buf = omega arith in
-    let finished = c.in-Ok-finish.ensures.finishes c.args.engine.now.setup before.read before.out before.reached in
+    let finished = c.in-Ok-finish.ensures.finishes c.args.engine.now.past before.read before.out before.reached in
     record {
       read = before.read;
       out = before.out ++ finished.more;
@@ -39,20 +39,20 @@ returns-in-Err-finish-clause-session g c =
     let none : c.in-Ok-eq0.field-0 ≡ 0 = search rules in
     let bytes = rw none at c.in-Ok-eq0.ensures.bytes in
     let room : 0 < length c.pull.new.buf = omega arith in
-    let finished = c.in-Err-finish.ensures.finishes c.args.engine.now.setup before.read before.out before.reached in
+    let finished = c.in-Err-finish.ensures.finishes c.args.engine.now.past before.read before.out before.reached in
     let out = before.out ++ finished.more in
     record {
       read = before.read;
       out = out;
       takes = rw append-nil at (Consumes-trans _ _ _ before.read [] before.takes bytes.0);
       writes = Appends-trans _ _ _ before.out finished.more before.writes finished.writes;
-      ends = at_end _ (λ more. BeginsAnswers c.args.engine.now.setup (lines_of (before.read ++ more)) out) (bytes.1 refl room) (rw append-nil finished.begins);
+      ends = at_end _ (λ more. BeginsAnswers c.args.engine.now.past (lines_of (before.read ++ more)) out) (bytes.1 refl room) (rw append-nil finished.begins);
     }
 
 pub loop-engine-preserved : goal.loop-engine-preserved
 loop-engine-preserved g c =
     let before = c.loop-engine.invariant in
-    let goes = rw c.split_at.ensures.front at (c.in-Ok-take_bytes.ensures.moves c.args.engine.now.setup before.read before.out before.reached) in
+    let goes = rw c.split_at.ensures.front at (c.in-Ok-take_bytes.ensures.moves c.args.engine.now.past before.read before.out before.reached) in
     record {
       read = before.read ++ take c.in-Ok.count c.pull.new.buf;
       out = before.out ++ goes.more;
@@ -67,7 +67,7 @@ loop-engine-preserved g c =
 pub returns-in-Err-take_bytes-clause-session : goal.returns-in-Err-take_bytes-clause-session
 returns-in-Err-take_bytes-clause-session g c =
     let before = c.loop-engine.invariant in
-    let breaks = rw c.split_at.ensures.front at (c.in-Err-take_bytes.ensures.moves c.args.engine.now.setup before.read before.out before.reached) in
+    let breaks = rw c.split_at.ensures.front at (c.in-Err-take_bytes.ensures.moves c.args.engine.now.past before.read before.out before.reached) in
     let read = before.read ++ take c.in-Ok.count c.pull.new.buf in
     let out = before.out ++ breaks.more in
     record {
@@ -75,7 +75,7 @@ returns-in-Err-take_bytes-clause-session g c =
       out = out;
       takes = Consumes-trans _ _ _ before.read _ before.takes c.in-Ok.ensures.bytes.0;
       writes = Appends-trans _ _ _ before.out breaks.more before.writes breaks.writes;
-      ends = at_any _ (λ more. BeginsAnswers c.args.engine.now.setup (lines_of (read ++ more)) out) breaks.broken;
+      ends = at_any _ (λ more. BeginsAnswers c.args.engine.now.past (lines_of (read ++ more)) out) breaks.broken;
     }
 
 pub returns-in-Err-clause-session : goal.returns-in-Err-clause-session
@@ -86,5 +86,5 @@ returns-in-Err-clause-session g c =
       out = before.out;
       takes = Consumes-kept _ _ _ before.read before.takes c.in-Err.ensures.bytes;
       writes = before.writes;
-      ends = ended_answered c.args.engine.now.setup before.read before.out _ _ before.reached;
+      ends = ended_answered c.args.engine.now.past before.read before.out _ _ before.reached;
     }

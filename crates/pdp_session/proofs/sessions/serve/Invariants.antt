@@ -9,7 +9,7 @@ invariant-loop-engine g l = record {
   out : List ℕ;
   takes : Consumes (g.R.Feed.remaining l.fn.reader) (g.R.Feed.remaining l.reader) read;
   writes : Appends (g.W.Drain.written l.fn.writer) (g.W.Drain.written l.writer) out;
-  reached : Reached l.fn.engine.setup read out l.held.items l.engine.setup;
+  reached : Reached l.fn.engine.past read out l.held.items l.engine.past;
   room : length l.chunk ≡ 256;
   reads : g.R.Feed.has_failed l.reader ≡ false;
   drains : g.W.Drain.has_failed l.writer ≡ false;
