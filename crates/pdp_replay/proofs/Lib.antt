@@ -1,4 +1,5 @@
 pub mod Lists
+pub mod Memory
 pub mod CoreWords
 pub mod Patches
 pub mod Setups

@@ -12,7 +12,7 @@ mod setup;
 mod travel;
 
 pub use engine::Engine;
-pub use laws::core_words_are_first_words;
+pub use laws::{core_words_are_first_words, some_edits_need_no_memory};
 pub use patch::Patch;
 pub use pdp_cpu::{Regs, RunState};
 pub use pdp_script::Fault;
