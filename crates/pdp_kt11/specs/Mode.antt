@@ -1,4 +1,4 @@
-use Rattle.std.specs.Prelude.{ℕ}
+use Rattle.std.specs.Prelude.{ℕ, ◌==◌, if◌then◌else◌}
 use Rattle.pdp_kt11.specs.declared.mode.Mode.{Mode}
 use Rattle.pdp_kt11.specs.declared.mode.Mode.TheVariants.{Kernel, Bad1, Bad2, User}
 
@@ -8,3 +8,11 @@ mode_bits Kernel = 0
 mode_bits Bad1 = 1
 mode_bits Bad2 = 2
 mode_bits User = 3
+
+-- the mode of two bits
+unfoldable pub mode_of : ℕ → Mode
+mode_of bits =
+    if bits == 0 then Kernel
+    else if bits == 1 then Bad1
+    else if bits == 2 then Bad2
+    else User

@@ -18,7 +18,23 @@ pub enum Mode {
 }
 
 impl Mode {
-    ghost use Rattle.pdp_kt11.specs.Mode.{mode_bits};
+    ghost use Rattle.pdp_kt11.specs.Mode.{mode_bits, mode_of};
+
+    /// The mode of two bits of the program status word, 0 to 3.
+    #[inline]
+    #[tactic(auto, unfolding(crate::specs::Mode::mode_of))]
+    pub fn of_bits(bits: u16) -> Mode
+        requires { bits < 4 }
+        ensures mode { result ≡ mode_of bits }
+        ensures bits { mode_bits result ≡ bits }
+    {
+        match bits {
+            0 => Mode::Kernel,
+            1 => Mode::Bad1,
+            2 => Mode::Bad2,
+            _ => Mode::User,
+        }
+    }
 
     /// The two bits of the mode in the program status word: 0 to 3.
     pub fn bits(self) -> u16

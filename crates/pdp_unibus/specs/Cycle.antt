@@ -1,4 +1,4 @@
-use Rattle.std.specs.Prelude.{ℕ, ◌+◌, ◌-◌, ◌*◌, ◌/◌, ◌%◌, ◌==◌, List, Option, Some, None, Result, Ok, Err, length, slice_index, slice_set, nat_lt, if◌then◌else◌}
+use Rattle.std.specs.Prelude.{ℕ, ◌+◌, ◌-◌, ◌*◌, ◌/◌, ◌%◌, ◌==◌, Option, Some, None, Result, Ok, Err, length, slice_index, slice_set, nat_lt, if◌then◌else◌}
 use Rattle.pdp_store.specs.declared.Agent.TheVariants.{Cpu}
 use Rattle.pdp_store.specs.declared.Stamp.{Stamp}
 use Rattle.pdp_unibus.specs.BusWorld.{BusWorld, with_board}

@@ -1,5 +1,7 @@
-use Rattle.std.specs.Prelude.{ℕ, ◌+◌, ◌*◌}
-use Rattle.pdp_kt11.specs.Mode.{mode_bits}
+-- The program status word: DEC PDP-11/40 Processor Handbook (1972), Processor status word.
+use Rattle.std.specs.Prelude.{ℕ, ◌+◌, ◌*◌, ◌/◌, ◌%◌, ◌==◌, if◌then◌else◌}
+use Rattle.pdp_kt11.specs.Mode.{mode_bits, mode_of}
+use Rattle.pdp_word.specs.declared.codes.Codes.{Codes}
 use Rattle.pdp_unibus.specs.Flag.{flag_bit}
 use Rattle.pdp_unibus.specs.declared.priority.Priority.{Priority}
 use Rattle.pdp_unibus.specs.declared.priority.Priority.TheVariants.{Level0, Level1, Level2, Level3, Level4, Level5, Level6, Level7}
@@ -21,3 +23,29 @@ abbrev pub status_word : Status → ℕ
 status_word s =
     mode_bits s.mode * 0o40000 + mode_bits s.previous * 0o10000 + priority_bits s.priority * 0o40
     + flag_bit s.trace * 0o20 + flag_bit s.codes.n * 8 + flag_bit s.codes.z * 4 + flag_bit s.codes.v * 2 + flag_bit s.codes.c
+
+-- the priority of three bits
+unfoldable pub priority_of : ℕ → Priority
+priority_of bits =
+    if bits == 0 then Level0
+    else if bits == 1 then Level1
+    else if bits == 2 then Level2
+    else if bits == 3 then Level3
+    else if bits == 4 then Level4
+    else if bits == 5 then Level5
+    else if bits == 6 then Level6
+    else Level7
+
+-- the codes in bits 3 to 0
+abbrev pub codes_in : ℕ → Codes
+codes_in word = record { n = word / 8 % 2 == 1; z = word / 4 % 2 == 1; v = word / 2 % 2 == 1; c = word % 2 == 1 }
+
+-- the program status after its word was written: T and bits 11-8 can't be written
+unfoldable pub status_written : ℕ → Status → Status
+status_written word s = record {
+  mode = mode_of (word / 0o40000 % 4);
+  previous = mode_of (word / 0o10000 % 4);
+  priority = priority_of (word / 0o40 % 8);
+  trace = s.trace;
+  codes = codes_in word;
+}

@@ -26,6 +26,7 @@ impl Board {
             Register::KeyboardStatus => self.keyboard.status(),
             Register::KeyboardBuffer => self.keyboard.buffer(),
             Register::Switches => self.switches,
+            Register::ProgramStatus => self.status.word(),
         }
     }
 
@@ -39,6 +40,7 @@ impl Board {
             Register::KeyboardStatus => self.keyboard.status(),
             Register::KeyboardBuffer => self.keyboard.read_buffer(),
             Register::Switches => self.switches,
+            Register::ProgramStatus => self.status.word(),
         }
     }
 
@@ -50,6 +52,7 @@ impl Board {
         match register {
             Register::KeyboardStatus => self.keyboard.set_status(word),
             Register::KeyboardBuffer | Register::Switches => {}
+            Register::ProgramStatus => self.status = self.status.written(word),
         }
     }
 

@@ -17,7 +17,26 @@ pub enum Priority {
 }
 
 impl Priority {
-    ghost use Rattle.pdp_unibus.specs.Status.{priority_bits};
+    ghost use Rattle.pdp_unibus.specs.Status.{priority_bits, priority_of};
+
+    /// The priority of three bits of the program status word, 0 to 7.
+    #[tactic(auto, unfolding(crate::specs::Status::priority_of))]
+    pub fn of_bits(bits: u16) -> Priority
+        requires { bits < 8 }
+        ensures priority { result ≡ priority_of bits }
+        ensures bits { priority_bits result ≡ bits }
+    {
+        match bits {
+            0 => Priority::Level0,
+            1 => Priority::Level1,
+            2 => Priority::Level2,
+            3 => Priority::Level3,
+            4 => Priority::Level4,
+            5 => Priority::Level5,
+            6 => Priority::Level6,
+            _ => Priority::Level7,
+        }
+    }
 
     /// The level, 0 to 7.
     pub fn bits(self) -> u16

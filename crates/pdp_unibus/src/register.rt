@@ -1,7 +1,7 @@
 ghost use Rattle.std.specs.Prelude.{◌≡◌};
 ghost use Rattle.pdp_unibus.specs.Register.{register_at};
 
-/// A register of a device on the bus.
+/// A register on the bus, of a device or of the processor.
 #[derive(Clone, Copy, Debug, PartialEq, Eq)]
 pub enum Register {
     /// 777560
@@ -10,11 +10,14 @@ pub enum Register {
     KeyboardBuffer,
     /// 777570
     Switches,
+    /// 777776
+    ProgramStatus,
 }
 
 /// The register whose word has this physical address (bytes), if there is one.
 ///
-/// PDP-11 Peripherals Handbook, KL11; DEC PDP-11/40 Processor Handbook (1972), Switch register.
+/// PDP-11 Peripherals Handbook, KL11; DEC PDP-11/40 Processor Handbook (1972), Switch register
+/// and Processor status word.
 #[tactic(auto, unfolding(crate::specs::Register::register_at))]
 pub fn register_at_address(address: u32) -> Option<Register>
     ensures { result ≡ register_at address }
@@ -23,6 +26,7 @@ pub fn register_at_address(address: u32) -> Option<Register>
         0o777560 => Some(Register::KeyboardStatus),
         0o777562 => Some(Register::KeyboardBuffer),
         0o777570 => Some(Register::Switches),
+        0o777776 => Some(Register::ProgramStatus),
         _ => None,
     }
 }
