@@ -6,7 +6,7 @@ use Rattle.pdp_operand.specs.Phase.{Phase, Inner, State, Fault, Latch, step, inn
 use Rattle.pdp_operand.specs.Plan.{Plan, Do, ◌▸◌, phases_of, run_plan}
 use Rattle.pdp_operand.specs.Course.{Course, End, Go, caught_in}
 use Rattle.pdp_operand.specs.Count.{run_length, counted_next, course_length, counted_on}
-use Rattle.pdp_operand.specs.Operand.{find}
+use Rattle.pdp_operand.specs.Operand.{find, lower}
 use Rattle.pdp_operand.specs.declared.trap.Trap.{Trap}
 
 -- how many phases a plan has
@@ -53,7 +53,7 @@ course_length_le (Go plan next caught) n s bound =
     (λ trap t. course_length_le (caught trap (inner_of t)) bound.0 t (bound.3 trap (inner_of t))) in
     omega (arith, first, size, rest, bound.1)
 
--- finding an operand takes at most two phases
-pub size_of_find : (size : Size) (spec : Spec) → size_of (find size spec) ≤ 2
-unfolding find
+-- finding an operand takes at most three phases
+pub size_of_find : (size : Size) (spec : Spec) → size_of (find size spec) ≤ 3
+unfolding find lower
 size_of_find size spec = grind arith

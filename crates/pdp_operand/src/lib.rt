@@ -15,7 +15,7 @@ pub use laws::{
     courses_leave_what_they_never_touch, plan_is_its_phases, stamps_of_courses_are_last_writes,
     touches_of_courses_are_of_their_turn,
 };
-pub use operand::{address, fetch, store};
+pub use operand::{address, fetch, is_status, store};
 pub use place::{Cell, Place};
 pub use processor::{Processor, RunState, Slot};
 pub use reference::{read_byte, read_word, write_byte, write_word};

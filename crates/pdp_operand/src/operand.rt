@@ -2,7 +2,7 @@ ghost use Rattle.std.specs.Prelude.{◌≡◌, ◌<◌, Result, Ok, IfOk, [], �
 ghost use Rattle.pdp_word.specs.Size.{span};
 ghost use Rattle.pdp_operand.specs.Phase.{Latch, State, Fault, run, state_of};
 ghost use Rattle.pdp_operand.specs.Plan.{run_plan};
-ghost use Rattle.pdp_operand.specs.Operand.{grow, shrink, index, indirect, point, find, found, found_cell, read_operand, fetched, write_operand, stored, step_of};
+ghost use Rattle.pdp_operand.specs.Operand.{grow, shrink, index, indirect, point, find, found, found_cell, read_operand, fetched, write_operand, stored, passed, is_status, stack_limit, lower, step_of};
 ghost use Rattle.pdp_operand.specs.declared.processor.Processor.{Processor};
 ghost use Rattle.pdp_operand.specs.declared.place.Place.TheVariants.{Mem};
 ghost use Rattle.pdp_operand.specs.Slot.{slot_of};
@@ -77,6 +77,41 @@ fn shrunk<S: Store>(processor: &mut Processor, bus: &Bus<S>, register: u8, step:
     cell
 }
 
+/// A reference by this register, where it is the kernel's stack pointer, must not be below 400 (octal).
+///
+/// Err(StackLimit) where it is.
+#[inline(always)]
+#[tactic(auto, unfolding(crate::specs::Phase::run, crate::specs::Operand::stack_limit))]
+fn check_limit<S: Store>(processor: &Processor, bus: &Bus<S>, register: u8) -> Result<(), Trap>
+    requires { register < 8 }
+    ensures { (latch : Latch) → run (stack_limit register ∷ []) (state_of processor.now bus.now latch) ≡ passed result processor.now bus.now latch }
+{
+    let slot = slot(bus, register);
+    if slot == Slot::KernelStack && processor.register(slot) < 0o400 {
+        Err(Trap::StackLimit)
+    } else {
+        Ok(())
+    }
+}
+
+/// -(R), within the limit of the kernel's stack.
+#[inline(always)]
+#[tactic(auto, unfolding(crate::specs::Operand::lower))]
+fn lowered<S: Store>(
+    processor: &mut Processor,
+    bus: &Bus<S>,
+    register: u8,
+    step: u16,
+) -> Result<Cell, Trap>
+    requires register { register < 8 }
+    requires step { (0 < step) × (step < 3) }
+    ensures { (latch : Latch) → run_plan (lower register step) (state_of processor.old bus.now latch) ≡ found_cell result processor.new bus.now latch }
+{
+    let cell = shrunk(processor, bus, register, step);
+    check_limit(processor, bus, register)?;
+    Ok(cell)
+}
+
 /// X(R)
 #[inline(always)]
 #[tactic(auto, unfolding(crate::specs::Phase::run, crate::specs::Operand::index))]
@@ -142,9 +177,9 @@ pub fn address<S: Store>(
             let cell = grown(processor, bus, register, 2);
             deferred(bus, cell)?
         }
-        4 => shrunk(processor, bus, register, step(size, register)),
+        4 => lowered(processor, bus, register, step(size, register))?,
         5 => {
-            let cell = shrunk(processor, bus, register, 2);
+            let cell = lowered(processor, bus, register, 2)?;
             deferred(bus, cell)?
         }
         6 => indexed(processor, bus, register)?,
@@ -194,22 +229,35 @@ pub fn store<S: Store>(
     place: Place,
     size: Size,
     value: u16,
-) -> Result<(), Trap>
+) -> Result<bool, Trap>
     requires { value < span size }
     ensures { (latch : Latch) → latch.place ≡ place → latch.result ≡ value → run (write_operand size ∷ []) (state_of processor.old bus.old latch) ≡ stored result processor.new bus.new latch }
 {
     match (place, size) {
-        (Place::Reg(slot), Size::Word) => processor.set_register(slot, value),
+        (Place::Reg(slot), Size::Word) => {
+            processor.set_register(slot, value);
+            Ok(false)
+        }
         (Place::Reg(slot), Size::Byte) => {
             let old = processor.register(slot);
             processor.set_register(slot, old - old % 256 + value);
+            Ok(false)
         }
         (Place::Mem(cell), Size::Word) => {
-            write_word(bus, cell.mode, cell.address, value)?;
+            let physical = write_word(bus, cell.mode, cell.address, value)?;
+            Ok(is_status(physical))
         }
         (Place::Mem(cell), Size::Byte) => {
-            write_byte(bus, cell.mode, cell.address, value as u8)?;
+            let physical = write_byte(bus, cell.mode, cell.address, value as u8)?;
+            Ok(is_status(physical))
         }
     }
-    Ok(())
+}
+
+/// Whether this physical address is in the program status word.
+#[inline(always)]
+pub fn is_status(physical: u32) -> bool
+    ensures { result ≡ is_status physical }
+{
+    physical - physical % 2 == 0o777776
 }

@@ -9,4 +9,8 @@ pub enum Trap {
     BusTimeout,
     /// The word is no instruction of the machine.
     Reserved,
+    /// A jump to a register.
+    JumpToRegister,
+    /// A reference to the kernel stack below 400 (octal).
+    StackLimit,
 }
