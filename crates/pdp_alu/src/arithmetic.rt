@@ -15,8 +15,9 @@ pub fn add(source: u16, destination: u16) -> Effect
     ensures effect { result ≡ add_effect source destination }
 {
     let sum = destination.wrapping_add(source);
-    let negative = source >= 0o100000;
-    let overflow = negative == (destination >= 0o100000) && negative != (sum >= 0o100000);
+    let negative = is_negative(Size::Word, source);
+    let overflow = negative == is_negative(Size::Word, destination)
+        && negative != is_negative(Size::Word, sum);
     Effect::new(Size::Word, sum, overflow, sum < source)
 }
 
@@ -50,7 +51,7 @@ fn subtract(size: Size, minuend: u16, subtrahend: u16) -> Effect
 {
     let minuend = cut(size, minuend);
     let subtrahend = cut(size, subtrahend);
-    let overflow = is_difference_too_large(size, minuend, subtrahend);
+    let overflow = difference_overflows(size, minuend, subtrahend);
     Effect::new(
         size,
         minuend.wrapping_sub(subtrahend),
@@ -62,7 +63,7 @@ fn subtract(size: Size, minuend: u16, subtrahend: u16) -> Effect
 // Whether the signed difference of two operands of this size does not fit it: their signs differ, and what is left of
 // the difference has the sign of the subtrahend.
 #[inline]
-fn is_difference_too_large(size: Size, minuend: u16, subtrahend: u16) -> bool
+fn difference_overflows(size: Size, minuend: u16, subtrahend: u16) -> bool
     requires minuend_fits { minuend < span size }
     requires subtrahend_fits { subtrahend < span size }
     ensures { result ≡ overflows size (signed_at size minuend -ℤ signed_at size subtrahend) }
