@@ -2,6 +2,7 @@ ghost use Rattle.std.specs.Prelude.{◌≡◌, ◌<◌};
 ghost use Rattle.pdp_word.specs.Size.{span};
 ghost use Rattle.pdp_alu.specs.Effect.{effect};
 
+use crate::operand::{cut, most_negative};
 use pdp_word::{Codes, Size};
 
 /// What an instruction makes of its operands: the value, below the span of its size, and the codes.
@@ -18,14 +19,11 @@ impl Effect {
         ensures effect { result ≡ effect size value overflow carry }
         ensures fits { result.value < span size }
     {
-        let (value, sign) = match size {
-            Size::Word => (value, 0o100000),
-            Size::Byte => (value & 0o377, 0o200),
-        };
+        let value = cut(size, value);
         Effect {
             value,
             codes: Codes {
-                n: value >= sign,
+                n: value >= most_negative(size),
                 z: value == 0,
                 v: overflow,
                 c: carry,

@@ -1,0 +1,57 @@
+ghost use Rattle.std.specs.Prelude.{◌≡◌, ◌%◌};
+ghost use Rattle.pdp_word.specs.Size.{is_negative, span};
+ghost use Rattle.pdp_alu.specs.Operand.{all_ones, most_negative, most_positive};
+
+use pdp_word::Size;
+
+// A number cut to the size: of a word the low byte where the size is a byte.
+#[inline]
+pub fn cut(size: Size, number: u16) -> u16
+    ensures { result ≡ number % span size }
+{
+    match size {
+        Size::Word => number,
+        Size::Byte => number & 0o377,
+    }
+}
+
+// The largest positive number of this size.
+#[inline]
+pub fn most_positive(size: Size) -> u16
+    ensures { result ≡ most_positive size }
+{
+    match size {
+        Size::Word => 0o077777,
+        Size::Byte => 0o177,
+    }
+}
+
+// The most negative number of this size: its top bit alone.
+#[inline]
+pub fn most_negative(size: Size) -> u16
+    ensures { result ≡ most_negative size }
+{
+    match size {
+        Size::Word => 0o100000,
+        Size::Byte => 0o200,
+    }
+}
+
+// Every bit of this size.
+#[inline]
+pub fn all_ones(size: Size) -> u16
+    ensures { result ≡ all_ones size }
+{
+    match size {
+        Size::Word => 0o177777,
+        Size::Byte => 0o377,
+    }
+}
+
+// Whether the top bit of an operand of this size is set.
+#[inline]
+pub fn is_negative(size: Size, operand: u16) -> bool
+    ensures { result ≡ is_negative size operand }
+{
+    operand >= most_negative(size)
+}

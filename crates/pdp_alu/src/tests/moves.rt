@@ -1,0 +1,31 @@
+use super::codes;
+use crate::{Size, mov, sign_extend};
+
+#[test]
+fn moves_words_and_bytes(rt: HostRuntime) {
+    for (size, value, before, want, after) in [
+        (Size::Word, 0o177777, b"0011", 0o177777, b"1001"),
+        (Size::Word, 0o000200, b"1111", 0o000200, b"0001"),
+        (Size::Word, 0, b"1010", 0, b"0100"),
+        (Size::Byte, 0o177400, b"1010", 0, b"0100"),
+        (Size::Byte, 0o000200, b"1010", 0o200, b"1000"),
+        (Size::Byte, 0o000177, b"0001", 0o177, b"0001"),
+    ] {
+        let effect = mov(size, value, codes(before));
+        assert_eq!(rt; effect.value, want, "at {value:06o}");
+        assert_eq!(rt; effect.codes, codes(after), "at {value:06o}");
+    }
+}
+
+#[test]
+fn extends_signs(rt: HostRuntime) {
+    for (byte, want) in [
+        (0, 0),
+        (0o101, 0o000101),
+        (0o177, 0o000177),
+        (0o200, 0o177600),
+        (0o377, 0o177777),
+    ] {
+        assert_eq!(rt; sign_extend(byte), want, "at {byte:03o}");
+    }
+}
