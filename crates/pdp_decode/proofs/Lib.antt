@@ -4,4 +4,7 @@ pub mod Rows
 pub mod OneTable
 pub mod Formats
 pub mod Sections
+pub mod Meanings
+pub mod Standing
+pub mod DecodedFormats
 pub mod Instructions

@@ -10,10 +10,14 @@ infixr 20 ◌▹◌
 pub ◌▹◌ : {A B : Type 0} → A → B → A × B
 a ▹ b = (a, b)
 
+-- the row's meaning has its word
+abbrev pub HasWord : Row → Type 0
+HasWord r = (word : ℕ) → r.first ≤ word → word ≤ r.last → IsOfWord (r.meaning word) word
+
 -- each row's meaning has its word
 abbrev pub HaveWords : List Row → Type 0
 HaveWords [] = Unit {0}
-HaveWords (r ∷ rows) = ((word : ℕ) → r.first ≤ word → word ≤ r.last → IsOfWord (r.meaning word) word) × HaveWords rows
+HaveWords (r ∷ rows) = HasWord r × HaveWords rows
 
 by_rows : (rows : List Row) → HaveWords rows → (word : ℕ) → IsOfWord (decoded_by rows word) word
 by_rows [] h word = inl refl

@@ -1,12 +1,13 @@
 -- The formats of instruction words, written from the handbook's drawings and not from the table:
 -- DEC PDP-11/40 Processor Handbook (1972), Instruction set. Words and opcodes are octal.
-use Rattle.std.specs.Prelude.{ℕ, ℤ, ◌≡◌, ◌+◌, ◌*◌, ◌⊎◌, IsTrue}
+use Rattle.std.specs.Prelude.{ℕ, ℤ, ◌≡◌, ◌+◌, ◌*◌, ◌<◌, ◌⊎◌, Bool, if◌then◌else◌}
 use Rattle.std.specs.Int.{w8, cast_unsigned}
 use Rattle.std.specs.Int.RustNames.{FitsSigned}
-use Rattle.pdp_decode.specs.Fields.{IsSpec, is_source, is_destination}
+use Rattle.pdp_word.specs.declared.codes.Codes.{Codes}
+use Rattle.pdp_decode.specs.Instruction.{HasSpecs}
 use Rattle.pdp_decode.specs.declared.instruction.Spec.{Spec}
 use Rattle.pdp_decode.specs.declared.instruction.Instr.{Instr}
-use Rattle.pdp_decode.specs.declared.instruction.Instr.TheVariants.{Halt, Br, Bpl, Mov, Movb, Tstb, Reserved}
+use Rattle.pdp_decode.specs.declared.instruction.Instr.TheVariants.{Halt, Wait, Rti, Bpt, Iot, Reset, Rtt, Jmp, Rts, Jsr, Mark, Sob, Emt, Trap, ClearCodes, SetCodes, Br, Bne, Beq, Bge, Blt, Bgt, Ble, Bpl, Bmi, Bhi, Blos, Bvc, Bvs, Bcc, Bcs, Mov, Movb, Cmp, Cmpb, Bit, Bitb, Bic, Bicb, Bis, Bisb, Add, Sub, Xor, Mul, Div, Ash, Ashc, Swab, Clr, Clrb, Com, Comb, Inc, Incb, Dec, Decb, Neg, Negb, Adc, Adcb, Sbc, Sbcb, Ror, Rorb, Rol, Rolb, Asr, Asrb, Asl, Aslb, Sxt, Tst, Tstb, Mfpi, Mtpi, Reserved}
 
 -- the two octal digits of a specifier
 abbrev pub digits_of : Spec → ℕ
@@ -16,39 +17,127 @@ digits_of spec = spec.mode * 8 + spec.reg
 abbrev pub branch_word : ℕ → ℤ → ℕ
 branch_word opcode offset = opcode * 0o400 + cast_unsigned w8 offset
 
--- a single operand instruction: ooooDD
+-- an instruction with one operand: ooooDD or ooooSS
 abbrev pub single_operand_word : ℕ → Spec → ℕ
-single_operand_word opcode destination = opcode * 0o100 + digits_of destination
+single_operand_word opcode operand = opcode * 0o100 + digits_of operand
 
--- a double operand instruction: ooSSDD
+-- an instruction with a register and an operand: oooRDD or oooRSS
+abbrev pub register_operand_word : ℕ → ℕ → Spec → ℕ
+register_operand_word opcode register operand = opcode * 0o1000 + register * 0o100 + digits_of operand
+
+-- an instruction with two operands: ooSSDD
 abbrev pub double_operand_word : ℕ → Spec → Spec → ℕ
 double_operand_word opcode source destination =
     opcode * 0o10000 + digits_of source * 0o100 + digits_of destination
 
+-- a bit that is 1 where the code is set
+abbrev pub bit_of : Bool → ℕ
+bit_of code = if code then 1 else 0
+
+-- the condition codes in bits 3 to 0
+abbrev pub bits_of : Codes → ℕ
+bits_of codes = bit_of codes.n * 8 + bit_of codes.z * 4 + bit_of codes.v * 2 + bit_of codes.c
+
 -- the word of an instruction; of the many reserved words, the last
 abbrev pub encode : Instr → ℕ
 encode Halt = 0o000000
+encode Wait = 0o000001
+encode Rti = 0o000002
+encode Bpt = 0o000003
+encode Iot = 0o000004
+encode Reset = 0o000005
+encode Rtt = 0o000006
+encode (Jmp destination) = single_operand_word 0o0001 destination
+encode (Rts register) = 0o000200 + register
+encode (Jsr register destination) = register_operand_word 0o004 register destination
+encode (Mark words) = 0o006400 + words
+encode (Sob register words) = 0o077000 + register * 0o100 + words
+encode (Emt code) = 0o104000 + code
+encode (Trap code) = 0o104400 + code
+encode (ClearCodes codes) = 0o000240 + bits_of codes
+encode (SetCodes codes) = 0o000260 + bits_of codes
 encode (Br offset) = branch_word 0o1 offset
+encode (Bne offset) = branch_word 0o2 offset
+encode (Beq offset) = branch_word 0o3 offset
+encode (Bge offset) = branch_word 0o4 offset
+encode (Blt offset) = branch_word 0o5 offset
+encode (Bgt offset) = branch_word 0o6 offset
+encode (Ble offset) = branch_word 0o7 offset
 encode (Bpl offset) = branch_word 0o200 offset
+encode (Bmi offset) = branch_word 0o201 offset
+encode (Bhi offset) = branch_word 0o202 offset
+encode (Blos offset) = branch_word 0o203 offset
+encode (Bvc offset) = branch_word 0o204 offset
+encode (Bvs offset) = branch_word 0o205 offset
+encode (Bcc offset) = branch_word 0o206 offset
+encode (Bcs offset) = branch_word 0o207 offset
 encode (Mov source destination) = double_operand_word 0o01 source destination
 encode (Movb source destination) = double_operand_word 0o11 source destination
+encode (Cmp source destination) = double_operand_word 0o02 source destination
+encode (Cmpb source destination) = double_operand_word 0o12 source destination
+encode (Bit source destination) = double_operand_word 0o03 source destination
+encode (Bitb source destination) = double_operand_word 0o13 source destination
+encode (Bic source destination) = double_operand_word 0o04 source destination
+encode (Bicb source destination) = double_operand_word 0o14 source destination
+encode (Bis source destination) = double_operand_word 0o05 source destination
+encode (Bisb source destination) = double_operand_word 0o15 source destination
+encode (Add source destination) = double_operand_word 0o06 source destination
+encode (Sub source destination) = double_operand_word 0o16 source destination
+encode (Xor register destination) = register_operand_word 0o074 register destination
+encode (Mul register source) = register_operand_word 0o070 register source
+encode (Div register source) = register_operand_word 0o071 register source
+encode (Ash register source) = register_operand_word 0o072 register source
+encode (Ashc register source) = register_operand_word 0o073 register source
+encode (Swab destination) = single_operand_word 0o0003 destination
+encode (Clr destination) = single_operand_word 0o0050 destination
+encode (Clrb destination) = single_operand_word 0o1050 destination
+encode (Com destination) = single_operand_word 0o0051 destination
+encode (Comb destination) = single_operand_word 0o1051 destination
+encode (Inc destination) = single_operand_word 0o0052 destination
+encode (Incb destination) = single_operand_word 0o1052 destination
+encode (Dec destination) = single_operand_word 0o0053 destination
+encode (Decb destination) = single_operand_word 0o1053 destination
+encode (Neg destination) = single_operand_word 0o0054 destination
+encode (Negb destination) = single_operand_word 0o1054 destination
+encode (Adc destination) = single_operand_word 0o0055 destination
+encode (Adcb destination) = single_operand_word 0o1055 destination
+encode (Sbc destination) = single_operand_word 0o0056 destination
+encode (Sbcb destination) = single_operand_word 0o1056 destination
+encode (Ror destination) = single_operand_word 0o0060 destination
+encode (Rorb destination) = single_operand_word 0o1060 destination
+encode (Rol destination) = single_operand_word 0o0061 destination
+encode (Rolb destination) = single_operand_word 0o1061 destination
+encode (Asr destination) = single_operand_word 0o0062 destination
+encode (Asrb destination) = single_operand_word 0o1062 destination
+encode (Asl destination) = single_operand_word 0o0063 destination
+encode (Aslb destination) = single_operand_word 0o1063 destination
+encode (Sxt destination) = single_operand_word 0o0067 destination
+encode (Tst destination) = single_operand_word 0o0057 destination
 encode (Tstb destination) = single_operand_word 0o1057 destination
+encode (Mfpi source) = single_operand_word 0o0065 source
+encode (Mtpi destination) = single_operand_word 0o0066 destination
 encode Reserved = 0o177777
 
--- both specifiers fit, and the machine has both operands
-abbrev pub HasOperands : Spec → Spec → Type 0
-HasOperands source destination =
-    IsSpec source × IsSpec destination × IsTrue (is_source source) × IsTrue (is_destination destination)
-
--- the instruction has a word: each field fits, and the machine has each operand
+-- the instruction has a word: each field fits
 abbrev pub IsEncodable : Instr → Type 0
-IsEncodable Halt = Unit {0}
 IsEncodable (Br offset) = FitsSigned w8 offset
+IsEncodable (Bne offset) = FitsSigned w8 offset
+IsEncodable (Beq offset) = FitsSigned w8 offset
+IsEncodable (Bge offset) = FitsSigned w8 offset
+IsEncodable (Blt offset) = FitsSigned w8 offset
+IsEncodable (Bgt offset) = FitsSigned w8 offset
+IsEncodable (Ble offset) = FitsSigned w8 offset
 IsEncodable (Bpl offset) = FitsSigned w8 offset
-IsEncodable (Mov source destination) = HasOperands source destination
-IsEncodable (Movb source destination) = HasOperands source destination
-IsEncodable (Tstb destination) = IsSpec destination × IsTrue (is_destination destination)
-IsEncodable Reserved = Unit {0}
+IsEncodable (Bmi offset) = FitsSigned w8 offset
+IsEncodable (Bhi offset) = FitsSigned w8 offset
+IsEncodable (Blos offset) = FitsSigned w8 offset
+IsEncodable (Bvc offset) = FitsSigned w8 offset
+IsEncodable (Bvs offset) = FitsSigned w8 offset
+IsEncodable (Bcc offset) = FitsSigned w8 offset
+IsEncodable (Bcs offset) = FitsSigned w8 offset
+IsEncodable (Emt code) = code < 0o400
+IsEncodable (Trap code) = code < 0o400
+IsEncodable instr = HasSpecs instr
 
 -- the instruction is reserved, or this is its word
 abbrev pub IsOfWord : Instr → ℕ → Type 0

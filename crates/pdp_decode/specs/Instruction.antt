@@ -1,25 +1,165 @@
--- What is said of an instruction: its mnemonic, its specifiers, its word.
-use Rattle.std.specs.Prelude.{ℕ, List, codes}
+-- What is said of an instruction: its mnemonic, and which fields it may have.
+use Rattle.std.specs.Prelude.{ℕ, List, codes, ◌<◌}
 use Rattle.pdp_decode.specs.Fields.{IsSpec}
 use Rattle.pdp_decode.specs.declared.instruction.Instr.{Instr}
-use Rattle.pdp_decode.specs.declared.instruction.Instr.TheVariants.{Halt, Br, Bpl, Mov, Movb, Tstb, Reserved}
+use Rattle.pdp_decode.specs.declared.instruction.Instr.TheVariants.{Halt, Wait, Rti, Bpt, Iot, Reset, Rtt, Jmp, Rts, Jsr, Mark, Sob, Emt, Trap, ClearCodes, SetCodes, Br, Bne, Beq, Bge, Blt, Bgt, Ble, Bpl, Bmi, Bhi, Blos, Bvc, Bvs, Bcc, Bcs, Mov, Movb, Cmp, Cmpb, Bit, Bitb, Bic, Bicb, Bis, Bisb, Add, Sub, Xor, Mul, Div, Ash, Ashc, Swab, Clr, Clrb, Com, Comb, Inc, Incb, Dec, Decb, Neg, Negb, Adc, Adcb, Sbc, Sbcb, Ror, Rorb, Rol, Rolb, Asr, Asrb, Asl, Aslb, Sxt, Tst, Tstb, Mfpi, Mtpi, Reserved}
 
--- the handbook's mnemonic
+-- the handbook's mnemonic; CLx and SEx for the condition code operators, which have one only for one code or all
 abbrev pub mnemonic : Instr → List ℕ
 mnemonic Halt = codes "HALT"
+mnemonic Wait = codes "WAIT"
+mnemonic Rti = codes "RTI"
+mnemonic Bpt = codes "BPT"
+mnemonic Iot = codes "IOT"
+mnemonic Reset = codes "RESET"
+mnemonic Rtt = codes "RTT"
+mnemonic (Jmp _) = codes "JMP"
+mnemonic (Rts _) = codes "RTS"
+mnemonic (Jsr _ _) = codes "JSR"
+mnemonic (Mark _) = codes "MARK"
+mnemonic (Sob _ _) = codes "SOB"
+mnemonic (Emt _) = codes "EMT"
+mnemonic (Trap _) = codes "TRAP"
+mnemonic (ClearCodes _) = codes "CLx"
+mnemonic (SetCodes _) = codes "SEx"
 mnemonic (Br _) = codes "BR"
+mnemonic (Bne _) = codes "BNE"
+mnemonic (Beq _) = codes "BEQ"
+mnemonic (Bge _) = codes "BGE"
+mnemonic (Blt _) = codes "BLT"
+mnemonic (Bgt _) = codes "BGT"
+mnemonic (Ble _) = codes "BLE"
 mnemonic (Bpl _) = codes "BPL"
+mnemonic (Bmi _) = codes "BMI"
+mnemonic (Bhi _) = codes "BHI"
+mnemonic (Blos _) = codes "BLOS"
+mnemonic (Bvc _) = codes "BVC"
+mnemonic (Bvs _) = codes "BVS"
+mnemonic (Bcc _) = codes "BCC"
+mnemonic (Bcs _) = codes "BCS"
 mnemonic (Mov _ _) = codes "MOV"
 mnemonic (Movb _ _) = codes "MOVB"
+mnemonic (Cmp _ _) = codes "CMP"
+mnemonic (Cmpb _ _) = codes "CMPB"
+mnemonic (Bit _ _) = codes "BIT"
+mnemonic (Bitb _ _) = codes "BITB"
+mnemonic (Bic _ _) = codes "BIC"
+mnemonic (Bicb _ _) = codes "BICB"
+mnemonic (Bis _ _) = codes "BIS"
+mnemonic (Bisb _ _) = codes "BISB"
+mnemonic (Add _ _) = codes "ADD"
+mnemonic (Sub _ _) = codes "SUB"
+mnemonic (Xor _ _) = codes "XOR"
+mnemonic (Mul _ _) = codes "MUL"
+mnemonic (Div _ _) = codes "DIV"
+mnemonic (Ash _ _) = codes "ASH"
+mnemonic (Ashc _ _) = codes "ASHC"
+mnemonic (Swab _) = codes "SWAB"
+mnemonic (Clr _) = codes "CLR"
+mnemonic (Clrb _) = codes "CLRB"
+mnemonic (Com _) = codes "COM"
+mnemonic (Comb _) = codes "COMB"
+mnemonic (Inc _) = codes "INC"
+mnemonic (Incb _) = codes "INCB"
+mnemonic (Dec _) = codes "DEC"
+mnemonic (Decb _) = codes "DECB"
+mnemonic (Neg _) = codes "NEG"
+mnemonic (Negb _) = codes "NEGB"
+mnemonic (Adc _) = codes "ADC"
+mnemonic (Adcb _) = codes "ADCB"
+mnemonic (Sbc _) = codes "SBC"
+mnemonic (Sbcb _) = codes "SBCB"
+mnemonic (Ror _) = codes "ROR"
+mnemonic (Rorb _) = codes "RORB"
+mnemonic (Rol _) = codes "ROL"
+mnemonic (Rolb _) = codes "ROLB"
+mnemonic (Asr _) = codes "ASR"
+mnemonic (Asrb _) = codes "ASRB"
+mnemonic (Asl _) = codes "ASL"
+mnemonic (Aslb _) = codes "ASLB"
+mnemonic (Sxt _) = codes "SXT"
+mnemonic (Tst _) = codes "TST"
 mnemonic (Tstb _) = codes "TSTB"
+mnemonic (Mfpi _) = codes "MFPI"
+mnemonic (Mtpi _) = codes "MTPI"
 mnemonic Reserved = codes "Reserved"
 
--- every specifier has a mode and a register below 8
+-- every specifier has a mode and a register below 8, every register is below 8, and a count of words has six bits
 abbrev pub HasSpecs : Instr → Type 0
 HasSpecs Halt = Unit {0}
+HasSpecs Wait = Unit {0}
+HasSpecs Rti = Unit {0}
+HasSpecs Bpt = Unit {0}
+HasSpecs Iot = Unit {0}
+HasSpecs Reset = Unit {0}
+HasSpecs Rtt = Unit {0}
+HasSpecs (Jmp destination) = IsSpec destination
+HasSpecs (Rts register) = register < 8
+HasSpecs (Jsr register destination) = (register < 8) × IsSpec destination
+HasSpecs (Mark words) = words < 0o100
+HasSpecs (Sob register words) = (register < 8) × (words < 0o100)
+HasSpecs (Emt _) = Unit {0}
+HasSpecs (Trap _) = Unit {0}
+HasSpecs (ClearCodes _) = Unit {0}
+HasSpecs (SetCodes _) = Unit {0}
 HasSpecs (Br _) = Unit {0}
+HasSpecs (Bne _) = Unit {0}
+HasSpecs (Beq _) = Unit {0}
+HasSpecs (Bge _) = Unit {0}
+HasSpecs (Blt _) = Unit {0}
+HasSpecs (Bgt _) = Unit {0}
+HasSpecs (Ble _) = Unit {0}
 HasSpecs (Bpl _) = Unit {0}
+HasSpecs (Bmi _) = Unit {0}
+HasSpecs (Bhi _) = Unit {0}
+HasSpecs (Blos _) = Unit {0}
+HasSpecs (Bvc _) = Unit {0}
+HasSpecs (Bvs _) = Unit {0}
+HasSpecs (Bcc _) = Unit {0}
+HasSpecs (Bcs _) = Unit {0}
 HasSpecs (Mov source destination) = IsSpec source × IsSpec destination
 HasSpecs (Movb source destination) = IsSpec source × IsSpec destination
+HasSpecs (Cmp source destination) = IsSpec source × IsSpec destination
+HasSpecs (Cmpb source destination) = IsSpec source × IsSpec destination
+HasSpecs (Bit source destination) = IsSpec source × IsSpec destination
+HasSpecs (Bitb source destination) = IsSpec source × IsSpec destination
+HasSpecs (Bic source destination) = IsSpec source × IsSpec destination
+HasSpecs (Bicb source destination) = IsSpec source × IsSpec destination
+HasSpecs (Bis source destination) = IsSpec source × IsSpec destination
+HasSpecs (Bisb source destination) = IsSpec source × IsSpec destination
+HasSpecs (Add source destination) = IsSpec source × IsSpec destination
+HasSpecs (Sub source destination) = IsSpec source × IsSpec destination
+HasSpecs (Xor register destination) = (register < 8) × IsSpec destination
+HasSpecs (Mul register source) = (register < 8) × IsSpec source
+HasSpecs (Div register source) = (register < 8) × IsSpec source
+HasSpecs (Ash register source) = (register < 8) × IsSpec source
+HasSpecs (Ashc register source) = (register < 8) × IsSpec source
+HasSpecs (Swab destination) = IsSpec destination
+HasSpecs (Clr destination) = IsSpec destination
+HasSpecs (Clrb destination) = IsSpec destination
+HasSpecs (Com destination) = IsSpec destination
+HasSpecs (Comb destination) = IsSpec destination
+HasSpecs (Inc destination) = IsSpec destination
+HasSpecs (Incb destination) = IsSpec destination
+HasSpecs (Dec destination) = IsSpec destination
+HasSpecs (Decb destination) = IsSpec destination
+HasSpecs (Neg destination) = IsSpec destination
+HasSpecs (Negb destination) = IsSpec destination
+HasSpecs (Adc destination) = IsSpec destination
+HasSpecs (Adcb destination) = IsSpec destination
+HasSpecs (Sbc destination) = IsSpec destination
+HasSpecs (Sbcb destination) = IsSpec destination
+HasSpecs (Ror destination) = IsSpec destination
+HasSpecs (Rorb destination) = IsSpec destination
+HasSpecs (Rol destination) = IsSpec destination
+HasSpecs (Rolb destination) = IsSpec destination
+HasSpecs (Asr destination) = IsSpec destination
+HasSpecs (Asrb destination) = IsSpec destination
+HasSpecs (Asl destination) = IsSpec destination
+HasSpecs (Aslb destination) = IsSpec destination
+HasSpecs (Sxt destination) = IsSpec destination
+HasSpecs (Tst destination) = IsSpec destination
 HasSpecs (Tstb destination) = IsSpec destination
+HasSpecs (Mfpi source) = IsSpec source
+HasSpecs (Mtpi destination) = IsSpec destination
 HasSpecs Reserved = Unit {0}

@@ -2,14 +2,16 @@
 ghost use Rattle.std.specs.Prelude.{◌≡◌};
 ghost use Rattle.pdp_decode.specs.Instruction.{mnemonic};
 
+use pdp_word::Codes;
+
 /// An operand specifier, six bits of an instruction word: the addressing mode above, the register
 /// below, each from 0 to 7.
 ///
 /// Source: DEC PDP-11/40 Processor Handbook (1972), Addressing modes.
 #[derive(Clone, Copy, Debug, PartialEq, Eq)]
 pub struct Spec {
-    /// The addressing mode: 0 is the register itself; with register 7, 2 is the word after the
-    /// instruction, and 3 the word or byte at the address in that word.
+    /// The addressing mode: 0 register, 2 autoincrement, 4 autodecrement, 6 index; 1, 3, 5 and 7
+    /// are deferred.
     pub mode: u8,
     /// The register: 6 is the stack pointer, 7 the program counter.
     pub reg: u8,
@@ -17,26 +19,172 @@ pub struct Spec {
 
 /// A decoded instruction word.
 ///
+/// A register is 0 to 7, an offset a signed count of words, and words are 0 to 77 (octal). N, Z, V
+/// and C are the condition codes.
+///
 /// Source: DEC PDP-11/40 Processor Handbook (1972), Instruction set.
 #[derive(Clone, Copy, Debug, PartialEq, Eq)]
 pub enum Instr {
-    /// HALT, 000000.
+    /// HALT, 000000: the processor stops.
     Halt,
+    /// WAIT, 000001: the processor waits for an interrupt.
+    Wait,
+    /// RTI, 000002: PC and the status word are popped.
+    Rti,
+    /// BPT, 000003: a trap through 14.
+    Bpt,
+    /// IOT, 000004: a trap through 20.
+    Iot,
+    /// RESET, 000005: the devices are initialised.
+    Reset,
+    /// RTT, 000006: RTI, but no trace trap comes before the next instruction.
+    Rtt,
+    /// JMP, 0001DD: PC becomes the address of the destination.
+    Jmp { destination: Spec },
+    /// RTS, 00020R: PC becomes the register, and the register is popped.
+    Rts { register: u8 },
+    /// JSR, 004RDD: the register is pushed and becomes PC, and PC the address of the destination.
+    Jsr { register: u8, destination: Spec },
+    /// MARK, 0064NN: SP becomes PC plus that many words, PC becomes R5, and R5 is popped.
+    Mark { words: u8 },
+    /// SOB, 077RNN: the register less 1; where that isn't 0, PC falls by that many words.
+    Sob { register: u8, words: u8 },
+    /// EMT, 104000 to 104377: a trap through 30; the code is left to the program.
+    Emt { code: u8 },
+    /// TRAP, 104400 to 104777: a trap through 34; the code is left to the program.
+    Trap { code: u8 },
+    /// 000240 to 000257, CLN, CLZ, CLV, CLC and their sums: these condition codes are cleared.
+    ClearCodes { codes: Codes },
+    /// 000260 to 000277, SEN, SEZ, SEV, SEC and their sums: these condition codes are set.
+    SetCodes { codes: Codes },
     /// BR, 000400 to 000777: the offset counts words from the PC that follows the instruction.
     Br { offset: i8 },
+    /// BNE, 001000 to 001377: BR where Z is clear.
+    Bne { offset: i8 },
+    /// BEQ, 001400 to 001777: BR where Z is set.
+    Beq { offset: i8 },
+    /// BGE, 002000 to 002377: BR where N equals V.
+    Bge { offset: i8 },
+    /// BLT, 002400 to 002777: BR where N differs from V.
+    Blt { offset: i8 },
+    /// BGT, 003000 to 003377: BR where Z is clear and N equals V.
+    Bgt { offset: i8 },
+    /// BLE, 003400 to 003777: BR where Z is set or N differs from V.
+    Ble { offset: i8 },
     /// BPL, 100000 to 100377: BR where N is clear.
     Bpl { offset: i8 },
+    /// BMI, 100400 to 100777: BR where N is set.
+    Bmi { offset: i8 },
+    /// BHI, 101000 to 101377: BR where C and Z are clear.
+    Bhi { offset: i8 },
+    /// BLOS, 101400 to 101777: BR where C or Z is set.
+    Blos { offset: i8 },
+    /// BVC, 102000 to 102377: BR where V is clear.
+    Bvc { offset: i8 },
+    /// BVS, 102400 to 102777: BR where V is set.
+    Bvs { offset: i8 },
+    /// BCC, 103000 to 103377: BR where C is clear.
+    Bcc { offset: i8 },
+    /// BCS, 103400 to 103777: BR where C is set.
+    Bcs { offset: i8 },
     /// MOV, 01SSDD: the source goes to the destination.
     Mov { source: Spec, destination: Spec },
     /// MOVB, 11SSDD: the source byte goes to the destination.
     Movb { source: Spec, destination: Spec },
+    /// CMP, 02SSDD: the condition codes are set by the source less the destination.
+    Cmp { source: Spec, destination: Spec },
+    /// CMPB, 12SSDD: CMP of bytes.
+    Cmpb { source: Spec, destination: Spec },
+    /// BIT, 03SSDD: the condition codes are set by the bits that are set in both.
+    Bit { source: Spec, destination: Spec },
+    /// BITB, 13SSDD: BIT of bytes.
+    Bitb { source: Spec, destination: Spec },
+    /// BIC, 04SSDD: the bits that are set in the source are cleared in the destination.
+    Bic { source: Spec, destination: Spec },
+    /// BICB, 14SSDD: BIC of bytes.
+    Bicb { source: Spec, destination: Spec },
+    /// BIS, 05SSDD: the bits that are set in the source are set in the destination.
+    Bis { source: Spec, destination: Spec },
+    /// BISB, 15SSDD: BIS of bytes.
+    Bisb { source: Spec, destination: Spec },
+    /// ADD, 06SSDD: the source is added to the destination.
+    Add { source: Spec, destination: Spec },
+    /// SUB, 16SSDD: the source is subtracted from the destination.
+    Sub { source: Spec, destination: Spec },
+    /// XOR, 074RDD: the destination becomes its exclusive or with the register.
+    Xor { register: u8, destination: Spec },
+    /// MUL, 070RSS: the signed product with the source, in the register and its odd neighbour.
+    Mul { register: u8, source: Spec },
+    /// DIV, 071RSS: the register and its odd neighbour are divided by the source.
+    Div { register: u8, source: Spec },
+    /// ASH, 072RSS: the register is shifted by the source.
+    Ash { register: u8, source: Spec },
+    /// ASHC, 073RSS: the register and its odd neighbour are shifted by the source.
+    Ashc { register: u8, source: Spec },
+    /// SWAB, 0003DD: the bytes of the destination are exchanged.
+    Swab { destination: Spec },
+    /// CLR, 0050DD: the destination becomes 0.
+    Clr { destination: Spec },
+    /// CLRB, 1050DD: CLR of a byte.
+    Clrb { destination: Spec },
+    /// COM, 0051DD: the destination becomes its complement.
+    Com { destination: Spec },
+    /// COMB, 1051DD: COM of a byte.
+    Comb { destination: Spec },
+    /// INC, 0052DD: 1 is added to the destination.
+    Inc { destination: Spec },
+    /// INCB, 1052DD: INC of a byte.
+    Incb { destination: Spec },
+    /// DEC, 0053DD: 1 is subtracted from the destination.
+    Dec { destination: Spec },
+    /// DECB, 1053DD: DEC of a byte.
+    Decb { destination: Spec },
+    /// NEG, 0054DD: the destination is negated.
+    Neg { destination: Spec },
+    /// NEGB, 1054DD: NEG of a byte.
+    Negb { destination: Spec },
+    /// ADC, 0055DD: C is added to the destination.
+    Adc { destination: Spec },
+    /// ADCB, 1055DD: ADC of a byte.
+    Adcb { destination: Spec },
+    /// SBC, 0056DD: C is subtracted from the destination.
+    Sbc { destination: Spec },
+    /// SBCB, 1056DD: SBC of a byte.
+    Sbcb { destination: Spec },
+    /// ROR, 0060DD: the destination is rotated right through C.
+    Ror { destination: Spec },
+    /// RORB, 1060DD: ROR of a byte.
+    Rorb { destination: Spec },
+    /// ROL, 0061DD: the destination is rotated left through C.
+    Rol { destination: Spec },
+    /// ROLB, 1061DD: ROL of a byte.
+    Rolb { destination: Spec },
+    /// ASR, 0062DD: the destination is shifted right and keeps its sign.
+    Asr { destination: Spec },
+    /// ASRB, 1062DD: ASR of a byte.
+    Asrb { destination: Spec },
+    /// ASL, 0063DD: the destination is shifted left.
+    Asl { destination: Spec },
+    /// ASLB, 1063DD: ASL of a byte.
+    Aslb { destination: Spec },
+    /// SXT, 0067DD: the destination becomes 0, or 177777 where N is set.
+    Sxt { destination: Spec },
+    /// TST, 0057DD: the condition codes are set by the destination.
+    Tst { destination: Spec },
     /// TSTB, 1057DD: the condition codes are set by the byte.
     Tstb { destination: Spec },
+    /// MFPI, 0065SS: the source, in the space of the previous mode, is pushed.
+    Mfpi { source: Spec },
+    /// MTPI, 0066DD: a word is popped to the destination, in the space of the previous mode.
+    Mtpi { destination: Spec },
     /// Any word that the table doesn't name (this project's profile).
     Reserved,
 }
 
 /// The mnemonic of an instruction, as the handbook spells it; `Reserved` for a reserved word.
+///
+/// The condition code operators have a mnemonic only where they change one code, or all: they are
+/// `CLx` where they clear and `SEx` where they set.
 ///
 /// Source: DEC PDP-11/40 Processor Handbook (1972), Instruction set.
 pub const fn name_of(instr: &Instr) -> &'static str
@@ -44,11 +192,81 @@ pub const fn name_of(instr: &Instr) -> &'static str
 {
     match instr {
         Instr::Halt => "HALT",
+        Instr::Wait => "WAIT",
+        Instr::Rti => "RTI",
+        Instr::Bpt => "BPT",
+        Instr::Iot => "IOT",
+        Instr::Reset => "RESET",
+        Instr::Rtt => "RTT",
+        Instr::Jmp { .. } => "JMP",
+        Instr::Rts { .. } => "RTS",
+        Instr::Jsr { .. } => "JSR",
+        Instr::Mark { .. } => "MARK",
+        Instr::Sob { .. } => "SOB",
+        Instr::Emt { .. } => "EMT",
+        Instr::Trap { .. } => "TRAP",
+        Instr::ClearCodes { .. } => "CLx",
+        Instr::SetCodes { .. } => "SEx",
         Instr::Br { .. } => "BR",
+        Instr::Bne { .. } => "BNE",
+        Instr::Beq { .. } => "BEQ",
+        Instr::Bge { .. } => "BGE",
+        Instr::Blt { .. } => "BLT",
+        Instr::Bgt { .. } => "BGT",
+        Instr::Ble { .. } => "BLE",
         Instr::Bpl { .. } => "BPL",
+        Instr::Bmi { .. } => "BMI",
+        Instr::Bhi { .. } => "BHI",
+        Instr::Blos { .. } => "BLOS",
+        Instr::Bvc { .. } => "BVC",
+        Instr::Bvs { .. } => "BVS",
+        Instr::Bcc { .. } => "BCC",
+        Instr::Bcs { .. } => "BCS",
         Instr::Mov { .. } => "MOV",
         Instr::Movb { .. } => "MOVB",
+        Instr::Cmp { .. } => "CMP",
+        Instr::Cmpb { .. } => "CMPB",
+        Instr::Bit { .. } => "BIT",
+        Instr::Bitb { .. } => "BITB",
+        Instr::Bic { .. } => "BIC",
+        Instr::Bicb { .. } => "BICB",
+        Instr::Bis { .. } => "BIS",
+        Instr::Bisb { .. } => "BISB",
+        Instr::Add { .. } => "ADD",
+        Instr::Sub { .. } => "SUB",
+        Instr::Xor { .. } => "XOR",
+        Instr::Mul { .. } => "MUL",
+        Instr::Div { .. } => "DIV",
+        Instr::Ash { .. } => "ASH",
+        Instr::Ashc { .. } => "ASHC",
+        Instr::Swab { .. } => "SWAB",
+        Instr::Clr { .. } => "CLR",
+        Instr::Clrb { .. } => "CLRB",
+        Instr::Com { .. } => "COM",
+        Instr::Comb { .. } => "COMB",
+        Instr::Inc { .. } => "INC",
+        Instr::Incb { .. } => "INCB",
+        Instr::Dec { .. } => "DEC",
+        Instr::Decb { .. } => "DECB",
+        Instr::Neg { .. } => "NEG",
+        Instr::Negb { .. } => "NEGB",
+        Instr::Adc { .. } => "ADC",
+        Instr::Adcb { .. } => "ADCB",
+        Instr::Sbc { .. } => "SBC",
+        Instr::Sbcb { .. } => "SBCB",
+        Instr::Ror { .. } => "ROR",
+        Instr::Rorb { .. } => "RORB",
+        Instr::Rol { .. } => "ROL",
+        Instr::Rolb { .. } => "ROLB",
+        Instr::Asr { .. } => "ASR",
+        Instr::Asrb { .. } => "ASRB",
+        Instr::Asl { .. } => "ASL",
+        Instr::Aslb { .. } => "ASLB",
+        Instr::Sxt { .. } => "SXT",
+        Instr::Tst { .. } => "TST",
         Instr::Tstb { .. } => "TSTB",
+        Instr::Mfpi { .. } => "MFPI",
+        Instr::Mtpi { .. } => "MTPI",
         Instr::Reserved => "Reserved",
     }
 }

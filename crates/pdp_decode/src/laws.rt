@@ -10,13 +10,12 @@ ghost use Rattle.pdp_decode.specs.Table.{are_ascending, decoded, decoded_by, row
 /// `encode` is written from the handbook's formats and not from the table.
 ///
 /// Source: DEC PDP-11/40 Processor Handbook (1972), Instruction set.
-#[tactic(auto, using(crate::proofs::Sections::decoded_has_word))]
+#[tactic(auto, using(crate::proofs::Meanings::decoded_has_word))]
 pub fn decoded_instructions_have_their_word()
     ensures { (word : ℕ) → IsOfWord (decoded word) word }
 {}
 
-/// A law and no code: the word of each instruction, with fields that fit and operands that the
-/// machine has, decodes to that instruction.
+/// A law and no code: the word of each instruction whose fields fit decodes to that instruction.
 ///
 /// Source: DEC PDP-11/40 Processor Handbook (1972), Instruction set.
 #[tactic(auto, using(crate::proofs::Instructions::decoded_encode))]

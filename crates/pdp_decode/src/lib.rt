@@ -1,8 +1,7 @@
 //! Words to instructions: the opcode table of this project's PDP-11/40 profile, as a total
 //! function of the word.
 //!
-//! Words and opcodes are octal. A word that names no instruction of the table, or an operand
-//! that the machine doesn't have, is reserved.
+//! Words and opcodes are octal. A word that names no instruction of the table is reserved.
 #![tactic(auto)]
 
 mod decoding;

@@ -1,0 +1,83 @@
+// The fields of an instruction word.
+ghost use Rattle.std.specs.Prelude.{◌≡◌, ◌<◌};
+ghost use Rattle.pdp_decode.specs.Fields.{IsSpec, offset_in, source_in, operand_in, register_in, last_register_in, words_in, code_in, codes_in};
+
+use crate::instruction::Spec;
+use pdp_word::Codes;
+
+// SS of an instruction with two operands.
+#[inline]
+pub(crate) const fn source(word: u16) -> Spec
+    ensures value { result ≡ source_in word }
+    ensures valid { IsSpec result }
+{
+    operand(word >> 6)
+}
+
+// The low six bits: DD, or SS where the source is the one operand.
+#[inline]
+pub(crate) const fn operand(word: u16) -> Spec
+    ensures value { result ≡ operand_in word }
+    ensures valid { IsSpec result }
+{
+    Spec {
+        mode: (word >> 3 & 7) as u8,
+        reg: (word & 7) as u8,
+    }
+}
+
+// R above the low six bits.
+#[inline]
+pub(crate) const fn register(word: u16) -> u8
+    ensures value { result ≡ register_in word }
+    ensures valid { result < 8 }
+{
+    (word >> 6 & 7) as u8
+}
+
+// R in the low three bits.
+#[inline]
+pub(crate) const fn last_register(word: u16) -> u8
+    ensures value { result ≡ last_register_in word }
+    ensures valid { result < 8 }
+{
+    (word & 7) as u8
+}
+
+// NN, a count of words in the low six bits.
+#[inline]
+pub(crate) const fn words(word: u16) -> u8
+    ensures value { result ≡ words_in word }
+    ensures valid { result < 0o100 }
+{
+    (word & 0o77) as u8
+}
+
+// The low byte, a signed count of words.
+#[inline]
+pub(crate) const fn offset(word: u16) -> i8
+    ensures { result ≡ offset_in word }
+{
+    code(word).cast_signed()
+}
+
+// The low byte, which the program of a trap reads.
+#[inline]
+pub(crate) const fn code(word: u16) -> u8
+    ensures { result ≡ code_in word }
+{
+    (word & 0o377) as u8
+}
+
+// N, Z, V and C in bits 3 to 0.
+#[inline]
+pub(crate) const fn codes(word: u16) -> Codes
+    ensures { result ≡ codes_in word }
+{
+    Codes {
+        n: word >> 3 & 1 == 1,
+        z: word >> 2 & 1 == 1,
+        v: word >> 1 & 1 == 1,
+        c: word & 1 == 1,
+    }
+}
