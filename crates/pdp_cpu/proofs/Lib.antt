@@ -1,4 +1,5 @@
 pub mod Steps
 pub mod Endings
 pub mod Events
+pub mod PlanSizes
 pub mod TurnLaws

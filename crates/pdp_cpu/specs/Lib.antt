@@ -1,6 +1,12 @@
 pub mod Ending
 pub mod Execute
+pub mod Action
+pub mod Branch
+pub mod ChangeCodes
 pub mod Control
+pub mod DoubleOperand
+pub mod Jump
+pub mod Operation
 pub mod Operands
 pub mod Moves
 pub mod SingleOperand

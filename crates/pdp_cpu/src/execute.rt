@@ -11,9 +11,10 @@ use pdp_store::Store;
 use pdp_unibus::Bus;
 use pdp_word::Size;
 
-/// Writes the value of an effect to its place, and then stores its codes. Where the write faults the codes stay.
+/// Writes the value of an effect to its place, and then stores its codes, but where the program status word was written.
+/// Where the write faults the codes stay.
 #[inline(always)]
-#[tactic(auto, using(crate::proofs::Steps::run_store_codes), unfolding(crate::specs::Execute::finish))]
+#[tactic(auto, using(crate::proofs::Steps::run_store_codes, crate::proofs::Steps::run_store_none), unfolding(crate::specs::Execute::finish))]
 pub fn finish<S: Store>(
     processor: &mut Processor,
     bus: &mut Bus<S>,
@@ -24,7 +25,9 @@ pub fn finish<S: Store>(
     requires { effect.value < span size }
     ensures { (latch : Latch) → latch.place ≡ place → latch.result ≡ effect.value → latch.codes ≡ Some effect.codes → closed (run_plan (finish_plan size) (state_of processor.old bus.old latch)) ≡ ended result processor.new bus.new }
 {
-    store(processor, bus, place, size, effect.value)?;
-    bus.set_codes(effect.codes);
+    let to_status = store(processor, bus, place, size, effect.value)?;
+    if !to_status {
+        bus.set_codes(effect.codes);
+    }
     Ok(())
 }

@@ -2,15 +2,21 @@
 #![tactic(auto)]
 
 mod act;
+mod action;
+mod branch;
+mod change_codes;
 mod condition;
 mod control;
+mod double_operand;
 mod execute;
 mod instruction;
+mod jump;
 mod laws;
 mod machine;
 mod meter;
 mod moves;
 mod operands;
+mod operation;
 mod regs;
 mod single_operand;
 #[cfg(test)]

@@ -11,7 +11,7 @@ use crate::execute::finish;
 use crate::operands::operands;
 use pdp_alu::{Effect, mov, sign_extend};
 use pdp_decode::Spec;
-use pdp_operand::{Place, Processor, Trap, write_byte};
+use pdp_operand::{Place, Processor, Trap, is_status, write_byte};
 use pdp_store::Store;
 use pdp_unibus::Bus;
 use pdp_word::Size;
@@ -54,7 +54,7 @@ pub fn mov_byte<S: Store>(
 
 /// Writes the byte of an effect, with its sign where it goes to a register, and then stores the codes.
 #[inline(always)]
-#[tactic(auto, using(crate::proofs::Steps::run_store_codes))]
+#[tactic(auto, using(crate::proofs::Steps::run_store_codes, crate::proofs::Steps::run_store_none))]
 fn finish_extended<S: Store>(
     processor: &mut Processor,
     bus: &mut Bus<S>,
@@ -64,12 +64,14 @@ fn finish_extended<S: Store>(
     requires { effect.value < 256 }
     ensures { (latch : Latch) → latch.place ≡ place → latch.result ≡ effect.value → latch.codes ≡ Some effect.codes → closed (run_plan (one write_extended ▸ one store_codes) (state_of processor.old bus.old latch)) ≡ ended result processor.new bus.new }
 {
-    store_extended(processor, bus, place, effect.value as u8)?;
-    bus.set_codes(effect.codes);
+    let to_status = store_extended(processor, bus, place, effect.value as u8)?;
+    if !to_status {
+        bus.set_codes(effect.codes);
+    }
     Ok(())
 }
 
-/// Writes a byte, which fills a register with its sign.
+/// Writes a byte, which fills a register with its sign, and answers whether the program status word was written.
 #[inline(always)]
 #[tactic(auto, unfolding(crate::specs::Moves::write_extended, pdp_operand::specs::Phase::run))]
 fn store_extended<S: Store>(
@@ -77,14 +79,17 @@ fn store_extended<S: Store>(
     bus: &mut Bus<S>,
     place: Place,
     byte: u8,
-) -> Result<(), Trap>
+) -> Result<bool, Trap>
     ensures { (latch : Latch) → latch.place ≡ place → latch.result ≡ byte → run (write_extended ∷ []) (state_of processor.old bus.old latch) ≡ stored result processor.new bus.new latch }
 {
     match place {
-        Place::Reg(slot) => processor.set_register(slot, sign_extend(byte)),
+        Place::Reg(slot) => {
+            processor.set_register(slot, sign_extend(byte));
+            Ok(false)
+        }
         Place::Mem(cell) => {
-            write_byte(bus, cell.mode, cell.address, byte)?;
+            let physical = write_byte(bus, cell.mode, cell.address, byte)?;
+            Ok(is_status(physical))
         }
     }
-    Ok(())
 }
