@@ -13,7 +13,7 @@ use std::alloc::Global;
 /// the reply to each line to `writer`. The replies to all lines that have ended are written before more is read.
 ///
 /// The lines and their replies are this project's profile. A line that is refused has a reply that says so, and
-/// the session goes on; a line refused for want of memory changes no other reply.
+/// the session goes on; all other lines are answered as if a line refused for want of memory weren't there.
 ///
 /// # Errors
 ///
