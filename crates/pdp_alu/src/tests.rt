@@ -1,4 +1,4 @@
-use pdp_word::Codes;
+use crate::{Codes, Effect};
 
 mod arithmetic;
 mod bytes;
@@ -14,5 +14,13 @@ fn codes(text: &[u8; 4]) -> Codes {
         z: text[1] == b'1',
         v: text[2] == b'1',
         c: text[3] == b'1',
+    }
+}
+
+// The effect with this value and these codes.
+fn effect(value: u16, text: &[u8; 4]) -> Effect {
+    Effect {
+        value,
+        codes: codes(text),
     }
 }

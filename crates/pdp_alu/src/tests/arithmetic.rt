@@ -1,4 +1,4 @@
-use super::codes;
+use super::effect;
 use crate::{Size, add, cmp, sub};
 
 #[test]
@@ -14,11 +14,9 @@ fn adds_words(rt: HostRuntime) {
         (0o100000, 0o077777, 0o177777, b"1000"),
         (0o000200, 0o000200, 0o000400, b"0000"),
     ] {
-        let effect = add(source, destination);
-        assert_eq!(rt; effect.value, want, "at {source:06o}, {destination:06o}");
         assert_eq!(rt;
-            effect.codes,
-            codes(after),
+            add(source, destination),
+            effect(want, after),
             "at {source:06o}, {destination:06o}"
         );
     }
@@ -38,11 +36,9 @@ fn subtracts_words(rt: HostRuntime) {
         (0o077777, 0o177777, 0o100000, b"1000"),
         (0o077777, 0o100000, 0o000001, b"0010"),
     ] {
-        let effect = sub(source, destination);
-        assert_eq!(rt; effect.value, want, "at {source:06o}, {destination:06o}");
         assert_eq!(rt;
-            effect.codes,
-            codes(after),
+            sub(source, destination),
+            effect(want, after),
             "at {source:06o}, {destination:06o}"
         );
     }
@@ -63,11 +59,9 @@ fn compares_words_and_bytes(rt: HostRuntime) {
         (Size::Byte, 0, 0o000001, 0o377, b"1001"),
         (Size::Byte, 0o177400, 0, 0, b"0100"),
     ] {
-        let effect = cmp(size, source, destination);
-        assert_eq!(rt; effect.value, want, "at {source:06o}, {destination:06o}");
         assert_eq!(rt;
-            effect.codes,
-            codes(after),
+            cmp(size, source, destination),
+            effect(want, after),
             "at {source:06o}, {destination:06o}"
         );
     }

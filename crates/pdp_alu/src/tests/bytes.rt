@@ -1,4 +1,4 @@
-use super::codes;
+use super::{codes, effect};
 use crate::{swab, sxt};
 
 #[test]
@@ -10,9 +10,7 @@ fn swaps_bytes(rt: HostRuntime) {
         (0o077777, 0o177577, b"0000"),
         (0o100001, 0o000600, b"1000"),
     ] {
-        let effect = swab(word);
-        assert_eq!(rt; effect.value, want, "at {word:06o}");
-        assert_eq!(rt; effect.codes, codes(after), "at {word:06o}");
+        assert_eq!(rt; swab(word), effect(want, after), "at {word:06o}");
     }
 }
 
@@ -24,8 +22,6 @@ fn extends_the_sign(rt: HostRuntime) {
         (b"0011", 0, b"0101"),
         (b"0000", 0, b"0100"),
     ] {
-        let effect = sxt(codes(before));
-        assert_eq!(rt; effect.value, want, "for {want:06o}");
-        assert_eq!(rt; effect.codes, codes(after), "for {want:06o}");
+        assert_eq!(rt; sxt(codes(before)), effect(want, after), "for {want:06o}");
     }
 }

@@ -1,4 +1,4 @@
-use super::codes;
+use super::{codes, effect};
 use crate::{Size, bic, bis, bit, xor};
 
 #[test]
@@ -11,11 +11,9 @@ fn ands_words_and_bytes(rt: HostRuntime) {
         (Size::Byte, 0o177401, 0o177776, b"1010", 0, b"0100"),
         (Size::Byte, 0o000377, 0o000177, b"0011", 0o177, b"0001"),
     ] {
-        let effect = bit(size, source, destination, codes(before));
-        assert_eq!(rt; effect.value, want, "at {source:06o}, {destination:06o}");
         assert_eq!(rt;
-            effect.codes,
-            codes(after),
+            bit(size, source, destination, codes(before)),
+            effect(want, after),
             "at {source:06o}, {destination:06o}"
         );
     }
@@ -31,11 +29,9 @@ fn clears_bits_of_words_and_bytes(rt: HostRuntime) {
         (Size::Byte, 0o177400, 0o000377, b"0001", 0o377, b"1001"),
         (Size::Byte, 0o000377, 0o177777, b"1000", 0, b"0100"),
     ] {
-        let effect = bic(size, source, destination, codes(before));
-        assert_eq!(rt; effect.value, want, "at {source:06o}, {destination:06o}");
         assert_eq!(rt;
-            effect.codes,
-            codes(after),
+            bic(size, source, destination, codes(before)),
+            effect(want, after),
             "at {source:06o}, {destination:06o}"
         );
     }
@@ -51,11 +47,9 @@ fn sets_bits_of_words_and_bytes(rt: HostRuntime) {
         (Size::Byte, 0o177400, 0o177400, b"1010", 0, b"0100"),
         (Size::Byte, 0o000001, 0o000176, b"1111", 0o177, b"0001"),
     ] {
-        let effect = bis(size, source, destination, codes(before));
-        assert_eq!(rt; effect.value, want, "at {source:06o}, {destination:06o}");
         assert_eq!(rt;
-            effect.codes,
-            codes(after),
+            bis(size, source, destination, codes(before)),
+            effect(want, after),
             "at {source:06o}, {destination:06o}"
         );
     }
@@ -69,11 +63,9 @@ fn tells_words_apart(rt: HostRuntime) {
         (0o052525, 0o125252, b"0001", 0o177777, b"1001"),
         (0o000377, 0o000177, b"1110", 0o000200, b"0000"),
     ] {
-        let effect = xor(register, destination, codes(before));
-        assert_eq!(rt; effect.value, want, "at {register:06o}, {destination:06o}");
         assert_eq!(rt;
-            effect.codes,
-            codes(after),
+            xor(register, destination, codes(before)),
+            effect(want, after),
             "at {register:06o}, {destination:06o}"
         );
     }

@@ -1,4 +1,4 @@
-use super::codes;
+use super::{codes, effect};
 use crate::{Size, mov, sign_extend};
 
 #[test]
@@ -11,9 +11,11 @@ fn moves_words_and_bytes(rt: HostRuntime) {
         (Size::Byte, 0o000200, b"1010", 0o200, b"1000"),
         (Size::Byte, 0o000177, b"0001", 0o177, b"0001"),
     ] {
-        let effect = mov(size, value, codes(before));
-        assert_eq!(rt; effect.value, want, "at {value:06o}");
-        assert_eq!(rt; effect.codes, codes(after), "at {value:06o}");
+        assert_eq!(rt;
+            mov(size, value, codes(before)),
+            effect(want, after),
+            "at {value:06o}"
+        );
     }
 }
 

@@ -1,4 +1,4 @@
-use super::codes;
+use super::{codes, effect};
 use crate::{Size, asl, asr, rol, ror};
 
 #[test]
@@ -15,9 +15,11 @@ fn rotates_words_and_bytes_to_the_right(rt: HostRuntime) {
         (Size::Byte, 0o000377, b"0000", 0o177, b"0011"),
         (Size::Byte, 0o000400, b"0000", 0, b"0100"),
     ] {
-        let effect = ror(size, value, codes(before));
-        assert_eq!(rt; effect.value, want, "at {value:06o}");
-        assert_eq!(rt; effect.codes, codes(after), "at {value:06o}");
+        assert_eq!(rt;
+            ror(size, value, codes(before)),
+            effect(want, after),
+            "at {value:06o}"
+        );
     }
 }
 
@@ -35,9 +37,11 @@ fn rotates_words_and_bytes_to_the_left(rt: HostRuntime) {
         (Size::Byte, 0o000377, b"0001", 0o377, b"1001"),
         (Size::Byte, 0o000400, b"0000", 0, b"0100"),
     ] {
-        let effect = rol(size, value, codes(before));
-        assert_eq!(rt; effect.value, want, "at {value:06o}");
-        assert_eq!(rt; effect.codes, codes(after), "at {value:06o}");
+        assert_eq!(rt;
+            rol(size, value, codes(before)),
+            effect(want, after),
+            "at {value:06o}"
+        );
     }
 }
 
@@ -56,9 +60,7 @@ fn shifts_words_and_bytes_to_the_right(rt: HostRuntime) {
         (Size::Byte, 0o000001, 0, b"0111"),
         (Size::Byte, 0o000400, 0, b"0100"),
     ] {
-        let effect = asr(size, value);
-        assert_eq!(rt; effect.value, want, "at {value:06o}");
-        assert_eq!(rt; effect.codes, codes(after), "at {value:06o}");
+        assert_eq!(rt; asr(size, value), effect(want, after), "at {value:06o}");
     }
 }
 
@@ -77,8 +79,6 @@ fn shifts_words_and_bytes_to_the_left(rt: HostRuntime) {
         (Size::Byte, 0o000377, 0o376, b"1001"),
         (Size::Byte, 0o000400, 0, b"0100"),
     ] {
-        let effect = asl(size, value);
-        assert_eq!(rt; effect.value, want, "at {value:06o}");
-        assert_eq!(rt; effect.codes, codes(after), "at {value:06o}");
+        assert_eq!(rt; asl(size, value), effect(want, after), "at {value:06o}");
     }
 }

@@ -1,11 +1,10 @@
-use super::codes;
+use super::{codes, effect};
 use crate::{Size, adc, clr, com, dec, inc, neg, sbc, tst};
 
 #[test]
 fn clears_words_and_bytes(rt: HostRuntime) {
     for size in [Size::Word, Size::Byte] {
-        assert_eq!(rt; clr(size).value, 0);
-        assert_eq!(rt; clr(size).codes, codes(b"0100"));
+        assert_eq!(rt; clr(size), effect(0, b"0100"));
     }
 }
 
@@ -21,9 +20,7 @@ fn complements_words_and_bytes(rt: HostRuntime) {
         (Size::Byte, 0o000200, 0o177, b"0001"),
         (Size::Byte, 0o177400, 0o377, b"1001"),
     ] {
-        let effect = com(size, value);
-        assert_eq!(rt; effect.value, want, "at {value:06o}");
-        assert_eq!(rt; effect.codes, codes(after), "at {value:06o}");
+        assert_eq!(rt; com(size, value), effect(want, after), "at {value:06o}");
     }
 }
 
@@ -40,9 +37,11 @@ fn increments_words_and_bytes(rt: HostRuntime) {
         (Size::Byte, 0o000377, b"0000", 0, b"0100"),
         (Size::Byte, 0o077777, b"0010", 0, b"0100"),
     ] {
-        let effect = inc(size, value, codes(before));
-        assert_eq!(rt; effect.value, want, "at {value:06o}");
-        assert_eq!(rt; effect.codes, codes(after), "at {value:06o}");
+        assert_eq!(rt;
+            inc(size, value, codes(before)),
+            effect(want, after),
+            "at {value:06o}"
+        );
     }
 }
 
@@ -58,9 +57,11 @@ fn decrements_words_and_bytes(rt: HostRuntime) {
         (Size::Byte, 0o100000, b"0010", 0o377, b"1000"),
         (Size::Byte, 0o000001, b"0000", 0, b"0100"),
     ] {
-        let effect = dec(size, value, codes(before));
-        assert_eq!(rt; effect.value, want, "at {value:06o}");
-        assert_eq!(rt; effect.codes, codes(after), "at {value:06o}");
+        assert_eq!(rt;
+            dec(size, value, codes(before)),
+            effect(want, after),
+            "at {value:06o}"
+        );
     }
 }
 
@@ -78,9 +79,7 @@ fn negates_words_and_bytes(rt: HostRuntime) {
         (Size::Byte, 0o000200, 0o200, b"1011"),
         (Size::Byte, 0o177400, 0, b"0100"),
     ] {
-        let effect = neg(size, value);
-        assert_eq!(rt; effect.value, want, "at {value:06o}");
-        assert_eq!(rt; effect.codes, codes(after), "at {value:06o}");
+        assert_eq!(rt; neg(size, value), effect(want, after), "at {value:06o}");
     }
 }
 
@@ -97,9 +96,11 @@ fn adds_carries_to_words_and_bytes(rt: HostRuntime) {
         (Size::Byte, 0o000377, b"0001", 0, b"0101"),
         (Size::Byte, 0o000377, b"0110", 0o377, b"1000"),
     ] {
-        let effect = adc(size, value, codes(before));
-        assert_eq!(rt; effect.value, want, "at {value:06o}");
-        assert_eq!(rt; effect.codes, codes(after), "at {value:06o}");
+        assert_eq!(rt;
+            adc(size, value, codes(before)),
+            effect(want, after),
+            "at {value:06o}"
+        );
     }
 }
 
@@ -116,9 +117,11 @@ fn subtracts_carries_from_words_and_bytes(rt: HostRuntime) {
         (Size::Byte, 0o000200, b"0001", 0o177, b"0010"),
         (Size::Byte, 0o000200, b"0000", 0o200, b"1000"),
     ] {
-        let effect = sbc(size, value, codes(before));
-        assert_eq!(rt; effect.value, want, "at {value:06o}");
-        assert_eq!(rt; effect.codes, codes(after), "at {value:06o}");
+        assert_eq!(rt;
+            sbc(size, value, codes(before)),
+            effect(want, after),
+            "at {value:06o}"
+        );
     }
 }
 
@@ -132,8 +135,6 @@ fn tests_words_and_bytes(rt: HostRuntime) {
         (Size::Byte, 0o177400, 0, b"0100"),
         (Size::Byte, 0o000101, 0o101, b"0000"),
     ] {
-        let effect = tst(size, value);
-        assert_eq!(rt; effect.value, want, "at {value:06o}");
-        assert_eq!(rt; effect.codes, codes(after), "at {value:06o}");
+        assert_eq!(rt; tst(size, value), effect(want, after), "at {value:06o}");
     }
 }
