@@ -61,9 +61,9 @@ impl<S: Store> Machine<S> {
 
     /// One whole turn, and one tick of the meter: the events of the turn in their order, and then one instruction, or nothing
     /// where the machine waits or is halted. `Continue` ends a halt, and the act of that turn runs; a halted machine still gets
-    /// events. Once asked it always takes place. Where the instruction can't go on (odd address, timeout, reserved word) the turn
-    /// ends there, with the registers as changed so far and the codes as before, and the machine is halted (this project's
-    /// profile, until traps come).
+    /// events. Once asked it always takes place. Where the instruction can't go on (odd address, timeout, reserved word, jump to a
+    /// register, kernel stack below 400 octal, an instruction that is to come) the turn ends there, with the registers as changed so
+    /// far and the codes as before, and the machine is halted (this project's profile, until traps come).
     #[inline(always)]
     #[tactic(auto, unfolding(crate::specs::World::one_turn, pdp_operand::specs::Course::follow))]
     pub fn turn(&mut self, meter: &mut Meter, events: &[Event])

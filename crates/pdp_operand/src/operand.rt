@@ -215,10 +215,10 @@ pub fn fetch<S: Store>(
     }
 }
 
-/// Writes a word, or a byte as a number below 400 (octal), to a place. A byte that goes to a register changes its low
-/// byte alone.
+/// Writes a word, or a byte as a number below 400 (octal), to a place, and answers whether that was the program status
+/// word, which then wins over the codes of the instruction. A byte that goes to a register changes its low byte alone.
 ///
-/// DEC PDP-11/40 Processor Handbook (1972), Addressing modes.
+/// DEC PDP-11/40 Processor Handbook (1972), Addressing modes; that a written status wins is this project's profile.
 ///
 /// Err where the reference to memory faults; nothing is written then.
 #[inline(always)]
@@ -254,7 +254,9 @@ pub fn store<S: Store>(
     }
 }
 
-/// Whether this physical address is in the program status word.
+/// Whether this physical address (bytes) is in the program status word, at 777776 (octal).
+///
+/// DEC PDP-11/40 Processor Handbook (1972), Processor status word.
 #[inline(always)]
 pub fn is_status(physical: u32) -> bool
     ensures { result ≡ is_status physical }

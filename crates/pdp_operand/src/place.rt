@@ -8,7 +8,7 @@ pub struct Cell {
     pub mode: Mode,
     /// The virtual byte address.
     pub address: u16,
-    /// Whether the reference was one to the kernel stack near its limit: never, until stack limits come.
+    /// Whether the reference was one to the kernel stack near its limit: never, until stack traps come.
     pub near: bool,
 }
 
