@@ -1,4 +1,4 @@
-ghost use Rattle.std.specs.Prelude.{◌≡◌, ◌<◌, IfOk};
+ghost use Rattle.std.specs.Prelude.{◌≡◌, ◌<◌, ◌%◌, IfOk};
 ghost use Rattle.pdp_word.specs.Size.{span};
 ghost use Rattle.pdp_decode.specs.Fields.{IsSpec};
 ghost use Rattle.pdp_operand.specs.Phase.{Latch, state_of};
@@ -86,5 +86,3 @@ fn cut(word: u16, size: Size) -> u16
         Size::Byte => word % 256,
     }
 }
-
-ghost use Rattle.std.specs.Prelude.{◌%◌};

@@ -22,7 +22,7 @@ use single_operand::{byte_single_operand_instr, single_operand_instr};
 ///
 /// Source: DEC PDP-11/40 Processor Handbook (1972), Instruction set; what is reserved is this
 /// project's profile.
-#[inline]
+#[inline(always)]
 #[tactic(auto, unfolding(crate::specs::Table::decoded))]
 pub const fn decode(word: u16) -> Instr
     ensures value { result ≡ decoded word }

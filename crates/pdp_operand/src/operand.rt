@@ -171,23 +171,20 @@ pub fn address<S: Store>(
     let register = operand.reg;
     let cell = match operand.mode {
         0 => return Ok(Place::Reg(slot(bus, register))),
-        1 => pointed(processor, bus, register),
-        2 => grown(processor, bus, register, step(size, register)),
-        3 => {
-            let cell = grown(processor, bus, register, 2);
-            deferred(bus, cell)?
-        }
-        4 => lowered(processor, bus, register, step(size, register))?,
-        5 => {
-            let cell = lowered(processor, bus, register, 2)?;
-            deferred(bus, cell)?
-        }
-        6 => indexed(processor, bus, register)?,
-        _ => {
+        1 => return Ok(Place::Mem(pointed(processor, bus, register))),
+        2 => return Ok(Place::Mem(grown(processor, bus, register, step(size, register)))),
+        3 => grown(processor, bus, register, 2),
+        4 => return Ok(Place::Mem(lowered(processor, bus, register, step(size, register))?)),
+        5 => lowered(processor, bus, register, 2)?,
+        mode => {
             let cell = indexed(processor, bus, register)?;
-            deferred(bus, cell)?
+            if mode == 6 {
+                return Ok(Place::Mem(cell));
+            }
+            cell
         }
     };
+    let cell = deferred(bus, cell)?;
     Ok(Place::Mem(cell))
 }
 

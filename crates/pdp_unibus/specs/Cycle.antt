@@ -4,6 +4,7 @@ use Rattle.pdp_store.specs.declared.Stamp.{Stamp}
 use Rattle.pdp_unibus.specs.BusWorld.{BusWorld, with_board}
 use Rattle.pdp_unibus.specs.Register.{register_at, value_in, after_read, after_write}
 use Rattle.pdp_unibus.specs.declared.register.Register.{Register}
+use Rattle.pdp_unibus.specs.declared.board.Board.{Board}
 use Rattle.pdp_unibus.specs.declared.bus.Timeout.{Timeout}
 
 -- one bus cycle: what the master asks for, at a physical byte address
@@ -80,3 +81,24 @@ cycle (WriteByteAt address byte) w = write_byte_to (slave_at (length w.core) add
 abbrev pub done : Result ℕ Timeout → Result (Unit {0}) Timeout
 done (Ok value) = Ok tt
 done (Err timeout) = Err timeout
+
+-- a cycle where no word of core answers, register by register: what the master is told, and the board after it
+abbrev pub value_at : Option Register → Board → Result ℕ Timeout
+value_at None b = Err (record {})
+value_at (Some r) b = Ok (value_in r b)
+
+abbrev pub told_at : Option Register → Result ℕ Timeout
+told_at None = Err (record {})
+told_at (Some r) = Ok 0
+
+abbrev pub left_by_read : Option Register → Board → Board
+left_by_read None b = b
+left_by_read (Some r) b = after_read r b
+
+abbrev pub left_by_write : Option Register → ℕ → Board → Board
+left_by_write None word b = b
+left_by_write (Some r) word b = after_write r word b
+
+abbrev pub left_by_byte : Option Register → ℕ → ℕ → Board → Board
+left_by_byte None address byte b = b
+left_by_byte (Some r) address byte b = after_write r (word_with_byte (value_in r b) address byte) b

@@ -7,6 +7,7 @@ use crate::decoding::fields::offset;
 use crate::instruction::Instr;
 
 // Words 000400 to 003777: branches by the signed tests.
+#[inline(always)]
 #[tactic(auto, unfolding(crate::specs::Table::branches))]
 pub(crate) const fn branch_instr(word: u16) -> Instr
     ensures value { result ≡ decoded_by branches word }
@@ -26,6 +27,7 @@ pub(crate) const fn branch_instr(word: u16) -> Instr
 }
 
 // Words 100000 to 103777: branches by single codes, and by the unsigned tests.
+#[inline(always)]
 #[tactic(auto, unfolding(crate::specs::Table::high_branches))]
 pub(crate) const fn high_branch_instr(word: u16) -> Instr
     ensures value { result ≡ decoded_by high_branches word }

@@ -7,6 +7,7 @@ use crate::decoding::fields::{code, codes, last_register, operand};
 use crate::instruction::Instr;
 
 // Words 000000 to 000377: control, the condition code operators and SWAB.
+#[inline(always)]
 #[tactic(auto, unfolding(crate::specs::Table::control))]
 pub(crate) const fn control_instr(word: u16) -> Instr
     ensures value { result ≡ decoded_by control word }
@@ -34,6 +35,7 @@ pub(crate) const fn control_instr(word: u16) -> Instr
 }
 
 // Words 104000 to 104777: EMT and TRAP.
+#[inline(always)]
 #[tactic(auto, unfolding(crate::specs::Table::traps))]
 pub(crate) const fn trap_instr(word: u16) -> Instr
     ensures value { result ≡ decoded_by traps word }

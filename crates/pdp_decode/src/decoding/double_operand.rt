@@ -7,6 +7,7 @@ use crate::decoding::fields::{operand, register, source, words};
 use crate::instruction::Instr;
 
 // Words 010000 to 067777: words with two operands.
+#[inline(always)]
 #[tactic(auto, unfolding(crate::specs::Table::double_operands))]
 pub(crate) const fn double_operand_instr(word: u16) -> Instr
     ensures value { result ≡ decoded_by double_operands word }
@@ -44,6 +45,7 @@ pub(crate) const fn double_operand_instr(word: u16) -> Instr
 }
 
 // Words 070000 to 077777: a register and an operand, and SOB.
+#[inline(always)]
 #[tactic(auto, unfolding(crate::specs::Table::register_operands))]
 pub(crate) const fn register_operand_instr(word: u16) -> Instr
     ensures value { result ≡ decoded_by register_operands word }
@@ -69,6 +71,7 @@ pub(crate) const fn register_operand_instr(word: u16) -> Instr
 }
 
 // Words 110000 to 167777: bytes with two operands, and SUB.
+#[inline(always)]
 #[tactic(auto, unfolding(crate::specs::Table::high_double_operands))]
 pub(crate) const fn high_double_operand_instr(word: u16) -> Instr
     ensures value { result ≡ decoded_by high_double_operands word }

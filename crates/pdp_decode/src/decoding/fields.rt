@@ -6,7 +6,7 @@ use crate::instruction::Spec;
 use pdp_word::Codes;
 
 // SS of an instruction with two operands.
-#[inline]
+#[inline(always)]
 pub(crate) const fn source(word: u16) -> Spec
     ensures value { result ≡ source_in word }
     ensures valid { IsSpec result }
@@ -15,7 +15,7 @@ pub(crate) const fn source(word: u16) -> Spec
 }
 
 // The low six bits: DD, or SS where the source is the one operand.
-#[inline]
+#[inline(always)]
 pub(crate) const fn operand(word: u16) -> Spec
     ensures value { result ≡ operand_in word }
     ensures valid { IsSpec result }
@@ -27,7 +27,7 @@ pub(crate) const fn operand(word: u16) -> Spec
 }
 
 // R above the low six bits.
-#[inline]
+#[inline(always)]
 pub(crate) const fn register(word: u16) -> u8
     ensures value { result ≡ register_in word }
     ensures valid { result < 8 }
@@ -36,7 +36,7 @@ pub(crate) const fn register(word: u16) -> u8
 }
 
 // R in the low three bits.
-#[inline]
+#[inline(always)]
 pub(crate) const fn last_register(word: u16) -> u8
     ensures value { result ≡ last_register_in word }
     ensures valid { result < 8 }
@@ -45,7 +45,7 @@ pub(crate) const fn last_register(word: u16) -> u8
 }
 
 // NN, a count of words in the low six bits.
-#[inline]
+#[inline(always)]
 pub(crate) const fn words(word: u16) -> u8
     ensures value { result ≡ words_in word }
     ensures valid { result < 0o100 }
@@ -54,7 +54,7 @@ pub(crate) const fn words(word: u16) -> u8
 }
 
 // The low byte, a signed count of words.
-#[inline]
+#[inline(always)]
 pub(crate) const fn offset(word: u16) -> i8
     ensures { result ≡ offset_in word }
 {
@@ -62,7 +62,7 @@ pub(crate) const fn offset(word: u16) -> i8
 }
 
 // The low byte, which the program of a trap reads.
-#[inline]
+#[inline(always)]
 pub(crate) const fn code(word: u16) -> u8
     ensures { result ≡ code_in word }
 {
@@ -70,7 +70,7 @@ pub(crate) const fn code(word: u16) -> u8
 }
 
 // N, Z, V and C in bits 3 to 0.
-#[inline]
+#[inline(always)]
 pub(crate) const fn codes(word: u16) -> Codes
     ensures { result ≡ codes_in word }
 {

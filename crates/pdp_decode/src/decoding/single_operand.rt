@@ -7,6 +7,7 @@ use crate::decoding::fields::{operand, register, words};
 use crate::instruction::Instr;
 
 // Words 004000 to 006777: JSR, MARK, and words with one operand.
+#[inline(always)]
 #[tactic(auto, unfolding(crate::specs::Table::single_operands))]
 pub(crate) const fn single_operand_instr(word: u16) -> Instr
     ensures value { result ≡ decoded_by single_operands word }
@@ -41,6 +42,7 @@ pub(crate) const fn single_operand_instr(word: u16) -> Instr
 }
 
 // Words 105000 to 106377: bytes with one operand.
+#[inline(always)]
 #[tactic(auto, unfolding(crate::specs::Table::byte_single_operands))]
 pub(crate) const fn byte_single_operand_instr(word: u16) -> Instr
     ensures value { result ≡ decoded_by byte_single_operands word }
