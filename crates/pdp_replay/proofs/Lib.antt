@@ -1,5 +1,6 @@
 pub mod Lists
 pub mod Memory
+pub mod CoreSizes
 pub mod CoreWords
 pub mod Patches
 pub mod Setups

@@ -1,7 +1,8 @@
 -- Lists of words as they are filled.
-use Rattle.std.proofs.Common.{◌≡◌, ℕ, suc, zero, ◌+◌, ◌<◌, ◌≤◌, List, [], ◌∷◌, ◌++◌, length, ◌-◌, take, get_or, refl, sym, ◌∙◌, ap, append_assoc, replicate, slice_set, slice_get, option_to_list, add-one}
+use Rattle.std.proofs.Common.{◌≡◌, ℕ, suc, zero, ◌+◌, ◌<◌, ◌≤◌, List, [], ◌∷◌, ◌++◌, length, ◌-◌, take, drop, get_or, refl, sym, ◌∙◌, ap, append_assoc, replicate, slice_set, slice_get, option_to_list, add-one}
 use Rattle.std.proofs.Math.Seq.{set-append_seam, take-suc}
-use Rattle.std.proofs.lemmas.List.{length-take-le}
+use Rattle.std.proofs.lemmas.List.{length-take-le, length-drop, get_or-drop}
+use Rattle.std.specs.Prelude.{slice_index}
 use Rattle.std.proofs.Common.{arith}
 
 -- one more word of an image over a list of zeros
@@ -33,3 +34,10 @@ take_one_more [] zero = refl
 take_one_more [] (suc i) = refl
 take_one_more (x ∷ xs) zero = refl
 take_one_more (x ∷ xs) (suc i) = ap (λ ys. x ∷ ys) (take_one_more xs i)
+
+-- one more word of a range
+pub words_one_more : (words : List ℕ) (first i : ℕ) → first + i < length words
+    → take i (drop first words) ++ slice_index words (first + i) ∷ [] ≡ take (i + 1) (drop first words)
+words_one_more words first i below =
+    let within : i < length (drop first words) = rw length-drop (omega arith) in
+    sym (rw add-one (take-suc (drop first words) i 0 within) ∙ ap (λ word. take i (drop first words) ++ word ∷ []) (get_or-drop first words i 0))

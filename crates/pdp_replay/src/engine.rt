@@ -1,16 +1,15 @@
-ghost use Rattle.std.specs.Prelude.{◌≡◌, ◌+◌, ◌≤◌, ◌<◌, ◌^◌, min, max, Err, IfOk};
+ghost use Rattle.std.specs.Prelude.{◌≡◌, ◌+◌, ◌≤◌, ◌<◌, ◌^◌, min, max, IfOk, IsErr, false};
 ghost use Rattle.pdp_script.specs.Refusal.{for_memory, asked, result_map};
 ghost use Rattle.pdp_replay.specs.Start.{given, start_of};
 ghost use Rattle.pdp_replay.specs.Answer.{answer_to, turn_asked, first_turn_needed};
 ghost use Rattle.pdp_replay.specs.Known.{known_after, IsStride};
 ghost use Rattle.pdp_replay.specs.Timeline.{fresh};
-ghost use Rattle.pdp_script.specs.declared.faults.Fault.TheVariants.{TurnTooLarge};
 
-use crate::question::{Answer, Question, Value};
+use crate::question::{Answer, Question};
 use crate::setup::Setup;
 use crate::travel::machine_at;
 use indexmap::IndexMap;
-use pdp_cpu::{Meter, TURN_LIMIT};
+use pdp_cpu::Meter;
 use pdp_script::{Fault, Script};
 use std::alloc::Global;
 use std::marker::Model;
@@ -63,9 +62,11 @@ impl Engine {
     /// Answers a question about the run from power-up of the past as it is now. Once answered, the known turn is the larger
     /// of what it was and the turn asked about.
     ///
-    /// Err(TurnTooLarge) where its turn is above 1,000,000,000; else Err(NoMemory) where a growth was refused. No refusal
-    /// changes the past, and one for another cause than memory changes nothing. (This project's profile.)
-    #[tactic(auto, unfolding(crate::specs::Answer::answer_to, crate::specs::Answer::answer))]
+    /// Err(TurnTooLarge) where its turn is above 1,000,000,000; else, of words of core, Err(CountOutOfRange) where their
+    /// count is not 1 to 256, else Err(OutsideCore) where one of them is not in core, else Err(OddAddress) where the address
+    /// is odd; else Err(NoMemory) where a growth was refused. No refusal changes the past, and one for another cause than
+    /// memory changes nothing. (This project's profile.)
+    #[tactic(auto, unfolding(crate::specs::Answer::answer_to))]
     pub fn ask(&mut self, alloc: Global, question: Question) -> Result<Answer, Fault>
         // The answer is that of the run from power-up, and want of memory is the last refusal.
         ensures value { result_map (λ a. a.value) result ≡ asked (answer_to question self.old.past) (for_memory result) }
@@ -82,13 +83,13 @@ impl Engine {
         ensures highest { self.new.highest ≡ max self.old.highest self.new.known }
         ensures stride { IfOk result (λ a. a.stride ≡ self.new.stride) }
         ensures doubled { IsStride self.new.past.setup.stride self.new.highest self.new.stride }
-        ensures refused { result ≡ Err TurnTooLarge → self.new ≡ self.old }
+
+        // A refusal for another cause than memory changes nothing.
+        ensures refused { IsErr result → for_memory result ≡ false → self.new ≡ self.old }
     {
         let before = self.meter.count();
         let turn = question.turn();
-        if turn > TURN_LIMIT {
-            return Err(Fault::TurnTooLarge);
-        }
+        question.check(self.setup.units)?;
         let machine = machine_at(
             alloc,
             &self.setup,
@@ -97,10 +98,11 @@ impl Engine {
             &mut self.meter,
             turn,
         )?;
+        let value = question.answer(alloc, &machine)?;
         self.known = self.known.max(turn);
         self.highest = self.highest.max(self.known);
         Ok(Answer {
-            value: Value::Regs(machine.regs()),
+            value,
             ran: self.meter.count() - before,
             known: self.known,
             stride: self.setup.stride,

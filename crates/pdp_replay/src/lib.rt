@@ -10,6 +10,7 @@ mod patch;
 mod question;
 mod setup;
 mod travel;
+mod words;
 
 pub use engine::Engine;
 pub use laws::{core_words_are_first_words, some_edits_need_no_memory};
@@ -19,7 +20,10 @@ pub use pdp_script::Fault;
 pub use pdp_unibus::Event;
 pub use question::{Answer, Question, Value};
 pub use setup::Setup;
+pub use words::Words;
 
+#[cfg(test)]
+mod core_tests;
 #[cfg(test)]
 mod script_tests;
 #[cfg(test)]

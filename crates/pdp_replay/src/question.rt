@@ -1,13 +1,27 @@
-ghost use Rattle.std.specs.Prelude.{◌≡◌};
-ghost use Rattle.pdp_replay.specs.Answer.{turn_asked};
+ghost use Rattle.std.specs.Prelude.{◌≡◌, ◌+◌, ◌*◌, ◌/◌, ◌≤◌, length, IfOk, OnOk};
+ghost use Rattle.pdp_replay.specs.Past.{Past};
+ghost use Rattle.pdp_replay.specs.Start.{Start};
+ghost use Rattle.pdp_replay.specs.Turns.{state_at};
+ghost use Rattle.pdp_replay.specs.Answer.{answer, question_checked, range_checked, turn_asked, IsWithin};
 
-use pdp_cpu::Regs;
+use crate::setup::UNIT_WORDS;
+use crate::words::Words;
+use pdp_cpu::{Machine, Regs, TURN_LIMIT};
+use pdp_script::Fault;
+use pdp_store::Flat;
+use pdp_word::NoMemory;
+use std::alloc::Global;
+
+/// The most words of core that a question may ask for.
+const MOST_WORDS: u32 = 256;
 
 /// What can be asked of a run (this project's profile); each question names the turn before which the machine is looked at.
 #[derive(Clone, Copy, Debug, PartialEq, Eq)]
 pub enum Question {
     /// The registers before this turn, counted from 0 at power-up.
     Regs(u32),
+    /// So many words of core before this turn (1 to 256), from this address (octal, bytes, even) on.
+    Core { turn: u32, address: u32, count: u32 },
 }
 
 impl Question {
@@ -17,19 +31,79 @@ impl Question {
     {
         match self {
             Question::Regs(turn) => turn,
+            Question::Core { turn, .. } => turn,
+        }
+    }
+
+    /// Whether the question can be asked of a run over a core of so many units.
+    ///
+    /// Err(TurnTooLarge) where its turn is above 1,000,000,000; else of words of core what `check_range` refuses.
+    #[tactic(auto, unfolding(crate::specs::Answer::question_checked))]
+    pub(crate) fn check(self, units: u8) -> Result<(), Fault>
+        ensures refusal { (p : Past) → p.setup.units ≡ units → question_checked self p ≡ result }
+        ensures turn { OnOk result (turn_asked self ≤ TURN_LIMIT) }
+        ensures within { OnOk result (IsWithin self (units * UNIT_WORDS)) }
+    {
+        if self.turn() > TURN_LIMIT {
+            return Err(Fault::TurnTooLarge);
+        }
+        match self {
+            Question::Regs(_) => Ok(()),
+            Question::Core { address, count, .. } => check_range(units, address, count),
+        }
+    }
+
+    /// The answer, read off the machine before the turn that is asked about.
+    ///
+    /// Err where there is no memory for it.
+    #[tactic(auto, unfolding(crate::specs::Answer::answer))]
+    pub(crate) fn answer(self, alloc: Global, machine: &Machine<Flat>) -> Result<Value, NoMemory>
+        requires within { IsWithin self (length machine.now.world.bus.core) }
+        ensures { (p : Past) → machine.now.world ≡ state_at p (turn_asked self) → IfOk result (λ value. value ≡ answer self p) }
+    {
+        match self {
+            Question::Regs(_) => Ok(Value::Regs(machine.regs())),
+            Question::Core { address, count, .. } => {
+                let words = Words::read(alloc, machine, address / 2, count)?;
+                Ok(Value::Core(words))
+            }
         }
     }
 }
 
+/// Whether so many words from this address (octal, bytes) on can be asked for, of a core of so many units.
+///
+/// Err(CountOutOfRange) where the count is not 1 to 256; else Err(OutsideCore) where a word of the range is not in core;
+/// else Err(OddAddress) where the address is odd.
+#[tactic(auto, unfolding(crate::specs::Answer::range_checked))]
+fn check_range(units: u8, address: u32, count: u32) -> Result<(), Fault>
+    ensures refusal { (s : Start) → s.units ≡ units → range_checked address count s ≡ result }
+    ensures within { OnOk result (address / 2 + count ≤ units * UNIT_WORDS) }
+{
+    if count < 1 || count > MOST_WORDS {
+        return Err(Fault::CountOutOfRange);
+    }
+    let end = address / 2 + count;
+    if end as usize > usize::from(units) * UNIT_WORDS {
+        return Err(Fault::OutsideCore);
+    }
+    if address % 2 != 0 {
+        return Err(Fault::OddAddress);
+    }
+    Ok(())
+}
+
 /// What a question is answered.
-#[derive(Clone, Copy, Debug, PartialEq, Eq)]
+#[derive(Debug, PartialEq, Eq, Drop)]
 pub enum Value {
     /// The registers, and whether the processor runs.
     Regs(Regs),
+    /// The words of core that were asked for.
+    Core(Words),
 }
 
 /// A question's answer, with what it took.
-#[derive(Clone, Copy, Debug, PartialEq, Eq)]
+#[derive(Debug, PartialEq, Eq, Drop)]
 pub struct Answer {
     pub value: Value,
     /// How many turns were run for it.

@@ -28,10 +28,16 @@ fn seen_at(
     engine: &mut Engine,
     alloc: Global,
     turn: u32,
-) -> Result<(u16, u16, u16, RunState), Fault> {
+) -> Result<(u16, u16, u16, RunState), Fail> {
     match engine.ask(alloc, Question::Regs(turn))?.value {
         Value::Regs(regs) => Ok((regs.r[1], regs.pc, regs.ps, regs.state)),
+        Value::Core(_) => Err(Fail::new("words of core in place of registers")),
     }
+}
+
+/// The known turn after the registers before a turn were asked for.
+fn known_at(engine: &mut Engine, alloc: Global, turn: u32) -> Result<u32, Fault> {
+    Ok(engine.ask(alloc, Question::Regs(turn))?.known)
 }
 
 #[test]
@@ -86,21 +92,18 @@ fn a_halt_goes_on(rt: HostRuntime) -> Result<(), Fail> {
 fn known_turn_of_script_edits(rt: HostRuntime) -> Result<(), Fail> {
     let alloc = rt.alloc();
     let mut engine = engine_with(alloc, &[0o777])?;
-    let known = |engine: &mut Engine| -> Result<u32, Fault> {
-        Ok(engine.ask(alloc, Question::Regs(0))?.known)
-    };
-    assert_eq!(rt; engine.ask(alloc, Question::Regs(300))?.known, 300);
+    assert_eq!(rt; known_at(&mut engine, alloc, 300)?, 300);
     assert_eq!(rt; engine.insert(500, Event::Tick), Ok(1));
-    assert_eq!(rt; known(&mut engine)?, 300);
+    assert_eq!(rt; known_at(&mut engine, alloc, 0)?, 300);
     assert_eq!(rt; engine.insert(200, Event::Tick), Ok(2));
-    assert_eq!(rt; known(&mut engine)?, 200);
+    assert_eq!(rt; known_at(&mut engine, alloc, 0)?, 200);
     assert_eq!(rt; engine.alter(1, 150, Event::Tick), Ok(()));
-    assert_eq!(rt; known(&mut engine)?, 150);
+    assert_eq!(rt; known_at(&mut engine, alloc, 0)?, 150);
     assert_eq!(rt; engine.alter(1, 400, Event::Tick), Ok(()));
-    assert_eq!(rt; known(&mut engine)?, 150);
-    assert_eq!(rt; engine.ask(alloc, Question::Regs(300))?.known, 300);
+    assert_eq!(rt; known_at(&mut engine, alloc, 0)?, 150);
+    assert_eq!(rt; known_at(&mut engine, alloc, 300)?, 300);
     assert_eq!(rt; engine.drop_event(2), Ok(()));
-    assert_eq!(rt; known(&mut engine)?, 200);
+    assert_eq!(rt; known_at(&mut engine, alloc, 0)?, 200);
     Ok(())
 }
 
@@ -109,7 +112,7 @@ fn refused_script_edits(rt: HostRuntime) -> Result<(), Fail> {
     let alloc = rt.alloc();
     let mut engine = engine_with(alloc, &[0o777])?;
     assert_eq!(rt; engine.insert(1_000_000_000, Event::Tick), Ok(1));
-    assert_eq!(rt; engine.ask(alloc, Question::Regs(10))?.known, 10);
+    assert_eq!(rt; known_at(&mut engine, alloc, 10)?, 10);
     for turn in [1_000_000_001, 4_294_967_295] {
         assert_eq!(rt; engine.insert(turn, Event::Tick), Err(Fault::TurnTooLarge));
         assert_eq!(rt;
@@ -124,7 +127,7 @@ fn refused_script_edits(rt: HostRuntime) -> Result<(), Fail> {
         );
         assert_eq!(rt; engine.drop_event(number), Err(Fault::NoSuchEvent));
     }
-    assert_eq!(rt; engine.ask(alloc, Question::Regs(0))?.known, 10);
+    assert_eq!(rt; known_at(&mut engine, alloc, 0)?, 10);
     assert_eq!(rt; engine.insert(11, Event::Tick), Ok(2));
     Ok(())
 }
@@ -147,7 +150,7 @@ fn reverted_patches(rt: HostRuntime) -> Result<(), Fail> {
         (0o100001, 0o1004, 0o10, RunState::Run)
     );
     assert_eq!(rt; engine.revert_core(0o1002), Ok(()));
-    assert_eq!(rt; engine.ask(alloc, Question::Regs(0))?.known, 0);
+    assert_eq!(rt; known_at(&mut engine, alloc, 0)?, 0);
     assert_eq!(rt;
         seen_at(&mut engine, alloc, 1)?,
         (5, 0o1004, 0, RunState::Run)

@@ -25,9 +25,10 @@ fn engine_with(alloc: Global, words: &[u16]) -> Result<Engine, Fault> {
     Ok(engine)
 }
 
-fn regs_at(engine: &mut Engine, alloc: Global, turn: u32) -> Result<Regs, Fault> {
+fn regs_at(engine: &mut Engine, alloc: Global, turn: u32) -> Result<Regs, Fail> {
     match engine.ask(alloc, Question::Regs(turn))?.value {
         Value::Regs(regs) => Ok(regs),
+        Value::Core(_) => Err(Fail::new("words of core in place of registers")),
     }
 }
 
@@ -216,4 +217,10 @@ fn refused_images(rt: HostRuntime) -> Result<(), Fail> {
 #[test]
 fn turn_of_a_question(rt: HostRuntime) {
     assert_eq!(rt; Question::Regs(300).turn(), 300);
+    let core = Question::Core {
+        turn: 7,
+        address: 0o1000,
+        count: 3,
+    };
+    assert_eq!(rt; core.turn(), 7);
 }

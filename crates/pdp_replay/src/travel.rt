@@ -1,4 +1,4 @@
-ghost use Rattle.std.specs.Prelude.{◌≡◌, ◌+◌, ◌-◌, ◌≤◌, ◌<◌, ◌*◌, [], ℕ, IfOk, OnOk};
+ghost use Rattle.std.specs.Prelude.{◌≡◌, ◌+◌, ◌-◌, ◌≤◌, ◌<◌, ◌*◌, [], ℕ, length, IfOk, OnOk};
 ghost use Rattle.pdp_script.specs.Entries.{events_at};
 ghost use Rattle.pdp_replay.specs.Start.{start_from, IsGood};
 ghost use Rattle.pdp_replay.specs.Core.{AllBelow};
@@ -50,6 +50,7 @@ pub fn machine_at(
     requires below { AllBelow (setup.now.units * UNIT_WORDS) patches.now.entries }
     requires limit { turn ≤ 1000000000 }
     ensures machine { IfOk result (λ m. m ≡ record { turn = turn; world = state_at (past_from setup.now patches.now script.now) turn }) }
+    ensures size { IfOk result (λ m. length m.world.bus.core ≡ setup.now.units * UNIT_WORDS) }
     ensures least { meter.old ≤ meter.new }
     ensures most { meter.new ≤ meter.old + turn }
 {

@@ -1,7 +1,9 @@
+pub mod CoreLines
 pub mod Ending
 pub mod HeldLines
 pub mod LineLists
 pub mod PatchLines
+pub mod Pieces
 pub mod Reaching
 pub mod Replying
 pub mod Served

@@ -1,5 +1,5 @@
 -- The lines of patches as they are written one after another.
-use Rattle.std.proofs.Common.{◌≡◌, ℕ, zero, suc, ◌+◌, List, [], ◌∷◌, ◌++◌, take, drop, slice_get, option_to_list, refl, sym, ap, ◌∙◌, append_assoc, add-one, subst, ◌≤◌}
+use Rattle.std.proofs.Common.{◌≡◌, ℕ, suc, ◌+◌, List, [], ◌∷◌, ◌++◌, take, drop, slice_get, option_to_list, refl, sym, ap, ◌∙◌, append_assoc, add-one, subst, ◌≤◌}
 use Rattle.std.proofs.KnownBytes.{Appends-trans}
 use Rattle.std.specs.Io.KnownBytes.{Appends}
 use Rattle.std.specs.Prelude.{Option}
@@ -8,24 +8,13 @@ use Rattle.pdp_replay.specs.Edit.{patch_shown, patch_count}
 use Rattle.pdp_replay.specs.Past.{Past}
 use Rattle.pdp_session.specs.Replies.{count_line, patch_line, patch_lines, patches_text}
 use Rattle.pdp_session.specs.Sends.{Cut}
+use Rattle.pdp_session.proofs.Pieces.{take_one_more, taken_and_left, cut_first, cut_later}
 
 patch_lines-append : (xs ys : List (ℕ × ℕ)) → patch_lines (xs ++ ys) ≡ patch_lines xs ++ patch_lines ys
 patch_lines-append [] ys = refl
 patch_lines-append (x ∷ xs) ys =
     ap (λ lines. patch_line (patch_shown x) ++ lines) (patch_lines-append xs ys)
     ∙ sym (append_assoc (patch_line (patch_shown x)) (patch_lines xs) (patch_lines ys))
-
-take_one_more : {X : Type 0} (xs : List X) (i : ℕ) → take (suc i) xs ≡ take i xs ++ option_to_list (slice_get xs i)
-take_one_more [] zero = refl
-take_one_more [] (suc i) = refl
-take_one_more (x ∷ xs) zero = refl
-take_one_more (x ∷ xs) (suc i) = ap (λ ys. x ∷ ys) (take_one_more xs i)
-
-taken_and_left : {X : Type 0} (xs : List X) (i : ℕ) → xs ≡ take i xs ++ (option_to_list (slice_get xs i) ++ drop (suc i) xs)
-taken_and_left [] zero = refl
-taken_and_left [] (suc i) = refl
-taken_and_left (x ∷ xs) zero = refl
-taken_and_left (x ∷ xs) (suc i) = ap (λ ys. x ∷ ys) (taken_and_left xs i)
 
 -- the lines up to a patch, and that patch's
 patch_lines_more : (ps : List (ℕ × ℕ)) (i : ℕ)
@@ -41,29 +30,12 @@ patch_lines_split ps i =
     ∙ patch_lines-append (take i ps) (option_to_list (slice_get ps i) ++ drop (suc i) ps)
     ∙ ap (λ lines. patch_lines (take i ps) ++ lines) (patch_lines-append (option_to_list (slice_get ps i)) (drop (suc i) ps))
 
--- a text was cut after a front of it was written
-cut_later : (front text back : List ℕ) (written between written_after : Option (List ℕ))
-    → Appends written between front → Cut text between written_after → Cut (front ++ (text ++ back)) written written_after
-cut_later front text back written between written_after before cut = record {
-  taken = front ++ cut.taken;
-  unwritten = cut.unwritten ++ back;
-  split =
-      ap (λ whole. front ++ (whole ++ back)) cut.split
-      ∙ ap (λ whole. front ++ whole) (append_assoc cut.taken cut.unwritten back)
-      ∙ sym (append_assoc front cut.taken (cut.unwritten ++ back));
-  writes = Appends-trans written between written_after front cut.taken before cut.writes;
-}
-
 -- the writer failed in the first line
 pub list_cut_at_count : (past : Past) (written written_after : Option (List ℕ))
     → Cut (count_line (patch_count past)) written written_after → Cut (patches_text past) written written_after
 unfolding patches_text
-list_cut_at_count past written written_after cut = record {
-  taken = cut.taken;
-  unwritten = cut.unwritten ++ patch_lines past.setup.patches;
-  split = ap (λ whole. whole ++ patch_lines past.setup.patches) cut.split ∙ append_assoc cut.taken cut.unwritten (patch_lines past.setup.patches);
-  writes = cut.writes;
-}
+list_cut_at_count past written written_after cut =
+    cut_first (count_line (patch_count past)) (patch_lines past.setup.patches) written written_after cut
 
 -- the first line and those of i patches were written
 abbrev pub IsListedTo : Past → ℕ → Option (List ℕ) → Option (List ℕ) → Type 0

@@ -41,3 +41,7 @@ event_named text = option_map (λ number. if nat_lt number 4294967296 then numbe
 -- a turn, in decimal: one that 32 bits can't hold stands for the largest that they hold
 abbrev pub turn_named : List ℕ → Option ℕ
 turn_named text = option_map (λ number. min number 4294967295) (number_of 10 text)
+
+-- a count, in decimal: one that 32 bits can't hold stands for the largest that they hold
+abbrev pub count_named : List ℕ → Option ℕ
+count_named text = option_map (λ number. min number 4294967295) (number_of 10 text)

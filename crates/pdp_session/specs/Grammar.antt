@@ -6,10 +6,10 @@ use Rattle.std.specs.Str.{bytes_eq}
 use Rattle.pdp_word.specs.Number.{number_of}
 use Rattle.pdp_script.specs.declared.faults.Fault.{Fault}
 use Rattle.pdp_script.specs.declared.faults.Fault.TheVariants.{BadLine, LineTooLong}
-use Rattle.pdp_replay.specs.declared.question.Question.TheVariants.{Regs}
+use Rattle.pdp_replay.specs.declared.question.Question.TheVariants.{Regs, Core}
 use Rattle.pdp_session.specs.declared.grammar.Command.{Command}
 use Rattle.pdp_session.specs.declared.grammar.Command.TheVariants.{SetCore, RevertCore, Insert, Alter, DropEvent, ListPatches, Ask}
-use Rattle.pdp_session.specs.Arguments.{◌>>=◌, first_of, one_of, two_of, word_named, event_named, turn_named}
+use Rattle.pdp_session.specs.Arguments.{◌>>=◌, first_of, one_of, two_of, word_named, event_named, turn_named, count_named}
 use Rattle.pdp_session.specs.Events.{event_of}
 use Rattle.pdp_session.specs.Words.{words_of}
 
@@ -65,6 +65,16 @@ regs_with arguments = do
   n ← turn_named turn
   Some (Ask (Regs n))
 
+-- `mem N A C`: a turn, in decimal, an address, in octal, and a count, in decimal
+abbrev pub core_with : List (List ℕ) → Option Command
+core_with arguments = do
+  (turn, others) ← first_of arguments
+  (address, count) ← two_of others
+  n ← turn_named turn
+  a ← number_of 8 address
+  c ← count_named count
+  Some (Ask (Core n a c))
+
 -- a command by its name and the words that follow it
 unfoldable pub command_with : List ℕ → List (List ℕ) → Option Command
 command_with name arguments =
@@ -75,6 +85,7 @@ command_with name arguments =
     else if bytes_eq name (codes "drop") then drop_with arguments
     else if bytes_eq name (codes "patches") then patches_with arguments
     else if bytes_eq name (codes "regs") then regs_with arguments
+    else if bytes_eq name (codes "mem") then core_with arguments
     else None
 
 -- its first byte is `#`

@@ -10,7 +10,7 @@ use Rattle.pdp_replay.specs.Edit.{patch_shown, patch_count}
 use Rattle.pdp_replay.specs.Past.{Past}
 use Rattle.pdp_replay.specs.declared.patch.Patch.{Patch}
 use Rattle.pdp_replay.specs.declared.patch.Patch.TheVariants.{Core}
-use Rattle.pdp_replay.specs.declared.question.Value.TheVariants.{Regs as RegsAre}
+use Rattle.pdp_replay.specs.declared.question.Value.TheVariants.{Regs as RegsAre, Core as CoreIs}
 use Rattle.pdp_session.specs.declared.replies.Reply.{Reply}
 use Rattle.pdp_session.specs.declared.replies.Reply.TheVariants.{Nothing, Done, Inserted, Shown, Listed, Refused}
 use Rattle.pdp_session.specs.Commands.{reply_to, past_after}
@@ -59,12 +59,25 @@ count_line count = codes "patches " ++ decimal count ++ codes "\n"
 unfoldable pub patches_text : Past → List ℕ
 patches_text past = count_line (patch_count past) ++ patch_lines past.setup.patches
 
+-- a word of core, in six octal digits, after a space
+abbrev pub word_text : ℕ → List ℕ
+word_text word = codes " " ++ octal_digits 6 word
+
+abbrev pub word_texts : List ℕ → List ℕ
+word_texts [] = []
+word_texts (word ∷ words) = word_text word ++ word_texts words
+
+-- words of core, in one line
+unfoldable pub core_line : List ℕ → List ℕ
+core_line words = codes "mem" ++ word_texts words ++ codes "\n"
+
 -- a reply as text; a list of patches is that of the past as it is then
 unfoldable pub text_of : Reply → Past → List ℕ
 text_of Nothing past = []
 text_of Done past = codes "ok" ++ codes "\n"
 text_of (Inserted number) past = codes "event " ++ decimal number ++ codes "\n"
 text_of (Shown (RegsAre regs)) past = regs_line regs ++ codes "\n"
+text_of (Shown (CoreIs words)) past = core_line words
 text_of Listed past = patches_text past
 text_of (Refused fault) past = refusal_text fault
 

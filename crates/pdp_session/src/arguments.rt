@@ -1,6 +1,6 @@
 ghost use Rattle.std.specs.Prelude.{◌≡◌};
 ghost use Rattle.std.specs.Option.{option_map};
-ghost use Rattle.pdp_session.specs.Arguments.{one_of, two_of, word_named, byte_named, event_named, turn_named};
+ghost use Rattle.pdp_session.specs.Arguments.{one_of, two_of, word_named, byte_named, event_named, turn_named, count_named};
 ghost use Rattle.pdp_session.specs.Words.{words_of};
 
 use crate::words::next_word;
@@ -53,6 +53,14 @@ pub fn read_event_number(text: &[u8]) -> Option<u32>
 // A turn, in decimal; one that 32 bits can't hold becomes the largest that they hold, which no run reaches.
 pub fn read_turn(text: &[u8]) -> Option<u32>
     ensures { result ≡ turn_named text.now }
+{
+    let number = read_decimal(text)?;
+    Some(u32::try_from(number).unwrap_or(u32::MAX))
+}
+
+// A count, in decimal; one that 32 bits can't hold becomes the largest that they hold, which no count may be.
+pub fn read_count(text: &[u8]) -> Option<u32>
+    ensures { result ≡ count_named text.now }
 {
     let number = read_decimal(text)?;
     Some(u32::try_from(number).unwrap_or(u32::MAX))

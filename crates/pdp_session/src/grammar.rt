@@ -1,8 +1,8 @@
 ghost use Rattle.std.specs.Prelude.{◌≡◌};
 ghost use Rattle.pdp_session.specs.Words.{words_of};
-ghost use Rattle.pdp_session.specs.Grammar.{set_core_with, revert_core_with, insert_with, alter_with, drop_with, patches_with, regs_with, command_with, line_means};
+ghost use Rattle.pdp_session.specs.Grammar.{set_core_with, revert_core_with, insert_with, alter_with, drop_with, patches_with, regs_with, core_with, command_with, line_means};
 
-use crate::arguments::{one_word, read_event_number, read_turn, read_word, two_words};
+use crate::arguments::{one_word, read_count, read_event_number, read_turn, read_word, two_words};
 use crate::events::read_event;
 use crate::words::next_word;
 use pdp_replay::{Event, Fault, Question};
@@ -77,6 +77,8 @@ fn read_command(name: &[u8], arguments: &[u8]) -> Option<Command>
         read_patches(arguments)
     } else if name == b"regs".as_slice() {
         read_regs(arguments)
+    } else if name == b"mem".as_slice() {
+        read_mem(arguments)
     } else {
         None
     }
@@ -152,6 +154,22 @@ fn read_regs(arguments: &[u8]) -> Option<Command>
     Some(Command::Ask(Question::Regs(turn)))
 }
 
+// `mem N A C`
+fn read_mem(arguments: &[u8]) -> Option<Command>
+    ensures { result ≡ core_with (words_of arguments.now) }
+{
+    let (turn, others) = next_word(arguments)?;
+    let (address, count) = two_words(others)?;
+    let turn = read_turn(turn)?;
+    let address = read_octal(address)?;
+    let count = read_count(count)?;
+    Some(Command::Ask(Question::Core {
+        turn,
+        address,
+        count,
+    }))
+}
+
 #[cfg(test)]
 mod tests {
     use super::*;
@@ -202,5 +220,26 @@ mod tests {
         assert_eq!(rt; read_line(b"at 2000000000 key 400"), Err(Fault::BadLine));
         assert_eq!(rt; read_line(b"drop"), Err(Fault::BadLine));
         assert_eq!(rt; read_line(b""), Ok(None));
+    }
+
+    fn asked(turn: u32, address: u32, count: u32) -> Result<Option<Command>, Fault> {
+        Ok(Some(Command::Ask(Question::Core {
+            turn,
+            address,
+            count,
+        })))
+    }
+
+    #[test]
+    fn words_of_core(rt: HostRuntime) {
+        assert_eq!(rt; read_line(b"mem 1 2000 3"), asked(1, 0o2000, 3));
+        assert_eq!(rt;
+            read_line(b"mem 9999999999 1001 4294967296"),
+            asked(u32::MAX, 0o1001, u32::MAX)
+        );
+        assert_eq!(rt; read_line(b"mem 1 2000"), Err(Fault::BadLine));
+        assert_eq!(rt; read_line(b"mem 1 2000 3 4"), Err(Fault::BadLine));
+        assert_eq!(rt; read_line(b"mem 1 2008 3"), Err(Fault::BadLine));
+        assert_eq!(rt; read_line(b"mem 1 2000 0x3"), Err(Fault::BadLine));
     }
 }

@@ -1,16 +1,16 @@
 ghost use Rattle.std.specs.Prelude.{◌≡◌, ◌||◌, is_err, option_to_list, slice_get};
-ghost use Rattle.pdp_session.specs.Replies.{text_of, patches_text, patch_lines};
+ghost use Rattle.pdp_session.specs.Replies.{text_of, patches_text, patch_lines, core_line};
 ghost use Rattle.pdp_session.specs.Sends.{Sends};
 
 use crate::sending::send;
 use crate::streams::{Drain, Failed};
 use crate::texts::{
-    Text, count_text, done_text, insertion_text, patch_text, refusal_text, regs_text,
+    Text, count_text, done_text, insertion_text, patch_text, refusal_text, regs_text, word_text,
 };
 use pdp_replay::{Engine, Fault, Value};
 
 // What a line is answered.
-#[derive(Clone, Copy, Debug, PartialEq, Eq)]
+#[derive(Debug, PartialEq, Eq, Drop)]
 pub enum Reply {
     Nothing,
     Done,
@@ -32,6 +32,7 @@ pub fn send_reply<W: Drain>(engine: &Engine, reply: Reply, writer: &mut W) -> Re
         Reply::Done => done_text(),
         Reply::Inserted(number) => insertion_text(number),
         Reply::Shown(Value::Regs(regs)) => regs_text(regs),
+        Reply::Shown(Value::Core(words)) => return send_core(words.words(), writer),
         Reply::Listed => return send_patches(engine, writer),
         Reply::Refused(fault) => refusal_text(fault),
     };
@@ -67,4 +68,22 @@ fn send_patch<W: Drain>(engine: &Engine, index: usize, writer: &mut W) -> Result
         None => Text::new(),
     };
     send(writer, text.as_slice())
+}
+
+// Writes words of core, in one line.
+fn send_core<W: Drain>(words: &[u16], writer: &mut W) -> Result<(), Failed>
+    ensures sends { Sends (core_line words.now) (W.written writer.old) (W.written writer.new) result }
+    ensures fails { W.has_failed writer.new ≡ (W.has_failed writer.old || is_err result) }
+{
+    match send(writer, b"mem") {
+        Ok(()) => {}
+        Err(failed) => return Err(failed),
+    }
+    for word in words {
+        match send(writer, word_text(*word).as_slice()) {
+            Ok(()) => {}
+            Err(failed) => return Err(failed),
+        }
+    }
+    send(writer, b"\n")
 }

@@ -1,5 +1,5 @@
 ghost use Rattle.std.specs.Prelude.{◌≡◌, ◌+◌, ◌≤◌, ◌++◌, length, codes, decimal};
-ghost use Rattle.pdp_session.specs.Replies.{field, regs_line, state_name, refusal_text, count_line, patch_line};
+ghost use Rattle.pdp_session.specs.Replies.{field, regs_line, state_name, refusal_text, count_line, patch_line, word_text};
 
 use arrayvec::ArrayVec;
 use itoa::Buffer;
@@ -76,6 +76,16 @@ pub fn patch_text(patch: Patch) -> Text
     add(&mut text, b" ");
     add(&mut text, &write_octal6(u32::from(word)));
     add(&mut text, b"\n");
+    text
+}
+
+// A word of core, after a space.
+pub fn word_text(word: u16) -> Text
+    ensures { result.items ≡ word_text word }
+{
+    let mut text = Text::new();
+    add(&mut text, b" ");
+    add(&mut text, &write_octal6(u32::from(word)));
     text
 }
 

@@ -110,8 +110,43 @@ fn refused_event_lines(rt: HostRuntime) -> Result<(), Fail> {
 }
 
 #[test]
+fn words_of_core(rt: HostRuntime) -> Result<(), Fail> {
+    let alloc = rt.alloc();
+    let input = b"core 1000 012737\ncore 1002 101\ncore 1004 2000\ncore 1006 0\n\
+        mem 0 1000 3\nmem 0 2000 1\nmem 1 2000 1\nmem 1 1776 3\ncore 2000 1014\nmem 0 2000 2\n";
+    let output = replies(alloc, input)?;
+    assert_eq!(rt;
+        output.as_slice(),
+        b"ok\nok\nok\nok\n\
+        mem 012737 000101 002000\nmem 000000\nmem 000101\nmem 000000 000101 000000\nok\nmem 001014 000000\n"
+            .as_slice()
+    );
+
+    // `mem`, 256 words with their spaces, and LF.
+    let longest = replies(alloc, b"mem 0 757000 256\n")?;
+    assert_eq!(rt; longest.len(), 1_796);
+    Ok(())
+}
+
+#[test]
+fn refused_words_of_core(rt: HostRuntime) -> Result<(), Fail> {
+    let input =
+        b"mem 1000000001 1001 0\nmem 0 760001 0\nmem 0 1000 257\nmem 0 1000 9999999999\nmem 0 757776 2\nmem 0 757777 2\n\
+        mem 0 760001 1\nmem 0 1001 1\nmem 0 757777 1\nmem 0 757776 1\nmem 0 1000\nmem 0 1008 1\nmem 0 1000 00000000001\n";
+    let output = replies(rt.alloc(), input)?;
+    assert_eq!(rt;
+        output.as_slice(),
+        b"refused 7 TurnTooLarge\nrefused 8 CountOutOfRange\nrefused 8 CountOutOfRange\nrefused 8 CountOutOfRange\n\
+        refused 2 OutsideCore\nrefused 2 OutsideCore\nrefused 2 OutsideCore\nrefused 3 OddAddress\nrefused 3 OddAddress\n\
+        mem 000000\nrefused 10 BadLine\nrefused 10 BadLine\nrefused 10 BadLine\n"
+            .as_slice()
+    );
+    Ok(())
+}
+
+#[test]
 fn refusals(rt: HostRuntime) -> Result<(), Fail> {
-    let input = b"regs\nregs 9x\nmem 0 1000 1\nregs 1000000001\nregs 9999999999\nregs 00000000001\n\
+    let input = b"regs\nregs 9x\npages 0\nregs 1000000001\nregs 9999999999\nregs 00000000001\n\
         core 1001 0\ncore 777560 0\ncore 777561 0\ncore 1000 200000\nCORE 1000 0\nregs 0 0\n";
     let output = replies(rt.alloc(), input)?;
     assert_eq!(rt;

@@ -1,0 +1,76 @@
+-- Words of core as they are written one after another.
+use Rattle.std.proofs.Common.{◌≡◌, ℕ, zero, suc, ◌+◌, ◌<◌, ◌≤◌, List, [], ◌∷◌, ◌++◌, length, take, drop, get_or, codes, Result, Ok, Err, refl, sym, ap, ◌∙◌, append_assoc, append-nil, add-one, subst, arith}
+use Rattle.std.proofs.KnownBytes.{Appends-trans}
+use Rattle.std.specs.Io.KnownBytes.{Appends}
+use Rattle.std.specs.Prelude.{Option}
+use Rattle.std.proofs.lemmas.List.{take_all}
+use Rattle.pdp_session.specs.Replies.{word_text, word_texts, core_line}
+use Rattle.pdp_session.specs.Sends.{Cut, Sends}
+use Rattle.pdp_session.proofs.Pieces.{cut_first, cut_last, cut_later}
+
+word_texts_suc : (words : List ℕ) (i : ℕ) → i < length words
+    → word_texts (take (suc i) words) ≡ word_texts (take i words) ++ word_text (get_or words i 0)
+word_texts_suc [] i below = absurd (omega arith)
+word_texts_suc (w ∷ ws) zero below = append-nil (word_text w)
+word_texts_suc (w ∷ ws) (suc i) below =
+    ap (λ texts. word_text w ++ texts) (word_texts_suc ws i (omega arith))
+    ∙ sym (append_assoc (word_text w) (word_texts (take i ws)) (word_text (get_or ws i 0)))
+
+-- the words up to one, that one, and the others
+word_texts_split : (words : List ℕ) (i : ℕ) → i < length words
+    → word_texts words ≡ word_texts (take i words) ++ (word_text (get_or words i 0) ++ word_texts (drop (suc i) words))
+word_texts_split [] i below = absurd (omega arith)
+word_texts_split (w ∷ ws) zero below = refl
+word_texts_split (w ∷ ws) (suc i) below =
+    ap (λ texts. word_text w ++ texts) (word_texts_split ws i (omega arith))
+    ∙ sym (append_assoc (word_text w) (word_texts (take i ws)) (word_text (get_or ws i 0) ++ word_texts (drop (suc i) ws)))
+
+-- the name and i words were written
+abbrev pub IsCoreTo : List ℕ → ℕ → Option (List ℕ) → Option (List ℕ) → Type 0
+IsCoreTo words i written written_after = Appends written written_after (codes "mem" ++ word_texts (take i words))
+
+-- the writer failed in the name
+pub core_cut_at_name : (words : List ℕ) (written written_after : Option (List ℕ))
+    → Cut (codes "mem") written written_after → Cut (core_line words) written written_after
+unfolding core_line
+core_cut_at_name words written written_after cut =
+    cut_first (codes "mem" ++ word_texts words) (codes "\n") written written_after
+    (cut_first (codes "mem") (word_texts words) written written_after cut)
+
+-- or in a word
+pub core_cut_at_word : (words : List ℕ) (i : ℕ) (written between written_after : Option (List ℕ)) → i < length words
+    → IsCoreTo words i written between → Cut (word_text (get_or words i 0)) between written_after → Cut (core_line words) written written_after
+unfolding core_line
+core_cut_at_word words i written between written_after below before cut =
+    let front = codes "mem" ++ word_texts (take i words) in
+    let text = word_text (get_or words i 0) in
+    let others = word_texts (drop (suc i) words) in
+    let whole : codes "mem" ++ word_texts words ++ codes "\n" ≡ front ++ (text ++ (others ++ codes "\n")) =
+    ap (λ texts. codes "mem" ++ texts ++ codes "\n") (word_texts_split words i below)
+    ∙ ap (λ texts. texts ++ codes "\n") (sym (append_assoc (codes "mem") (word_texts (take i words)) (text ++ others)))
+    ∙ append_assoc front (text ++ others) (codes "\n")
+    ∙ ap (λ texts. front ++ texts) (append_assoc text others (codes "\n")) in
+    subst (λ all. Cut all written written_after) (sym whole)
+    (cut_later front text (others ++ codes "\n") written between written_after before cut)
+
+-- or one more word was written
+pub core_goes_on : (words : List ℕ) (i : ℕ) (written between written_after : Option (List ℕ)) → i < length words
+    → IsCoreTo words i written between → Appends between written_after (word_text (get_or words i 0)) → IsCoreTo words (i + 1) written written_after
+core_goes_on words i written between written_after below before word =
+    let front = codes "mem" ++ word_texts (take i words) in
+    let text = word_text (get_or words i 0) in
+    let whole : front ++ text ≡ codes "mem" ++ word_texts (take (i + 1) words) =
+    append_assoc (codes "mem") (word_texts (take i words)) text
+    ∙ rw add-one (ap (λ texts. codes "mem" ++ texts) (sym (word_texts_suc words i below))) in
+    subst (λ all. Appends written written_after all) whole (Appends-trans written between written_after front text before word)
+
+-- after all words the line ends, or the writer fails there
+pub core_ends : {T E : Type 0} (words : List ℕ) (i : ℕ) (written between written_after : Option (List ℕ)) (result : Result T E) → length words ≤ i
+    → IsCoreTo words i written between → Sends (codes "\n") between written_after result → Sends (core_line words) written written_after result
+unfolding core_line
+core_ends words i written between written_after (Ok x) all before sent =
+    let front : Appends written between (codes "mem" ++ word_texts words) = rw (take_all i words all) at before in
+    Appends-trans written between written_after (codes "mem" ++ word_texts words) (codes "\n") front sent
+core_ends words i written between written_after (Err e) all before sent =
+    let front : Appends written between (codes "mem" ++ word_texts words) = rw (take_all i words all) at before in
+    cut_last (codes "mem" ++ word_texts words) (codes "\n") written between written_after front sent
