@@ -1,4 +1,4 @@
-ghost use Rattle.std.specs.Prelude.{◌≡◌, ◌<◌, ◌%◌, IfOk};
+ghost use Rattle.std.specs.Prelude.{◌≡◌, ◌<◌, ◌%◌, Ok, IfOk};
 ghost use Rattle.pdp_word.specs.Size.{span};
 ghost use Rattle.pdp_decode.specs.Fields.{IsSpec};
 ghost use Rattle.pdp_operand.specs.Phase.{Latch, state_of};
@@ -30,9 +30,31 @@ pub fn operands<S: Store>(
     let is_late = source.mode == 0 && destination.mode != 0;
     if is_late {
         read_late(processor, bus, source, destination, size)
+    } else if source.mode == 0 {
+        Ok(read_registers(processor, bus, source, destination, size))
     } else {
         read_first(processor, bus, source, destination, size)
     }
+}
+
+/// Both operands are registers: no reference is made.
+#[inline(always)]
+#[tactic(auto, using(crate::proofs::Steps::run_keep_source, pdp_operand::proofs::Steps::run_name_register), unfolding(crate::specs::Operands::source_first, pdp_operand::specs::Operand::find, pdp_operand::specs::Operand::read_operand, pdp_operand::specs::Phase::run))]
+fn read_registers<S: Store>(
+    processor: &Processor,
+    bus: &Bus<S>,
+    source: Spec,
+    destination: Spec,
+    size: Size,
+) -> (u16, Place)
+    requires source { (source.mode ≡ 0) × (source.reg < 8) }
+    requires destination { (destination.mode ≡ 0) × (destination.reg < 8) }
+    ensures run { (latch : Latch) → run_plan (source_first size source destination) (state_of processor.now bus.now latch) ≡ found_both (Ok result) processor.now bus.now latch }
+    ensures fits { result.0 < span size }
+{
+    let from = Slot::of(bus.status().mode, source.reg);
+    let to = Slot::of(bus.status().mode, destination.reg);
+    (cut(processor.register(from), size), Place::Reg(to))
 }
 
 #[inline(always)]
