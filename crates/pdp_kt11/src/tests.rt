@@ -11,6 +11,8 @@ fn gives_modes_their_bits(rt: HostRuntime) {
         (Mode::User, 0b11),
     ] {
         assert_eq!(rt; mode.bits(), bits);
+        assert!(rt; bits < 4);
+        assert_eq!(rt; Mode::of_bits(bits), mode);
     }
 }
 

@@ -1,9 +1,11 @@
 //! The eight addressing modes, and reads and writes of their operands, over a page of core.
 
+ghost use Rattle.std.specs.Prelude.{◌<◌};
+
 use crate::{
     Cell, Place, Processor, RunState, Slot, Trap, address, courses_leave_what_they_never_touch,
-    fetch, plan_is_its_phases, read_byte, read_word, stamps_of_courses_are_last_writes, store,
-    touches_of_courses_are_of_their_turn, write_byte, write_word,
+    fetch, is_status, plan_is_its_phases, read_byte, read_word, stamps_of_courses_are_last_writes,
+    store, touches_of_courses_are_of_their_turn, write_byte, write_word,
 };
 use pdp_decode::Spec;
 use pdp_kt11::Mode;
@@ -113,12 +115,12 @@ fn reads_and_writes_operands(rt: HostRuntime) -> Result<(), NoMemory> {
     );
     assert_eq!(rt;
         store(&mut processor, &mut bus, register, Size::Byte, 0o377),
-        Ok(())
+        Ok(false)
     );
     assert_eq!(rt; processor.register(Slot::R1), 0o012377);
     assert_eq!(rt;
         store(&mut processor, &mut bus, register, Size::Word, 7),
-        Ok(())
+        Ok(false)
     );
     assert_eq!(rt; processor.register(Slot::R1), 7);
 
@@ -126,20 +128,197 @@ fn reads_and_writes_operands(rt: HostRuntime) -> Result<(), NoMemory> {
     let odd = memory(0o000121);
     assert_eq!(rt;
         store(&mut processor, &mut bus, even, Size::Word, 0o012345),
-        Ok(())
+        Ok(false)
     );
     assert_eq!(rt; fetch(&processor, &mut bus, even, Size::Word), Ok(0o012345));
     assert_eq!(rt; fetch(&processor, &mut bus, even, Size::Byte), Ok(0o345));
     assert_eq!(rt; fetch(&processor, &mut bus, odd, Size::Byte), Ok(0o024));
     assert_eq!(rt;
         store(&mut processor, &mut bus, odd, Size::Byte, 0o201),
-        Ok(())
+        Ok(false)
     );
     assert_eq!(rt; fetch(&processor, &mut bus, even, Size::Word), Ok(0o100745));
     assert_eq!(rt;
         fetch(&processor, &mut bus, odd, Size::Word),
         Err(Trap::OddAddress)
     );
+    Ok(())
+}
+
+#[test]
+fn tells_writes_of_the_status_word(rt: HostRuntime) -> Result<(), NoMemory> {
+    let mut bus = page(rt.alloc())?;
+    let mut processor = processor_with(0, 0);
+    for (place, word, told) in [
+        (Place::Reg(Slot::R1), 0o177776, Ok(false)),
+        (Place::Reg(Slot::ProgramCounter), 2, Ok(false)),
+        (memory(0o000120), 0o177776, Ok(false)),
+        (memory(0o177570), 0, Ok(false)),
+        (memory(0o177774), 0, Err(Trap::BusTimeout)),
+        (memory(0o177776), 0o000004, Ok(true)),
+        (memory(0o177777), 0, Err(Trap::OddAddress)),
+    ] {
+        assert_eq!(rt;
+            store(&mut processor, &mut bus, place, Size::Word, word),
+            told,
+            "{word:06o} to {place:?}"
+        );
+    }
+    assert_eq!(rt; bus.status().word(), 0o000004);
+    for (place, byte, told) in [
+        (Place::Reg(Slot::R1), 0o376_u8, Ok(false)),
+        (memory(0o000120), 0o376, Ok(false)),
+        (memory(0o000121), 0o376, Ok(false)),
+        (memory(0o177560), 0, Ok(false)),
+        (memory(0o177775), 0, Err(Trap::BusTimeout)),
+        (memory(0o177776), 0o345, Ok(true)),
+        (memory(0o177777), 0o060, Ok(true)),
+    ] {
+        assert_eq!(rt;
+            store(&mut processor, &mut bus, place, Size::Byte, u16::from(byte)),
+            told,
+            "{byte:03o} to {place:?}"
+        );
+    }
+    // What the two byte writes left: previous mode 11, priority 7, Z and C.
+    assert_eq!(rt; bus.status().word(), 0o030345);
+    assert_eq!(rt;
+        fetch(&processor, &mut bus, memory(0o177776), Size::Word),
+        Ok(0o030345)
+    );
+    assert_eq!(rt;
+        fetch(&processor, &mut bus, memory(0o177777), Size::Byte),
+        Ok(0o060)
+    );
+
+    for (physical, told) in [
+        (0o777776, true),
+        (0o777777, true),
+        (0o777775, false),
+        (0o777774, false),
+        (0o177776, false),
+        (0o000000, false),
+    ] {
+        assert_eq!(rt; is_status(physical), told, "at {physical:06o}");
+    }
+    Ok(())
+}
+
+// Where an operand is by this mode of SP, with SP and the kernel's SP after it.
+fn by_stack(
+    bus: &mut Bus<Flat>,
+    mode: u8,
+    stack: u16,
+    size: Size,
+) -> (Result<Place, Trap>, u16, u16)
+    requires { mode < 8 }
+{
+    let mut processor = processor_with(0o000100, stack);
+    processor.set_register(Slot::UserStack, stack);
+    let operand = Spec { mode, reg: 6 };
+    let found = address(&mut processor, bus, operand, size);
+    let now = Slot::of(bus.status().mode, 6);
+    (
+        found,
+        processor.register(now),
+        processor.register(Slot::KernelStack),
+    )
+}
+
+#[test]
+fn limits_the_kernel_stack(rt: HostRuntime) -> Result<(), NoMemory> {
+    let mut bus = page(rt.alloc())?;
+    assert_eq!(rt; bus.write(0o000400, 0o000120), Ok(()));
+    assert_eq!(rt; bus.write(0o000402, 0o000130), Ok(()));
+    let past = Err(Trap::StackLimit);
+    for (mode, before, found, after) in [
+        (4, 0o000404, Ok(memory(0o000402)), 0o000402),
+        (4, 0o000402, Ok(memory(0o000400)), 0o000400),
+        (4, 0o000401, past, 0o000377),
+        (4, 0o000400, past, 0o000376),
+        (4, 0o000340, past, 0o000336),
+        (4, 0o000002, past, 0o000000),
+        (4, 0o000000, Ok(memory(0o177776)), 0o177776),
+        (5, 0o000404, Ok(memory(0o000130)), 0o000402),
+        (5, 0o000402, Ok(memory(0o000120)), 0o000400),
+        (5, 0o000403, Err(Trap::OddAddress), 0o000401),
+        (5, 0o000401, past, 0o000377),
+        (5, 0o000400, past, 0o000376),
+        (5, 0o000002, past, 0o000000),
+        (5, 0o000000, Ok(memory(0o000000)), 0o177776),
+        // The other modes have no limit.
+        (1, 0o000376, Ok(memory(0o000376)), 0o000376),
+        (2, 0o000076, Ok(memory(0o000076)), 0o000100),
+        (3, 0o000076, Ok(memory(0o000400)), 0o000100),
+    ] {
+        assert!(rt; mode < 8);
+        for size in [Size::Word, Size::Byte] {
+            assert_eq!(rt;
+                by_stack(&mut bus, mode, before, size),
+                (found, after, after),
+                "mode {mode} at {before:06o}, {size:?}"
+            );
+        }
+    }
+    Ok(())
+}
+
+#[test]
+fn limits_no_other_stack(rt: HostRuntime) -> Result<(), NoMemory> {
+    let mut bus = page(rt.alloc())?;
+    assert_eq!(rt; bus.write(0o000376, 0o000120), Ok(()));
+    // User mode, then the two modes that the handbook doesn't have; previous mode kernel.
+    for (status, space) in [
+        (0o140000, Mode::User),
+        (0o040000, Mode::Bad1),
+        (0o100000, Mode::Bad2),
+    ] {
+        assert_eq!(rt; bus.write(0o777776, status), Ok(()));
+        for (mode, before, at, after) in [
+            (4, 0o000402, 0o000400, 0o000400),
+            (4, 0o000400, 0o000376, 0o000376),
+            (4, 0o000002, 0o000000, 0o000000),
+            (5, 0o000400, 0o000120, 0o000376),
+        ] {
+            assert!(rt; mode < 8);
+            let cell = Cell {
+                mode: space,
+                address: at,
+                near: false,
+            };
+            for size in [Size::Word, Size::Byte] {
+                assert_eq!(rt;
+                    by_stack(&mut bus, mode, before, size),
+                    (Ok(Place::Mem(cell)), after, before),
+                    "mode {mode} at {before:06o}, {size:?}"
+                );
+            }
+        }
+    }
+
+    // Nor is another register limited in kernel mode.
+    assert_eq!(rt; bus.write(0o777776, 0), Ok(()));
+    for (mode, reg, size, found, after) in [
+        (4, 1, Size::Word, 0o000376, 0o000376),
+        (4, 1, Size::Byte, 0o000377, 0o000377),
+        (5, 1, Size::Word, 0o000120, 0o000376),
+        (5, 1, Size::Byte, 0o000120, 0o000376),
+        (4, 7, Size::Word, 0o000376, 0o000376),
+        (5, 7, Size::Byte, 0o000120, 0o000376),
+    ] {
+        assert!(rt; mode < 8);
+        assert!(rt; reg < 8);
+        let slot = Slot::of(Mode::Kernel, reg);
+        let mut processor = processor_with(0, 0o000002);
+        processor.set_register(slot, 0o000400);
+        let operand = Spec { mode, reg };
+        assert_eq!(rt;
+            address(&mut processor, &mut bus, operand, size),
+            Ok(memory(found)),
+            "mode {mode} of register {reg}, {size:?}"
+        );
+        assert_eq!(rt; processor.register(slot), after);
+    }
     Ok(())
 }
 
@@ -177,9 +356,16 @@ fn references_core_and_nothing_else(rt: HostRuntime) -> Result<(), NoMemory> {
         Err(Trap::BusTimeout)
     );
     assert_eq!(rt;
-        write_byte(&mut bus, kernel, 0o177777, 1),
+        write_byte(&mut bus, kernel, 0o177775, 1),
         Err(Trap::BusTimeout)
     );
+    assert_eq!(rt; write_byte(&mut bus, kernel, 0o177777, 0o017), Ok(0o777777));
+    assert_eq!(rt;
+        write_word(&mut bus, kernel, 0o177776, 0o000017),
+        Ok(0o777776)
+    );
+    assert_eq!(rt; read_word(&mut bus, kernel, 0o177776), Ok(0o000017));
+    assert_eq!(rt; read_byte(&mut bus, kernel, 0o177777), Ok(0));
     Ok(())
 }
 
