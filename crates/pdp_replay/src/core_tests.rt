@@ -114,29 +114,55 @@ fn ends_of_core(rt: HostRuntime) -> Result<(), Fail> {
 }
 
 #[test]
-fn refused_words_of_core(rt: HostRuntime) -> Result<(), Fail> {
+fn refused_counts(rt: HostRuntime) -> Result<(), Fail> {
+    let alloc = rt.alloc();
+    let mut engine = engine_with(alloc, 31, &[0o777])?;
+    for (address, count) in [
+        (0o1000, 0),
+        (0o1000, 257),
+        (0o760001, 257),
+        (0o1000, 4_294_967_295),
+    ] {
+        assert_eq!(rt;
+            refusal(&mut engine, alloc, core(0, address, count)),
+            Some(Fault::CountOutOfRange),
+            "{count} from {address:o}"
+        );
+    }
+    Ok(())
+}
+
+#[test]
+fn refused_ranges(rt: HostRuntime) -> Result<(), Fail> {
+    let alloc = rt.alloc();
+    let mut engine = engine_with(alloc, 31, &[0o777])?;
+    for (address, count, want) in [
+        (0o757776, 2, Fault::OutsideCore),
+        (0o760000, 1, Fault::OutsideCore),
+        (0o757777, 2, Fault::OutsideCore),
+        (4_294_967_295, 256, Fault::OutsideCore),
+        (0o1001, 1, Fault::OddAddress),
+        (0o757777, 1, Fault::OddAddress),
+    ] {
+        assert_eq!(rt;
+            refusal(&mut engine, alloc, core(0, address, count)),
+            Some(want),
+            "{count} from {address:o}"
+        );
+    }
+    Ok(())
+}
+
+#[test]
+fn refused_turns(rt: HostRuntime) -> Result<(), Fail> {
     let alloc = rt.alloc();
     let mut engine = engine_with(alloc, 31, &[0o777])?;
     assert_eq!(rt; known_at(&mut engine, alloc, 3)?, 3);
-    for (question, want) in [
-        (core(1_000_000_001, 0o1001, 0), Fault::TurnTooLarge),
-        (core(4_294_967_295, 0o1000, 1), Fault::TurnTooLarge),
-        (core(0, 0o1000, 0), Fault::CountOutOfRange),
-        (core(0, 0o1000, 257), Fault::CountOutOfRange),
-        (core(0, 0o760001, 257), Fault::CountOutOfRange),
-        (core(0, 0o1000, 4_294_967_295), Fault::CountOutOfRange),
-        (core(0, 0o757776, 2), Fault::OutsideCore),
-        (core(0, 0o760000, 1), Fault::OutsideCore),
-        (core(0, 0o757777, 2), Fault::OutsideCore),
-        (core(0, 0o760001, 1), Fault::OutsideCore),
-        (core(0, 4_294_967_295, 256), Fault::OutsideCore),
-        (core(0, 0o1001, 1), Fault::OddAddress),
-        (core(0, 0o757777, 1), Fault::OddAddress),
-    ] {
+    for turn in [1_000_000_001, 4_294_967_295] {
         assert_eq!(rt;
-            refusal(&mut engine, alloc, question),
-            Some(want),
-            "{question:?}"
+            refusal(&mut engine, alloc, core(turn, 0o1001, 0)),
+            Some(Fault::TurnTooLarge),
+            "at {turn}"
         );
     }
     assert_eq!(rt; known_at(&mut engine, alloc, 0)?, 3);
