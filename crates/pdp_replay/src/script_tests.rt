@@ -40,16 +40,48 @@ fn known_at(engine: &mut Engine, alloc: Global, turn: u32) -> Result<u32, Fault>
     Ok(engine.ask(alloc, Question::Regs(turn))?.known)
 }
 
+/// An edit of a script, or a revert of a patch.
+#[derive(Clone, Copy, Debug)]
+enum Edit {
+    Insert { turn: u32 },
+    Alter { number: u32, turn: u32 },
+    Drop { number: u32 },
+    Patch { address: u32, word: u16 },
+    Revert { address: u32 },
+}
+
+/// Makes an edit, with this event. Answers the number of a new event, else 0.
+fn make(engine: &mut Engine, edit: Edit, event: Event) -> Result<u32, Fault> {
+    match edit {
+        Edit::Insert { turn } => return engine.insert(turn, event),
+        Edit::Alter { number, turn } => engine.alter(number, turn, event)?,
+        Edit::Drop { number } => engine.drop_event(number)?,
+        Edit::Patch { address, word } => engine.set_core(address, word)?,
+        Edit::Revert { address } => engine.revert_core(address)?,
+    }
+    Ok(0)
+}
+
 #[test]
 fn a_key_one_turn_sooner(rt: HostRuntime) -> Result<(), Fail> {
     let alloc = rt.alloc();
     let mut engine = engine_with(alloc, &KEY_LOOP)?;
-    assert_eq!(rt; engine.insert(4, Event::Key(0o101)), Ok(1));
+    assert_eq!(rt;
+        make(&mut engine, Edit::Insert { turn: 4 }, Event::Key(0o101)),
+        Ok(1)
+    );
     assert_eq!(rt;
         seen_at(&mut engine, alloc, 7)?,
         (0o101, 0o1012, 0, RunState::Run)
     );
-    assert_eq!(rt; engine.alter(1, 5, Event::Key(0o101)), Ok(()));
+    assert_eq!(rt;
+        make(
+            &mut engine,
+            Edit::Alter { number: 1, turn: 5 },
+            Event::Key(0o101)
+        ),
+        Ok(0)
+    );
     assert_eq!(rt;
         seen_at(&mut engine, alloc, 7)?,
         (0, 0o1004, 0o10, RunState::Run)
@@ -58,13 +90,22 @@ fn a_key_one_turn_sooner(rt: HostRuntime) -> Result<(), Fail> {
         seen_at(&mut engine, alloc, 9)?,
         (0o101, 0o1012, 0, RunState::Run)
     );
-    assert_eq!(rt; engine.drop_event(1), Ok(()));
+    assert_eq!(rt;
+        make(&mut engine, Edit::Drop { number: 1 }, Event::Tick),
+        Ok(0)
+    );
     assert_eq!(rt;
         seen_at(&mut engine, alloc, 9)?,
         (0, 0o1004, 0o4, RunState::Run)
     );
-    assert_eq!(rt; engine.drop_event(1), Err(Fault::NoSuchEvent));
-    assert_eq!(rt; engine.insert(4, Event::Key(0o102)), Ok(2));
+    assert_eq!(rt;
+        make(&mut engine, Edit::Drop { number: 1 }, Event::Tick),
+        Err(Fault::NoSuchEvent)
+    );
+    assert_eq!(rt;
+        make(&mut engine, Edit::Insert { turn: 4 }, Event::Key(0o102)),
+        Ok(2)
+    );
     Ok(())
 }
 
@@ -76,7 +117,10 @@ fn a_halt_goes_on(rt: HostRuntime) -> Result<(), Fail> {
         seen_at(&mut engine, alloc, 1_000_000)?,
         (0, 0o1002, 0, RunState::Halted)
     );
-    assert_eq!(rt; engine.insert(3, Event::Continue), Ok(1));
+    assert_eq!(rt;
+        make(&mut engine, Edit::Insert { turn: 3 }, Event::Continue),
+        Ok(1)
+    );
     assert_eq!(rt;
         seen_at(&mut engine, alloc, 3)?,
         (0, 0o1002, 0, RunState::Halted)
@@ -93,17 +137,36 @@ fn known_turn_of_script_edits(rt: HostRuntime) -> Result<(), Fail> {
     let alloc = rt.alloc();
     let mut engine = engine_with(alloc, &[0o777])?;
     assert_eq!(rt; known_at(&mut engine, alloc, 300)?, 300);
-    assert_eq!(rt; engine.insert(500, Event::Tick), Ok(1));
-    assert_eq!(rt; known_at(&mut engine, alloc, 0)?, 300);
-    assert_eq!(rt; engine.insert(200, Event::Tick), Ok(2));
-    assert_eq!(rt; known_at(&mut engine, alloc, 0)?, 200);
-    assert_eq!(rt; engine.alter(1, 150, Event::Tick), Ok(()));
-    assert_eq!(rt; known_at(&mut engine, alloc, 0)?, 150);
-    assert_eq!(rt; engine.alter(1, 400, Event::Tick), Ok(()));
-    assert_eq!(rt; known_at(&mut engine, alloc, 0)?, 150);
-    assert_eq!(rt; known_at(&mut engine, alloc, 300)?, 300);
-    assert_eq!(rt; engine.drop_event(2), Ok(()));
-    assert_eq!(rt; known_at(&mut engine, alloc, 0)?, 200);
+    for (edit, want) in [
+        (Edit::Insert { turn: 500 }, 300),
+        (Edit::Insert { turn: 200 }, 200),
+        (
+            Edit::Alter {
+                number: 1,
+                turn: 150,
+            },
+            150,
+        ),
+        (
+            Edit::Alter {
+                number: 1,
+                turn: 400,
+            },
+            150,
+        ),
+        (
+            Edit::Alter {
+                number: 1,
+                turn: 100,
+            },
+            100,
+        ),
+        (Edit::Drop { number: 2 }, 100),
+        (Edit::Drop { number: 1 }, 100),
+    ] {
+        make(&mut engine, edit, Event::Tick)?;
+        assert_eq!(rt; known_at(&mut engine, alloc, 0)?, want, "after {edit:?}");
+    }
     Ok(())
 }
 
@@ -111,53 +174,124 @@ fn known_turn_of_script_edits(rt: HostRuntime) -> Result<(), Fail> {
 fn refused_script_edits(rt: HostRuntime) -> Result<(), Fail> {
     let alloc = rt.alloc();
     let mut engine = engine_with(alloc, &[0o777])?;
-    assert_eq!(rt; engine.insert(1_000_000_000, Event::Tick), Ok(1));
+    assert_eq!(rt;
+        make(
+            &mut engine,
+            Edit::Insert {
+                turn: 1_000_000_000
+            },
+            Event::Tick
+        ),
+        Ok(1)
+    );
     assert_eq!(rt; known_at(&mut engine, alloc, 10)?, 10);
-    for turn in [1_000_000_001, 4_294_967_295] {
-        assert_eq!(rt; engine.insert(turn, Event::Tick), Err(Fault::TurnTooLarge));
-        assert_eq!(rt;
-            engine.alter(7, turn, Event::Tick),
-            Err(Fault::TurnTooLarge)
-        );
-    }
-    for number in [0, 2, 4_294_967_295] {
-        assert_eq!(rt;
-            engine.alter(number, 0, Event::Tick),
-            Err(Fault::NoSuchEvent)
-        );
-        assert_eq!(rt; engine.drop_event(number), Err(Fault::NoSuchEvent));
+    for (edit, want) in [
+        (
+            Edit::Insert {
+                turn: 1_000_000_001,
+            },
+            Fault::TurnTooLarge,
+        ),
+        (
+            Edit::Insert {
+                turn: 4_294_967_295,
+            },
+            Fault::TurnTooLarge,
+        ),
+        (
+            Edit::Alter {
+                number: 7,
+                turn: 1_000_000_001,
+            },
+            Fault::TurnTooLarge,
+        ),
+        (Edit::Alter { number: 0, turn: 0 }, Fault::NoSuchEvent),
+        (Edit::Alter { number: 2, turn: 0 }, Fault::NoSuchEvent),
+        (Edit::Drop { number: 0 }, Fault::NoSuchEvent),
+        (
+            Edit::Drop {
+                number: 4_294_967_295,
+            },
+            Fault::NoSuchEvent,
+        ),
+        (Edit::Revert { address: 0o1000 }, Fault::NoSuchPatch),
+        (Edit::Revert { address: 0o1001 }, Fault::OddAddress),
+        (Edit::Revert { address: 0o760001 }, Fault::OutsideCore),
+    ] {
+        assert_eq!(rt; make(&mut engine, edit, Event::Tick), Err(want), "{edit:?}");
     }
     assert_eq!(rt; known_at(&mut engine, alloc, 0)?, 10);
-    assert_eq!(rt; engine.insert(11, Event::Tick), Ok(2));
+    assert_eq!(rt;
+        make(&mut engine, Edit::Insert { turn: 11 }, Event::Tick),
+        Ok(2)
+    );
     Ok(())
 }
 
 #[test]
-fn reverted_patches(rt: HostRuntime) -> Result<(), Fail> {
+fn patches_in_first_given_order(rt: HostRuntime) -> Result<(), Fail> {
     let alloc = rt.alloc();
     let mut engine = engine_with(alloc, &[0o12701, 5, 0])?;
-    assert_eq!(rt; engine.patch_count(), 0);
-    assert_eq!(rt; engine.revert_core(0o1002), Err(Fault::NoSuchPatch));
-    assert_eq!(rt; engine.set_core(0o1002, 0o100000), Ok(()));
-    assert_eq!(rt; engine.set_core(0o1000, 0o12701), Ok(()));
-    assert_eq!(rt; engine.set_core(0o1002, 0o100001), Ok(()));
-    assert_eq!(rt; engine.patch_count(), 2);
-    assert_eq!(rt; engine.patches(0), Some(Patch::Core(0o1002, 0o100001)));
-    assert_eq!(rt; engine.patches(1), Some(Patch::Core(0o1000, 0o12701)));
-    assert_eq!(rt; engine.patches(2), None);
+    for (edit, count, first) in [
+        (
+            Edit::Patch {
+                address: 0o1002,
+                word: 0o100000,
+            },
+            1,
+            Some(Patch::Core(0o1002, 0o100000)),
+        ),
+        (
+            Edit::Patch {
+                address: 0o1000,
+                word: 0o12701,
+            },
+            2,
+            Some(Patch::Core(0o1002, 0o100000)),
+        ),
+        (
+            Edit::Patch {
+                address: 0o1002,
+                word: 0o100001,
+            },
+            2,
+            Some(Patch::Core(0o1002, 0o100001)),
+        ),
+        (
+            Edit::Revert { address: 0o1002 },
+            1,
+            Some(Patch::Core(0o1000, 0o12701)),
+        ),
+        (Edit::Revert { address: 0o1000 }, 0, None),
+    ] {
+        make(&mut engine, edit, Event::Tick)?;
+        assert_eq!(rt; engine.patch_count(), count, "after {edit:?}");
+        assert_eq!(rt; engine.patches(0), first, "after {edit:?}");
+    }
+    Ok(())
+}
+
+#[test]
+fn a_reverted_patch(rt: HostRuntime) -> Result<(), Fail> {
+    let alloc = rt.alloc();
+    let mut engine = engine_with(alloc, &[0o12701, 5, 0])?;
+    make(
+        &mut engine,
+        Edit::Patch {
+            address: 0o1002,
+            word: 0o100001,
+        },
+        Event::Tick,
+    )?;
     assert_eq!(rt;
         seen_at(&mut engine, alloc, 1)?,
         (0o100001, 0o1004, 0o10, RunState::Run)
     );
-    assert_eq!(rt; engine.revert_core(0o1002), Ok(()));
+    make(&mut engine, Edit::Revert { address: 0o1002 }, Event::Tick)?;
     assert_eq!(rt; known_at(&mut engine, alloc, 0)?, 0);
     assert_eq!(rt;
         seen_at(&mut engine, alloc, 1)?,
         (5, 0o1004, 0, RunState::Run)
     );
-    assert_eq!(rt; engine.patches(0), Some(Patch::Core(0o1000, 0o12701)));
-    assert_eq!(rt; engine.revert_core(0o1002), Err(Fault::NoSuchPatch));
-    assert_eq!(rt; engine.revert_core(0o1003), Err(Fault::OddAddress));
-    assert_eq!(rt; engine.revert_core(0o760001), Err(Fault::OutsideCore));
     Ok(())
 }
