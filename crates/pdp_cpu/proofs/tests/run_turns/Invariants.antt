@@ -1,6 +1,9 @@
--- the machine has run the turns so far
-use Rattle.std.proofs.Common.{◌≡◌, ◌+◌}
+-- the machine has run the turns so far, and its core has as many words as before
+use Rattle.std.proofs.Common.{◌≡◌, ◌+◌, length}
 use Rattle.pdp_cpu.proofs.tests.run_turns.Given as goal
 
 abbrev pub invariant-loop-done : goal.invariant-loop-done
-invariant-loop-done l = l.machine.turn ≡ l.initial.machine.turn + l._done
+invariant-loop-done l = record {
+  turns : l.machine.turn ≡ l.initial.machine.turn + l._done;
+  words : length l.machine.world.bus.core ≡ length l.initial.machine.world.bus.core;
+}
