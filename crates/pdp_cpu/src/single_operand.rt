@@ -2,9 +2,7 @@ ghost use Rattle.std.specs.Prelude.{◌≡◌};
 ghost use Rattle.pdp_decode.specs.Fields.{IsSpec};
 ghost use Rattle.pdp_operand.specs.Phase.{Latch, state_of};
 ghost use Rattle.pdp_operand.specs.Plan.{run_plan};
-ghost use Rattle.pdp_word.specs.declared.size.Size.TheVariants.{Word, Byte};
 ghost use Rattle.pdp_cpu.specs.Ending.{closed, ended};
-ghost use Rattle.pdp_cpu.specs.Operation.{size_of_modification};
 ghost use Rattle.pdp_cpu.specs.SingleOperand.{tst_plan, modify_plan, replace_plan};
 
 use crate::execute::finish;
@@ -35,63 +33,18 @@ pub fn test<S: Store>(
 }
 
 /// COM, INC, DEC, NEG, ADC, SBC, ROR, ROL, ASR, ASL and SWAB.
-#[inline(always)]
+#[inline(never)]
+#[tactic(auto, using(crate::proofs::Steps::run_execute_modification), unfolding(crate::specs::SingleOperand::modify_plan))]
 pub fn modify<S: Store>(
     processor: &mut Processor,
     bus: &mut Bus<S>,
     modification: Modification,
     destination: Spec,
 ) -> Result<(), Trap>
-    requires destination { IsSpec destination }
+    requires { IsSpec destination }
     ensures { (latch : Latch) → closed (run_plan (modify_plan modification destination) (state_of processor.old bus.old latch)) ≡ ended result processor.new bus.new }
 {
-    match modification.size() {
-        Size::Word => modify_words(processor, bus, modification, destination),
-        Size::Byte => modify_bytes(processor, bus, modification, destination),
-    }
-}
-
-#[inline(never)]
-fn modify_words<S: Store>(
-    processor: &mut Processor,
-    bus: &mut Bus<S>,
-    modification: Modification,
-    destination: Spec,
-) -> Result<(), Trap>
-    requires size { size_of_modification modification ≡ Word }
-    requires destination { IsSpec destination }
-    ensures { (latch : Latch) → closed (run_plan (modify_plan modification destination) (state_of processor.old bus.old latch)) ≡ ended result processor.new bus.new }
-{
-    modify_at(processor, bus, modification, destination, Size::Word)
-}
-
-#[inline(never)]
-fn modify_bytes<S: Store>(
-    processor: &mut Processor,
-    bus: &mut Bus<S>,
-    modification: Modification,
-    destination: Spec,
-) -> Result<(), Trap>
-    requires size { size_of_modification modification ≡ Byte }
-    requires destination { IsSpec destination }
-    ensures { (latch : Latch) → closed (run_plan (modify_plan modification destination) (state_of processor.old bus.old latch)) ≡ ended result processor.new bus.new }
-{
-    modify_at(processor, bus, modification, destination, Size::Byte)
-}
-
-#[inline(always)]
-#[tactic(auto, using(crate::proofs::Steps::run_execute_modification), unfolding(crate::specs::SingleOperand::modify_plan))]
-fn modify_at<S: Store>(
-    processor: &mut Processor,
-    bus: &mut Bus<S>,
-    modification: Modification,
-    destination: Spec,
-    size: Size,
-) -> Result<(), Trap>
-    requires size { size_of_modification modification ≡ size }
-    requires destination { IsSpec destination }
-    ensures { (latch : Latch) → closed (run_plan (modify_plan modification destination) (state_of processor.old bus.old latch)) ≡ ended result processor.new bus.new }
-{
+    let size = modification.size();
     let place = address(processor, bus, destination, size)?;
     let operand = fetch(processor, bus, place, size)?;
     let effect = modification.effect(operand, bus.status().codes);

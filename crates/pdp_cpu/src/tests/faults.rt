@@ -30,6 +30,16 @@ fn halts_where_an_extra_word_faults(rt: HostRuntime) -> Result<(), NoMemory> {
     Ok(())
 }
 
+// MOV #700,R6 and TST @#1001: the second ends at the odd address, with the stack pointer as it is.
+#[test]
+fn halts_in_place_of_a_trap_to_4(rt: HostRuntime) -> Result<(), NoMemory> {
+    let program = [0o012706, 0o000700, 0o005737, 0o001001];
+    let mut machine = machine_over(rt.alloc(), 0o001000, &program)?;
+    run_turns(&mut machine, &mut Meter::new(), 2)?;
+    assert_eq!(rt; machine.regs(), halted([0; 6], 0o000700, 0o001010, 0));
+    Ok(())
+}
+
 // MOV #..,R1, all codes set, and one instruction: R1 keeps its change, R0 and the codes stay.
 #[test]
 fn halts_where_a_reference_faults(rt: HostRuntime) -> Result<(), NoMemory> {
