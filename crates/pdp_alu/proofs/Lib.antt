@@ -1,1 +1,3 @@
+pub mod Divisions
 pub mod EffectLaws
+pub mod Iterations

@@ -1,7 +1,11 @@
 pub mod Arithmetic
+pub mod ArithmeticShifts
 pub mod Bytes
+pub mod Division
 pub mod Effect
 pub mod Logic
+pub mod Long
+pub mod Multiplication
 pub mod Operand
 pub mod Shifts
 pub mod SingleOperand

@@ -2,26 +2,38 @@
 #![tactic(auto)]
 
 mod arithmetic;
+mod arithmetic_shifts;
 mod bytes;
+mod division;
 mod effect;
+mod extended_laws;
 mod laws;
 mod logic;
+mod long;
 mod moves;
+mod multiplication;
 mod operand;
+mod quotient;
 mod shifts;
 mod single_operand;
 
 pub use arithmetic::{add, cmp, sub};
+pub use arithmetic_shifts::{ash, ashc};
 pub use bytes::{swab, sxt};
+pub use division::div;
 pub use effect::Effect;
+pub use extended_laws::quotients_are_unique;
 pub use laws::{
     carries_run_on, comparisons_order_operands, complements_and_negatives_undo_themselves,
     differences_are_exact, overflow_marks_wrong_signed_results, rotations_undo_each_other,
     shifts_halve_and_double, sums_are_exact, swaps_undo_themselves,
 };
 pub use logic::{bic, bis, bit, xor};
+pub use long::{LongEffect, high_word, join_words, low_word};
 pub use moves::{mov, sign_extend};
+pub use multiplication::mul;
 pub use pdp_word::{Codes, Size};
+pub use quotient::Div;
 pub use shifts::{asl, asr, rol, ror};
 pub use single_operand::{adc, clr, com, dec, inc, neg, sbc, tst};
 

@@ -1,6 +1,7 @@
 ghost use Rattle.std.specs.Prelude.{◌≡◌, ◌%◌};
 ghost use Rattle.pdp_word.specs.Size.{is_negative, span};
-ghost use Rattle.pdp_alu.specs.Operand.{all_ones, most_negative, most_positive};
+ghost use Rattle.pdp_word.specs.declared.size.Size.TheVariants.{Word};
+ghost use Rattle.pdp_alu.specs.Operand.{all_ones, most_negative, most_positive, overflows};
 
 use pdp_word::Size;
 
@@ -54,4 +55,12 @@ pub fn is_negative(size: Size, operand: u16) -> bool
     ensures { result ≡ is_negative size operand }
 {
     operand >= most_negative(size)
+}
+
+// Whether a number is no signed word.
+#[inline]
+pub fn overflows(number: i64) -> bool
+    ensures { result ≡ overflows Word number }
+{
+    number < -0o100000 || 0o100000 <= number
 }

@@ -1,0 +1,12 @@
+use Rattle.std.proofs.Common.{◌∙◌, ap, sym}
+use Rattle.pdp_alu.specs.ArithmeticShifts.{shifted_right, unshifted}
+use Rattle.pdp_alu.proofs.Iterations.{iterate_more}
+use Rattle.pdp_alu.proofs.arithmetic_shifts.shift_right.Goals as goal
+
+-- src/arithmetic_shifts.rt
+pub loop-place-preserved : goal.loop-place-preserved
+loop-place-preserved c = record {
+  shifting = c.right-shifting.ensures.shifted ∙ ap (shifted_right c.args.sign) c.loop-place.invariant.shifting
+      ∙ sym (iterate_more (shifted_right c.args.sign) c.loop-place._place (unshifted c.args.number));
+  fits = c.right-shifting.ensures.fits;
+}

@@ -1,0 +1,10 @@
+use pdp_word::Codes;
+
+/// What DIV makes of its operands.
+#[derive(Clone, Copy, Debug, PartialEq, Eq)]
+pub enum Div {
+    /// The division was done: the quotient, the remainder and the codes.
+    Done(u16, u16, Codes),
+    /// Nothing was divided, and the registers are kept: the codes.
+    Kept(Codes),
+}
