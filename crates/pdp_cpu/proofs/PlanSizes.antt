@@ -12,6 +12,7 @@ use Rattle.pdp_cpu.specs.ChangeCodes.{clear_plan, set_plan}
 use Rattle.pdp_cpu.specs.Control.{halt_plan}
 use Rattle.pdp_cpu.specs.DoubleOperand.{compare_plan, combine_plan, register_operand}
 use Rattle.pdp_cpu.specs.Execute.{finish}
+use Rattle.pdp_cpu.specs.Extended.{mul_plan, div_plan, ash_plan, ashc_plan}
 use Rattle.pdp_cpu.specs.Instruction.{plan_of, reserved_plan}
 use Rattle.pdp_cpu.specs.Jump.{jmp_plan, jsr_plan, rts_plan, mark_plan, pop_register, push, pop}
 use Rattle.pdp_cpu.specs.Moves.{mov_plan, movb_plan}
@@ -81,6 +82,22 @@ size_of_rts register = omega (arith, size_of_find Word pop)
 size_of_mark : (words : ℕ) → size_of (mark_plan words) ≤ 12
 unfolding mark_plan pop_register
 size_of_mark words = omega (arith, size_of_find Word pop)
+
+size_of_mul : (register : ℕ) (source : Spec) → size_of (mul_plan register source) ≤ 12
+unfolding mul_plan
+size_of_mul register source = omega (arith, size_of_find Word source)
+
+size_of_div : (register : ℕ) (source : Spec) → size_of (div_plan register source) ≤ 12
+unfolding div_plan
+size_of_div register source = omega (arith, size_of_find Word source)
+
+size_of_ash : (register : ℕ) (source : Spec) → size_of (ash_plan register source) ≤ 12
+unfolding ash_plan
+size_of_ash register source = omega (arith, size_of_find Word source)
+
+size_of_ashc : (register : ℕ) (source : Spec) → size_of (ashc_plan register source) ≤ 12
+unfolding ashc_plan
+size_of_ashc register source = omega (arith, size_of_find Word source)
 
 -- a plan has at most twelve phases: a row for each instruction
 pub size_of_plan : (instr : Instr) → size_of (plan_of instr) ≤ 12
@@ -155,10 +172,10 @@ size_of_plan Reset = omega arith
 size_of_plan Rtt = omega arith
 size_of_plan (Emt code) = omega arith
 size_of_plan (Trap code) = omega arith
-size_of_plan (Mul register source) = omega arith
-size_of_plan (Div register source) = omega arith
-size_of_plan (Ash register source) = omega arith
-size_of_plan (Ashc register source) = omega arith
+size_of_plan (Mul register source) = size_of_mul register source
+size_of_plan (Div register source) = size_of_div register source
+size_of_plan (Ash register source) = size_of_ash register source
+size_of_plan (Ashc register source) = size_of_ashc register source
 size_of_plan (Mfpi source) = omega arith
 size_of_plan (Mtpi destination) = omega arith
 size_of_plan Reserved = omega arith

@@ -1,5 +1,6 @@
 pub mod Ending
 pub mod Execute
+pub mod Extended
 pub mod Action
 pub mod Branch
 pub mod ChangeCodes

@@ -71,6 +71,22 @@ pub enum Action {
         size: Size,
         destination: Spec,
     },
+    Multiply {
+        register: u8,
+        source: Spec,
+    },
+    Divide {
+        register: u8,
+        source: Spec,
+    },
+    Shift {
+        register: u8,
+        source: Spec,
+    },
+    ShiftPair {
+        register: u8,
+        source: Spec,
+    },
     Reserved,
 }
 
@@ -176,6 +192,10 @@ pub fn action_of(instr: Instr) -> Action
             },
             destination,
         ),
+        Instr::Mul { register, source } => Action::Multiply { register, source },
+        Instr::Div { register, source } => Action::Divide { register, source },
+        Instr::Ash { register, source } => Action::Shift { register, source },
+        Instr::Ashc { register, source } => Action::ShiftPair { register, source },
         Instr::Clr { destination } => replace(Replacement::Clr(Size::Word), destination),
         Instr::Clrb { destination } => replace(Replacement::Clr(Size::Byte), destination),
         Instr::Sxt { destination } => replace(Replacement::Sxt, destination),
@@ -216,10 +236,6 @@ pub fn action_of(instr: Instr) -> Action
         | Instr::Rtt
         | Instr::Emt { .. }
         | Instr::Trap { .. }
-        | Instr::Mul { .. }
-        | Instr::Div { .. }
-        | Instr::Ash { .. }
-        | Instr::Ashc { .. }
         | Instr::Mfpi { .. }
         | Instr::Mtpi { .. }
         | Instr::Reserved => Action::Reserved,

@@ -9,6 +9,7 @@ mod condition;
 mod control;
 mod double_operand;
 mod execute;
+mod extended;
 mod instruction;
 mod jump;
 mod laws;
@@ -17,6 +18,7 @@ mod meter;
 mod moves;
 mod operands;
 mod operation;
+mod pair;
 mod regs;
 mod single_operand;
 #[cfg(test)]

@@ -1,0 +1,117 @@
+//! MUL, DIV, ASH and ASHC.
+ghost use Rattle.std.specs.Prelude.{◌≡◌, ◌<◌};
+ghost use Rattle.pdp_decode.specs.Fields.{IsSpec};
+ghost use Rattle.pdp_operand.specs.Phase.{Latch, state_of};
+ghost use Rattle.pdp_operand.specs.Plan.{run_plan};
+ghost use Rattle.pdp_cpu.specs.Ending.{closed, ended};
+ghost use Rattle.pdp_cpu.specs.Extended.{ash_plan, ashc_plan, codes_of, div_plan, mul_plan, with_quotient};
+
+use crate::pair::Pair;
+use pdp_alu::{Div, ash, ashc, div, mul};
+use pdp_decode::Spec;
+use pdp_operand::{Processor, Slot, Trap, address, fetch};
+use pdp_store::Store;
+use pdp_unibus::Bus;
+use pdp_word::{Codes, Size};
+
+/// MUL.
+#[inline(never)]
+#[tactic(auto, using(crate::proofs::Steps::run_multiply, crate::proofs::Steps::run_store_codes), unfolding(crate::specs::Extended::mul_plan))]
+pub fn multiply<S: Store>(
+    processor: &mut Processor,
+    bus: &mut Bus<S>,
+    register: u8,
+    source: Spec,
+) -> Result<(), Trap>
+    requires register { register < 8 }
+    requires source { IsSpec source }
+    ensures { (latch : Latch) → closed (run_plan (mul_plan register source) (state_of processor.old bus.old latch)) ≡ ended result processor.new bus.new }
+{
+    let place = address(processor, bus, source, Size::Word)?;
+    let multiplier = fetch(processor, bus, place, Size::Word)?;
+    let pair = Pair::of(bus.status().mode, register);
+    let effect = mul(processor.register(pair.high), multiplier);
+    pair.set_long(processor, effect.value);
+    bus.set_codes(effect.codes);
+    Ok(())
+}
+
+/// DIV.
+#[inline(never)]
+#[tactic(auto, using(crate::proofs::Steps::run_divide, crate::proofs::Steps::run_store_codes), unfolding(crate::specs::Extended::div_plan))]
+pub fn divide<S: Store>(
+    processor: &mut Processor,
+    bus: &mut Bus<S>,
+    register: u8,
+    source: Spec,
+) -> Result<(), Trap>
+    requires register { register < 8 }
+    requires source { IsSpec source }
+    ensures { (latch : Latch) → closed (run_plan (div_plan register source) (state_of processor.old bus.old latch)) ≡ ended result processor.new bus.new }
+{
+    let place = address(processor, bus, source, Size::Word)?;
+    let divisor = fetch(processor, bus, place, Size::Word)?;
+    let pair = Pair::of(bus.status().mode, register);
+    let codes = set_quotient(processor, pair, div(pair.long(processor), divisor));
+    bus.set_codes(codes);
+    Ok(())
+}
+
+/// Writes quotient and remainder where the division was done, and answers the codes.
+#[inline(always)]
+fn set_quotient(processor: &mut Processor, pair: Pair, effect: Div) -> Codes
+    ensures registers { processor.new ≡ with_quotient processor.old pair effect }
+    ensures codes { result ≡ codes_of effect }
+{
+    match effect {
+        Div::Done(quotient, remainder, codes) => {
+            pair.set_words(processor, quotient, remainder);
+            codes
+        }
+        Div::Kept(codes) => codes,
+    }
+}
+
+/// ASH.
+#[inline(never)]
+#[tactic(auto, using(crate::proofs::Steps::run_shift, crate::proofs::Steps::run_store_codes), unfolding(crate::specs::Extended::ash_plan))]
+pub fn shift<S: Store>(
+    processor: &mut Processor,
+    bus: &mut Bus<S>,
+    register: u8,
+    source: Spec,
+) -> Result<(), Trap>
+    requires register { register < 8 }
+    requires source { IsSpec source }
+    ensures { (latch : Latch) → closed (run_plan (ash_plan register source) (state_of processor.old bus.old latch)) ≡ ended result processor.new bus.new }
+{
+    let place = address(processor, bus, source, Size::Word)?;
+    let count = fetch(processor, bus, place, Size::Word)?;
+    let slot = Slot::of(bus.status().mode, register);
+    let effect = ash(processor.register(slot), count);
+    processor.set_register(slot, effect.value);
+    bus.set_codes(effect.codes);
+    Ok(())
+}
+
+/// ASHC.
+#[inline(never)]
+#[tactic(auto, using(crate::proofs::Steps::run_shift_pair, crate::proofs::Steps::run_store_codes), unfolding(crate::specs::Extended::ashc_plan))]
+pub fn shift_pair<S: Store>(
+    processor: &mut Processor,
+    bus: &mut Bus<S>,
+    register: u8,
+    source: Spec,
+) -> Result<(), Trap>
+    requires register { register < 8 }
+    requires source { IsSpec source }
+    ensures { (latch : Latch) → closed (run_plan (ashc_plan register source) (state_of processor.old bus.old latch)) ≡ ended result processor.new bus.new }
+{
+    let place = address(processor, bus, source, Size::Word)?;
+    let count = fetch(processor, bus, place, Size::Word)?;
+    let pair = Pair::of(bus.status().mode, register);
+    let effect = ashc(pair.long(processor), count);
+    pair.set_long(processor, effect.value);
+    bus.set_codes(effect.codes);
+    Ok(())
+}
