@@ -1,3 +1,5 @@
 pub mod Divisions
 pub mod EffectLaws
 pub mod Iterations
+pub mod Products
+pub mod ShiftLaws

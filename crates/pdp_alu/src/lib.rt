@@ -22,7 +22,10 @@ pub use arithmetic_shifts::{ash, ashc};
 pub use bytes::{swab, sxt};
 pub use division::div;
 pub use effect::Effect;
-pub use extended_laws::quotients_are_unique;
+pub use extended_laws::{
+    products_are_exact, quotients_are_unique, shifts_to_the_left_multiply,
+    shifts_to_the_right_divide,
+};
 pub use laws::{
     carries_run_on, comparisons_order_operands, complements_and_negatives_undo_themselves,
     differences_are_exact, overflow_marks_wrong_signed_results, rotations_undo_each_other,

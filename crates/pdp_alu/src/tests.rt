@@ -2,6 +2,7 @@ use crate::{Codes, Effect};
 
 mod arithmetic;
 mod bytes;
+mod extended;
 mod logic;
 mod moves;
 mod shifts;

@@ -9,6 +9,7 @@ use std::alloc::Global;
 
 mod branches;
 mod double_operand;
+mod extended;
 mod faults;
 mod jumps;
 mod operands;

@@ -128,8 +128,8 @@ fn halts_at_reserved_words(rt: HostRuntime) -> Result<(), NoMemory> {
     for word in [
         // WAIT, RTI, BPT, IOT, RESET, RTT, EMT, TRAP
         0o000001, 0o000002, 0o000003, 0o000004, 0o000005, 0o000006, 0o104000, 0o104777,
-        // MUL, DIV, ASH, ASHC, MFPI, MTPI of an immediate
-        0o070027, 0o071027, 0o072027, 0o073027, 0o006527, 0o006627,
+        // MFPI, MTPI of an immediate
+        0o006527, 0o006627,
         // SPL, FADD, MTPS, MFPD, MTPD, MFPS, SETF
         0o000237, 0o075000, 0o106427, 0o106527, 0o106627, 0o106727, 0o170001,
         // words that nothing names
