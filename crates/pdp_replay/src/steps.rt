@@ -2,6 +2,7 @@
 
 use super::*;
 use std::alloc::Global;
+use std::fmt::Debug;
 use std::process::Abort;
 use std::test::Fail;
 
@@ -96,42 +97,37 @@ fn take(
 ) -> Result<(), Fail> {
     match step {
         Step::Regs(turn, want) => {
-            let regs = regs_at(engine, alloc, turn)?;
-            assert_eq!(rt; regs, want, "registers at step {number}");
+            assert_same(rt, number, &regs_at(engine, alloc, turn)?, &want);
         }
         Step::Core(question, want) => {
             let words = words_of(engine, alloc, question)?;
-            assert_eq!(rt; words.words(), want, "words at step {number}");
+            assert_same(rt, number, &words.words(), &want);
         }
         Step::Alike(one, other, want) => {
-            let alike = are_alike(engine, alloc, one, other)?;
-            assert_eq!(rt; alike, want, "answers at step {number}");
+            assert_same(rt, number, &are_alike(engine, alloc, one, other)?, &want);
         }
         Step::Ran(question, ran, known) => {
-            let took = took(engine, alloc, question)?;
-            assert_eq!(rt; took, (ran, known, STRIDE), "turns at step {number}");
+            let want = (ran, known, STRIDE);
+            assert_same(rt, number, &took(engine, alloc, question)?, &want);
         }
         Step::Known(question, want) => {
             let (_, known, stride) = took(engine, alloc, question)?;
-            assert_eq!(rt;
-                (known, stride),
-                (want, STRIDE),
-                "known turn at step {number}"
-            );
+            assert_same(rt, number, &(known, stride), &(want, STRIDE));
         }
         Step::Refused(question, want) => {
-            let answer = engine.ask(alloc, question);
-            assert_eq!(rt; answer, Err(want), "refusal at step {number}");
+            assert_same(rt, number, &engine.ask(alloc, question), &Err(want));
         }
-        Step::Edit(edit, want) => {
-            assert_eq!(rt; make(engine, edit), want, "edit at step {number}");
-        }
+        Step::Edit(edit, want) => assert_same(rt, number, &make(engine, edit), &want),
         Step::Patches(count, first) => {
             let patches = (engine.patch_count(), engine.patches(0));
-            assert_eq!(rt; patches, (count, first), "patches at step {number}");
+            assert_same(rt, number, &patches, &(count, first));
         }
     }
     Ok(())
+}
+
+fn assert_same<T: PartialEq + Debug>(rt: &impl Abort, number: usize, got: &T, want: &T) {
+    assert_eq!(rt; got, want, "at step {number}");
 }
 
 fn regs_at(engine: &mut Engine, alloc: Global, turn: u32) -> Result<Regs, Fail> {
