@@ -27,4 +27,6 @@ mod core_tests;
 #[cfg(test)]
 mod script_tests;
 #[cfg(test)]
+mod steps;
+#[cfg(test)]
 mod tests;

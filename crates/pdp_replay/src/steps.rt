@@ -1,0 +1,175 @@
+//! Tests of an engine as tables: each row is a step, a call of the engine with what must come of it.
+
+use super::*;
+use std::alloc::Global;
+use std::fmt::Debug;
+use std::process::Abort;
+use std::test::Fail;
+
+/// The stride of each setup here.
+pub const STRIDE: u32 = 2_000_000_000;
+
+/// A setup of so many units of core, without images: start 1000 (octal), and the one stride.
+pub fn blank(alloc: Global, units: u8) -> Setup {
+    Setup {
+        units,
+        start: 0o1000,
+        core: Vec::new(alloc),
+        disk: Vec::new(alloc),
+        tape: Vec::new(alloc),
+        stride: STRIDE,
+    }
+}
+
+/// An engine over so many units of core, with these words from 1000 (octal) on as its image; it starts there.
+pub fn engine_with(alloc: Global, units: u8, words: &[u16]) -> Result<Engine, Fault> {
+    let mut setup = blank(alloc, units);
+    setup.core = vec![in alloc; 0; 256]?;
+    setup.core.extend_from_slice(words)?;
+    Engine::new(alloc, setup)
+}
+
+/// A step of a test.
+#[derive(Clone, Copy)]
+pub enum Step<'a> {
+    /// The registers before this turn.
+    Regs(u32, Regs),
+    /// The words that this question is answered.
+    Core(Question, &'a [u16]),
+    /// Whether these two questions are answered the same.
+    Alike(Question, Question, bool),
+    /// How many turns are run for this question, and the known turn after it.
+    Ran(Question, u64, u32),
+    /// The known turn after this question.
+    Known(Question, u32),
+    /// Why this question has no answer.
+    Refused(Question, Fault),
+    /// What this edit answers.
+    Edit(Edit, Result<u32, Fault>),
+    /// How many words have a patch, and the first of the patches.
+    Patches(usize, Option<Patch>),
+}
+
+/// An edit of the past. The number of an event that it puts in is its answer, else 0.
+#[derive(Clone, Copy)]
+pub enum Edit {
+    /// Makes the core word at this address this word.
+    Patch(u32, u16),
+    /// Takes back the patch at this address.
+    Revert(u32),
+    /// Puts an event into the script at this turn.
+    Insert(u32, Event),
+    /// Gives the event of this number this turn and event.
+    Alter(u32, u32, Event),
+    /// Takes the event of this number out of the script.
+    Drop(u32),
+}
+
+/// The question before this turn for so many words of core from this address on.
+pub const fn core(turn: u32, address: u32, count: u32) -> Question {
+    Question::Core {
+        turn,
+        address,
+        count,
+    }
+}
+
+/// Asserts that these steps, taken in turn with this engine, give what they say. A failure names a step, counted from 0.
+pub fn follow(
+    rt: &impl Abort,
+    alloc: Global,
+    engine: Result<Engine, Fault>,
+    steps: &[Step],
+) -> Result<(), Fail> {
+    let mut engine = engine?;
+    for (number, step) in steps.iter().enumerate() {
+        take(rt, alloc, &mut engine, number, *step)?;
+    }
+    Ok(())
+}
+
+fn take(
+    rt: &impl Abort,
+    alloc: Global,
+    engine: &mut Engine,
+    number: usize,
+    step: Step,
+) -> Result<(), Fail> {
+    match step {
+        Step::Regs(turn, want) => {
+            assert_same(rt, number, &regs_at(engine, alloc, turn)?, &want);
+        }
+        Step::Core(question, want) => {
+            let words = words_of(engine, alloc, question)?;
+            assert_same(rt, number, &words.words(), &want);
+        }
+        Step::Alike(one, other, want) => {
+            assert_same(rt, number, &are_alike(engine, alloc, one, other)?, &want);
+        }
+        Step::Ran(question, ran, known) => {
+            let want = (ran, known, STRIDE);
+            assert_same(rt, number, &took(engine, alloc, question)?, &want);
+        }
+        Step::Known(question, want) => {
+            let (_, known, stride) = took(engine, alloc, question)?;
+            assert_same(rt, number, &(known, stride), &(want, STRIDE));
+        }
+        Step::Refused(question, want) => {
+            assert_same(rt, number, &engine.ask(alloc, question), &Err(want));
+        }
+        Step::Edit(edit, want) => assert_same(rt, number, &make(engine, edit), &want),
+        Step::Patches(count, first) => {
+            let patches = (engine.patch_count(), engine.patches(0));
+            assert_same(rt, number, &patches, &(count, first));
+        }
+    }
+    Ok(())
+}
+
+fn assert_same<T: PartialEq + Debug>(rt: &impl Abort, number: usize, got: &T, want: &T) {
+    assert_eq!(rt; got, want, "at step {number}");
+}
+
+fn regs_at(engine: &mut Engine, alloc: Global, turn: u32) -> Result<Regs, Fail> {
+    match engine.ask(alloc, Question::Regs(turn))?.value {
+        Value::Regs(regs) => Ok(regs),
+        Value::Core(_) => Err(Fail::new("words of core in place of registers")),
+    }
+}
+
+fn words_of(engine: &mut Engine, alloc: Global, question: Question) -> Result<Words, Fail> {
+    match engine.ask(alloc, question)?.value {
+        Value::Core(words) => Ok(words),
+        Value::Regs(_) => Err(Fail::new("registers in place of words of core")),
+    }
+}
+
+fn value_of(engine: &mut Engine, alloc: Global, question: Question) -> Result<Value, Fault> {
+    Ok(engine.ask(alloc, question)?.value)
+}
+
+fn are_alike(
+    engine: &mut Engine,
+    alloc: Global,
+    one: Question,
+    other: Question,
+) -> Result<bool, Fault> {
+    Ok(value_of(engine, alloc, one)? == value_of(engine, alloc, other)?)
+}
+
+/// How many turns were run for a question, and the known turn and the stride after it.
+fn took(engine: &mut Engine, alloc: Global, question: Question) -> Result<(u64, u32, u32), Fault> {
+    let answer = engine.ask(alloc, question)?;
+    Ok((answer.ran, answer.known, answer.stride))
+}
+
+fn make(engine: &mut Engine, edit: Edit) -> Result<u32, Fault> {
+    match edit {
+        Edit::Patch(address, word) => engine.set_core(address, word)?,
+        Edit::Revert(address) => engine.revert_core(address)?,
+        Edit::Insert(turn, event) => return engine.insert(turn, event),
+        Edit::Alter(number, turn, event) => engine.alter(number, turn, event)?,
+        Edit::Drop(number) => engine.drop_event(number)?,
+    }
+    Ok(0)
+}
