@@ -10,7 +10,7 @@ use Rattle.pdp_alu.proofs.Divisions.{product_of_sum}
 use Rattle.pdp_word.specs.Word.{signed}
 use Rattle.pdp_alu.specs.ArithmeticShifts.{ash_effect, ashc_effect, shifted_by, shifted_left, shifted_right, unshifted}
 use Rattle.pdp_alu.specs.Long.{signed_long}
-use Rattle.pdp_alu.specs.declared.arithmetic_shifts.Shifting.{Shifting}
+use Rattle.pdp_alu.specs.declared.shifting.Shifting.{Shifting}
 
 -- a number below twice its sign bit, as a signed number
 abbrev pub signed_by : ℕ → ℕ → ℤ

@@ -4,6 +4,7 @@ ghost use Rattle.pdp_alu.specs.ArithmeticShifts.{ash_effect, ashc_effect, shifte
 
 use crate::effect::Effect;
 use crate::long::LongEffect;
+use crate::shifting::Shifting;
 use pdp_word::Size;
 
 // The sign bits of a word and of a number of 32 bits.
@@ -38,14 +39,6 @@ pub fn ashc(long: u32, source: u16) -> LongEffect
 {
     let shifting = shift(LONG_SIGN, long, source);
     LongEffect::new(shifting.number, shifting.sign_changed, shifting.out)
-}
-
-// A number that is being shifted, the bit that was moved out last, and whether the sign has changed.
-#[derive(Clone, Copy)]
-struct Shifting {
-    number: u32,
-    out: bool,
-    sign_changed: bool,
 }
 
 // A number with this sign bit, shifted by the signed low six bits of the source.
@@ -89,51 +82,4 @@ fn shift_right(sign: u32, number: u32, count: u16) -> Shifting
         shifting = shifting.right(sign);
     }
     shifting
-}
-
-impl Shifting {
-    #[inline]
-    fn unshifted(number: u32) -> Shifting
-        ensures { result ≡ unshifted number }
-    {
-        Shifting {
-            number,
-            out: false,
-            sign_changed: false,
-        }
-    }
-
-    // One place to the left: the sign bit goes out.
-    #[inline]
-    fn left(self, sign: u32) -> Shifting
-        requires sign { sign ≤ 2 ^ 31 }
-        requires number { self.number < 2 * sign }
-        ensures shifted { result ≡ shifted_left sign self }
-        ensures fits { result.number < 2 * sign }
-    {
-        let out = self.number >= sign;
-        let rest = if out { self.number - sign } else { self.number };
-        let number = rest * 2;
-        Shifting {
-            number,
-            out,
-            sign_changed: self.sign_changed || out != (number >= sign),
-        }
-    }
-
-    // One place to the right: the lowest bit goes out, the sign bit stays.
-    #[inline]
-    fn right(self, sign: u32) -> Shifting
-        requires sign { sign ≤ 2 ^ 31 }
-        requires number { self.number < 2 * sign }
-        ensures shifted { result ≡ shifted_right sign self }
-        ensures fits { result.number < 2 * sign }
-    {
-        let kept = if self.number >= sign { sign } else { 0 };
-        Shifting {
-            number: self.number / 2 + kept,
-            out: self.number % 2 == 1,
-            sign_changed: self.sign_changed,
-        }
-    }
 }

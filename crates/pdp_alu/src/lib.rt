@@ -14,6 +14,7 @@ mod moves;
 mod multiplication;
 mod operand;
 mod quotient;
+mod shifting;
 mod shifts;
 mod single_operand;
 

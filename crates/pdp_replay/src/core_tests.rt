@@ -1,5 +1,5 @@
 use super::*;
-use crate::steps::{Edit, Step, core, engine_with, follow};
+use crate::test_steps::{Edit, Step, core, engine_with, follow};
 use std::test::Fail;
 
 #[test]

@@ -27,6 +27,6 @@ mod core_tests;
 #[cfg(test)]
 mod script_tests;
 #[cfg(test)]
-mod steps;
+mod test_steps;
 #[cfg(test)]
 mod tests;

@@ -1,5 +1,5 @@
 use super::*;
-use crate::steps::{Edit, Step, engine_with, follow};
+use crate::test_steps::{Edit, Step, engine_with, follow};
 use std::test::Fail;
 
 /// Waits for a key, and puts it into R1: TSTB @#177560; BPL .-4; MOVB @#177562,R1; HALT.

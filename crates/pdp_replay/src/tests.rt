@@ -1,5 +1,5 @@
 use super::*;
-use crate::steps::{Edit, STRIDE, Step, blank, core, follow};
+use crate::test_steps::{Edit, STRIDE, Step, blank, core, follow};
 use std::alloc::Global;
 use std::test::Fail;
 
