@@ -1,4 +1,5 @@
 pub mod Ending
+pub mod Files
 pub mod Numbers
+pub mod CommandLine
 pub mod Outcome
-pub mod Words

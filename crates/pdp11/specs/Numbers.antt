@@ -1,6 +1,7 @@
 -- The numbers that the options give.
 use Rattle.std.specs.Prelude.{ℕ, List, Option, Some, None, min, option_map}
 use Rattle.pdp_word.specs.Number.{number_of}
+use Rattle.pdp_session.specs.Grammar.Arguments.{◌>>=◌}
 use Rattle.pdp11.specs.declared.options.Options.{Options}
 
 -- The number of an option whose field holds numbers up to `largest`: its default where the option isn't given, and
@@ -11,10 +12,11 @@ number_given base largest default (Some text) = option_map (λ number. min numbe
 
 -- the options, where each has its number
 abbrev pub all_given : Option ℕ → Option ℕ → Option ℕ → Option Options
-all_given None start stride = None
-all_given (Some units) None stride = None
-all_given (Some units) (Some start) None = None
-all_given (Some units) (Some start) (Some stride) = Some (record { units = units; start = start; stride = stride })
+all_given units start stride = do
+  u ← units
+  a ← start
+  n ← stride
+  Some (record { units = u; start = a; stride = n })
 
 -- what the texts of --units, --start and --stride ask for: without them 31, 1000 octal and 2,000,000,000
 abbrev pub options_given : Option (List ℕ) → Option (List ℕ) → Option (List ℕ) → Option Options

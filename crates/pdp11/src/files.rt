@@ -1,3 +1,6 @@
+ghost use Rattle.std.specs.Prelude.{◌≡◌, ◌||◌, Bool, false};
+ghost use Rattle.pdp11.specs.Files.{is_unreadable};
+
 use std::alloc::Global;
 use std::{fs, io};
 
@@ -12,24 +15,51 @@ pub enum FileFailure {
 
 /// The files that the words of the command line name.
 pub trait Files {
+    // whether a file couldn't be read since these were made
+    ghost has_failed: { Self → Bool };
+
     /// All bytes of the file of this name, or why there are none.
-    fn bytes(&mut self, alloc: Global, name: &str) -> Result<Vec<u8>, FileFailure>;
+    fn bytes(&mut self, alloc: Global, name: &str) -> Result<Vec<u8>, FileFailure>
+        ensures fails { has_failed self.new ≡ (has_failed self.old || is_unreadable result) };
+
+    /// Whether a file couldn't be read since these were made.
+    fn failed(&self) -> bool
+        ensures { result ≡ has_failed self.now };
 }
 
-/// The files of the system, through this runtime.
+/// The files of the system, through a runtime.
 #[derive(Drop)]
 pub struct HostFiles<'a> {
-    pub rt: &'a HostRuntime,
+    rt: &'a HostRuntime,
+    failed: bool,
+}
+
+impl<'a> HostFiles<'a> {
+    /// The files of the system.
+    pub fn new(rt: &'a HostRuntime) -> Self
+        ensures sound { ⟦<HostFiles<'a> as Files>⟧.has_failed result ≡ false }
+    {
+        HostFiles { rt, failed: false }
+    }
 }
 
 impl Files for HostFiles<'_> {
+    ghost has_failed = { λ s. s.failed };
+
     fn bytes(&mut self, _alloc: Global, name: &str) -> Result<Vec<u8>, FileFailure> {
         match fs::read(self.rt, name) {
             Ok(bytes) => Ok(bytes),
             Err(error) => match error.kind() {
                 io::ErrorKind::OutOfMemory => Err(FileFailure::NoMemory),
-                _ => Err(FileFailure::Unreadable),
+                _ => {
+                    self.failed = true;
+                    Err(FileFailure::Unreadable)
+                }
             },
         }
+    }
+
+    fn failed(&self) -> bool {
+        self.failed
     }
 }

@@ -1,12 +1,17 @@
-//! pdp11: a PDP-11/40 that answers questions about any turn of its run, and whose past can be edited. Session
-//! lines come on standard input, and the replies go to standard output.
+//! pdp11: a PDP-11/40 that answers questions about any turn of its run, and whose past can be edited. Session lines
+//! come on standard input, and the replies go to standard output.
+//!
+//! It stands on pdp_session, which runs the session, on what is below that, and on clap, which reads the command
+//! line. The contract of `outcome` gives exit status and line on standard error by what the words ask for and how
+//! the session ended. What a command line or a file holds, and what standard input and output do, it leaves to the
+//! system.
 #![tactic(auto)]
 
+mod command_line;
 mod ending;
 mod files;
 mod options;
 mod program;
-mod words;
 
 use ending::Ending;
 use files::HostFiles;
@@ -17,7 +22,7 @@ use std::{env, io};
 fn main(rt: HostRuntime) -> ExitCode {
     let (status, line) = match words_of(&rt) {
         Ok(words) => {
-            let mut files = HostFiles { rt: &rt };
+            let mut files = HostFiles::new(&rt);
             let mut reader = FromRead::new(rt.stdin());
             let mut writer = ToWrite::new(rt.stdout());
             program::outcome(

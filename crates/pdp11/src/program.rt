@@ -1,12 +1,12 @@
 ghost use Rattle.std.specs.Prelude.{◌≡◌, ◌≢◌, ◌⊎◌, true, false, map};
 ghost use Rattle.pdp11.specs.Ending.{IsListed};
-ghost use Rattle.pdp11.specs.Outcome.{Answers, Shows, Tells, start_given};
-ghost use Rattle.pdp_replay.specs.Start.{given};
+ghost use Rattle.pdp11.specs.Outcome.{RunsSession, Shows, Tells, start_given};
+ghost use Rattle.pdp_replay.specs.Setup.{given};
 
+use crate::command_line::{Request, read_words};
 use crate::ending::Ending;
 use crate::files::Files;
 use crate::options::Options;
-use crate::words::{Request, read_words};
 use pdp_session::{Drain, Feed, Setup, run};
 use std::alloc::Global;
 use std::convert::AsStr;
@@ -22,7 +22,7 @@ use std::convert::AsStr;
 /// | 4 | `pdp11: refused 1 NoMemory` | no memory before the first line |
 /// | 5 | `pdp11: refused 14 BadImage`, `pdp11: refused 15 BadSetup` | the setup is refused |
 ///
-/// Want of memory is told as soon as it is met, and of several other causes the first of this order: 2, a file, 15, 14.
+/// Out of memory is told as soon as it is met; of several other causes the first in the order of docs/LANGUAGE.md.
 pub fn outcome<R: Feed, W: Drain, F: Files, S: AsStr>(
     alloc: Global,
     words: &[S],
@@ -35,7 +35,7 @@ pub fn outcome<R: Feed, W: Drain, F: Files, S: AsStr>(
     ensures listed { IsListed result.0 result.1.now }
     ensures failed { result.0 ≡ 3 → (R.has_failed reader.new ≡ true) ⊎ (W.has_failed writer.new ≡ true) }
     ensures tells { Tells (map S.text words.now) (R.remaining reader.old) (R.remaining reader.new)
-        (W.written writer.old) (W.written writer.new) result.0 result.1.now }
+        (R.pulls reader.old) (R.pulls reader.new) (W.written writer.old) (W.written writer.new) result.0 result.1.now }
 {
     let _ = files;
     let ending = match read_words(alloc, words) {
@@ -71,8 +71,10 @@ fn answer_lines<R: Feed, W: Drain>(
 ) -> Ending
     requires reads { R.has_failed reader.old ≡ false }
     requires drains { W.has_failed writer.old ≡ false }
-    ensures failed { result ≡ Ending.InputOrOutput → (R.has_failed reader.new ≡ true) ⊎ (W.has_failed writer.new ≡ true) }
-    ensures answers { Answers options (R.remaining reader.old) (R.remaining reader.new) (W.written writer.old) (W.written writer.new) result }
+    ensures failed { result ≡ Ending.InputOrOutput →
+        (R.has_failed reader.new ≡ true) ⊎ (W.has_failed writer.new ≡ true) }
+    ensures answers { RunsSession options (R.remaining reader.old) (R.remaining reader.new)
+        (R.pulls reader.old) (R.pulls reader.new) (W.written writer.old) (W.written writer.new) result }
 {
     let setup = setup_of(alloc, options);
     Ending::of_session(run(alloc, setup, reader, writer))

@@ -3,7 +3,7 @@ use Rattle.std.proofs.Common.{◌≡◌, ℕ, zero, suc, ◌+◌, refl, ◌∙�
 use Rattle.std.specs.Fn.{iterate}
 
 -- once more before all comes to the same as once more after all
-iterate_last : {A : Type 0} (h : A → A) (n : ℕ) (x : A) → iterate h (suc n) x ≡ h (iterate h n x)
+pub iterate_last : {A : Type 0} (h : A → A) (n : ℕ) (x : A) → iterate h (suc n) x ≡ h (iterate h n x)
 iterate_last h zero x = refl
 iterate_last h (suc n) x = iterate_last h n (h x)
 

@@ -16,7 +16,7 @@ use Rattle.pdp_alu.specs.declared.shifting.Shifting.{Shifting}
 abbrev pub signed_by : ℕ → ℕ → ℤ
 signed_by sign number = if nat_le sign number then pos number -ℤ pos (2 * sign) else pos number
 
-left_fits : (sign : ℕ) (s : Shifting) → s.number < 2 * sign → (shifted_left sign s).number < 2 * sign
+pub left_fits : (sign : ℕ) (s : Shifting) → s.number < 2 * sign → (shifted_left sign s).number < 2 * sign
 left_fits sign s fits = by_sign (cases_lt s.number sign) where
   by_sign : (s.number < sign) ⊎ (sign ≤ s.number) → (shifted_left sign s).number < 2 * sign
   by_sign (inl below) = grind arith
@@ -40,13 +40,13 @@ right_halves sign s fits = by_sign (cases_lt s.number sign) where
   by_sign (inl below) = grind (arith, ints)
   by_sign (inr above) = grind (arith, ints)
 
-times_one : (x : ℤ) → x ≡ x *ℤ pos 1
+pub times_one : (x : ℤ) → x ≡ x *ℤ pos 1
 times_one (pos a) = ap pos (omega arith)
 times_one (negsuc a) = ap (λ n. neg_ℤ (pos n)) (once (suc a)) where
   once : (n : ℕ) → n ≡ n * 1
   once n = omega arith
 
-doubled_power : (x : ℤ) (n : ℕ) → (x +ℤ x) *ℤ pos (2 ^ n) ≡ x *ℤ pos (2 ^ suc n)
+pub doubled_power : (x : ℤ) (n : ℕ) → (x +ℤ x) *ℤ pos (2 ^ n) ≡ x *ℤ pos (2 ^ suc n)
 doubled_power x n =
     product_of_sum x (pos (2 ^ n)) x ∙ ap (λ y. y +ℤ x *ℤ pos (2 ^ n)) (*ℤ_comm x (pos (2 ^ n)))
     ∙ ap (λ y. pos (2 ^ n) *ℤ x +ℤ y) (*ℤ_comm x (pos (2 ^ n))) ∙ sym (product_of_sum (pos (2 ^ n)) x (pos (2 ^ n)))
@@ -77,7 +77,7 @@ divided_by_one (pos a) = ap pos (omega arith)
 divided_by_one (negsuc a) = ap negsuc (omega arith)
 
 -- so many shifts to the right divide by a power of 2, rounded down
-right_divides : (sign n : ℕ) (s : Shifting) → s.number < 2 * sign
+pub right_divides : (sign n : ℕ) (s : Shifting) → s.number < 2 * sign
     → signed_by sign (iterate (shifted_right sign) n s).number ≡ int_div_euclid (signed_by sign s.number) (pos (2 ^ n))
 right_divides sign zero s fits = divided_by_one (signed_by sign s.number)
 right_divides sign (suc n) s fits =
@@ -88,12 +88,12 @@ left_keeps_fits : (sign n : ℕ) (s : Shifting) → s.number < 2 * sign → (ite
 left_keeps_fits sign zero s fits = fits
 left_keeps_fits sign (suc n) s fits = left_keeps_fits sign n (shifted_left sign s) (left_fits sign s fits)
 
-right_keeps_fits : (sign n : ℕ) (s : Shifting) → s.number < 2 * sign → (iterate (shifted_right sign) n s).number < 2 * sign
+pub right_keeps_fits : (sign n : ℕ) (s : Shifting) → s.number < 2 * sign → (iterate (shifted_right sign) n s).number < 2 * sign
 right_keeps_fits sign zero s fits = fits
 right_keeps_fits sign (suc n) s fits = right_keeps_fits sign n (shifted_right sign s) (right_halves sign s fits).1
 
 -- which shifts a source names
-shifts_left : (sign number count : ℕ) → count < 0o40
+pub shifts_left : (sign number count : ℕ) → count < 0o40
     → shifted_by sign number count ≡ iterate (shifted_left sign) count (unshifted number)
 shifts_left sign number count small = chosen (count % 0o100) (omega arith) where
   chosen : (c : ℕ) → c ≡ count
@@ -101,7 +101,7 @@ shifts_left sign number count small = chosen (count % 0o100) (omega arith) where
       ≡ iterate (shifted_left sign) count (unshifted number)
   chosen c is = grind arith
 
-shifts_right : (sign number count : ℕ) → 0 < count → count ≤ 0o40
+pub shifts_right : (sign number count : ℕ) → 0 < count → count ≤ 0o40
     → shifted_by sign number (0o100 - count) ≡ iterate (shifted_right sign) count (unshifted number)
 shifts_right sign number count some few = chosen ((0o100 - count) % 0o100) (0o100 - (0o100 - count) % 0o100) (omega arith) (omega arith) where
   chosen : (c n : ℕ) → 0o40 ≤ c → n ≡ count
@@ -112,10 +112,10 @@ shifts_right sign number count some few = chosen ((0o100 - count) % 0o100) (0o10
 signed_word : (n : ℕ) → n < 0o200000 → signed (n % 0o200000) ≡ signed_by 0o100000 n
 signed_word n fits = grind (arith, ints)
 
-signed_long_by : (n : ℕ) → signed_long n ≡ signed_by (2 ^ 31) n
+pub signed_long_by : (n : ℕ) → signed_long n ≡ signed_by (2 ^ 31) n
 signed_long_by n = grind (arith, ints)
 
-plain_signed : (n : ℕ) → n < 0o200000 → signed n ≡ signed_by 0o100000 n
+pub plain_signed : (n : ℕ) → n < 0o200000 → signed n ≡ signed_by 0o100000 n
 plain_signed n fits = grind (arith, ints)
 
 pub word_to_the_left : (word count : ℕ) → word < 0o200000 → count < 0o40 → (ash_effect word count).codes.v ≡ false

@@ -3,6 +3,8 @@ pub mod ArithmeticShifts
 pub mod Bytes
 pub mod Division
 pub mod Effect
+pub mod ExtendedLaws
+pub mod Laws
 pub mod Logic
 pub mod Long
 pub mod Multiplication

@@ -2,6 +2,7 @@
 -- (DEC PDP-11/40 Processor Handbook (1972), Extended instruction set).
 use Rattle.std.specs.Prelude.{ℕ, ℤ, pos, ◌+◌, ◌*◌, ◌/◌, ◌%◌, ◌^◌, ◌-ℤ◌, ◌==◌, Bool, nat_le, if◌then◌else◌}
 use Rattle.pdp_alu.specs.declared.long.LongEffect.{LongEffect}
+use Rattle.pdp_alu.specs.Operand.{is_beyond}
 
 -- the number with these two words
 abbrev pub join_words : ℕ → ℕ → ℕ
@@ -20,6 +21,10 @@ is_negative_long long = nat_le (2 ^ 31) long
 -- as a signed number: less 2 ^ 32 where bit 31 is set
 abbrev pub signed_long : ℕ → ℤ
 signed_long long = if is_negative_long long then pos long -ℤ pos (2 ^ 32) else pos long
+
+-- whether a number is no signed number of 32 bits
+abbrev pub overflows_long : ℤ → Bool
+overflows_long number = is_beyond (2 ^ 31) number
 
 -- a number of 32 bits: N where its bit 31 is set, Z where it is 0
 abbrev pub long_effect : ℕ → Bool → Bool → LongEffect

@@ -20,14 +20,19 @@ abbrev pub all_ones : Size → ℕ
 all_ones Word = 0o177777
 all_ones Byte = 0o377
 
+-- how many bits it has
+abbrev pub width : Size → ℕ
+width Word = 16
+width Byte = 8
+
 -- an operand below the span, as a signed number: less the span where its top bit is set
 abbrev pub signed_at : Size → ℕ → ℤ
 signed_at size operand = if is_negative size operand then pos operand -ℤ pos (span size) else pos operand
 
+-- whether a number is below the negative of this bound, or not below the bound
+abbrev pub is_beyond : ℕ → ℤ → Bool
+is_beyond bound number = int_lt number (neg_ℤ (pos bound)) || int_le (pos bound) number
+
 -- whether a number is no signed number of this size
 abbrev pub overflows : Size → ℤ → Bool
-overflows size number = int_lt number (neg_ℤ (pos (half size))) || int_le (pos (half size)) number
-
--- a bit as a number
-abbrev pub worth : Bool → ℕ
-worth bit = if bit then 1 else 0
+overflows size number = is_beyond (half size) number

@@ -1,12 +1,13 @@
 -- The effects of CLR, COM, INC, DEC, NEG, ADC and SBC; the operand is cut to the size
 -- (DEC PDP-11/40 Processor Handbook (1972), Instruction set).
 use Rattle.std.specs.Prelude.{ℕ, ◌+◌, ◌-◌, ◌%◌, ◌==◌, ◌&&◌, true, false, not}
+use Rattle.pdp_word.specs.Bits.{bit_of}
 use Rattle.pdp_word.specs.declared.codes.Codes.{Codes}
 use Rattle.pdp_word.specs.declared.size.Size.{Size}
 use Rattle.pdp_word.specs.Size.{span}
 use Rattle.pdp_alu.specs.declared.effect.Effect.{Effect}
 use Rattle.pdp_alu.specs.Effect.{effect}
-use Rattle.pdp_alu.specs.Operand.{most_positive, most_negative, all_ones, worth}
+use Rattle.pdp_alu.specs.Operand.{most_positive, most_negative, all_ones}
 
 -- CLR: 0 and the codes 0100
 unfoldable pub clr_effect : Size → Effect
@@ -36,10 +37,10 @@ neg_effect size operand =
 unfoldable pub adc_effect : Size → ℕ → Codes → Effect
 adc_effect size operand codes =
     let old = operand % span size in
-    effect size (old + worth codes.c) (codes.c && old == most_positive size) (codes.c && old == all_ones size)
+    effect size (old + bit_of codes.c) (codes.c && old == most_positive size) (codes.c && old == all_ones size)
 
 -- SBC: minus C; V where C was set and it was the most negative number, C where C was set and it was 0
 unfoldable pub sbc_effect : Size → ℕ → Codes → Effect
 sbc_effect size operand codes =
     let old = operand % span size in
-    effect size (span size + old - worth codes.c) (codes.c && old == most_negative size) (codes.c && old == 0)
+    effect size (span size + old - bit_of codes.c) (codes.c && old == most_negative size) (codes.c && old == 0)

@@ -1,12 +1,10 @@
 //! Laws of MUL, DIV, ASH and ASHC, for all operands that fit.
 
-ghost use Rattle.std.specs.Prelude.{◌≡◌, ℕ, ℤ, pos, ◌-◌, ◌^◌, ◌<◌, ◌≤◌, ◌*ℤ◌, int_div, int_rem, unsigned_abs, IsFalse};
-ghost use Rattle.std.specs.Int.{int_div_euclid};
-ghost use Rattle.pdp_word.specs.Word.{signed};
-ghost use Rattle.pdp_alu.specs.ArithmeticShifts.{ash_effect, ashc_effect};
-ghost use Rattle.pdp_alu.specs.Division.{IsDivision};
-ghost use Rattle.pdp_alu.specs.Long.{low_word, signed_long};
-ghost use Rattle.pdp_alu.specs.Multiplication.{mul_effect};
+ghost use Rattle.pdp_alu.specs.ExtendedLaws.{QuotientsExist, QuotientsAreUnique, DivisionsAreExact};
+ghost use Rattle.pdp_alu.specs.ExtendedLaws.{WordShiftsMultiply, LongShiftsMultiply, OverflowMarksWordMultiples, OverflowMarksLongMultiples};
+ghost use Rattle.pdp_alu.specs.ExtendedLaws.{CarryIsBitAboveWord, CarryIsBitAboveLong, CountZeroMovesNothing, CountsHaveSixBits};
+ghost use Rattle.pdp_alu.specs.ExtendedLaws.{WordShiftsDivide, LongShiftsDivide, CarryIsBitBelowWord, CarryIsBitBelowLong, RightShiftsNeverOverflow};
+ghost use Rattle.pdp_alu.specs.ExtendedLaws.{ProductsAreExact, LowProductsAreExact, CarryMarksLongProducts};
 
 /// A law and no code: each dividend and each divisor but 0 have one quotient and one remainder. They are those of `int_div`
 /// and `int_rem`, by which DIV is defined.
@@ -14,33 +12,56 @@ ghost use Rattle.pdp_alu.specs.Multiplication.{mul_effect};
 /// Source: DEC PDP-11/40 Processor Handbook (1972), Extended instruction set, DIV.
 #[tactic(auto, using(crate::proofs::Divisions::division_exists))]
 pub fn quotients_are_unique()
-    ensures exists { (dividend divisor : ℤ) → 0 < unsigned_abs divisor → IsDivision dividend divisor (int_div dividend divisor) (int_rem dividend divisor) }
-    ensures unique { (dividend divisor quotient remainder other_quotient other_remainder : ℤ) → IsDivision dividend divisor quotient remainder → IsDivision dividend divisor other_quotient other_remainder → (quotient ≡ other_quotient) × (remainder ≡ other_remainder) }
+    ensures exists { QuotientsExist }
+    ensures unique { QuotientsAreUnique }
 {}
 
-/// A law and no code: where V is clear, ASH and ASHC to the left multiply the signed number by 2 to the count.
+/// A law and no code: DIV divides the signed numbers, with the quotient and the remainder as signed words. It does so
+/// unless the divisor is 0 or the quotient is no signed word.
+///
+/// Source: DEC PDP-11/40 Processor Handbook (1972), Extended instruction set, DIV.
+#[tactic(auto, using(crate::proofs::WordDivisions::division_of_words))]
+pub fn divisions_are_exact()
+    ensures { DivisionsAreExact }
+{}
+
+/// A law and no code: where V is clear, ASH and ASHC to the left multiply the signed number by 2 to the count. V is set
+/// exactly where that product does not fit, so where the sign changes at any single shift. C is the last bit that was moved
+/// out. The count is the low six bits of the source, and 0 moves nothing.
 ///
 /// Source: DEC PDP-11/40 Processor Handbook (1972), Extended instruction set, ASH and ASHC.
-#[tactic(auto, using(crate::proofs::ShiftLaws::word_to_the_left, crate::proofs::ShiftLaws::long_to_the_left))]
+#[tactic(auto, using(crate::proofs::ShiftLaws::word_to_the_left, crate::proofs::ShiftLaws::long_to_the_left, crate::proofs::ShiftCodes::word_overflow, crate::proofs::ShiftCodes::long_overflow, crate::proofs::ShiftCodes::word_carry, crate::proofs::ShiftCodes::long_carry), unfolding(crate::specs::ArithmeticShifts::ash_effect, crate::specs::ArithmeticShifts::ashc_effect))]
 pub fn shifts_to_the_left_multiply()
-    ensures word { (word count : ℕ) → word < 0o200000 → count < 0o40 → IsFalse (ash_effect word count).codes.v → signed (ash_effect word count).value ≡ signed word *ℤ pos (2 ^ count) }
-    ensures long { (long count : ℕ) → long < 2 ^ 32 → count < 0o40 → IsFalse (ashc_effect long count).codes.v → signed_long (ashc_effect long count).value ≡ signed_long long *ℤ pos (2 ^ count) }
+    ensures word { WordShiftsMultiply }
+    ensures long { LongShiftsMultiply }
+    ensures word_overflow { OverflowMarksWordMultiples }
+    ensures long_overflow { OverflowMarksLongMultiples }
+    ensures word_carry { CarryIsBitAboveWord }
+    ensures long_carry { CarryIsBitAboveLong }
+    ensures zero { CountZeroMovesNothing }
+    ensures count { CountsHaveSixBits }
 {}
 
-/// A law and no code: ASH and ASHC to the right divide the signed number by 2 to the count, rounded down.
+/// A law and no code: ASH and ASHC to the right divide the signed number by 2 to the count, rounded down. C is the last bit
+/// that was moved out, and V is clear.
 ///
 /// Source: DEC PDP-11/40 Processor Handbook (1972), Extended instruction set, ASH and ASHC.
-#[tactic(auto, using(crate::proofs::ShiftLaws::word_to_the_right, crate::proofs::ShiftLaws::long_to_the_right))]
+#[tactic(auto, using(crate::proofs::ShiftLaws::word_to_the_right, crate::proofs::ShiftLaws::long_to_the_right, crate::proofs::ShiftCodes::word_right_carry, crate::proofs::ShiftCodes::long_right_carry))]
 pub fn shifts_to_the_right_divide()
-    ensures word { (word count : ℕ) → word < 0o200000 → 0 < count → count ≤ 0o40 → signed (ash_effect word (0o100 - count)).value ≡ int_div_euclid (signed word) (pos (2 ^ count)) }
-    ensures long { (long count : ℕ) → long < 2 ^ 32 → 0 < count → count ≤ 0o40 → signed_long (ashc_effect long (0o100 - count)).value ≡ int_div_euclid (signed_long long) (pos (2 ^ count)) }
+    ensures word { WordShiftsDivide }
+    ensures long { LongShiftsDivide }
+    ensures word_carry { CarryIsBitBelowWord }
+    ensures long_carry { CarryIsBitBelowLong }
+    ensures overflow { RightShiftsNeverOverflow }
 {}
 
-/// A law and no code: the product of MUL is that of the signed words, and where C is clear its low word alone is.
+/// A law and no code: the product of MUL is that of the signed words, and where C is clear its low word alone is. C is set
+/// exactly where the product is no signed word, and V is clear.
 ///
 /// Source: DEC PDP-11/40 Processor Handbook (1972), Extended instruction set, MUL.
-#[tactic(auto, using(crate::proofs::Products::signed_product, crate::proofs::Products::signed_low_product))]
+#[tactic(auto, using(crate::proofs::Products::signed_product, crate::proofs::Products::signed_low_product), unfolding(crate::specs::Multiplication::mul_effect))]
 pub fn products_are_exact()
-    ensures long { (multiplicand multiplier : ℕ) → multiplicand < 0o200000 → multiplier < 0o200000 → signed_long (mul_effect multiplicand multiplier).value ≡ signed multiplicand *ℤ signed multiplier }
-    ensures word { (multiplicand multiplier : ℕ) → multiplicand < 0o200000 → multiplier < 0o200000 → IsFalse (mul_effect multiplicand multiplier).codes.c → signed (low_word (mul_effect multiplicand multiplier).value) ≡ signed multiplicand *ℤ signed multiplier }
+    ensures long { ProductsAreExact }
+    ensures word { LowProductsAreExact }
+    ensures carry { CarryMarksLongProducts }
 {}

@@ -1,4 +1,9 @@
 //! Results and condition codes of the instructions, over whole numbers.
+//!
+//! It stands on pdp_word. The contract of each instruction's function gives its value and its condition codes, by a
+//! definition; the laws say what these definitions come to: for instance that a sum is exact with C as the bit
+//! above the word. Where operands come from and where a value goes it leaves to pdp_operand, and when codes are
+//! stored to pdp_cpu.
 #![tactic(auto)]
 
 mod arithmetic;
@@ -24,17 +29,18 @@ pub use bytes::{swab, sxt};
 pub use division::div;
 pub use effect::Effect;
 pub use extended_laws::{
-    products_are_exact, quotients_are_unique, shifts_to_the_left_multiply,
+    divisions_are_exact, products_are_exact, quotients_are_unique, shifts_to_the_left_multiply,
     shifts_to_the_right_divide,
 };
 pub use laws::{
-    carries_run_on, comparisons_order_operands, complements_and_negatives_undo_themselves,
-    differences_are_exact, overflow_marks_wrong_signed_results, rotations_undo_each_other,
-    shifts_halve_and_double, sums_are_exact, swaps_undo_themselves,
+    carries_run_on, codes_tell_of_the_value, comparisons_order_operands,
+    complements_and_negatives_undo_themselves, differences_are_exact, logic_goes_bit_by_bit,
+    overflow_marks_wrong_signed_results, rotations_undo_each_other, shifts_halve_and_double,
+    sums_are_exact, swaps_undo_themselves,
 };
 pub use logic::{bic, bis, bit, xor};
 pub use long::{LongEffect, high_word, join_words, low_word};
-pub use moves::{mov, sign_extend};
+pub use moves::mov;
 pub use multiplication::mul;
 pub use pdp_word::{Codes, Size};
 pub use quotient::Div;

@@ -1,6 +1,6 @@
 ghost use Rattle.std.specs.Prelude.{◌≡◌, ◌<◌};
 ghost use Rattle.pdp_word.specs.Size.{span};
-ghost use Rattle.pdp_alu.specs.Effect.{mov_effect, sign_extended};
+ghost use Rattle.pdp_alu.specs.Effect.{mov_effect};
 
 use crate::effect::Effect;
 use pdp_word::{Codes, Size};
@@ -15,13 +15,4 @@ pub fn mov(size: Size, value: u16, codes: Codes) -> Effect
     ensures fits { result.value < span size }
 {
     Effect::new(size, value, false, codes.c)
-}
-
-/// The word that MOVB leaves in a register: the byte below, its top bit in all of the high byte
-/// (DEC PDP-11/40 Processor Handbook (1972), Instruction set, MOV).
-#[inline]
-pub fn sign_extend(byte: u8) -> u16
-    ensures { result ≡ sign_extended byte }
-{
-    i16::from(byte.cast_signed()).cast_unsigned()
 }

@@ -1,1 +1,2 @@
-pub mod Keyboard
+pub mod Kl
+pub mod Laws

@@ -1,9 +1,15 @@
-//! The console terminal of the PDP-11/40 (KL11): the keyboard's registers.
+//! The console terminal of the PDP-11/40 (KL11): its registers, and the keys that are struck.
+//!
+//! It stands on no other crate. `Kl` owns the registers: its contracts give, for each of them, what a read shows
+//! and leaves and what a write leaves, and what a key does. A law says that a key is read once. The address at
+//! which the registers begin, and how a byte is written to one, it leaves to pdp_unibus. The printer is to come.
 #![tactic(auto)]
 
-mod keyboard;
+mod kl;
+mod laws;
 
-pub use keyboard::Keyboard;
+pub use kl::{Kl, KlRegister};
+pub use laws::keys_are_read_once;
 
 #[cfg(test)]
 mod tests;

@@ -3,3 +3,5 @@ pub mod Endings
 pub mod Events
 pub mod PlanSizes
 pub mod TurnLaws
+pub mod StatusKept
+pub mod PlansKeepStatus

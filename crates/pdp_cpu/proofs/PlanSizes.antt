@@ -1,32 +1,29 @@
--- How many phases the plan of each instruction has.
+-- How many phases the plan of each action has.
 use Rattle.std.proofs.Common.{ℕ, ◌≤◌, arith, Bool, true, false, if◌then◌else◌}
 use Rattle.pdp_decode.specs.declared.instruction.Instr.{Instr}
-use Rattle.pdp_decode.specs.declared.instruction.Instr.TheVariants.{Halt, Wait, Rti, Bpt, Iot, Reset, Rtt, Jmp, Rts, Jsr, Mark, Sob, Emt, Trap, ClearCodes, SetCodes, Br, Bne, Beq, Bge, Blt, Bgt, Ble, Bpl, Bmi, Bhi, Blos, Bvc, Bvs, Bcc, Bcs, Mov, Movb, Cmp, Cmpb, Bit, Bitb, Bic, Bicb, Bis, Bisb, Add, Sub, Xor, Mul, Div, Ash, Ashc, Swab, Clr, Clrb, Com, Comb, Inc, Incb, Dec, Decb, Neg, Negb, Adc, Adcb, Sbc, Sbcb, Ror, Rorb, Rol, Rolb, Asr, Asrb, Asl, Aslb, Sxt, Tst, Tstb, Mfpi, Mtpi, Reserved}
 use Rattle.pdp_decode.specs.declared.instruction.Spec.{Spec}
 use Rattle.pdp_word.specs.declared.size.Size.{Size}
 use Rattle.pdp_word.specs.declared.size.Size.TheVariants.{Word, Byte}
-use Rattle.pdp_operand.specs.Plan.{Plan}
+use Rattle.pdp_operand.specs.Phases.Plan.{Plan}
 use Rattle.pdp_operand.proofs.Bound.{size_of, size_of_find}
-use Rattle.pdp_cpu.specs.Branch.{branch_plan, sob_plan}
-use Rattle.pdp_cpu.specs.ChangeCodes.{clear_plan, set_plan}
-use Rattle.pdp_cpu.specs.Control.{halt_plan}
-use Rattle.pdp_cpu.specs.DoubleOperand.{compare_plan, combine_plan, register_operand}
-use Rattle.pdp_cpu.specs.Execute.{finish}
-use Rattle.pdp_cpu.specs.Extended.{mul_plan, div_plan, ash_plan, ashc_plan}
-use Rattle.pdp_cpu.specs.Instruction.{plan_of, reserved_plan}
-use Rattle.pdp_cpu.specs.Jump.{jmp_plan, jsr_plan, rts_plan, mark_plan, pop_register, push, pop}
-use Rattle.pdp_cpu.specs.Moves.{mov_plan, movb_plan}
-use Rattle.pdp_cpu.specs.Operands.{operands, source_first, place_first, is_late}
-use Rattle.pdp_cpu.specs.Operation.{size_of_comparison, size_of_combination, size_of_modification, size_of_replacement}
-use Rattle.pdp_cpu.specs.SingleOperand.{tst_plan, modify_plan, replace_plan}
+use Rattle.pdp_cpu.specs.Handbook.Branch.{branch_plan, sob_plan}
+use Rattle.pdp_cpu.specs.Handbook.ChangeCodes.{clear_plan, set_plan}
+use Rattle.pdp_cpu.specs.Handbook.Control.{halt_plan, reserved_plan}
+use Rattle.pdp_cpu.specs.Handbook.TwoOperands.{compare_plan, combine_plan}
+use Rattle.pdp_cpu.specs.Handbook.Execute.{finish}
+use Rattle.pdp_cpu.specs.Handbook.Extended.{mul_plan, div_plan, ash_plan, ashc_plan}
+use Rattle.pdp_cpu.specs.Handbook.Action.{action_of, plan_of_action, plan_of}
+use Rattle.pdp_cpu.specs.declared.action.Action.{Action}
+use Rattle.pdp_cpu.specs.declared.action.Action.TheVariants as action
+use Rattle.pdp_cpu.specs.Handbook.Jump.{jmp_plan, jsr_plan, rts_plan, mark_plan, pop_register, push, pop}
+use Rattle.pdp_cpu.specs.Handbook.Moves.{mov_plan, movb_plan}
+use Rattle.pdp_cpu.specs.Handbook.Operands.{operands, source_first, place_first, is_late}
+use Rattle.pdp_cpu.specs.Handbook.Operation.{size_of_comparison, size_of_combination, size_of_modification, size_of_replacement}
+use Rattle.pdp_cpu.specs.Handbook.OneOperand.{tst_plan, modify_plan, replace_plan}
 use Rattle.pdp_cpu.specs.declared.operation.Combination.{Combination}
-use Rattle.pdp_cpu.specs.declared.operation.Combination.TheVariants as combination
 use Rattle.pdp_cpu.specs.declared.operation.Comparison.{Comparison}
-use Rattle.pdp_cpu.specs.declared.operation.Comparison.TheVariants as comparison
 use Rattle.pdp_cpu.specs.declared.operation.Modification.{Modification}
-use Rattle.pdp_cpu.specs.declared.operation.Modification.TheVariants as modification
 use Rattle.pdp_cpu.specs.declared.operation.Replacement.{Replacement}
-use Rattle.pdp_cpu.specs.declared.operation.Replacement.TheVariants as replacement
 
 size_when : (late : Bool) (a b : Plan) (n : ℕ) → size_of a ≤ n → size_of b ≤ n → size_of (if late then a else b) ≤ n
 size_when true a b n first second = first
@@ -44,7 +41,7 @@ unfolding mov_plan finish
 size_of_mov source destination = omega (arith, size_of_operands Word source destination)
 
 size_of_movb : (source destination : Spec) → size_of (movb_plan source destination) ≤ 12
-unfolding movb_plan
+unfolding movb_plan finish
 size_of_movb source destination = omega (arith, size_of_operands Byte source destination)
 
 size_of_compare : (c : Comparison) (source destination : Spec) → size_of (compare_plan c source destination) ≤ 12
@@ -99,83 +96,30 @@ size_of_ashc : (register : ℕ) (source : Spec) → size_of (ashc_plan register 
 unfolding ashc_plan
 size_of_ashc register source = omega (arith, size_of_find Word source)
 
--- a plan has at most twelve phases: a row for each instruction
-pub size_of_plan : (instr : Instr) → size_of (plan_of instr) ≤ 12
+-- the plan of an action has at most twelve phases
+size_of_action : (a : Action) → size_of (plan_of_action a) ≤ 12
 unfolding halt_plan branch_plan sob_plan clear_plan set_plan reserved_plan
-size_of_plan Halt = omega arith
-size_of_plan (Jmp destination) = size_of_jmp destination
-size_of_plan (Jsr register destination) = size_of_jsr register destination
-size_of_plan (Rts register) = size_of_rts register
-size_of_plan (Mark words) = size_of_mark words
-size_of_plan (Sob register words) = omega arith
-size_of_plan (ClearCodes mask) = omega arith
-size_of_plan (SetCodes mask) = omega arith
-size_of_plan (Br offset) = omega arith
-size_of_plan (Bne offset) = omega arith
-size_of_plan (Beq offset) = omega arith
-size_of_plan (Bge offset) = omega arith
-size_of_plan (Blt offset) = omega arith
-size_of_plan (Bgt offset) = omega arith
-size_of_plan (Ble offset) = omega arith
-size_of_plan (Bpl offset) = omega arith
-size_of_plan (Bmi offset) = omega arith
-size_of_plan (Bhi offset) = omega arith
-size_of_plan (Blos offset) = omega arith
-size_of_plan (Bvc offset) = omega arith
-size_of_plan (Bvs offset) = omega arith
-size_of_plan (Bcc offset) = omega arith
-size_of_plan (Bcs offset) = omega arith
-size_of_plan (Mov source destination) = size_of_mov source destination
-size_of_plan (Movb source destination) = size_of_movb source destination
-size_of_plan (Cmp source destination) = size_of_compare (comparison.Cmp Word) source destination
-size_of_plan (Cmpb source destination) = size_of_compare (comparison.Cmp Byte) source destination
-size_of_plan (Bit source destination) = size_of_compare (comparison.Bit Word) source destination
-size_of_plan (Bitb source destination) = size_of_compare (comparison.Bit Byte) source destination
-size_of_plan (Bic source destination) = size_of_combine (combination.Bic Word) source destination
-size_of_plan (Bicb source destination) = size_of_combine (combination.Bic Byte) source destination
-size_of_plan (Bis source destination) = size_of_combine (combination.Bis Word) source destination
-size_of_plan (Bisb source destination) = size_of_combine (combination.Bis Byte) source destination
-size_of_plan (Add source destination) = size_of_combine combination.Add source destination
-size_of_plan (Sub source destination) = size_of_combine combination.Sub source destination
-size_of_plan (Xor register destination) = size_of_combine combination.Xor (register_operand register) destination
-size_of_plan (Clr destination) = size_of_replace (replacement.Clr Word) destination
-size_of_plan (Clrb destination) = size_of_replace (replacement.Clr Byte) destination
-size_of_plan (Sxt destination) = size_of_replace replacement.Sxt destination
-size_of_plan (Com destination) = size_of_modify (modification.Com Word) destination
-size_of_plan (Comb destination) = size_of_modify (modification.Com Byte) destination
-size_of_plan (Inc destination) = size_of_modify (modification.Inc Word) destination
-size_of_plan (Incb destination) = size_of_modify (modification.Inc Byte) destination
-size_of_plan (Dec destination) = size_of_modify (modification.Dec Word) destination
-size_of_plan (Decb destination) = size_of_modify (modification.Dec Byte) destination
-size_of_plan (Neg destination) = size_of_modify (modification.Neg Word) destination
-size_of_plan (Negb destination) = size_of_modify (modification.Neg Byte) destination
-size_of_plan (Adc destination) = size_of_modify (modification.Adc Word) destination
-size_of_plan (Adcb destination) = size_of_modify (modification.Adc Byte) destination
-size_of_plan (Sbc destination) = size_of_modify (modification.Sbc Word) destination
-size_of_plan (Sbcb destination) = size_of_modify (modification.Sbc Byte) destination
-size_of_plan (Ror destination) = size_of_modify (modification.Ror Word) destination
-size_of_plan (Rorb destination) = size_of_modify (modification.Ror Byte) destination
-size_of_plan (Rol destination) = size_of_modify (modification.Rol Word) destination
-size_of_plan (Rolb destination) = size_of_modify (modification.Rol Byte) destination
-size_of_plan (Asr destination) = size_of_modify (modification.Asr Word) destination
-size_of_plan (Asrb destination) = size_of_modify (modification.Asr Byte) destination
-size_of_plan (Asl destination) = size_of_modify (modification.Asl Word) destination
-size_of_plan (Aslb destination) = size_of_modify (modification.Asl Byte) destination
-size_of_plan (Swab destination) = size_of_modify modification.Swab destination
-size_of_plan (Tst destination) = size_of_tst Word destination
-size_of_plan (Tstb destination) = size_of_tst Byte destination
-size_of_plan Wait = omega arith
-size_of_plan Rti = omega arith
-size_of_plan Bpt = omega arith
-size_of_plan Iot = omega arith
-size_of_plan Reset = omega arith
-size_of_plan Rtt = omega arith
-size_of_plan (Emt code) = omega arith
-size_of_plan (Trap code) = omega arith
-size_of_plan (Mul register source) = size_of_mul register source
-size_of_plan (Div register source) = size_of_div register source
-size_of_plan (Ash register source) = size_of_ash register source
-size_of_plan (Ashc register source) = size_of_ashc register source
-size_of_plan (Mfpi source) = omega arith
-size_of_plan (Mtpi destination) = omega arith
-size_of_plan Reserved = omega arith
+size_of_action action.Halt = omega arith
+size_of_action (action.Jump destination) = size_of_jmp destination
+size_of_action (action.JumpToSubroutine register destination) = size_of_jsr register destination
+size_of_action (action.ReturnFromSubroutine register) = size_of_rts register
+size_of_action (action.Mark words) = size_of_mark words
+size_of_action (action.SubtractOne register words) = omega arith
+size_of_action (action.ClearCodes mask) = omega arith
+size_of_action (action.SetCodes mask) = omega arith
+size_of_action (action.Branch condition offset) = omega arith
+size_of_action (action.Move source destination) = size_of_mov source destination
+size_of_action (action.MoveByte source destination) = size_of_movb source destination
+size_of_action (action.Compare c source destination) = size_of_compare c source destination
+size_of_action (action.Combine c source destination) = size_of_combine c source destination
+size_of_action (action.Modify m destination) = size_of_modify m destination
+size_of_action (action.Replace r destination) = size_of_replace r destination
+size_of_action (action.Test size destination) = size_of_tst size destination
+size_of_action (action.Multiply register source) = size_of_mul register source
+size_of_action (action.Divide register source) = size_of_div register source
+size_of_action (action.Shift register source) = size_of_ash register source
+size_of_action (action.ShiftPair register source) = size_of_ashc register source
+size_of_action action.Reserved = omega arith
+
+pub size_of_plan : (instr : Instr) → size_of (plan_of instr) ≤ 12
+size_of_plan instr = size_of_action (action_of instr)

@@ -1,18 +1,5 @@
-pub mod Ending
-pub mod Execute
-pub mod Extended
-pub mod Action
-pub mod Branch
-pub mod ChangeCodes
-pub mod Control
-pub mod DoubleOperand
-pub mod Jump
-pub mod Operation
-pub mod Operands
-pub mod Moves
-pub mod SingleOperand
-pub mod Instruction
-pub mod World
-pub mod MachineState
-pub mod Regs
-pub mod TurnLaws
+pub mod Handbook
+pub mod Turns
+-- where the answers of functions are kept in the latch
+pub mod Outcome
+pub mod Laws

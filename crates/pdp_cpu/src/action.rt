@@ -1,8 +1,6 @@
 //! Instructions by the phases that they have.
 ghost use Rattle.std.specs.Prelude.{◌≡◌};
-ghost use Rattle.pdp_decode.specs.Instruction.{HasSpecs};
-ghost use Rattle.pdp_cpu.specs.Action.{plan_of_action, HasOperands};
-ghost use Rattle.pdp_cpu.specs.Instruction.{plan_of};
+ghost use Rattle.pdp_cpu.specs.Handbook.Action.{action_of};
 ghost use Rattle.pdp_cpu.specs.declared.action.Action.TheVariants.{Branch, Compare, Combine, Modify, Replace};
 
 use crate::condition::Condition;
@@ -93,9 +91,7 @@ pub enum Action {
 /// What an instruction does. One that is to come does what a reserved word does.
 #[inline(always)]
 pub fn action_of(instr: Instr) -> Action
-    requires { HasSpecs instr }
-    ensures plan { plan_of_action result ≡ plan_of instr }
-    ensures valid { HasOperands result }
+    ensures { result ≡ action_of instr }
 {
     match instr {
         Instr::Halt => Action::Halt,
@@ -112,21 +108,21 @@ pub fn action_of(instr: Instr) -> Action
         Instr::Sob { register, words } => Action::SubtractOne { register, words },
         Instr::ClearCodes { codes } => Action::ClearCodes { mask: codes },
         Instr::SetCodes { codes } => Action::SetCodes { mask: codes },
-        Instr::Br { offset } => branch(Condition::Always, offset),
-        Instr::Bne { offset } => branch(Condition::NotEqual, offset),
-        Instr::Beq { offset } => branch(Condition::Equal, offset),
-        Instr::Bge { offset } => branch(Condition::GreaterOrEqual, offset),
-        Instr::Blt { offset } => branch(Condition::Less, offset),
-        Instr::Bgt { offset } => branch(Condition::Greater, offset),
-        Instr::Ble { offset } => branch(Condition::LessOrEqual, offset),
-        Instr::Bpl { offset } => branch(Condition::Plus, offset),
-        Instr::Bmi { offset } => branch(Condition::Minus, offset),
-        Instr::Bhi { offset } => branch(Condition::Higher, offset),
-        Instr::Blos { offset } => branch(Condition::LowerOrSame, offset),
-        Instr::Bvc { offset } => branch(Condition::OverflowClear, offset),
-        Instr::Bvs { offset } => branch(Condition::OverflowSet, offset),
-        Instr::Bcc { offset } => branch(Condition::CarryClear, offset),
-        Instr::Bcs { offset } => branch(Condition::CarrySet, offset),
+        Instr::Br { offset } => branch_action(Condition::Always, offset),
+        Instr::Bne { offset } => branch_action(Condition::NotEqual, offset),
+        Instr::Beq { offset } => branch_action(Condition::Equal, offset),
+        Instr::Bge { offset } => branch_action(Condition::GreaterOrEqual, offset),
+        Instr::Blt { offset } => branch_action(Condition::Less, offset),
+        Instr::Bgt { offset } => branch_action(Condition::Greater, offset),
+        Instr::Ble { offset } => branch_action(Condition::LessOrEqual, offset),
+        Instr::Bpl { offset } => branch_action(Condition::Plus, offset),
+        Instr::Bmi { offset } => branch_action(Condition::Minus, offset),
+        Instr::Bhi { offset } => branch_action(Condition::Higher, offset),
+        Instr::Blos { offset } => branch_action(Condition::LowerOrSame, offset),
+        Instr::Bvc { offset } => branch_action(Condition::OverflowClear, offset),
+        Instr::Bvs { offset } => branch_action(Condition::OverflowSet, offset),
+        Instr::Bcc { offset } => branch_action(Condition::CarryClear, offset),
+        Instr::Bcs { offset } => branch_action(Condition::CarrySet, offset),
         Instr::Mov {
             source,
             destination,
@@ -144,47 +140,47 @@ pub fn action_of(instr: Instr) -> Action
         Instr::Cmp {
             source,
             destination,
-        } => compare(Comparison::Cmp(Size::Word), source, destination),
+        } => compare_action(Comparison::Cmp(Size::Word), source, destination),
         Instr::Cmpb {
             source,
             destination,
-        } => compare(Comparison::Cmp(Size::Byte), source, destination),
+        } => compare_action(Comparison::Cmp(Size::Byte), source, destination),
         Instr::Bit {
             source,
             destination,
-        } => compare(Comparison::Bit(Size::Word), source, destination),
+        } => compare_action(Comparison::Bit(Size::Word), source, destination),
         Instr::Bitb {
             source,
             destination,
-        } => compare(Comparison::Bit(Size::Byte), source, destination),
+        } => compare_action(Comparison::Bit(Size::Byte), source, destination),
         Instr::Bic {
             source,
             destination,
-        } => combine(Combination::Bic(Size::Word), source, destination),
+        } => combine_action(Combination::Bic(Size::Word), source, destination),
         Instr::Bicb {
             source,
             destination,
-        } => combine(Combination::Bic(Size::Byte), source, destination),
+        } => combine_action(Combination::Bic(Size::Byte), source, destination),
         Instr::Bis {
             source,
             destination,
-        } => combine(Combination::Bis(Size::Word), source, destination),
+        } => combine_action(Combination::Bis(Size::Word), source, destination),
         Instr::Bisb {
             source,
             destination,
-        } => combine(Combination::Bis(Size::Byte), source, destination),
+        } => combine_action(Combination::Bis(Size::Byte), source, destination),
         Instr::Add {
             source,
             destination,
-        } => combine(Combination::Add, source, destination),
+        } => combine_action(Combination::Add, source, destination),
         Instr::Sub {
             source,
             destination,
-        } => combine(Combination::Sub, source, destination),
+        } => combine_action(Combination::Sub, source, destination),
         Instr::Xor {
             register,
             destination,
-        } => combine(
+        } => combine_action(
             Combination::Xor,
             Spec {
                 mode: 0,
@@ -196,30 +192,30 @@ pub fn action_of(instr: Instr) -> Action
         Instr::Div { register, source } => Action::Divide { register, source },
         Instr::Ash { register, source } => Action::Shift { register, source },
         Instr::Ashc { register, source } => Action::ShiftPair { register, source },
-        Instr::Clr { destination } => replace(Replacement::Clr(Size::Word), destination),
-        Instr::Clrb { destination } => replace(Replacement::Clr(Size::Byte), destination),
-        Instr::Sxt { destination } => replace(Replacement::Sxt, destination),
-        Instr::Com { destination } => modify(Modification::Com(Size::Word), destination),
-        Instr::Comb { destination } => modify(Modification::Com(Size::Byte), destination),
-        Instr::Inc { destination } => modify(Modification::Inc(Size::Word), destination),
-        Instr::Incb { destination } => modify(Modification::Inc(Size::Byte), destination),
-        Instr::Dec { destination } => modify(Modification::Dec(Size::Word), destination),
-        Instr::Decb { destination } => modify(Modification::Dec(Size::Byte), destination),
-        Instr::Neg { destination } => modify(Modification::Neg(Size::Word), destination),
-        Instr::Negb { destination } => modify(Modification::Neg(Size::Byte), destination),
-        Instr::Adc { destination } => modify(Modification::Adc(Size::Word), destination),
-        Instr::Adcb { destination } => modify(Modification::Adc(Size::Byte), destination),
-        Instr::Sbc { destination } => modify(Modification::Sbc(Size::Word), destination),
-        Instr::Sbcb { destination } => modify(Modification::Sbc(Size::Byte), destination),
-        Instr::Ror { destination } => modify(Modification::Ror(Size::Word), destination),
-        Instr::Rorb { destination } => modify(Modification::Ror(Size::Byte), destination),
-        Instr::Rol { destination } => modify(Modification::Rol(Size::Word), destination),
-        Instr::Rolb { destination } => modify(Modification::Rol(Size::Byte), destination),
-        Instr::Asr { destination } => modify(Modification::Asr(Size::Word), destination),
-        Instr::Asrb { destination } => modify(Modification::Asr(Size::Byte), destination),
-        Instr::Asl { destination } => modify(Modification::Asl(Size::Word), destination),
-        Instr::Aslb { destination } => modify(Modification::Asl(Size::Byte), destination),
-        Instr::Swab { destination } => modify(Modification::Swab, destination),
+        Instr::Clr { destination } => replace_action(Replacement::Clr(Size::Word), destination),
+        Instr::Clrb { destination } => replace_action(Replacement::Clr(Size::Byte), destination),
+        Instr::Sxt { destination } => replace_action(Replacement::Sxt, destination),
+        Instr::Com { destination } => modify_action(Modification::Com(Size::Word), destination),
+        Instr::Comb { destination } => modify_action(Modification::Com(Size::Byte), destination),
+        Instr::Inc { destination } => modify_action(Modification::Inc(Size::Word), destination),
+        Instr::Incb { destination } => modify_action(Modification::Inc(Size::Byte), destination),
+        Instr::Dec { destination } => modify_action(Modification::Dec(Size::Word), destination),
+        Instr::Decb { destination } => modify_action(Modification::Dec(Size::Byte), destination),
+        Instr::Neg { destination } => modify_action(Modification::Neg(Size::Word), destination),
+        Instr::Negb { destination } => modify_action(Modification::Neg(Size::Byte), destination),
+        Instr::Adc { destination } => modify_action(Modification::Adc(Size::Word), destination),
+        Instr::Adcb { destination } => modify_action(Modification::Adc(Size::Byte), destination),
+        Instr::Sbc { destination } => modify_action(Modification::Sbc(Size::Word), destination),
+        Instr::Sbcb { destination } => modify_action(Modification::Sbc(Size::Byte), destination),
+        Instr::Ror { destination } => modify_action(Modification::Ror(Size::Word), destination),
+        Instr::Rorb { destination } => modify_action(Modification::Ror(Size::Byte), destination),
+        Instr::Rol { destination } => modify_action(Modification::Rol(Size::Word), destination),
+        Instr::Rolb { destination } => modify_action(Modification::Rol(Size::Byte), destination),
+        Instr::Asr { destination } => modify_action(Modification::Asr(Size::Word), destination),
+        Instr::Asrb { destination } => modify_action(Modification::Asr(Size::Byte), destination),
+        Instr::Asl { destination } => modify_action(Modification::Asl(Size::Word), destination),
+        Instr::Aslb { destination } => modify_action(Modification::Asl(Size::Byte), destination),
+        Instr::Swab { destination } => modify_action(Modification::Swab, destination),
         Instr::Tst { destination } => Action::Test {
             size: Size::Word,
             destination,
@@ -243,14 +239,14 @@ pub fn action_of(instr: Instr) -> Action
 }
 
 #[inline(always)]
-fn branch(condition: Condition, offset: i8) -> Action
+fn branch_action(condition: Condition, offset: i8) -> Action
     ensures { result ≡ Branch condition offset }
 {
     Action::Branch { condition, offset }
 }
 
 #[inline(always)]
-fn compare(comparison: Comparison, source: Spec, destination: Spec) -> Action
+fn compare_action(comparison: Comparison, source: Spec, destination: Spec) -> Action
     ensures { result ≡ Compare comparison source destination }
 {
     Action::Compare {
@@ -261,7 +257,7 @@ fn compare(comparison: Comparison, source: Spec, destination: Spec) -> Action
 }
 
 #[inline(always)]
-fn combine(combination: Combination, source: Spec, destination: Spec) -> Action
+fn combine_action(combination: Combination, source: Spec, destination: Spec) -> Action
     ensures { result ≡ Combine combination source destination }
 {
     Action::Combine {
@@ -272,7 +268,7 @@ fn combine(combination: Combination, source: Spec, destination: Spec) -> Action
 }
 
 #[inline(always)]
-fn modify(modification: Modification, destination: Spec) -> Action
+fn modify_action(modification: Modification, destination: Spec) -> Action
     ensures { result ≡ Modify modification destination }
 {
     Action::Modify {
@@ -282,7 +278,7 @@ fn modify(modification: Modification, destination: Spec) -> Action
 }
 
 #[inline(always)]
-fn replace(replacement: Replacement, destination: Spec) -> Action
+fn replace_action(replacement: Replacement, destination: Spec) -> Action
     ensures { result ≡ Replace replacement destination }
 {
     Action::Replace {

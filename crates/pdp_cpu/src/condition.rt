@@ -38,7 +38,7 @@ pub enum Condition {
 }
 
 impl Condition {
-    ghost use Rattle.pdp_cpu.specs.Branch.{is_taken};
+    ghost use Rattle.pdp_cpu.specs.Handbook.Branch.{is_taken};
 
     /// Whether the branch is taken with these codes.
     #[inline(always)]

@@ -1,10 +1,7 @@
 //! MUL, DIV, ASH and ASHC.
 ghost use Rattle.std.specs.Prelude.{◌≡◌, ◌<◌};
-ghost use Rattle.pdp_decode.specs.Fields.{IsSpec};
-ghost use Rattle.pdp_operand.specs.Phase.{Latch, state_of};
-ghost use Rattle.pdp_operand.specs.Plan.{run_plan};
-ghost use Rattle.pdp_cpu.specs.Ending.{closed, ended};
-ghost use Rattle.pdp_cpu.specs.Extended.{ash_plan, ashc_plan, codes_of, div_plan, mul_plan, with_quotient};
+ghost use Rattle.pdp_operand.specs.Outcome.{Runs};
+ghost use Rattle.pdp_cpu.specs.Handbook.Extended.{ash_plan, ashc_plan, codes_of, div_plan, mul_plan, with_quotient};
 
 use crate::pair::Pair;
 use pdp_alu::{Div, ash, ashc, div, mul};
@@ -16,16 +13,14 @@ use pdp_word::{Codes, Size};
 
 /// MUL.
 #[inline(never)]
-#[tactic(auto, using(crate::proofs::Steps::run_multiply, crate::proofs::Steps::run_store_codes), unfolding(crate::specs::Extended::mul_plan))]
+#[tactic(auto, using(crate::proofs::Steps::run_multiply, crate::proofs::Steps::run_store_codes), unfolding(crate::specs::Handbook::Extended::mul_plan))]
 pub fn multiply<S: Store>(
     processor: &mut Processor,
     bus: &mut Bus<S>,
     register: u8,
     source: Spec,
 ) -> Result<(), Trap>
-    requires register { register < 8 }
-    requires source { IsSpec source }
-    ensures { (latch : Latch) → closed (run_plan (mul_plan register source) (state_of processor.old bus.old latch)) ≡ ended result processor.new bus.new }
+    ensures runs { Runs (mul_plan register source) processor.old bus.old result processor.new bus.new }
 {
     let place = address(processor, bus, source, Size::Word)?;
     let multiplier = fetch(processor, bus, place, Size::Word)?;
@@ -38,16 +33,14 @@ pub fn multiply<S: Store>(
 
 /// DIV.
 #[inline(never)]
-#[tactic(auto, using(crate::proofs::Steps::run_divide, crate::proofs::Steps::run_store_codes), unfolding(crate::specs::Extended::div_plan))]
+#[tactic(auto, using(crate::proofs::Steps::run_divide, crate::proofs::Steps::run_store_codes), unfolding(crate::specs::Handbook::Extended::div_plan))]
 pub fn divide<S: Store>(
     processor: &mut Processor,
     bus: &mut Bus<S>,
     register: u8,
     source: Spec,
 ) -> Result<(), Trap>
-    requires register { register < 8 }
-    requires source { IsSpec source }
-    ensures { (latch : Latch) → closed (run_plan (div_plan register source) (state_of processor.old bus.old latch)) ≡ ended result processor.new bus.new }
+    ensures runs { Runs (div_plan register source) processor.old bus.old result processor.new bus.new }
 {
     let place = address(processor, bus, source, Size::Word)?;
     let divisor = fetch(processor, bus, place, Size::Word)?;
@@ -74,16 +67,14 @@ fn set_quotient(processor: &mut Processor, pair: Pair, effect: Div) -> Codes
 
 /// ASH.
 #[inline(never)]
-#[tactic(auto, using(crate::proofs::Steps::run_shift, crate::proofs::Steps::run_store_codes), unfolding(crate::specs::Extended::ash_plan))]
+#[tactic(auto, using(crate::proofs::Steps::run_shift, crate::proofs::Steps::run_store_codes), unfolding(crate::specs::Handbook::Extended::ash_plan))]
 pub fn shift<S: Store>(
     processor: &mut Processor,
     bus: &mut Bus<S>,
     register: u8,
     source: Spec,
 ) -> Result<(), Trap>
-    requires register { register < 8 }
-    requires source { IsSpec source }
-    ensures { (latch : Latch) → closed (run_plan (ash_plan register source) (state_of processor.old bus.old latch)) ≡ ended result processor.new bus.new }
+    ensures runs { Runs (ash_plan register source) processor.old bus.old result processor.new bus.new }
 {
     let place = address(processor, bus, source, Size::Word)?;
     let count = fetch(processor, bus, place, Size::Word)?;
@@ -96,16 +87,14 @@ pub fn shift<S: Store>(
 
 /// ASHC.
 #[inline(never)]
-#[tactic(auto, using(crate::proofs::Steps::run_shift_pair, crate::proofs::Steps::run_store_codes), unfolding(crate::specs::Extended::ashc_plan))]
+#[tactic(auto, using(crate::proofs::Steps::run_shift_pair, crate::proofs::Steps::run_store_codes), unfolding(crate::specs::Handbook::Extended::ashc_plan))]
 pub fn shift_pair<S: Store>(
     processor: &mut Processor,
     bus: &mut Bus<S>,
     register: u8,
     source: Spec,
 ) -> Result<(), Trap>
-    requires register { register < 8 }
-    requires source { IsSpec source }
-    ensures { (latch : Latch) → closed (run_plan (ashc_plan register source) (state_of processor.old bus.old latch)) ≡ ended result processor.new bus.new }
+    ensures runs { Runs (ashc_plan register source) processor.old bus.old result processor.new bus.new }
 {
     let place = address(processor, bus, source, Size::Word)?;
     let count = fetch(processor, bus, place, Size::Word)?;

@@ -1,16 +1,12 @@
-ghost use Rattle.std.specs.Prelude.{◌≡◌, ◌<◌, [], ◌∷◌, Ok};
-ghost use Rattle.pdp_decode.specs.Fields.{IsSpec};
+ghost use Rattle.std.specs.Prelude.{◌≡◌};
 ghost use Rattle.pdp_unibus.specs.BusWorld.{BusWorld};
-ghost use Rattle.pdp_operand.specs.Operand.{fetched};
-ghost use Rattle.pdp_operand.specs.Phase.{Latch, run, state_of};
-ghost use Rattle.pdp_operand.specs.Plan.{run_plan};
 ghost use Rattle.pdp_operand.specs.declared.processor.Processor.{Processor};
-ghost use Rattle.pdp_operand.specs.declared.processor.Slot.{Slot};
-ghost use Rattle.pdp_cpu.specs.Ending.{closed, ended};
-ghost use Rattle.pdp_cpu.specs.Jump.{aim as aim_phase, jmp_plan, jsr_plan, rts_plan, mark_plan, pop_register as pop_plan, linked, marked};
+ghost use Rattle.pdp_operand.specs.Outcome.{GivesWhere, IsAt, in_value, Runs};
+ghost use Rattle.pdp_operand.specs.Phases.Plan.{one};
+ghost use Rattle.pdp_cpu.specs.Handbook.Jump.{aim as aim_phase, jmp_plan, jsr_plan, rts_plan, mark_plan, pop_register as pop_plan, linked, marked};
 
 use pdp_decode::Spec;
-use pdp_operand::{Place, Processor, Slot, Trap, address, fetch, store};
+use pdp_operand::{Fill, Place, Processor, Slot, Trap, address, fetch, store};
 use pdp_store::Store;
 use pdp_unibus::Bus;
 use pdp_word::Size;
@@ -25,9 +21,9 @@ const POP: Spec = Spec { mode: 2, reg: 6 };
 ///
 /// Err(JumpToRegister) where the operand is a register.
 #[inline(always)]
-#[tactic(auto, unfolding(crate::specs::Jump::aim, pdp_operand::specs::Phase::run))]
+#[tactic(auto, unfolding(crate::specs::Handbook::Jump::aim, pdp_operand::specs::Phases::Phase::run))]
 fn aim(place: Place) -> Result<u16, Trap>
-    ensures { (p : Processor) (b : BusWorld) (latch : Latch) → latch.place ≡ place → run (aim_phase ∷ []) (state_of p b latch) ≡ fetched result p b latch }
+    ensures gives { (p : Processor) (b : BusWorld) → GivesWhere (IsAt place) in_value (one aim_phase) p b result p b }
 {
     match place {
         Place::Reg(_) => Err(Trap::JumpToRegister),
@@ -37,14 +33,13 @@ fn aim(place: Place) -> Result<u16, Trap>
 
 /// JMP.
 #[inline(never)]
-#[tactic(auto, using(crate::proofs::Steps::run_jump), unfolding(crate::specs::Jump::jmp_plan))]
+#[tactic(auto, using(crate::proofs::Steps::run_jump), unfolding(crate::specs::Handbook::Jump::jmp_plan))]
 pub fn jump<S: Store>(
     processor: &mut Processor,
     bus: &mut Bus<S>,
     destination: Spec,
 ) -> Result<(), Trap>
-    requires { IsSpec destination }
-    ensures { (latch : Latch) → closed (run_plan (jmp_plan destination) (state_of processor.old bus.old latch)) ≡ ended result processor.new bus.new }
+    ensures runs { Runs (jmp_plan destination) processor.old bus.old result processor.new bus.new }
 {
     let place = address(processor, bus, destination, Size::Word)?;
     let target = aim(place)?;
@@ -54,22 +49,20 @@ pub fn jump<S: Store>(
 
 /// JSR.
 #[inline(never)]
-#[tactic(auto, using(crate::proofs::Steps::run_take_link, crate::proofs::Steps::run_link), unfolding(crate::specs::Jump::jsr_plan))]
+#[tactic(auto, using(crate::proofs::Steps::run_take_link, crate::proofs::Steps::run_link), unfolding(crate::specs::Handbook::Jump::jsr_plan))]
 pub fn jump_to_subroutine<S: Store>(
     processor: &mut Processor,
     bus: &mut Bus<S>,
     register: u8,
     destination: Spec,
 ) -> Result<(), Trap>
-    requires register { register < 8 }
-    requires destination { IsSpec destination }
-    ensures { (latch : Latch) → closed (run_plan (jsr_plan register destination) (state_of processor.old bus.old latch)) ≡ ended result processor.new bus.new }
+    ensures runs { Runs (jsr_plan register destination) processor.old bus.old result processor.new bus.new }
 {
     let place = address(processor, bus, destination, Size::Word)?;
     let target = aim(place)?;
     let top = address(processor, bus, PUSH, Size::Word)?;
     let word = processor.register(Slot::of(bus.status().mode, register));
-    store(processor, bus, top, Size::Word, word)?;
+    store(processor, bus, top, Fill::Whole, word)?;
     link(processor, Slot::of(bus.status().mode, register), target);
     Ok(())
 }
@@ -86,14 +79,13 @@ fn link(processor: &mut Processor, slot: Slot, address: u16)
 
 /// Pops the register.
 #[inline(always)]
-#[tactic(auto, using(crate::proofs::Steps::run_set_register), unfolding(crate::specs::Jump::pop_register))]
+#[tactic(auto, using(crate::proofs::Steps::run_set_register), unfolding(crate::specs::Handbook::Jump::pop_register))]
 fn pop_register<S: Store>(
     processor: &mut Processor,
     bus: &mut Bus<S>,
     register: u8,
 ) -> Result<(), Trap>
-    requires { register < 8 }
-    ensures { (latch : Latch) → closed (run_plan (pop_plan register) (state_of processor.old bus.old latch)) ≡ ended result processor.new bus.new }
+    ensures runs { Runs (pop_plan register) processor.old bus.old result processor.new bus.new }
 {
     let place = address(processor, bus, POP, Size::Word)?;
     let word = fetch(processor, bus, place, Size::Word)?;
@@ -103,14 +95,13 @@ fn pop_register<S: Store>(
 
 /// RTS.
 #[inline(never)]
-#[tactic(auto, using(crate::proofs::Steps::run_return_by), unfolding(crate::specs::Jump::rts_plan))]
+#[tactic(auto, using(crate::proofs::Steps::run_return_by), unfolding(crate::specs::Handbook::Jump::rts_plan))]
 pub fn return_from_subroutine<S: Store>(
     processor: &mut Processor,
     bus: &mut Bus<S>,
     register: u8,
 ) -> Result<(), Trap>
-    requires { register < 8 }
-    ensures { (latch : Latch) → closed (run_plan (rts_plan register) (state_of processor.old bus.old latch)) ≡ ended result processor.new bus.new }
+    ensures runs { Runs (rts_plan register) processor.old bus.old result processor.new bus.new }
 {
     let target = processor.register(Slot::of(bus.status().mode, register));
     processor.set_register(Slot::ProgramCounter, target);
@@ -119,10 +110,9 @@ pub fn return_from_subroutine<S: Store>(
 
 /// MARK.
 #[inline(never)]
-#[tactic(auto, using(crate::proofs::Steps::run_take_mark), unfolding(crate::specs::Jump::mark_plan))]
+#[tactic(auto, using(crate::proofs::Steps::run_take_mark), unfolding(crate::specs::Handbook::Jump::mark_plan))]
 pub fn mark<S: Store>(processor: &mut Processor, bus: &mut Bus<S>, words: u8) -> Result<(), Trap>
-    requires { words < 64 }
-    ensures { (latch : Latch) → closed (run_plan (mark_plan words) (state_of processor.old bus.old latch)) ≡ ended result processor.new bus.new }
+    ensures runs { Runs (mark_plan words) processor.old bus.old result processor.new bus.new }
 {
     take_mark(processor, Slot::of(bus.status().mode, 6), words);
     pop_register(processor, bus, 5)
@@ -131,7 +121,6 @@ pub fn mark<S: Store>(processor: &mut Processor, bus: &mut Bus<S>, words: u8) ->
 /// This stack pointer becomes PC plus twice the words, and PC becomes R5.
 #[inline(always)]
 fn take_mark(processor: &mut Processor, stack: Slot, words: u8)
-    requires { words < 64 }
     ensures { processor.new ≡ marked stack words processor.old }
 {
     let counter = processor.register(Slot::ProgramCounter);

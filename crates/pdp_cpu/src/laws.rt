@@ -1,14 +1,20 @@
 //! Laws of turns, for every turn, its events and every world.
 
-ghost use Rattle.std.specs.Prelude.{◌≡◌, ◌<◌, ◌≤◌, ℕ, All, List, None, length, slice_index_or};
+ghost use Rattle.std.specs.Prelude.{◌≡◌, ◌<◌, ◌≤◌, ℕ, All, Err, List, None, length, slice_index_or};
 ghost use Rattle.pdp_unibus.specs.BusWorld.{BusWorld};
 ghost use Rattle.pdp_unibus.specs.declared.event.Event.{Event};
-ghost use Rattle.pdp_operand.specs.Page.{AlikeOutside};
-ghost use Rattle.pdp_operand.specs.Touched.{IsOfTurn};
-ghost use Rattle.pdp_operand.specs.Trace.{Avoids, last_write};
+ghost use Rattle.pdp_decode.specs.declared.instruction.Instr.{Instr};
+ghost use Rattle.pdp_operand.specs.Phases.Phase.{State, Stop};
+ghost use Rattle.pdp_operand.specs.Phases.Plan.{one, run_plan};
+ghost use Rattle.pdp_cpu.specs.Handbook.Action.{plan_of};
+ghost use Rattle.pdp_cpu.specs.Handbook.Instruction.{fetch};
+ghost use Rattle.pdp_operand.specs.Laws.Page.{AlikeOutside};
+ghost use Rattle.pdp_operand.specs.Laws.Touched.{IsOfTurn};
+ghost use Rattle.pdp_operand.specs.Laws.Trace.{Avoids, last_write};
 ghost use Rattle.pdp_operand.specs.declared.processor.Processor.{Processor};
-ghost use Rattle.pdp_cpu.specs.TurnLaws.{Undisturbed, turn_phases};
-ghost use Rattle.pdp_cpu.specs.World.{World, one_turn, turn_trace, world};
+ghost use Rattle.pdp_cpu.specs.Laws.TurnLaws.{LeavesStatus, Undisturbed, turn_phases};
+ghost use Rattle.pdp_cpu.specs.Turns.Turn.{one_turn, turn_trace};
+ghost use Rattle.pdp_operand.specs.Phases.World.{World, world};
 
 /// A law of turns: a turn runs at most 32 phases, one that faults counted too.
 #[tactic(auto, using(crate::proofs::TurnLaws::turn_at_most_32))]
@@ -20,24 +26,40 @@ pub fn turns_end_within_32_phases()
 /// one from before where the turn did not write it.
 #[tactic(auto, using(crate::proofs::TurnLaws::turn_lasts))]
 pub fn stamps_are_last_writes()
-    ensures { (t : ℕ) (events : List Event) (w : World) (k : ℕ) → k < length w.bus.lasts → slice_index_or (one_turn t events w).bus.lasts k None ≡ last_write (turn_trace t events w) k (slice_index_or w.bus.lasts k None) }
+    ensures { (t : ℕ) (events : List Event) (w : World) (k : ℕ) → k < length w.bus.lasts →
+        slice_index_or (one_turn t events w).bus.lasts k None
+        ≡ last_write (turn_trace t events w) k (slice_index_or w.bus.lasts k None) }
 {}
 
 /// A law of turns: every access in the trace of a turn is by the processor, in that turn, to a word that core has.
 #[tactic(auto, using(crate::proofs::TurnLaws::turn_touches))]
 pub fn touches_are_of_their_turn()
-    ensures { (t : ℕ) (events : List Event) (w : World) → All (IsOfTurn t (length w.bus.core)) (turn_trace t events w) }
+    ensures { (t : ℕ) (events : List Event) (w : World) →
+        All (IsOfTurn t (length w.bus.core)) (turn_trace t events w) }
 {}
 
 /// A law of turns: core and its stamps keep their lengths.
 #[tactic(auto, using(crate::proofs::TurnLaws::turn_keeps_words, crate::proofs::TurnLaws::turn_keeps_lasts))]
 pub fn turns_keep_the_size_of_core()
-    ensures words { (t : ℕ) (events : List Event) (w : World) → length (one_turn t events w).bus.core ≡ length w.bus.core }
-    ensures lasts { (t : ℕ) (events : List Event) (w : World) → length (one_turn t events w).bus.lasts ≡ length w.bus.lasts }
+    ensures words { (t : ℕ) (events : List Event) (w : World) →
+        length (one_turn t events w).bus.core ≡ length w.bus.core }
+    ensures lasts { (t : ℕ) (events : List Event) (w : World) →
+        length (one_turn t events w).bus.lasts ≡ length w.bus.lasts }
 {}
 
 /// A law of turns: a turn whose trace avoids a page of 256 words leaves the page as it was, and does the same in every
 /// other way whatever words the page holds.
 pub fn turns_leave_what_they_never_touch()
-    ensures { (page t : ℕ) (events : List Event) (p : Processor) (b c : BusWorld) → AlikeOutside page b c → Avoids page (turn_trace t events (world p b)) → Undisturbed page t events p b c }
+    ensures { (page t : ℕ) (events : List Event) (p : Processor) (b c : BusWorld) → AlikeOutside page b c →
+        Avoids page (turn_trace t events (world p b)) → Undisturbed page t events p b c }
+{}
+
+/// A law of instructions: where the fetch or a phase of any plan can't go on, the program status word, and with it the
+/// condition codes, is as it was before.
+///
+/// That a fault leaves the codes is this project's profile.
+pub fn what_cannot_go_on_leaves_the_codes()
+    ensures fetch { (s : State) (stop : Stop) → run_plan (one fetch) s ≡ Err stop → LeavesStatus s stop }
+    ensures plan { (instr : Instr) (s : State) (stop : Stop) →
+        run_plan (plan_of instr) s ≡ Err stop → LeavesStatus s stop }
 {}

@@ -1,4 +1,9 @@
 //! The processor of the PDP-11/40: one whole turn of the machine, by phases.
+//!
+//! It stands on pdp_operand, pdp_unibus, pdp_alu, pdp_decode and what is below these. The contract of
+//! `Machine::turn` says that a turn takes the machine to its definition's next state, for every store of core, and
+//! that the meter counts it. The laws say how many phases a turn has at most, what it stamps and what it leaves.
+//! Which events a turn has, and how many turns are run, it leaves to pdp_replay.
 #![tactic(auto)]
 
 mod act;
@@ -7,7 +12,6 @@ mod branch;
 mod change_codes;
 mod condition;
 mod control;
-mod double_operand;
 mod execute;
 mod extended;
 mod instruction;
@@ -16,17 +20,19 @@ mod laws;
 mod machine;
 mod meter;
 mod moves;
+mod one_operand;
 mod operands;
 mod operation;
 mod pair;
 mod regs;
-mod single_operand;
 #[cfg(test)]
 mod tests;
+mod two_operands;
 
 pub use laws::{
     stamps_are_last_writes, touches_are_of_their_turn, turns_end_within_32_phases,
     turns_keep_the_size_of_core, turns_leave_what_they_never_touch,
+    what_cannot_go_on_leaves_the_codes,
 };
 pub use machine::{Machine, TURN_LIMIT};
 pub use meter::Meter;

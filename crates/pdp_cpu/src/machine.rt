@@ -1,8 +1,8 @@
-ghost use Rattle.std.specs.Prelude.{◌≡◌, ◌+◌, ◌-◌, ◌^◌, ◌<◌, ◌≤◌, length, min, slice_index, slice_index_or, None, OnOk};
+ghost use Rattle.std.specs.Prelude.{◌≡◌, ◌+◌, ◌-◌, ◌^◌, ◌<◌, ◌≤◌, length, min, slice_index, slice_index_or, None, Ok};
 ghost use Rattle.pdp_unibus.specs.BusWorld.{powered};
-ghost use Rattle.pdp_cpu.specs.MachineState.{IsReady, powered_machine, after_turn};
-ghost use Rattle.pdp_cpu.specs.Regs.{regs_of};
-ghost use Rattle.pdp_cpu.specs.World.{act_of};
+ghost use Rattle.pdp_cpu.specs.Turns.MachineState.{IsReady, powered_machine, after_turn};
+ghost use Rattle.pdp_cpu.specs.Turns.Regs.{regs_of};
+ghost use Rattle.pdp_cpu.specs.Turns.Turn.{act_in};
 
 use crate::act::Act;
 use crate::instruction::instruct;
@@ -29,8 +29,8 @@ pub struct Machine<S: Store> {
 }
 
 impl<S: Store> Model for Machine<S> {
-    ghost use Rattle.pdp_cpu.specs.MachineState.{MachineState};
-    ghost use Rattle.pdp_cpu.specs.World.{world};
+    ghost use Rattle.pdp_cpu.specs.Turns.MachineState.{MachineState};
+    ghost use Rattle.pdp_operand.specs.Phases.World.{world};
 
     ghost Value = { MachineState };
 
@@ -51,9 +51,10 @@ impl<S: Store> Machine<S> {
     }
 
     /// Makes the room that one turn may need. There is nothing yet that grows, so it always answers Ok.
-    #[tactic(auto, unfolding(crate::specs::MachineState::IsReady))]
+    #[tactic(auto, unfolding(crate::specs::Turns::MachineState::IsReady))]
     pub fn ready(&mut self) -> Result<(), NoMemory>
-        ensures ok { OnOk result (IsReady self.new) }
+        ensures ok { result ≡ Ok tt }
+        ensures ready { IsReady self.new }
         ensures same { self.new ≡ self.old }
     {
         Ok(())
@@ -65,7 +66,7 @@ impl<S: Store> Machine<S> {
     /// register, kernel stack below 400 octal, an instruction that is to come) the turn ends there, with the registers as changed so
     /// far and the codes as before, and the machine is halted (this project's profile, until traps come).
     #[inline(always)]
-    #[tactic(auto, unfolding(crate::specs::World::one_turn, pdp_operand::specs::Course::follow))]
+    #[tactic(auto, unfolding(crate::specs::Turns::Turn::one_turn, pdp_operand::specs::Phases::Course::follow))]
     pub fn turn(&mut self, meter: &mut Meter, events: &[Event])
         requires ready { IsReady self.old }
         requires limit { self.old.turn < TURN_LIMIT }
@@ -73,9 +74,9 @@ impl<S: Store> Machine<S> {
         ensures counted { meter.new ≡ min (meter.old + 1) (2 ^ 64 - 1) }
         ensures grows { meter.old ≤ meter.new }
     {
-        take_events(&mut self.processor, events);
-        self.bus.events(self.turn, events);
-        match act(&self.processor) {
+        self.bus.begin(self.turn);
+        take_events(&mut self.processor, &mut self.bus, events);
+        match act_of_run(self.processor.run) {
             Act::Instr => instruct(&mut self.processor, &mut self.bus),
             Act::Idle => {}
         }
@@ -125,52 +126,45 @@ impl<S: Store> Machine<S> {
 
 /// What this turn does: an instruction, unless the machine waits or is halted.
 #[inline(always)]
-fn act(processor: &Processor) -> Act
-    ensures { result ≡ act_of processor.now }
+fn act_of_run(run: RunState) -> Act
+    ensures { result ≡ act_in run }
 {
-    match processor.run {
+    match run {
         RunState::Run => Act::Instr,
         RunState::Wait | RunState::Halted => Act::Idle,
     }
 }
 
-ghost use Rattle.pdp_cpu.specs.World.{after_event, after_events};
+ghost use Rattle.pdp_cpu.specs.Turns.Turn.{after_event, after_events};
+ghost use Rattle.pdp_operand.specs.Phases.World.{world};
 
-/// What an event does to the processor: `Continue` ends a halt, every other event does nothing.
-fn take_event(processor: &mut Processor, event: Event)
-    ensures { processor.new ≡ after_event event processor.old }
+/// What an event does to the machine: `Continue` ends a halt, every other event goes to the bus.
+fn take_event<S: Store>(processor: &mut Processor, bus: &mut Bus<S>, event: Event)
+    ensures { world processor.new bus.new ≡ after_event event (world processor.old bus.old) }
 {
     match event {
-        Event::Continue => processor.set_run(resumed(processor.run)),
+        Event::Continue => {
+            if processor.run == RunState::Halted {
+                processor.set_run(RunState::Run);
+            }
+        }
         Event::Key(_)
         | Event::Switches(_)
         | Event::Tick
         | Event::PrinterDone
         | Event::ReaderDone
         | Event::PunchDone
-        | Event::DiskDone => {}
+        | Event::DiskDone => bus.event(event),
     }
 }
 
-ghost use Rattle.pdp_cpu.specs.World.{resumed as resumed_run};
-
-/// How a processor goes on after the console's continue.
-fn resumed(run: RunState) -> RunState
-    ensures { result ≡ resumed_run run }
-{
-    match run {
-        RunState::Wait => RunState::Wait,
-        RunState::Run | RunState::Halted => RunState::Run,
-    }
-}
-
-/// What events do to the processor, in their order.
+/// What events do to the machine, in their order.
 #[inline(always)]
 #[tactic(auto, using(crate::proofs::Events::after_more_events))]
-fn take_events(processor: &mut Processor, events: &[Event])
-    ensures { processor.new ≡ after_events events.now processor.old }
+fn take_events<S: Store>(processor: &mut Processor, bus: &mut Bus<S>, events: &[Event])
+    ensures { world processor.new bus.new ≡ after_events events.now (world processor.old bus.old) }
 {
     for event in events {
-        take_event(processor, *event);
+        take_event(processor, bus, *event);
     }
 }

@@ -1,9 +1,8 @@
-ghost use Rattle.std.specs.Prelude.{◌≡◌, ◌<◌, ◌%◌, Ok, IfOk};
+ghost use Rattle.std.specs.Prelude.{◌≡◌, ◌%◌, Ok};
 ghost use Rattle.pdp_word.specs.Size.{span};
-ghost use Rattle.pdp_decode.specs.Fields.{IsSpec};
-ghost use Rattle.pdp_operand.specs.Phase.{Latch, state_of};
-ghost use Rattle.pdp_operand.specs.Plan.{run_plan};
-ghost use Rattle.pdp_cpu.specs.Operands.{operands as operands_plan, source_first, place_first, found_both};
+ghost use Rattle.pdp_operand.specs.Outcome.{Gives};
+ghost use Rattle.pdp_cpu.specs.Handbook.Operands.{operands as operands_plan, source_first, place_first};
+ghost use Rattle.pdp_cpu.specs.Outcome.{in_operands};
 
 use pdp_decode::Spec;
 use pdp_operand::{Place, Processor, Slot, Trap, address, fetch};
@@ -14,7 +13,7 @@ use pdp_word::Size;
 /// The source's value and the destination's place. A source in a register is read after the address of a destination in
 /// memory was formed, any other source before.
 #[inline(always)]
-#[tactic(auto, unfolding(crate::specs::Operands::operands))]
+#[tactic(auto, unfolding(crate::specs::Handbook::Operands::operands))]
 pub fn operands<S: Store>(
     processor: &mut Processor,
     bus: &mut Bus<S>,
@@ -22,10 +21,8 @@ pub fn operands<S: Store>(
     destination: Spec,
     size: Size,
 ) -> Result<(u16, Place), Trap>
-    requires source { IsSpec source }
-    requires destination { IsSpec destination }
-    ensures run { (latch : Latch) → run_plan (operands_plan size source destination) (state_of processor.old bus.old latch) ≡ found_both result processor.new bus.new latch }
-    ensures fits { IfOk result (λ both. both.0 < span size) }
+    ensures gives { Gives in_operands (operands_plan size source destination)
+        processor.old bus.old result processor.new bus.new }
 {
     let is_late = source.mode == 0 && destination.mode != 0;
     if is_late {
@@ -39,7 +36,7 @@ pub fn operands<S: Store>(
 
 /// Both operands are registers: no reference is made.
 #[inline(always)]
-#[tactic(auto, using(crate::proofs::Steps::run_keep_source, pdp_operand::proofs::Steps::run_name_register), unfolding(crate::specs::Operands::source_first, pdp_operand::specs::Operand::find, pdp_operand::specs::Operand::read_operand, pdp_operand::specs::Phase::run))]
+#[tactic(auto, using(crate::proofs::Steps::run_keep_source, pdp_operand::proofs::Steps::run_name_register), unfolding(crate::specs::Handbook::Operands::source_first, pdp_operand::specs::Handbook::Operand::find, pdp_operand::specs::Handbook::Operand::read_operand, pdp_operand::specs::Phases::Phase::run))]
 fn read_registers<S: Store>(
     processor: &Processor,
     bus: &Bus<S>,
@@ -47,10 +44,9 @@ fn read_registers<S: Store>(
     destination: Spec,
     size: Size,
 ) -> (u16, Place)
-    requires source { (source.mode ≡ 0) × (source.reg < 8) }
-    requires destination { (destination.mode ≡ 0) × (destination.reg < 8) }
-    ensures run { (latch : Latch) → run_plan (source_first size source destination) (state_of processor.now bus.now latch) ≡ found_both (Ok result) processor.now bus.now latch }
-    ensures fits { result.0 < span size }
+    requires registers { (source.mode ≡ 0) × (destination.mode ≡ 0) }
+    ensures gives { Gives in_operands (source_first size source destination)
+        processor.now bus.now (Ok result) processor.now bus.now }
 {
     let from = Slot::of(bus.status().mode, source.reg);
     let to = Slot::of(bus.status().mode, destination.reg);
@@ -58,7 +54,7 @@ fn read_registers<S: Store>(
 }
 
 #[inline(always)]
-#[tactic(auto, using(crate::proofs::Steps::run_keep_source), unfolding(crate::specs::Operands::source_first))]
+#[tactic(auto, using(crate::proofs::Steps::run_keep_source), unfolding(crate::specs::Handbook::Operands::source_first))]
 fn read_first<S: Store>(
     processor: &mut Processor,
     bus: &mut Bus<S>,
@@ -66,10 +62,8 @@ fn read_first<S: Store>(
     destination: Spec,
     size: Size,
 ) -> Result<(u16, Place), Trap>
-    requires source { IsSpec source }
-    requires destination { IsSpec destination }
-    ensures run { (latch : Latch) → run_plan (source_first size source destination) (state_of processor.old bus.old latch) ≡ found_both result processor.new bus.new latch }
-    ensures fits { IfOk result (λ both. both.0 < span size) }
+    ensures gives { Gives in_operands (source_first size source destination)
+        processor.old bus.old result processor.new bus.new }
 {
     let place = address(processor, bus, source, size)?;
     let value = fetch(processor, bus, place, size)?;
@@ -78,7 +72,7 @@ fn read_first<S: Store>(
 }
 
 #[inline(always)]
-#[tactic(auto, using(crate::proofs::Steps::run_take_register), unfolding(crate::specs::Operands::place_first))]
+#[tactic(auto, using(crate::proofs::Steps::run_take_register), unfolding(crate::specs::Handbook::Operands::place_first))]
 fn read_late<S: Store>(
     processor: &mut Processor,
     bus: &mut Bus<S>,
@@ -86,10 +80,8 @@ fn read_late<S: Store>(
     destination: Spec,
     size: Size,
 ) -> Result<(u16, Place), Trap>
-    requires source { IsSpec source }
-    requires destination { IsSpec destination }
-    ensures run { (latch : Latch) → run_plan (place_first size source destination) (state_of processor.old bus.old latch) ≡ found_both result processor.new bus.new latch }
-    ensures fits { IfOk result (λ both. both.0 < span size) }
+    ensures gives { Gives in_operands (place_first size source destination)
+        processor.old bus.old result processor.new bus.new }
 {
     let place = address(processor, bus, destination, size)?;
     let slot = Slot::of(bus.status().mode, source.reg);
@@ -100,8 +92,7 @@ fn read_late<S: Store>(
 /// A word, or its low byte.
 #[inline(always)]
 fn cut(word: u16, size: Size) -> u16
-    ensures value { result ≡ word % span size }
-    ensures fits { result < span size }
+    ensures { result ≡ word % span size }
 {
     match size {
         Size::Word => word,

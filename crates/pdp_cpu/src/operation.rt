@@ -1,6 +1,6 @@
 ghost use Rattle.std.specs.Prelude.{◌≡◌, ◌<◌};
 ghost use Rattle.pdp_word.specs.Size.{span};
-ghost use Rattle.pdp_cpu.specs.Operation.{size_of_comparison, compared, size_of_combination, combined, size_of_modification, modified, size_of_replacement, replaced};
+ghost use Rattle.pdp_cpu.specs.Handbook.Operation.{size_of_comparison, compared, size_of_combination, combined, size_of_modification, modified, size_of_replacement, replaced};
 
 use pdp_alu::{
     Effect, adc, add, asl, asr, bic, bis, bit, clr, cmp, com, dec, inc, neg, rol, ror, sbc, sub,

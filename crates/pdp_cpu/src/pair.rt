@@ -1,6 +1,6 @@
-ghost use Rattle.std.specs.Prelude.{◌≡◌, ◌<◌};
+ghost use Rattle.std.specs.Prelude.{◌≡◌};
 ghost use Rattle.pdp_operand.specs.declared.processor.Processor.{Processor};
-ghost use Rattle.pdp_cpu.specs.Extended.{long_in, pair_of, with_long, with_words};
+ghost use Rattle.pdp_cpu.specs.Handbook.Extended.{long_in, pair_of, with_long, with_words};
 
 use pdp_alu::{high_word, join_words, low_word};
 use pdp_kt11::Mode;
@@ -17,12 +17,11 @@ impl Pair {
     /// The pair of a register in a mode.
     #[inline(always)]
     pub fn of(mode: Mode, register: u8) -> Pair
-        requires { register < 8 }
         ensures { result ≡ pair_of mode register }
     {
         Pair {
             high: Slot::of(mode, register),
-            low: Slot::of(mode, register + 1 - register % 2),
+            low: Slot::of(mode, register - register % 2 + 1),
         }
     }
 

@@ -7,7 +7,7 @@ use Rattle.pdp_decode.specs.declared.instruction.Spec.{Spec}
 use Rattle.pdp_decode.specs.declared.instruction.Instr.{Instr}
 use Rattle.pdp_decode.specs.declared.instruction.Instr.TheVariants.{Rts, Mark, Sob}
 use Rattle.pdp_decode.specs.Fields.{IsSpec, operand_in}
-use Rattle.pdp_decode.specs.Format.{branch_word, single_operand_word, register_operand_word, double_operand_word, bits_of}
+use Rattle.pdp_decode.specs.Format.{branch_word, single_operand_word, register_operand_word, double_operand_word, code_bits}
 use Rattle.pdp_decode.specs.Table.{row, plain, branch, single_operand, register_operand, double_operand, code_operator, coded_trap, rts, mark, sob, decoded}
 use Rattle.pdp_decode.proofs.Standing.{Stands}
 use Rattle.pdp_decode.proofs.Formats.{operand_in_single, register_in_word, operand_in_register, source_in_double, operand_in_double, offset_below, offset_in_branch, bits_below, codes_in_word}
@@ -43,10 +43,10 @@ double_back opcode instr stands s d (p, q) =
     ∙ ap (instr s) (operand_in_double opcode s d q)
 
 pub codes_back : (opcode : ℕ) (instr : Codes → Instr) → Stands (row (opcode * 0o20) (opcode * 0o20 + 0o17) (code_operator instr))
-    → (c : Codes) → decoded (opcode * 0o20 + bits_of c) ≡ instr c
+    → (c : Codes) → decoded (opcode * 0o20 + code_bits c) ≡ instr c
 codes_back opcode instr stands c =
     let b = bits_below c in
-    stands (opcode * 0o20 + bits_of c) (omega arith) (omega arith) ∙ ap instr (codes_in_word opcode c)
+    stands (opcode * 0o20 + code_bits c) (omega arith) (omega arith) ∙ ap instr (codes_in_word opcode c)
 
 pub trap_back : (opcode : ℕ) (instr : ℕ → Instr) → Stands (row (opcode * 0o400) (opcode * 0o400 + 0o377) (coded_trap instr))
     → (c : ℕ) → c < 0o400 → decoded (opcode * 0o400 + c) ≡ instr c

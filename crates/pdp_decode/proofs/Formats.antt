@@ -5,10 +5,11 @@ use Rattle.std.specs.Int.{w8, cast_unsigned, cast_signed}
 use Rattle.std.specs.Int.RustNames.{FitsSigned}
 use Rattle.std.proofs.lemmas.Int.{ints, to_z-of_z, of_z-to_z}
 use Rattle.std.proofs.lemmas.Bool.Decides.{nat_tests}
+use Rattle.pdp_word.specs.Bits.{bit_of}
 use Rattle.pdp_word.specs.declared.codes.Codes.{Codes}
 use Rattle.pdp_decode.specs.declared.instruction.Spec.{Spec}
 use Rattle.pdp_decode.specs.Fields.{IsSpec, source_in, operand_in, register_in, offset_in, codes_in}
-use Rattle.pdp_decode.specs.Format.{branch_word, double_operand_word, register_operand_word, single_operand_word, bit_of, bits_of}
+use Rattle.pdp_decode.specs.Format.{branch_word, double_operand_word, register_operand_word, single_operand_word, code_bits}
 
 -- the specifier of a word whose low six bits are its digits
 operand_of : (rest : ℕ) (s : Spec) → IsSpec s → operand_in (rest * 0o100 + (s.mode * 8 + s.reg)) ≡ s
@@ -77,19 +78,19 @@ code_of_bit false = refl
 bit_of_code : (bit : ℕ) → bit < 2 → bit_of (bit == 1) ≡ bit
 bit_of_code bit l = grind (arith, nat_tests)
 
-pub bits_below : (codes : Codes) → bits_of codes < 0o20
+pub bits_below : (codes : Codes) → code_bits codes < 0o20
 bits_below codes =
     let n = bit_below codes.n in let z = bit_below codes.z in let v = bit_below codes.v in let c = bit_below codes.c in
     omega arith
 
 -- in a word whose bits 3 to 0 are those of the codes
-pub codes_in_word : (rest : ℕ) (codes : Codes) → codes_in (rest * 0o20 + bits_of codes) ≡ codes
+pub codes_in_word : (rest : ℕ) (codes : Codes) → codes_in (rest * 0o20 + code_bits codes) ≡ codes
 codes_in_word rest codes =
     let ln = bit_below codes.n in let lz = bit_below codes.z in let lv = bit_below codes.v in let lc = bit_below codes.c in
-    let n : (rest * 0o20 + bits_of codes) / 8 % 2 ≡ bit_of codes.n = omega arith in
-    let z : (rest * 0o20 + bits_of codes) / 4 % 2 ≡ bit_of codes.z = omega arith in
-    let v : (rest * 0o20 + bits_of codes) / 2 % 2 ≡ bit_of codes.v = omega arith in
-    let c : (rest * 0o20 + bits_of codes) % 2 ≡ bit_of codes.c = omega arith in
+    let n : (rest * 0o20 + code_bits codes) / 8 % 2 ≡ bit_of codes.n = omega arith in
+    let z : (rest * 0o20 + code_bits codes) / 4 % 2 ≡ bit_of codes.z = omega arith in
+    let v : (rest * 0o20 + code_bits codes) / 2 % 2 ≡ bit_of codes.v = omega arith in
+    let c : (rest * 0o20 + code_bits codes) % 2 ≡ bit_of codes.c = omega arith in
     let is : ℕ → Bool = λ bit. bit == 1 in
     let en = ap is n ∙ code_of_bit codes.n in
     let ez = ap is z ∙ code_of_bit codes.z in
@@ -98,7 +99,7 @@ codes_in_word rest codes =
     λ i. record { n = en i; z = ez i; v = ev i; c = ec i }
 
 pub word_of_codes : (rest word : ℕ) → rest * 0o20 ≤ word → word ≤ rest * 0o20 + 0o17
-    → rest * 0o20 + bits_of (codes_in word) ≡ word
+    → rest * 0o20 + code_bits (codes_in word) ≡ word
 word_of_codes rest word p q =
     let n : bit_of (word / 8 % 2 == 1) ≡ word / 8 % 2 = bit_of_code (word / 8 % 2) (omega arith) in
     let z : bit_of (word / 4 % 2 == 1) ≡ word / 4 % 2 = bit_of_code (word / 4 % 2) (omega arith) in

@@ -5,7 +5,7 @@ use Rattle.pdp_decode.specs.declared.instruction.Spec.{Spec}
 use Rattle.pdp_decode.specs.declared.instruction.Instr.{Instr}
 use Rattle.pdp_decode.specs.declared.instruction.Instr.TheVariants.{Halt, Wait, Rti, Bpt, Iot, Reset, Rtt, Jmp, Jsr, Emt, Trap, ClearCodes, SetCodes, Br, Bne, Beq, Bge, Blt, Bgt, Ble, Bpl, Bmi, Bhi, Blos, Bvc, Bvs, Bcc, Bcs, Mov, Movb, Cmp, Cmpb, Bit, Bitb, Bic, Bicb, Bis, Bisb, Add, Sub, Xor, Mul, Div, Ash, Ashc, Swab, Clr, Clrb, Com, Comb, Inc, Incb, Dec, Decb, Neg, Negb, Adc, Adcb, Sbc, Sbcb, Ror, Rorb, Rol, Rolb, Asr, Asrb, Asl, Aslb, Sxt, Tst, Tstb, Mfpi, Mtpi}
 use Rattle.pdp_decode.specs.Fields.{source_in, operand_in, register_in, offset_in, codes_in}
-use Rattle.pdp_decode.specs.Format.{IsOfWord, encode, branch_word, single_operand_word, register_operand_word, double_operand_word, bits_of}
+use Rattle.pdp_decode.specs.Format.{IsOfWord, encode, branch_word, single_operand_word, register_operand_word, double_operand_word, code_bits}
 use Rattle.pdp_decode.specs.Table.{row, table, plain, branch, single_operand, register_operand, double_operand, code_operator, coded_trap, rts, mark, sob, control, branches, single_operands, double_operands, register_operands, high_branches, traps, byte_single_operands, high_double_operands, decoded}
 use Rattle.pdp_decode.proofs.Words.{HasWord, HaveWords, by_sections, ◌▹◌}
 use Rattle.pdp_decode.proofs.Formats.{single_of_fields, register_of_fields, double_of_fields, branch_of_fields, word_of_codes}
@@ -31,7 +31,7 @@ double_has_word : (opcode : ℕ) (instr : Spec → Spec → Instr)
     → HasWord (row (opcode * 0o10000) (opcode * 0o10000 + 0o7777) (double_operand instr))
 double_has_word opcode instr e word p q = inr (e (source_in word) (operand_in word) ∙ double_of_fields opcode word p q)
 
-codes_has_word : (opcode : ℕ) (instr : Codes → Instr) → ((c : Codes) → encode (instr c) ≡ opcode * 0o20 + bits_of c)
+codes_has_word : (opcode : ℕ) (instr : Codes → Instr) → ((c : Codes) → encode (instr c) ≡ opcode * 0o20 + code_bits c)
     → HasWord (row (opcode * 0o20) (opcode * 0o20 + 0o17) (code_operator instr))
 codes_has_word opcode instr e word p q = inr (e (codes_in word) ∙ word_of_codes opcode word p q)
 

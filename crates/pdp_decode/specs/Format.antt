@@ -1,10 +1,11 @@
 -- The formats of instruction words, written from the handbook's drawings and not from the table:
 -- DEC PDP-11/40 Processor Handbook (1972), Instruction set. Words and opcodes are octal.
-use Rattle.std.specs.Prelude.{ℕ, ℤ, ◌≡◌, ◌+◌, ◌*◌, ◌<◌, ◌⊎◌, Bool, if◌then◌else◌}
+use Rattle.std.specs.Prelude.{ℕ, ℤ, ◌≡◌, ◌+◌, ◌*◌, ◌<◌, ◌⊎◌}
 use Rattle.std.specs.Int.{w8, cast_unsigned}
 use Rattle.std.specs.Int.RustNames.{FitsSigned}
+use Rattle.pdp_word.specs.Bits.{bit_of}
 use Rattle.pdp_word.specs.declared.codes.Codes.{Codes}
-use Rattle.pdp_decode.specs.Instruction.{HasSpecs}
+use Rattle.pdp_decode.specs.Instruction.{FieldsFit}
 use Rattle.pdp_decode.specs.declared.instruction.Spec.{Spec}
 use Rattle.pdp_decode.specs.declared.instruction.Instr.{Instr}
 use Rattle.pdp_decode.specs.declared.instruction.Instr.TheVariants.{Halt, Wait, Rti, Bpt, Iot, Reset, Rtt, Jmp, Rts, Jsr, Mark, Sob, Emt, Trap, ClearCodes, SetCodes, Br, Bne, Beq, Bge, Blt, Bgt, Ble, Bpl, Bmi, Bhi, Blos, Bvc, Bvs, Bcc, Bcs, Mov, Movb, Cmp, Cmpb, Bit, Bitb, Bic, Bicb, Bis, Bisb, Add, Sub, Xor, Mul, Div, Ash, Ashc, Swab, Clr, Clrb, Com, Comb, Inc, Incb, Dec, Decb, Neg, Negb, Adc, Adcb, Sbc, Sbcb, Ror, Rorb, Rol, Rolb, Asr, Asrb, Asl, Aslb, Sxt, Tst, Tstb, Mfpi, Mtpi, Reserved}
@@ -30,13 +31,9 @@ abbrev pub double_operand_word : ℕ → Spec → Spec → ℕ
 double_operand_word opcode source destination =
     opcode * 0o10000 + digits_of source * 0o100 + digits_of destination
 
--- a bit that is 1 where the code is set
-abbrev pub bit_of : Bool → ℕ
-bit_of code = if code then 1 else 0
-
 -- the condition codes in bits 3 to 0
-abbrev pub bits_of : Codes → ℕ
-bits_of codes = bit_of codes.n * 8 + bit_of codes.z * 4 + bit_of codes.v * 2 + bit_of codes.c
+abbrev pub code_bits : Codes → ℕ
+code_bits codes = bit_of codes.n * 8 + bit_of codes.z * 4 + bit_of codes.v * 2 + bit_of codes.c
 
 -- the word of an instruction; of the many reserved words, the last
 abbrev pub encode : Instr → ℕ
@@ -54,8 +51,8 @@ encode (Mark words) = 0o006400 + words
 encode (Sob register words) = 0o077000 + register * 0o100 + words
 encode (Emt code) = 0o104000 + code
 encode (Trap code) = 0o104400 + code
-encode (ClearCodes codes) = 0o000240 + bits_of codes
-encode (SetCodes codes) = 0o000260 + bits_of codes
+encode (ClearCodes codes) = 0o000240 + code_bits codes
+encode (SetCodes codes) = 0o000260 + code_bits codes
 encode (Br offset) = branch_word 0o1 offset
 encode (Bne offset) = branch_word 0o2 offset
 encode (Beq offset) = branch_word 0o3 offset
@@ -137,7 +134,7 @@ IsEncodable (Bcc offset) = FitsSigned w8 offset
 IsEncodable (Bcs offset) = FitsSigned w8 offset
 IsEncodable (Emt code) = code < 0o400
 IsEncodable (Trap code) = code < 0o400
-IsEncodable instr = HasSpecs instr
+IsEncodable instr = FieldsFit instr
 
 -- the instruction is reserved, or this is its word
 abbrev pub IsOfWord : Instr → ℕ → Type 0

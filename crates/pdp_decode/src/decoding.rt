@@ -1,6 +1,6 @@
 // Decoding, a function for each section of the opcode table.
 ghost use Rattle.std.specs.Prelude.{◌≡◌};
-ghost use Rattle.pdp_decode.specs.Instruction.{HasSpecs};
+ghost use Rattle.pdp_decode.specs.Instruction.{FieldsFit};
 ghost use Rattle.pdp_decode.specs.Table.{decoded};
 
 mod branches;
@@ -26,7 +26,7 @@ use single_operand::{byte_single_operand_instr, single_operand_instr};
 #[tactic(auto, unfolding(crate::specs::Table::decoded))]
 pub const fn decode(word: u16) -> Instr
     ensures value { result ≡ decoded word }
-    ensures valid { HasSpecs result }
+    ensures valid { FieldsFit result }
 {
     match word {
         0o000000..=0o000377 => control_instr(word),

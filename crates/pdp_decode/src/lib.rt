@@ -1,7 +1,9 @@
-//! Words to instructions: the opcode table of this project's PDP-11/40 profile, as a total
-//! function of the word.
+//! Words to instructions: the opcode table of this project's PDP-11/40 profile, as a total function of the word.
 //!
-//! Words and opcodes are octal. A word that names no instruction of the table is reserved.
+//! It stands on pdp_word. The contract of `decode` gives every word its instruction, with fields in their ranges,
+//! and `Reserved` where no row of the table takes the word. The laws say that decoding and the instruction formats
+//! undo each other, but for reserved words, and that no two rows meet. What an instruction does it leaves to
+//! pdp_cpu. Words and opcodes are octal.
 #![tactic(auto)]
 
 mod decoding;

@@ -4,20 +4,20 @@ use Rattle.pdp_kt11.specs.declared.place.Access.TheVariants.{Read, Write}
 use Rattle.pdp_unibus.specs.BusWorld.{BusWorld, with_board}
 use Rattle.pdp_unibus.specs.declared.board.Board.{Board}
 use Rattle.pdp_unibus.specs.Cycle.{Core, core_written}
-use Rattle.pdp_operand.specs.Reference.{Reference, perform}
-use Rattle.pdp_operand.specs.Phase.{Phase, Inner, State, Fault, Request, Nothing, Ask, Raise, Latch, run, step, and_then, by_request, settled, inner_of}
-use Rattle.pdp_operand.specs.Plan.{Plan, phases_of, run_plan}
-use Rattle.pdp_operand.specs.Course.{Course, End, Go, follow, go_on, caught_in}
-use Rattle.pdp_operand.specs.Trace.{Touch, touch_at, touches, requested, trace, traced_next, trace_of, traced_on}
+use Rattle.pdp_operand.specs.Handbook.Reference.{Reference, perform}
+use Rattle.pdp_operand.specs.Phases.Phase.{Phase, Inner, State, Stop, Request, Nothing, Ask, Raise, Latch, run, step, and_then, by_request, settled, inner_of, state_of}
+use Rattle.pdp_operand.specs.Phases.Plan.{Plan, phases_of, run_plan}
+use Rattle.pdp_operand.specs.Phases.Course.{Course, End, Go, follow, go_on, caught_in}
+use Rattle.pdp_operand.specs.Laws.Trace.{Touch, touch_at, touches, requested, trace, traced_next, trace_of, traced_on}
 use Rattle.pdp_operand.specs.declared.trap.Trap.{Trap}
 use Rattle.pdp_operand.proofs.Flattening.{run_phases_of}
 use Rattle.pdp_operand.proofs.Shape.{Shape, reply_by, touches_by, InCore, shape_of, perform_is, touches_is, shape_in_core}
 use Rattle.pdp_operand.proofs.Shape.Shape.{Apart, Looked, Wrote}
 
 -- the bus when a run has ended
-abbrev pub bus_after : Result State Fault → BusWorld
-bus_after (Ok t) = t.bus
-bus_after (Err fault) = fault.bus
+abbrev pub bus_after : Result State Stop → BusWorld
+bus_after (Ok t) = t.world.bus
+bus_after (Err stop) = stop.world.bus
 
 -- a relation of a trace, the bus before it and the bus after it, that goes along
 pub record Goes (K : List Touch → BusWorld → BusWorld → Type 0) : Type 0 where
@@ -36,49 +36,49 @@ module _ (K : List Touch → BusWorld → BusWorld → Type 0) (goes : Goes K) w
   along_reference : (r : Reference) (b : BusWorld) → K (touches r b) b (perform r b).after
   along_reference r b = rw (perform_is r b, touches_is r b) (by_shape (shape_of r b) b (shape_in_core r b))
 
-  along_settled : (p : Phase) (s : State) (value : Result ℕ Trap) (xs : List Touch) (b : BusWorld) → K xs b s.bus
+  along_settled : (p : Phase) (s : State) (value : Result ℕ Trap) (xs : List Touch) (b : BusWorld) → K xs b s.world.bus
       → K xs b (bus_after (settled p s value))
-  along_settled p s (Ok value) xs b so = goes.changes xs b s.bus _ so
+  along_settled p s (Ok value) xs b so = goes.changes xs b s.world.bus _ so
   along_settled p s (Err trap) xs b so = so
 
-  along_request : (p : Phase) (s : State) (request : Request) → K (requested request s.bus) s.bus (bus_after (by_request p s request))
-  along_request p s Nothing = goes.changes [] s.bus s.bus _ (goes.stays s.bus)
-  along_request p s (Raise trap) = goes.stays s.bus
+  along_request : (p : Phase) (s : State) (request : Request) → K (requested request s.world.bus) s.world.bus (bus_after (by_request p s request))
+  along_request p s Nothing = goes.changes [] s.world.bus s.world.bus _ (goes.stays s.world.bus)
+  along_request p s (Raise trap) = goes.stays s.world.bus
   along_request p s (Ask r) =
-      along_settled p (record s { bus = (perform r s.bus).after }) (perform r s.bus).value (touches r s.bus) s.bus
-      (along_reference r s.bus)
+      along_settled p (state_of s.world.processor (perform r s.world.bus).after s.latch) (perform r s.world.bus).value (touches r s.world.bus) s.world.bus
+      (along_reference r s.world.bus)
 
-  along_rest : (ps : List Phase) (xs : List Touch) (b : BusWorld) (r : Result State Fault)
-      → ((t : State) → K (trace ps t) t.bus (bus_after (run ps t))) → K xs b (bus_after r)
+  along_rest : (ps : List Phase) (xs : List Touch) (b : BusWorld) (r : Result State Stop)
+      → ((t : State) → K (trace ps t) t.world.bus (bus_after (run ps t))) → K xs b (bus_after r)
       → K (xs ++ traced_next (λ t. trace ps t) r) b (bus_after (and_then r (λ t. run ps t)))
-  along_rest ps xs b (Ok t) rest so = goes.joins xs (trace ps t) b t.bus (bus_after (run ps t)) so (rest t)
-  along_rest ps xs b (Err fault) rest so = rw append-nil so
+  along_rest ps xs b (Ok t) rest so = goes.joins xs (trace ps t) b t.world.bus (bus_after (run ps t)) so (rest t)
+  along_rest ps xs b (Err stop) rest so = rw append-nil so
 
-  pub along_run : (ps : List Phase) (s : State) → K (trace ps s) s.bus (bus_after (run ps s))
+  pub along_run : (ps : List Phase) (s : State) → K (trace ps s) s.world.bus (bus_after (run ps s))
   unfolding run trace
-  along_run [] s = goes.stays s.bus
+  along_run [] s = goes.stays s.world.bus
   along_run (p ∷ ps) s =
-      along_rest ps _ s.bus (step p s) (λ t. along_run ps t) (along_request p s (p.request (inner_of s)))
+      along_rest ps _ s.world.bus (step p s) (λ t. along_run ps t) (along_request p s (p.request (inner_of s)))
 
-  along_plan : (plan : Plan) (s : State) → K (trace (phases_of plan) s) s.bus (bus_after (run_plan plan s))
+  along_plan : (plan : Plan) (s : State) → K (trace (phases_of plan) s) s.world.bus (bus_after (run_plan plan s))
   along_plan plan s = rw (← run_phases_of plan s) (along_run (phases_of plan) s)
 
   along_next : (next : Inner → Course) (caught : Trap → Inner → Course) (latch : Latch)
-      (xs : List Touch) (b : BusWorld) (r : Result State Fault)
-      → ((t : State) → K (trace_of (next (inner_of t)) t) t.bus (follow (next (inner_of t)) t).bus)
-      → ((trap : Trap) (t : State) → K (trace_of (caught trap (inner_of t)) t) t.bus (follow (caught trap (inner_of t)) t).bus)
+      (xs : List Touch) (b : BusWorld) (r : Result State Stop)
+      → ((t : State) → K (trace_of (next (inner_of t)) t) t.world.bus (follow (next (inner_of t)) t).world.bus)
+      → ((trap : Trap) (t : State) → K (trace_of (caught trap (inner_of t)) t) t.world.bus (follow (caught trap (inner_of t)) t).world.bus)
       → K xs b (bus_after r)
       → K (xs ++ traced_on (λ t. trace_of (next (inner_of t)) t) (λ trap t. trace_of (caught trap (inner_of t)) t) latch r) b
-      (go_on (λ t. follow (next (inner_of t)) t) (λ trap t. follow (caught trap (inner_of t)) t) latch r).bus
-  along_next next caught latch xs b (Ok t) goes_on catches so = goes.joins xs _ b t.bus _ so (goes_on t)
-  along_next next caught latch xs b (Err fault) goes_on catches so =
-      goes.joins xs _ b fault.bus _ so (catches fault.trap (caught_in latch fault))
+      (go_on (λ t. follow (next (inner_of t)) t) (λ trap t. follow (caught trap (inner_of t)) t) latch r).world.bus
+  along_next next caught latch xs b (Ok t) goes_on catches so = goes.joins xs _ b t.world.bus _ so (goes_on t)
+  along_next next caught latch xs b (Err stop) goes_on catches so =
+      goes.joins xs _ b stop.world.bus _ so (catches stop.trap (caught_in latch stop))
 
-  pub along_course : (course : Course) (s : State) → K (trace_of course s) s.bus (follow course s).bus
+  pub along_course : (course : Course) (s : State) → K (trace_of course s) s.world.bus (follow course s).world.bus
   unfolding follow trace_of
-  along_course End s = goes.stays s.bus
+  along_course End s = goes.stays s.world.bus
   along_course (Go plan next caught) s =
-      along_next next caught s.latch _ s.bus (run_plan plan s)
+      along_next next caught s.latch _ s.world.bus (run_plan plan s)
       (λ t. along_course (next (inner_of t)) t)
       (λ trap t. along_course (caught trap (inner_of t)) t)
       (along_plan plan s)

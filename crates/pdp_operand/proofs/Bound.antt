@@ -2,11 +2,11 @@
 use Rattle.std.proofs.Common.{◌≡◌, ℕ, ◌+◌, ◌≤◌, List, [], ◌∷◌, refl, Ok, Err, Result, length, length-append, arith}
 use Rattle.pdp_word.specs.declared.size.Size.{Size}
 use Rattle.pdp_decode.specs.declared.instruction.Spec.{Spec}
-use Rattle.pdp_operand.specs.Phase.{Phase, Inner, State, Fault, Latch, step, inner_of}
-use Rattle.pdp_operand.specs.Plan.{Plan, Do, ◌▸◌, phases_of, run_plan}
-use Rattle.pdp_operand.specs.Course.{Course, End, Go, caught_in}
-use Rattle.pdp_operand.specs.Count.{run_length, counted_next, course_length, counted_on}
-use Rattle.pdp_operand.specs.Operand.{find, lower}
+use Rattle.pdp_operand.specs.Phases.Phase.{Phase, Inner, State, Stop, Latch, step, inner_of}
+use Rattle.pdp_operand.specs.Phases.Plan.{Plan, Do, ◌▸◌, phases_of, run_plan}
+use Rattle.pdp_operand.specs.Phases.Course.{Course, End, Go, caught_in}
+use Rattle.pdp_operand.specs.Laws.Count.{run_length, counted_next, course_length, counted_on}
+use Rattle.pdp_operand.specs.Handbook.Operand.{find, lower}
 use Rattle.pdp_operand.specs.declared.trap.Trap.{Trap}
 
 -- how many phases a plan has
@@ -19,10 +19,10 @@ length-phases_of (Do ps) = refl
 length-phases_of (a ▸ b) =
     rw (length-append (phases_of a) (phases_of b), length-phases_of a, length-phases_of b) refl
 
-rest_le : (ps : List Phase) (r : Result State Fault) → ((t : State) → run_length ps t ≤ length ps)
+rest_le : (ps : List Phase) (r : Result State Stop) → ((t : State) → run_length ps t ≤ length ps)
     → counted_next (λ t. run_length ps t) r ≤ length ps
 rest_le ps (Ok t) rest = rest t
-rest_le ps (Err fault) rest = omega arith
+rest_le ps (Err stop) rest = omega arith
 
 run_length_le : (ps : List Phase) (s : State) → run_length ps s ≤ length ps
 unfolding run_length
@@ -35,12 +35,12 @@ AtMost End n = Unit {0}
 AtMost (Go plan next caught) n =
     (m : ℕ) × (size_of plan + m ≤ n) × ((i : Inner) → AtMost (next i) m) × ((trap : Trap) (i : Inner) → AtMost (caught trap i) m)
 
-next_le : (m : ℕ) (next : Inner → Course) (caught : Trap → Inner → Course) (latch : Latch) (r : Result State Fault)
+next_le : (m : ℕ) (next : Inner → Course) (caught : Trap → Inner → Course) (latch : Latch) (r : Result State Stop)
     → ((t : State) → course_length (next (inner_of t)) t ≤ m)
     → ((trap : Trap) (t : State) → course_length (caught trap (inner_of t)) t ≤ m)
     → counted_on (λ t. course_length (next (inner_of t)) t) (λ trap t. course_length (caught trap (inner_of t)) t) latch r ≤ m
 next_le m next caught latch (Ok t) goes_on catches = goes_on t
-next_le m next caught latch (Err fault) goes_on catches = catches fault.trap (caught_in latch fault)
+next_le m next caught latch (Err stop) goes_on catches = catches stop.trap (caught_in latch stop)
 
 pub course_length_le : (course : Course) (n : ℕ) (s : State) → AtMost course n → course_length course s ≤ n
 unfolding course_length

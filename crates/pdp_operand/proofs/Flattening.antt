@@ -1,16 +1,16 @@
 -- A plan is the run of its phases.
 use Rattle.std.proofs.Common.{◌≡◌, List, [], ◌∷◌, ◌++◌, refl, ap, ◌∙◌, Ok, Err, Result}
-use Rattle.pdp_operand.specs.Phase.{Phase, State, Fault, run, step, and_then}
-use Rattle.pdp_operand.specs.Plan.{Plan, Do, ◌▸◌, phases_of, run_plan}
+use Rattle.pdp_operand.specs.Phases.Phase.{Phase, State, Stop, run, step, and_then}
+use Rattle.pdp_operand.specs.Phases.Plan.{Plan, Do, ◌▸◌, phases_of, run_plan}
 
-and_then-assoc : (r : Result State Fault) (f g : State → Result State Fault)
+and_then-assoc : (r : Result State Stop) (f g : State → Result State Stop)
     → and_then r (λ s. and_then (f s) g) ≡ and_then (and_then r f) g
 and_then-assoc (Ok s) f g = refl
-and_then-assoc (Err fault) f g = refl
+and_then-assoc (Err stop) f g = refl
 
-and_then-ext : (r : Result State Fault) (f g : State → Result State Fault) → ((s : State) → f s ≡ g s) → and_then r f ≡ and_then r g
+and_then-ext : (r : Result State Stop) (f g : State → Result State Stop) → ((s : State) → f s ≡ g s) → and_then r f ≡ and_then r g
 and_then-ext (Ok s) f g same = same s
-and_then-ext (Err fault) f g same = refl
+and_then-ext (Err stop) f g same = refl
 
 pub run-append : (ps qs : List Phase) (s : State) → run (ps ++ qs) s ≡ and_then (run ps s) (run qs)
 unfolding run

@@ -8,11 +8,11 @@ use Rattle.pdp_store.specs.declared.Agent.TheVariants.{Cpu}
 use Rattle.pdp_store.specs.declared.Stamp.{Stamp}
 use Rattle.pdp_unibus.specs.BusWorld.{BusWorld}
 use Rattle.pdp_unibus.specs.Cycle.{Core}
-use Rattle.pdp_operand.specs.Phase.{State}
-use Rattle.pdp_operand.specs.Course.{Course, follow}
-use Rattle.pdp_operand.specs.Trace.{Touch, touch_at, trace_of, last_write, Avoids}
-use Rattle.pdp_operand.specs.Touched.{IsOfTurn}
-use Rattle.pdp_operand.specs.Page.{SamePage}
+use Rattle.pdp_operand.specs.Phases.Phase.{State}
+use Rattle.pdp_operand.specs.Phases.Course.{Course, follow}
+use Rattle.pdp_operand.specs.Laws.Trace.{Touch, touch_at, trace_of, last_write, Avoids}
+use Rattle.pdp_operand.specs.Laws.Touched.{IsOfTurn}
+use Rattle.pdp_operand.specs.Laws.Page.{SamePage}
 use Rattle.pdp_operand.proofs.Along.{Goes, along_course}
 
 -- the turn and the number of words stay, and every touch is of that turn and of those words
@@ -92,18 +92,18 @@ keeps_page page = record {
       so (Avoids-first page xs ys avoids) k inside ∙ also (Avoids-second page xs ys avoids) k inside;
 }
 
-pub course_keeps_turn : (course : Course) (s : State) → KeepsTurn (trace_of course s) s.bus (follow course s).bus
+pub course_keeps_turn : (course : Course) (s : State) → KeepsTurn (trace_of course s) s.world.bus (follow course s).world.bus
 course_keeps_turn = along_course KeepsTurn keeps_turn
 
-pub course_keeps_stamps : (course : Course) (s : State) → KeepsStamps (trace_of course s) s.bus (follow course s).bus
+pub course_keeps_stamps : (course : Course) (s : State) → KeepsStamps (trace_of course s) s.world.bus (follow course s).world.bus
 course_keeps_stamps = along_course KeepsStamps keeps_stamps
 
-pub course_touches : (course : Course) (s : State) → All (IsOfTurn s.bus.turn (length s.bus.core)) (trace_of course s)
+pub course_touches : (course : Course) (s : State) → All (IsOfTurn s.world.bus.turn (length s.world.bus.core)) (trace_of course s)
 course_touches course s = (course_keeps_turn course s).touches
 
-pub course_lasts : (course : Course) (s : State) (k : ℕ) → k < length s.bus.lasts
-    → slice_index_or (follow course s).bus.lasts k None ≡ last_write (trace_of course s) k (slice_index_or s.bus.lasts k None)
+pub course_lasts : (course : Course) (s : State) (k : ℕ) → k < length s.world.bus.lasts
+    → slice_index_or (follow course s).world.bus.lasts k None ≡ last_write (trace_of course s) k (slice_index_or s.world.bus.lasts k None)
 course_lasts course s = (course_keeps_stamps course s).lasts
 
-pub course_keeps_page : (page : ℕ) (course : Course) (s : State) → Avoids page (trace_of course s) → SamePage page s.bus (follow course s).bus
+pub course_keeps_page : (page : ℕ) (course : Course) (s : State) → Avoids page (trace_of course s) → SamePage page s.world.bus (follow course s).world.bus
 course_keeps_page page = along_course (KeepsPage page) (keeps_page page)

@@ -1,11 +1,5 @@
-pub mod Slot
-pub mod Processor
-pub mod Reference
-pub mod Phase
-pub mod Plan
-pub mod Course
-pub mod Trace
-pub mod Operand
-pub mod Count
-pub mod Touched
-pub mod Page
+pub mod Handbook
+pub mod Phases
+-- how functions of the code and plans belong together
+pub mod Outcome
+pub mod Laws

@@ -1,11 +1,11 @@
 ghost use Rattle.std.specs.Prelude.{◌≡◌, ◌<◌, ℕ, All, None, length, slice_index_or};
 ghost use Rattle.pdp_unibus.specs.BusWorld.{BusWorld};
-ghost use Rattle.pdp_operand.specs.Page.{AlikeOutside, UndisturbedCourse};
-ghost use Rattle.pdp_operand.specs.Touched.{IsOfTurn};
-ghost use Rattle.pdp_operand.specs.Course.{Course, follow};
-ghost use Rattle.pdp_operand.specs.Trace.{Avoids, last_write, trace_of};
-ghost use Rattle.pdp_operand.specs.Phase.{State, run};
-ghost use Rattle.pdp_operand.specs.Plan.{Plan, phases_of, run_plan};
+ghost use Rattle.pdp_operand.specs.Laws.Page.{AlikeOutside, UndisturbedCourse};
+ghost use Rattle.pdp_operand.specs.Laws.Touched.{IsOfTurn};
+ghost use Rattle.pdp_operand.specs.Phases.Course.{Course, follow};
+ghost use Rattle.pdp_operand.specs.Laws.Trace.{Avoids, last_write, trace_of};
+ghost use Rattle.pdp_operand.specs.Phases.Phase.{State, run};
+ghost use Rattle.pdp_operand.specs.Phases.Plan.{Plan, phases_of, run_plan};
 
 /// A law of plans: a plan run group by group is the run of all its phases in their order.
 #[tactic(auto, using(crate::proofs::Flattening::run_phases_of))]
@@ -16,17 +16,21 @@ pub fn plan_is_its_phases()
 /// A law of courses: every access to a word of core is by the processor, in the turn of the bus, to a word that core has.
 #[tactic(auto, using(crate::proofs::Kept::course_touches))]
 pub fn touches_of_courses_are_of_their_turn()
-    ensures { (course : Course) (s : State) → All (IsOfTurn s.bus.turn (length s.bus.core)) (trace_of course s) }
+    ensures { (course : Course) (s : State) →
+        All (IsOfTurn s.world.bus.turn (length s.world.bus.core)) (trace_of course s) }
 {}
 
 /// A law of courses: after one, the last stamp of each word is that of its last write in the course, or the one from
 /// before where it was not written.
 #[tactic(auto, using(crate::proofs::Kept::course_lasts))]
 pub fn stamps_of_courses_are_last_writes()
-    ensures { (course : Course) (s : State) (k : ℕ) → k < length s.bus.lasts → slice_index_or (follow course s).bus.lasts k None ≡ last_write (trace_of course s) k (slice_index_or s.bus.lasts k None) }
+    ensures { (course : Course) (s : State) (k : ℕ) → k < length s.world.bus.lasts →
+        slice_index_or (follow course s).world.bus.lasts k None
+        ≡ last_write (trace_of course s) k (slice_index_or s.world.bus.lasts k None) }
 {}
 
 /// A law of courses: one that never touches a page of 256 words leaves it, and goes on in the same way whatever is in it.
 pub fn courses_leave_what_they_never_touch()
-    ensures { (page : ℕ) (course : Course) (s : State) (c : BusWorld) → AlikeOutside page s.bus c → Avoids page (trace_of course s) → UndisturbedCourse page course s c }
+    ensures { (page : ℕ) (course : Course) (s : State) (c : BusWorld) → AlikeOutside page s.world.bus c →
+        Avoids page (trace_of course s) → UndisturbedCourse page course s c }
 {}

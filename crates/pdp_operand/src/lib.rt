@@ -1,5 +1,10 @@
-//! Accesses and operands of the PDP-11/40, and the phases that define them: the processor's registers, a reference over
-//! the bus, the eight addressing modes, and what an operand reads and writes.
+//! Accesses and operands of the PDP-11/40, and the phases that define them: the processor's registers, a reference
+//! over the bus, the eight addressing modes, and what an operand reads and writes.
+//!
+//! It stands on pdp_unibus, pdp_store, pdp_kt11, pdp_decode and pdp_word. The contract of a function says which
+//! reference it makes, or which plan of phases it is the run of: its answer, or its trap, and the registers and the
+//! bus after it. The laws hold for every plan or course. What an instruction does with its operands it leaves to
+//! pdp_cpu.
 #![tactic(auto)]
 
 mod laws;
@@ -16,7 +21,7 @@ pub use laws::{
     touches_of_courses_are_of_their_turn,
 };
 pub use operand::{address, fetch, is_status, store};
-pub use place::{Cell, Place};
+pub use place::{Cell, Fill, Place};
 pub use processor::{Processor, RunState, Slot};
 pub use reference::{read_byte, read_word, write_byte, write_word};
 pub use trap::Trap;

@@ -1,30 +1,28 @@
-ghost use Rattle.std.specs.Prelude.{◌≡◌, ◌<◌, Result, Ok, IfOk, [], ◌∷◌, false};
+ghost use Rattle.std.specs.Prelude.{◌≡◌, ◌<◌, Ok, IfOk};
 ghost use Rattle.pdp_word.specs.Size.{span};
-ghost use Rattle.pdp_operand.specs.Phase.{Latch, State, Fault, run, state_of};
-ghost use Rattle.pdp_operand.specs.Plan.{run_plan};
-ghost use Rattle.pdp_operand.specs.Operand.{grow, shrink, index, indirect, point, find, found, found_cell, read_operand, fetched, write_operand, stored, passed, is_status, stack_limit, lower, step_of};
-ghost use Rattle.pdp_operand.specs.declared.processor.Processor.{Processor};
+ghost use Rattle.pdp_operand.specs.Handbook.Operand.{cell_in, find, grow, index, indirect, is_status, lower, mode_now, point, read_operand, shrink, size_of_fill, stack_limit, step_of, write_operand};
+ghost use Rattle.pdp_operand.specs.Outcome.{Gives, GivesWhere, IsAt, IsToWrite, in_cell, in_codes, in_place, in_value, nowhere};
+ghost use Rattle.pdp_operand.specs.Phases.Plan.{one};
+ghost use Rattle.pdp_operand.specs.Handbook.Slot.{slot_of};
 ghost use Rattle.pdp_operand.specs.declared.place.Place.TheVariants.{Mem};
-ghost use Rattle.pdp_operand.specs.Slot.{slot_of};
 
-use crate::place::{Cell, Place};
+use crate::place::{Cell, Fill, Place};
 use crate::processor::{Processor, Slot};
 use crate::reference::{read_byte, read_word, write_byte, write_word};
 use crate::trap::Trap;
 use pdp_decode::Spec;
+use pdp_kt11::Mode;
 use pdp_store::Store;
 use pdp_unibus::Bus;
-use pdp_word::Size;
+use pdp_word::{Size, sign_extend};
 
-/// The virtual address, in the space of the mode of now.
+/// The virtual address in the space of the mode.
 #[inline(always)]
-fn cell_at<S: Store>(bus: &Bus<S>, address: u16) -> Cell
-    ensures mode { result.mode ≡ bus.now.board.status.mode }
-    ensures address { result.address ≡ address }
-    ensures near { result.near ≡ false }
+fn cell_at(mode: Mode, address: u16) -> Cell
+    ensures { Mem result ≡ cell_in mode address }
 {
     Cell {
-        mode: bus.status().mode,
+        mode,
         address,
         near: false,
     }
@@ -33,7 +31,6 @@ fn cell_at<S: Store>(bus: &Bus<S>, address: u16) -> Cell
 /// The register that a number names in the mode of now.
 #[inline(always)]
 fn slot<S: Store>(bus: &Bus<S>, register: u8) -> Slot
-    requires { register < 8 }
     ensures { result ≡ slot_of bus.now.board.status.mode register }
 {
     Slot::of(bus.status().mode, register)
@@ -41,39 +38,38 @@ fn slot<S: Store>(bus: &Bus<S>, register: u8) -> Slot
 
 /// (R)
 #[inline(always)]
-#[tactic(auto, unfolding(crate::specs::Phase::run, crate::specs::Operand::point))]
+#[tactic(auto, unfolding(crate::specs::Phases::Phase::run, crate::specs::Handbook::Operand::point))]
 fn pointed<S: Store>(processor: &Processor, bus: &Bus<S>, register: u8) -> Cell
-    requires { register < 8 }
-    ensures { (latch : Latch) → run (point register ∷ []) (state_of processor.now bus.now latch) ≡ found_cell (Ok result) processor.now bus.now latch }
+    ensures gives { Gives in_cell (one (point register)) processor.now bus.now (Ok result) processor.now bus.now }
 {
-    cell_at(bus, processor.register(slot(bus, register)))
+    cell_at(bus.status().mode, processor.register(slot(bus, register)))
 }
 
 /// (R)+
 #[inline(always)]
-#[tactic(auto, unfolding(crate::specs::Phase::run, crate::specs::Operand::grow))]
+#[tactic(auto, unfolding(crate::specs::Phases::Phase::run, crate::specs::Handbook::Operand::grow))]
 fn grown<S: Store>(processor: &mut Processor, bus: &Bus<S>, register: u8, step: u16) -> Cell
-    requires { register < 8 }
-    ensures { (latch : Latch) → run (grow register step ∷ []) (state_of processor.old bus.now latch) ≡ found_cell (Ok result) processor.new bus.now latch }
+    ensures gives { Gives in_cell (one (grow register step)) processor.old bus.now (Ok result) processor.new bus.now }
 {
     let slot = slot(bus, register);
-    let cell = cell_at(bus, processor.register(slot));
+    let cell = cell_at(bus.status().mode, processor.register(slot));
     processor.advance(slot, step);
     cell
 }
 
 /// -(R)
 #[inline(always)]
-#[tactic(auto, unfolding(crate::specs::Phase::run, crate::specs::Operand::shrink))]
+#[tactic(auto, unfolding(crate::specs::Phases::Phase::run, crate::specs::Handbook::Operand::shrink))]
 fn shrunk<S: Store>(processor: &mut Processor, bus: &Bus<S>, register: u8, step: u16) -> Cell
-    requires register { register < 8 }
-    requires step { (0 < step) × (step < 3) }
-    ensures { (latch : Latch) → run (shrink register step ∷ []) (state_of processor.old bus.now latch) ≡ found_cell (Ok result) processor.new bus.now latch }
+    ensures gives { Gives in_cell (one (shrink mode_now register step))
+        processor.old bus.now (Ok result) processor.new bus.now }
 {
     let slot = slot(bus, register);
-    let back = u16::MAX - step + 1;
-    let cell = cell_at(bus, processor.register(slot).wrapping_add(back));
-    processor.advance(slot, back);
+    let cell = cell_at(
+        bus.status().mode,
+        processor.register(slot).wrapping_sub(step),
+    );
+    processor.retreat(slot, step);
     cell
 }
 
@@ -81,10 +77,10 @@ fn shrunk<S: Store>(processor: &mut Processor, bus: &Bus<S>, register: u8, step:
 ///
 /// Err(StackLimit) where it is.
 #[inline(always)]
-#[tactic(auto, unfolding(crate::specs::Phase::run, crate::specs::Operand::stack_limit))]
+#[tactic(auto, unfolding(crate::specs::Phases::Phase::run, crate::specs::Handbook::Operand::stack_limit))]
 fn check_limit<S: Store>(processor: &Processor, bus: &Bus<S>, register: u8) -> Result<(), Trap>
-    requires { register < 8 }
-    ensures { (latch : Latch) → run (stack_limit register ∷ []) (state_of processor.now bus.now latch) ≡ passed result processor.now bus.now latch }
+    ensures gives { Gives nowhere (one (stack_limit mode_now register))
+        processor.now bus.now result processor.now bus.now }
 {
     let slot = slot(bus, register);
     if slot == Slot::KernelStack && processor.register(slot) < 0o400 {
@@ -96,16 +92,14 @@ fn check_limit<S: Store>(processor: &Processor, bus: &Bus<S>, register: u8) -> R
 
 /// -(R), within the limit of the kernel's stack.
 #[inline(always)]
-#[tactic(auto, unfolding(crate::specs::Operand::lower))]
+#[tactic(auto, unfolding(crate::specs::Handbook::Operand::lower))]
 fn lowered<S: Store>(
     processor: &mut Processor,
     bus: &Bus<S>,
     register: u8,
     step: u16,
 ) -> Result<Cell, Trap>
-    requires register { register < 8 }
-    requires step { (0 < step) × (step < 3) }
-    ensures { (latch : Latch) → run_plan (lower register step) (state_of processor.old bus.now latch) ≡ found_cell result processor.new bus.now latch }
+    ensures gives { Gives in_cell (lower mode_now register step) processor.old bus.now result processor.new bus.now }
 {
     let cell = shrunk(processor, bus, register, step);
     check_limit(processor, bus, register)?;
@@ -114,37 +108,35 @@ fn lowered<S: Store>(
 
 /// X(R)
 #[inline(always)]
-#[tactic(auto, unfolding(crate::specs::Phase::run, crate::specs::Operand::index))]
+#[tactic(auto, unfolding(crate::specs::Phases::Phase::run, crate::specs::Handbook::Operand::index))]
 fn indexed<S: Store>(
     processor: &mut Processor,
     bus: &mut Bus<S>,
     register: u8,
 ) -> Result<Cell, Trap>
-    requires { register < 8 }
-    ensures { (latch : Latch) → run (index register ∷ []) (state_of processor.old bus.old latch) ≡ found_cell result processor.new bus.new latch }
+    ensures gives { Gives in_cell (one (index register)) processor.old bus.old result processor.new bus.new }
 {
     let mode = bus.status().mode;
     let word = read_word(bus, mode, processor.register(Slot::ProgramCounter))?;
     processor.advance(Slot::ProgramCounter, 2);
     let base = processor.register(slot(bus, register));
-    Ok(cell_at(bus, base.wrapping_add(word)))
+    Ok(cell_at(bus.status().mode, base.wrapping_add(word)))
 }
 
 /// The cell whose address is the word in this one.
 #[inline(always)]
-#[tactic(auto, unfolding(crate::specs::Phase::run, crate::specs::Operand::indirect))]
-fn deferred<S: Store>(bus: &mut Bus<S>, cell: Cell) -> Result<Cell, Trap>
-    ensures { (p : Processor) (latch : Latch) → latch.place ≡ Mem cell → run (indirect ∷ []) (state_of p bus.old latch) ≡ found_cell result p bus.new latch }
+#[tactic(auto, unfolding(crate::specs::Phases::Phase::run, crate::specs::Handbook::Operand::indirect))]
+fn deferred<S: Store>(processor: &Processor, bus: &mut Bus<S>, cell: Cell) -> Result<Cell, Trap>
+    ensures gives { GivesWhere (IsAt (Mem cell)) in_cell (one indirect) processor.now bus.old result processor.now bus.new }
 {
     let address = read_word(bus, cell.mode, cell.address)?;
-    Ok(cell_at(bus, address))
+    Ok(cell_at(bus.status().mode, address))
 }
 
 /// By how much (R)+ and -(R) change the register, in bytes.
 #[inline(always)]
 fn step(size: Size, register: u8) -> u16
-    ensures step { result ≡ step_of size register }
-    ensures small { (0 < result) × (result < 3) }
+    ensures { result ≡ step_of size register }
 {
     match size {
         Size::Byte if register < 6 => 1,
@@ -157,16 +149,14 @@ fn step(size: Size, register: u8) -> u16
 /// DEC PDP-11/40 Processor Handbook (1972), Addressing modes: a register changes before the access that it serves, and
 /// keeps its change where the access faults (this project's profile).
 #[inline(always)]
-#[tactic(auto, unfolding(crate::specs::Operand::find), using(crate::proofs::Steps::run_name_register))]
+#[tactic(auto, unfolding(crate::specs::Handbook::Operand::find), using(crate::proofs::Steps::run_name_register))]
 pub fn address<S: Store>(
     processor: &mut Processor,
     bus: &mut Bus<S>,
     operand: Spec,
     size: Size,
 ) -> Result<Place, Trap>
-    requires mode { operand.mode < 8 }
-    requires register { operand.reg < 8 }
-    ensures { (latch : Latch) → run_plan (find size operand) (state_of processor.old bus.old latch) ≡ found result processor.new bus.new latch }
+    ensures gives { Gives in_place (find size operand) processor.old bus.old result processor.new bus.new }
 {
     let register = operand.reg;
     let cell = match operand.mode {
@@ -184,7 +174,7 @@ pub fn address<S: Store>(
             cell
         }
     };
-    let cell = deferred(bus, cell)?;
+    let cell = deferred(processor, bus, cell)?;
     Ok(Place::Mem(cell))
 }
 
@@ -194,14 +184,15 @@ pub fn address<S: Store>(
 ///
 /// Err where the reference to memory faults.
 #[inline(always)]
-#[tactic(auto, unfolding(crate::specs::Phase::run, crate::specs::Operand::read_operand))]
+#[tactic(auto, unfolding(crate::specs::Phases::Phase::run, crate::specs::Handbook::Operand::read_operand))]
 pub fn fetch<S: Store>(
     processor: &Processor,
     bus: &mut Bus<S>,
     place: Place,
     size: Size,
 ) -> Result<u16, Trap>
-    ensures run { (latch : Latch) → latch.place ≡ place → run (read_operand size ∷ []) (state_of processor.now bus.old latch) ≡ fetched result processor.now bus.new latch }
+    ensures gives { GivesWhere (IsAt place) in_value (one (read_operand size))
+        processor.now bus.old result processor.now bus.new }
     ensures fits { IfOk result (λ value. value < span size) }
 {
     match (place, size) {
@@ -213,38 +204,43 @@ pub fn fetch<S: Store>(
 }
 
 /// Writes a word, or a byte as a number below 400 (octal), to a place, and answers whether that was the program status
-/// word, which then wins over the codes of the instruction. A byte that goes to a register changes its low byte alone.
+/// word, which then wins over the codes of the instruction. `fill` says how a register is filled.
 ///
-/// DEC PDP-11/40 Processor Handbook (1972), Addressing modes; that a written status wins is this project's profile.
+/// DEC PDP-11/40 Processor Handbook (1972), Addressing modes and MOV; that a written status wins is this project's profile.
 ///
 /// Err where the reference to memory faults; nothing is written then.
 #[inline(always)]
-#[tactic(auto, unfolding(crate::specs::Phase::run, crate::specs::Operand::write_operand))]
+#[tactic(auto, unfolding(crate::specs::Phases::Phase::run, crate::specs::Handbook::Operand::write_operand))]
 pub fn store<S: Store>(
     processor: &mut Processor,
     bus: &mut Bus<S>,
     place: Place,
-    size: Size,
+    fill: Fill,
     value: u16,
 ) -> Result<bool, Trap>
-    requires { value < span size }
-    ensures { (latch : Latch) → latch.place ≡ place → latch.result ≡ value → run (write_operand size ∷ []) (state_of processor.old bus.old latch) ≡ stored result processor.new bus.new latch }
+    requires { value < span (size_of_fill fill) }
+    ensures gives { GivesWhere (IsToWrite value place) in_codes (one (write_operand fill))
+        processor.old bus.old result processor.new bus.new }
 {
-    match (place, size) {
-        (Place::Reg(slot), Size::Word) => {
+    match (place, fill) {
+        (Place::Reg(slot), Fill::Whole) => {
             processor.set_register(slot, value);
             Ok(false)
         }
-        (Place::Reg(slot), Size::Byte) => {
+        (Place::Reg(slot), Fill::LowByte) => {
             let old = processor.register(slot);
             processor.set_register(slot, old - old % 256 + value);
             Ok(false)
         }
-        (Place::Mem(cell), Size::Word) => {
+        (Place::Reg(slot), Fill::Extended) => {
+            processor.set_register(slot, sign_extend(value as u8));
+            Ok(false)
+        }
+        (Place::Mem(cell), Fill::Whole) => {
             let physical = write_word(bus, cell.mode, cell.address, value)?;
             Ok(is_status(physical))
         }
-        (Place::Mem(cell), Size::Byte) => {
+        (Place::Mem(cell), Fill::LowByte | Fill::Extended) => {
             let physical = write_byte(bus, cell.mode, cell.address, value as u8)?;
             Ok(is_status(physical))
         }

@@ -1,5 +1,9 @@
+ghost use Rattle.std.specs.Prelude.{◌≡◌};
+ghost use Rattle.pdp_operand.specs.Handbook.Operand.{fill_of, size_of_fill};
+
 use crate::processor::Slot;
 use pdp_kt11::Mode;
+use pdp_word::Size;
 
 /// A place in memory, as an operand names it.
 #[derive(Clone, Copy, Debug, PartialEq, Eq)]
@@ -17,4 +21,31 @@ pub struct Cell {
 pub enum Place {
     Reg(Slot),
     Mem(Cell),
+}
+
+/// How a write fills a register. In memory it writes its word or its byte.
+#[derive(Clone, Copy, Debug, PartialEq, Eq)]
+pub enum Fill {
+    /// A word fills the register.
+    Whole,
+    /// A byte changes the low byte alone.
+    LowByte,
+    /// A byte fills the register with its sign.
+    Extended,
+}
+
+impl Fill {
+    /// How the instructions of a size fill a register, all but MOVB
+    /// (DEC PDP-11/40 Processor Handbook (1972), Addressing modes).
+    #[inline(always)]
+    pub fn of(size: Size) -> Fill
+        ensures fill { result ≡ fill_of size }
+        ensures size { size_of_fill result ≡ size }
+    {
+        if size == Size::Word {
+            Fill::Whole
+        } else {
+            Fill::LowByte
+        }
+    }
 }

@@ -3,9 +3,10 @@
 ghost use Rattle.std.specs.Prelude.{◌<◌};
 
 use crate::{
-    Cell, Place, Processor, RunState, Slot, Trap, address, courses_leave_what_they_never_touch,
-    fetch, is_status, plan_is_its_phases, read_byte, read_word, stamps_of_courses_are_last_writes,
-    store, touches_of_courses_are_of_their_turn, write_byte, write_word,
+    Cell, Fill, Place, Processor, RunState, Slot, Trap, address,
+    courses_leave_what_they_never_touch, fetch, is_status, plan_is_its_phases, read_byte,
+    read_word, stamps_of_courses_are_last_writes, store, touches_of_courses_are_of_their_turn,
+    write_byte, write_word,
 };
 use pdp_decode::Spec;
 use pdp_kt11::Mode;
@@ -114,27 +115,31 @@ fn reads_and_writes_operands(rt: HostRuntime) -> Result<(), NoMemory> {
         Ok(0o345)
     );
     assert_eq!(rt;
-        store(&mut processor, &mut bus, register, Size::Byte, 0o377),
+        store(&mut processor, &mut bus, register, Fill::LowByte, 0o377),
         Ok(false)
     );
     assert_eq!(rt; processor.register(Slot::R1), 0o012377);
     assert_eq!(rt;
-        store(&mut processor, &mut bus, register, Size::Word, 7),
+        store(&mut processor, &mut bus, register, Fill::Whole, 7),
         Ok(false)
     );
     assert_eq!(rt; processor.register(Slot::R1), 7);
+    for (byte, word) in [(0o177, 0o000177), (0o377, 0o177777)] {
+        let stored = store(&mut processor, &mut bus, register, Fill::Extended, byte);
+        assert_eq!(rt; (stored, processor.register(Slot::R1)), (Ok(false), word));
+    }
 
     let even = memory(0o000120);
     let odd = memory(0o000121);
     assert_eq!(rt;
-        store(&mut processor, &mut bus, even, Size::Word, 0o012345),
+        store(&mut processor, &mut bus, even, Fill::Whole, 0o012345),
         Ok(false)
     );
     assert_eq!(rt; fetch(&processor, &mut bus, even, Size::Word), Ok(0o012345));
     assert_eq!(rt; fetch(&processor, &mut bus, even, Size::Byte), Ok(0o345));
     assert_eq!(rt; fetch(&processor, &mut bus, odd, Size::Byte), Ok(0o024));
     assert_eq!(rt;
-        store(&mut processor, &mut bus, odd, Size::Byte, 0o201),
+        store(&mut processor, &mut bus, odd, Fill::LowByte, 0o201),
         Ok(false)
     );
     assert_eq!(rt; fetch(&processor, &mut bus, even, Size::Word), Ok(0o100745));
@@ -159,7 +164,7 @@ fn tells_writes_of_the_status_word(rt: HostRuntime) -> Result<(), NoMemory> {
         (memory(0o177777), 0, Err(Trap::OddAddress)),
     ] {
         assert_eq!(rt;
-            store(&mut processor, &mut bus, place, Size::Word, word),
+            store(&mut processor, &mut bus, place, Fill::Whole, word),
             told,
             "{word:06o} to {place:?}"
         );
@@ -175,7 +180,13 @@ fn tells_writes_of_the_status_word(rt: HostRuntime) -> Result<(), NoMemory> {
         (memory(0o177777), 0o060, Ok(true)),
     ] {
         assert_eq!(rt;
-            store(&mut processor, &mut bus, place, Size::Byte, u16::from(byte)),
+            store(
+                &mut processor,
+                &mut bus,
+                place,
+                Fill::LowByte,
+                u16::from(byte)
+            ),
             told,
             "{byte:03o} to {place:?}"
         );
@@ -388,6 +399,10 @@ fn names_and_changes_registers(rt: HostRuntime) {
     assert_eq!(rt; processor.words, [0, 0, 0, 0, 0, 0, 0, 0o001000, 0]);
     assert_eq!(rt; processor.run, RunState::Run);
     processor.advance(Slot::UserStack, 0o177776);
+    assert_eq!(rt; processor.register(Slot::UserStack), 0o177776);
+    processor.advance(Slot::UserStack, 4);
+    assert_eq!(rt; processor.register(Slot::UserStack), 2);
+    processor.retreat(Slot::UserStack, 4);
     assert_eq!(rt; processor.register(Slot::UserStack), 0o177776);
     processor.advance(Slot::UserStack, 4);
     assert_eq!(rt; processor.register(Slot::UserStack), 2);

@@ -1,25 +1,24 @@
--- Core as of power-up, word by word.
-use Rattle.std.proofs.Common.{◌≡◌, ℕ, ◌<◌, ◌≤◌, ◌==◌, List, [], ◌∷◌, Option, None, Some, length, ◌∙◌, arith, if◌then◌else◌, unwrap_or, length-append}
+-- Core as of power-up, word by word, and as the code fills it.
+use Rattle.std.proofs.Common.{◌≡◌, ℕ, ◌<◌, ◌≤◌, Bool, true, false, cond, List, [], ◌∷◌, None, Some, length, refl, sym, ◌∙◌, ap, subst, arith, unwrap_or, nat_eq, length-append}
 use Rattle.std.specs.Prelude.{slice_index, slice_set}
-use Rattle.std.proofs.lemmas.Grind.{common_steps}
-use Rattle.std.proofs.lemmas.List.{length-set, length-replicate}
-use Rattle.pdp_replay.specs.Start.{Start, core_size}
+use Rattle.std.specs.List.{AllByRecursion, IsDistinct}
+use Rattle.std.specs.Map.{lookup, keys_of}
+use Rattle.std.proofs.lemmas.Bool.{eqb-true, eq-eqb, false≢true}
+use Rattle.std.proofs.lemmas.Grind.{common_steps, get_or-set_at}
+use Rattle.std.proofs.lemmas.List.{length-set, length-replicate, get_or-set_other}
+use Rattle.std.proofs.lemmas.List.FromFn.{fill_by_all, get_or-map-range_with_len, length-map-range_with_len}
+use Rattle.pdp_replay.specs.Setup.{SetupData, core_size}
+use Rattle.pdp_replay.specs.Core.{core_words, first_word}
+use Rattle.pdp_replay.specs.Image.{put_all, padded, AreApart}
 use Rattle.pdp_replay.proofs.Patches.{length_put_all}
-use Rattle.pdp_replay.specs.Core.{core_words, first_word, patch_of, put_all, padded}
 
-one_put : (words : List ℕ) (at value number before : ℕ) (patch : Option ℕ)
-    → number < length words → slice_index words number ≡ unwrap_or patch before
-    → slice_index (slice_set words at value) number ≡ unwrap_or (if at == number then Some value else patch) before
-one_put words at value number before patch below is = grind (arith, common_steps)
+pub core_has_size : (s : SetupData) → length (core_words s) ≡ core_size s
+unfolding core_words
+core_has_size s = length-map-range_with_len (first_word s) 0 (core_size s)
 
--- after the patches a word is its last patch, or what the list had
-put_all_at : (ps : List (ℕ × ℕ)) (words : List ℕ) (number before : ℕ) (patch : Option ℕ)
-    → number < length words → slice_index words number ≡ unwrap_or patch before
-    → slice_index (put_all ps words) number ≡ unwrap_or (patch_of ps number patch) before
-put_all_at [] words number before patch below is = is
-put_all_at (p ∷ ps) words number before patch below is =
-    put_all_at ps (slice_set words p.0 p.1) number before (if p.0 == number then Some p.1 else patch)
-    (rw length-set below) (one_put words p.0 p.1 number before patch below is)
+pub core_word_is : (s : SetupData) (number : ℕ) → number < core_size s → slice_index (core_words s) number ≡ first_word s number
+unfolding core_words
+core_word_is s number below = get_or-map-range_with_len (first_word s) 0 (core_size s) number number 0 below (omega arith)
 
 pub length_padded : (n : ℕ) (image : List ℕ) → length image ≤ n → length (padded n image) ≡ n
 length_padded n image within = rw (length-append, length-replicate) (omega arith)
@@ -28,14 +27,39 @@ padded_at : (n : ℕ) (image : List ℕ) (number : ℕ) → length image ≤ n �
     → slice_index (padded n image) number ≡ slice_index image number
 padded_at n image number within below = grind (arith, common_steps)
 
-pub core_word_is : (s : Start) (number : ℕ) → length s.core ≤ core_size s → number < core_size s
-    → slice_index (core_words s) number ≡ first_word s number
-unfolding core_words
-core_word_is s number within below =
-    let size : length (padded (core_size s) s.core) ≡ core_size s = length_padded (core_size s) s.core within in
-    put_all_at s.patches (padded (core_size s) s.core) number (slice_index s.core number) None
-    (omega arith) (padded_at (core_size s) s.core number within below)
+-- no other patch is of this word
+no_other : (k : ℕ) (ps : List (ℕ × ℕ)) → AllByRecursion (λ y. nat_eq k y ≡ false) (keys_of ps) → lookup (nat_eq k) ps ≡ None
+no_other k [] apart = refl
+no_other k (p ∷ ps) apart = let skipped : nat_eq k p.0 ≡ false = apart.0 in rw skipped (no_other k ps apart.1)
 
-pub core_has_size : (s : Start) → length s.core ≤ core_size s → length (core_words s) ≡ core_size s
+one_put : (same : Bool) (words : List ℕ) (p : ℕ × ℕ) (ps : List (ℕ × ℕ)) (number : ℕ) → nat_eq number p.0 ≡ same
+    → AllByRecursion (λ y. nat_eq p.0 y ≡ false) (keys_of ps) → number < length words
+    → unwrap_or (lookup (nat_eq number) ps) (slice_index (slice_set words p.0 p.1) number)
+    ≡ unwrap_or (cond same (Some p.1) (lookup (nat_eq number) ps)) (slice_index words number)
+one_put true words p ps number is apart below =
+    let here : number ≡ p.0 = eqb-true number p.0 is in
+    let none : lookup (nat_eq number) ps ≡ None = subst (λ k. lookup (nat_eq k) ps ≡ None) (sym here) (no_other p.0 ps apart) in
+    rw none (get_or-set_at words p.0 number p.1 0 here (subst (λ k. k < length words) here below))
+one_put false words p ps number is apart below =
+    ap (λ word. unwrap_or (lookup (nat_eq number) ps) word)
+    (get_or-set_other words p.0 number p.1 0 (λ here. false≢true (sym is ∙ eq-eqb number p.0 here)))
+
+-- after the patches a word is its patch, or what the list had
+put_all_at : (ps : List (ℕ × ℕ)) (words : List ℕ) (number : ℕ) → AreApart ps → number < length words
+    → slice_index (put_all ps words) number ≡ unwrap_or (lookup (nat_eq number) ps) (slice_index words number)
+unfolding IsDistinct
+put_all_at [] words number apart below = refl
+put_all_at (p ∷ ps) words number apart below =
+    put_all_at ps (slice_set words p.0 p.1) number apart.1 (rw length-set below)
+    ∙ one_put (nat_eq number p.0) words p ps number refl apart.0 below
+
+-- the patches put over a padded image are core as of power-up
+pub core_is_filled : (s : SetupData) → length s.core ≤ core_size s → AreApart s.patches
+    → put_all s.patches (padded (core_size s) s.core) ≡ core_words s
 unfolding core_words
-core_has_size s within = length_put_all s.patches (padded (core_size s) s.core) ∙ length_padded (core_size s) s.core within
+core_is_filled s within apart =
+    let size : length (padded (core_size s) s.core) ≡ core_size s = length_padded (core_size s) s.core within in
+    fill_by_all (first_word s) (put_all s.patches (padded (core_size s) s.core)) (core_size s) 0
+    (length_put_all s.patches (padded (core_size s) s.core) ∙ size)
+    (λ number below. put_all_at s.patches (padded (core_size s) s.core) number apart (omega arith)
+    ∙ ap (λ word. unwrap_or (lookup (nat_eq number) s.patches) word) (padded_at (core_size s) s.core number within below))

@@ -1,15 +1,13 @@
 -- Edits that are never refused for want of memory.
-use Rattle.std.proofs.Common.{◌≡◌, ℕ, ◌/◌, ◌%◌, ◌==◌, Bool, true, false, cond, refl, ◌∙◌, Option, None, Some, Result, Ok, Err, List, is_some, nat_eq, nat_lt, if◌then◌else◌}
-use Rattle.std.specs.Map.{lookup}
+use Rattle.std.proofs.Common.{◌≡◌, ℕ, Bool, true, false, cond, refl, ◌∙◌, Option, None, Some, Result, Ok, Err, List, nat_lt}
 use Rattle.pdp_script.specs.Entries.{Entry, entry_of, altered, without}
 use Rattle.pdp_script.specs.Refusal.{for_memory, result_map}
 use Rattle.pdp_script.specs.Script.{ScriptData, last_turn, of_entry}
 use Rattle.pdp_script.specs.declared.faults.Fault.{Fault}
 use Rattle.pdp_script.specs.declared.faults.Fault.TheVariants.{NoMemory, OutsideCore, OddAddress, OutsideDisk, NoSuchEvent, ScriptFull, TurnTooLarge, CountOutOfRange, NoSuchPatch, BadLine, LineTooLong, Input, Output, BadImage, BadSetup}
 use Rattle.pdp_unibus.specs.declared.event.Event.{Event}
-use Rattle.pdp_replay.specs.Edit.{core_word_at, edited_at, without_patch, revert_edit, event_alteration, event_drop}
+use Rattle.pdp_replay.specs.Edit.{event_alteration, event_drop}
 use Rattle.pdp_replay.specs.Past.{Past}
-use Rattle.pdp_replay.specs.Start.{Start, core_size}
 
 mapped : {X Y : Type 0} (f : X → Y) (r : Result X Fault) → for_memory (result_map f r) ≡ for_memory r
 mapped f (Ok x) = refl
@@ -47,18 +45,3 @@ alteration_needs_none number turn event p =
 pub drop_needs_none : (number : ℕ) (p : Past) → for_memory (event_drop number p) ≡ false
 unfolding event_drop
 drop_needs_none number p = mapped _ _ ∙ entry_edit (entry_of p.script.entries number) (λ _. without p.script.entries number) p.script
-
-patch_or_none : (patched : Bool) (s : Start) → for_memory (if patched then Ok s else Err NoSuchPatch) ≡ false
-patch_or_none true s = refl
-patch_or_none false s = refl
-
-word_or_none : (inside even : Bool) (number : ℕ) (s : Start)
-    → for_memory (edited_at (if inside then if even then Ok number else Err OddAddress else Err OutsideCore) (without_patch s)) ≡ false
-word_or_none true true number s = patch_or_none (is_some (lookup (nat_eq number) s.patches)) _
-word_or_none true false number s = refl
-word_or_none false even number s = refl
-
-pub revert_needs_none : (address : ℕ) (p : Past) → for_memory (revert_edit address p) ≡ false
-unfolding revert_edit core_word_at
-revert_needs_none address p =
-    mapped _ _ ∙ word_or_none (nat_lt (address / 2) (core_size p.setup)) (address % 2 == 0) (address / 2) p.setup

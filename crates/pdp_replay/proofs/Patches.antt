@@ -1,8 +1,10 @@
 -- Patches put into a list of words.
-use Rattle.std.proofs.Common.{◌≡◌, ℕ, suc, zero, ◌+◌, ◌<◌, Bool, true, false, cond, Some, subst, List, [], ◌∷◌, ◌++◌, length, take, refl, sym, ◌∙◌, ap, slice_set, slice_get, option_to_list, nat_eq, add-one, if◌then◌else◌}
+use Rattle.std.proofs.Common.{◌≡◌, ℕ, suc, zero, ◌+◌, ◌<◌, Bool, true, false, cond, Some, subst, List, [], ◌∷◌, ◌++◌, length, take, refl, sym, ◌∙◌, ap, slice_set, slice_get, option_to_list, nat_eq, add-one, arith, if◌then◌else◌}
 use Rattle.std.proofs.lemmas.List.{length-set}
 use Rattle.indexmap.specs.IndexMap.{insert_entry, shift_remove_entry}
-use Rattle.pdp_replay.specs.Core.{put_all, AllBelow}
+use Rattle.std.proofs.lemmas.List.Elements.{All-cons, All-tail}
+use Rattle.pdp_replay.specs.Core.{AllBelow}
+use Rattle.pdp_replay.specs.Image.{put_all, patch_alone}
 use Rattle.pdp_replay.proofs.Lists.{take_one_more}
 
 pub length_put_all : (ps : List (ℕ × ℕ)) (words : List ℕ) → length (put_all ps words) ≡ length words
@@ -19,36 +21,54 @@ put_one_more ps i words =
     let more : take (i + 1) ps ≡ take i ps ++ option_to_list (slice_get ps i) = rw add-one (take_one_more ps i) in
     sym (put_all-append (take i ps) (option_to_list (slice_get ps i)) words) ∙ sym (ap (λ qs. put_all qs words) more)
 
-pub one_below : (n : ℕ) (ps : List (ℕ × ℕ)) (i : ℕ) → AllBelow n ps → AllBelow n (option_to_list (slice_get ps i))
-one_below n [] i below = tt
-one_below n (p ∷ ps) zero below = (below.0, tt)
-one_below n (p ∷ ps) (suc i) below = one_below n ps i below.1
+abbrev is_below : ℕ → ℕ × ℕ → Type 0
+is_below n p = p.0 < n
+
+none_below : (n : ℕ) → AllBelow n []
+none_below n k d lt = absurd (omega arith)
+
+first_below : (n : ℕ) (p : ℕ × ℕ) (ps : List (ℕ × ℕ)) → AllBelow n (p ∷ ps) → p.0 < n
+first_below n p ps below = below 0 p (omega arith)
+
+rest_below : (n : ℕ) (p : ℕ × ℕ) (ps : List (ℕ × ℕ)) → AllBelow n (p ∷ ps) → AllBelow n ps
+rest_below n p ps below = All-tail (is_below n) p ps below
+
+both_below : (n : ℕ) (p : ℕ × ℕ) (ps : List (ℕ × ℕ)) → p.0 < n → AllBelow n ps → AllBelow n (p ∷ ps)
+both_below n p ps small below = All-cons (is_below n) p ps small below
+
+pub one_below : (n : ℕ) (ps : List (ℕ × ℕ)) (i : ℕ) → AllBelow n ps → AllBelow n (patch_alone ps i)
+one_below n [] i below = none_below n
+one_below n (p ∷ ps) zero below = both_below n p [] (first_below n p ps below) (none_below n)
+one_below n (p ∷ ps) (suc i) below = one_below n ps i (rest_below n p ps below)
 
 below_when : (n : ℕ) (b : Bool) (p q : ℕ × ℕ) (ps qs : List (ℕ × ℕ)) → p.0 < n → q.0 < n → AllBelow n ps → AllBelow n qs
     → AllBelow n (if b then p ∷ ps else q ∷ qs)
-below_when n true p q ps qs hp hq hps hqs = (hp, hps)
-below_when n false p q ps qs hp hq hps hqs = (hq, hqs)
+below_when n true p q ps qs hp hq hps hqs = both_below n p ps hp hps
+below_when n false p q ps qs hp hq hps hqs = both_below n q qs hq hqs
 
 -- a patch of a word below n keeps all patches below n
 pub below_inserted : (n : ℕ) (ps : List (ℕ × ℕ)) (number word : ℕ) → number < n → AllBelow n ps
     → AllBelow n (insert_entry nat_eq ps number word)
-below_inserted n [] number word small below = (small, tt)
+below_inserted n [] number word small below = both_below n (number, word) [] small (none_below n)
 below_inserted n (p ∷ ps) number word small below =
-    below_when n (nat_eq number p.0) (p.0, word) p ps (insert_entry nat_eq ps number word) below.0 below.0 below.1
-    (below_inserted n ps number word small below.1)
+    let here : p.0 < n = first_below n p ps below in
+    let rest : AllBelow n ps = rest_below n p ps below in
+    below_when n (nat_eq number p.0) (p.0, word) p ps (insert_entry nat_eq ps number word) here here rest
+    (below_inserted n ps number word small rest)
 
-rest_below : (n : ℕ) (taken : Bool) (p : ℕ × ℕ) (ps qs : List (ℕ × ℕ)) → p.0 < n → AllBelow n ps → AllBelow n qs
+below_taken : (n : ℕ) (taken : Bool) (p : ℕ × ℕ) (ps qs : List (ℕ × ℕ)) → p.0 < n → AllBelow n ps → AllBelow n qs
     → AllBelow n (cond taken ps (p ∷ qs))
-rest_below n true p ps qs small below below_qs = below
-rest_below n false p ps qs small below below_qs = (small, below_qs)
+below_taken n true p ps qs small below below_qs = below
+below_taken n false p ps qs small below below_qs = both_below n p qs small below_qs
 
 -- so does taking a patch back
 pub below_removed : (n : ℕ) (test : ℕ → Bool) (ps : List (ℕ × ℕ)) → AllBelow n ps → AllBelow n (shift_remove_entry test ps)
-below_removed n test [] below = tt
+below_removed n test [] below = none_below n
 below_removed n test (p ∷ ps) below =
-    rest_below n (test p.0) p ps (shift_remove_entry test ps) below.0 below.1 (below_removed n test ps below.1)
+    let rest : AllBelow n ps = rest_below n p ps below in
+    below_taken n (test p.0) p ps (shift_remove_entry test ps) (first_below n p ps below) rest (below_removed n test ps rest)
 
 pub entry_below : (n : ℕ) (ps : List (ℕ × ℕ)) (i : ℕ) (p : ℕ × ℕ) → AllBelow n ps → slice_get ps i ≡ Some p → p.0 < n
 entry_below n [] i p below is = absurd (cc is)
-entry_below n (q ∷ ps) zero p below is = let same : q ≡ p = cc is in subst (λ r. r.0 < n) same below.0
-entry_below n (q ∷ ps) (suc i) p below is = entry_below n ps i p below.1 is
+entry_below n (q ∷ ps) zero p below is = let same : q ≡ p = cc is in subst (λ r. r.0 < n) same (first_below n q ps below)
+entry_below n (q ∷ ps) (suc i) p below is = entry_below n ps i p (rest_below n q ps below) is

@@ -1,11 +1,11 @@
 -- States some turns on.
 use Rattle.std.proofs.Common.{◌≡◌, ℕ, zero, suc, ◌+◌, ◌<◌, ◌≤◌, refl, ap, ◌∙◌, add-one, add-zero, arith, []}
-use Rattle.pdp_cpu.specs.MachineState.{MachineState, after_turn}
-use Rattle.pdp_cpu.specs.World.{one_turn}
+use Rattle.pdp_cpu.specs.Turns.MachineState.{MachineState, after_turn}
+use Rattle.pdp_cpu.specs.Turns.Turn.{one_turn}
 use Rattle.pdp_script.specs.Entries.{events_at}
 use Rattle.pdp_replay.specs.Past.{Past}
 use Rattle.pdp_replay.specs.Quiet.{quiet_turns}
-use Rattle.pdp_replay.specs.Turns.{power, state_at}
+use Rattle.pdp_replay.specs.Turns.{power, state_at, at}
 
 pub state_first : (p : Past) → state_at p 0 ≡ power p.setup
 unfolding state_at
@@ -22,10 +22,6 @@ quiet_none m = refl
 pub quiet_next : (n : ℕ) (m : MachineState) → quiet_turns (n + 1) m ≡ after_turn [] (quiet_turns n m)
 unfolding quiet_turns
 quiet_next n m = rw add-one refl
-
--- the machine of this past before turn t
-abbrev pub at : Past → ℕ → MachineState
-at p t = record { turn = t; world = state_at p t }
 
 one_more : (p : Past) (t : ℕ) → events_at p.script.entries t ≡ [] → after_turn [] (at p t) ≡ at p (suc t)
 unfolding state_at

@@ -1,20 +1,21 @@
 -- What a command makes of the past.
-use Rattle.std.specs.Prelude.{ℕ, ◌/◌, ◌%◌, ◌*◌, ◌==◌, Option, Some, None, Result, Ok, Err, length, min, nat_eq, nat_lt, is_some, slice_get, if◌then◌else◌}
+use Rattle.std.specs.Prelude.{ℕ, ◌≡◌, ◌+◌, Bool, false, ◌/◌, ◌%◌, ◌*◌, ◌==◌, Option, Some, None, Result, Ok, Err, length, min, nat_eq, nat_lt, is_some, slice_get, if◌then◌else◌}
 use Rattle.std.specs.Option.{option_map}
 use Rattle.std.specs.Map.{lookup}
 use Rattle.indexmap.specs.IndexMap.{insert_entry, shift_remove_entry}
 use Rattle.pdp_script.specs.Entries.{entry_of}
+use Rattle.pdp_script.specs.Refusal.{edit_answer, for_memory}
 use Rattle.pdp_script.specs.Script.{insert_edit, alter_edit, drop_edit}
 use Rattle.pdp_script.specs.declared.faults.Fault.{Fault}
 use Rattle.pdp_script.specs.declared.faults.Fault.TheVariants.{OutsideCore, OddAddress, NoSuchPatch}
 use Rattle.pdp_unibus.specs.declared.event.Event.{Event}
-use Rattle.pdp_replay.specs.Start.{Start, core_size}
+use Rattle.pdp_replay.specs.Setup.{SetupData, core_size}
 use Rattle.pdp_replay.specs.Past.{Past, of_setup, of_script}
 use Rattle.pdp_replay.specs.declared.patch.Patch.{Patch}
 use Rattle.pdp_replay.specs.declared.patch.Patch.TheVariants.{Core}
 
 -- the number of the core word at an address: refused outside core, and then at an odd address
-unfoldable pub core_word_at : ℕ → Start → Result ℕ Fault
+unfoldable pub core_word_at : ℕ → SetupData → Result ℕ Fault
 core_word_at address s = (
     if nat_lt (address / 2) (core_size s) then
     if address % 2 == 0 then Ok (address / 2)
@@ -22,19 +23,19 @@ core_word_at address s = (
     else Err OutsideCore)
 
 -- an edit of the word of this number, or the refusal where there is no such word
-abbrev pub edited_at : Result ℕ Fault → (ℕ → Result Start Fault) → Result Start Fault
+abbrev pub edited_at : Result ℕ Fault → (ℕ → Result SetupData Fault) → Result SetupData Fault
 edited_at (Ok number) edited = edited number
 edited_at (Err fault) edited = Err fault
 
 -- a word is patched: one that has a patch keeps its place among the patches, a new one comes last
-abbrev pub with_patch : ℕ → Start → ℕ → Result Start Fault
+abbrev pub with_patch : ℕ → SetupData → ℕ → Result SetupData Fault
 with_patch word s number = Ok (record s { patches = insert_entry nat_eq s.patches number word })
 
 unfoldable pub core_edit : ℕ → ℕ → Past → Result Past Fault
 core_edit address word p = of_setup p (edited_at (core_word_at address p.setup) (with_patch word p.setup))
 
 -- a word loses its patch, if it has one; the other patches keep their order
-abbrev pub without_patch : Start → ℕ → Result Start Fault
+abbrev pub without_patch : SetupData → ℕ → Result SetupData Fault
 without_patch s number = (
     if is_some (lookup (nat_eq number) s.patches) then Ok (record s { patches = shift_remove_entry (nat_eq number) s.patches })
     else Err NoSuchPatch)
@@ -52,14 +53,20 @@ event_alteration number turn event p = of_script p (alter_edit number turn event
 unfoldable pub event_drop : ℕ → Past → Result Past Fault
 event_drop number p = of_script p (drop_edit number p.script)
 
+-- no alteration and no drop of an event is refused for want of memory
+abbrev pub AlterationNeedsNoMemory : Type 0
+AlterationNeedsNoMemory = (number turn : ℕ) (event : Event) (p : Past) → for_memory (event_alteration number turn event p) ≡ false
+
+abbrev pub DropNeedsNoMemory : Type 0
+DropNeedsNoMemory = (number : ℕ) (p : Past) → for_memory (event_drop number p) ≡ false
+
+-- what an insertion answers: one more than the last number that was given, or its refusal
+abbrev pub insertion_answer : ℕ → Event → Bool → Past → Result ℕ Fault
+insertion_answer turn event refused p = edit_answer (event_insertion turn event p) refused (p.script.given + 1)
+
 -- the turn of the event of this number, where there is one
 abbrev pub turn_of_event : ℕ → Past → Option ℕ
 turn_of_event number p = option_map (λ e. e.turn) (entry_of p.script.entries number)
-
--- the known turn after an edit that reaches back to these turns; a refused edit leaves it
-abbrev pub known_after_edit : {X : Type 0} → Result X Fault → ℕ → ℕ → ℕ
-known_after_edit (Ok x) reached known = min known reached
-known_after_edit (Err fault) reached known = known
 
 -- the lesser of the turn of an event as it was and the turn that it is given
 abbrev pub lesser_turn : Option ℕ → ℕ → ℕ

@@ -1,9 +1,10 @@
-pub mod Start
+pub mod Setup
 pub mod Core
+pub mod Image
 pub mod Past
 pub mod Turns
 pub mod Quiet
 pub mod Answer
 pub mod Edit
-pub mod Known
 pub mod Timeline
+pub mod Known

@@ -1,6 +1,6 @@
 -- Turns without events.
 use Rattle.std.specs.Prelude.{ℕ, zero, suc, []}
-use Rattle.pdp_cpu.specs.MachineState.{MachineState, after_turn}
+use Rattle.pdp_cpu.specs.Turns.MachineState.{MachineState, after_turn}
 
 -- a machine after so many turns without events
 unfoldable pub quiet_turns : ℕ → MachineState → MachineState

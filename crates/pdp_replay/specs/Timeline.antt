@@ -1,7 +1,12 @@
 -- An engine as a contract sees it.
-use Rattle.std.specs.Prelude.{ℕ, ◌≤◌}
+use Rattle.std.specs.Prelude.{ℕ, ◌≡◌, ◌≤◌, Bool, true, false, min, unwrap_or, Result, Ok, Err}
+use Rattle.pdp_script.specs.Refusal.{past_left}
+use Rattle.pdp_script.specs.Script.{last_turn}
+use Rattle.pdp_script.specs.declared.faults.Fault.{Fault}
+use Rattle.pdp_unibus.specs.declared.event.Event.{Event}
+use Rattle.pdp_replay.specs.Edit.{core_edit, revert_edit, event_insertion, event_alteration, event_drop, turn_of_event, lesser_turn}
 use Rattle.pdp_replay.specs.Past.{Past, unscripted}
-use Rattle.pdp_replay.specs.Start.{Start, IsGood, core_size}
+use Rattle.pdp_replay.specs.Setup.{SetupData, IsGood, core_size}
 use Rattle.pdp_replay.specs.Core.{AllBelow}
 
 -- the past, the known turn, the highest that it has been, the stride, and the turns run so far
@@ -13,12 +18,43 @@ pub record Timeline : Type 0 where
   pub turns : ℕ
 
 -- an engine as it is made
-abbrev pub fresh : Start → Timeline
+abbrev pub fresh : SetupData → Timeline
 fresh s = record { past = unscripted s; known = 0; highest = 0; stride = s.stride; turns = 0 }
 
+-- the known turn after an edit that reaches back to this turn; a refused edit leaves it
+abbrev pub known_left : ℕ → Result Past Fault → Bool → ℕ → ℕ
+known_left reached (Err fault) refused known = known
+known_left reached (Ok past) true known = known
+known_left reached (Ok past) false known = min known reached
+
+-- an engine after an edit that reaches back to this turn: the past and the known turn change, and nothing else
+abbrev pub after_edit : ℕ → Result Past Fault → Bool → Timeline → Timeline
+after_edit reached due refused t = record t {
+  past = past_left due refused t.past;
+  known = known_left reached due refused t.known;
+}
+
+-- an engine after each edit, by how far back it reaches; `refused` is whether memory was refused for it
+abbrev pub core_edited : ℕ → ℕ → Bool → Timeline → Timeline
+core_edited address word refused t = after_edit 0 (core_edit address word t.past) refused t
+
+abbrev pub core_reverted : ℕ → Bool → Timeline → Timeline
+core_reverted address refused t = after_edit 0 (revert_edit address t.past) refused t
+
+abbrev pub event_inserted : ℕ → Event → Bool → Timeline → Timeline
+event_inserted turn event refused t = after_edit turn (event_insertion turn event t.past) refused t
+
+abbrev pub event_altered : ℕ → ℕ → Event → Timeline → Timeline
+event_altered number turn event t =
+    after_edit (lesser_turn (turn_of_event number t.past) turn) (event_alteration number turn event t.past) false t
+
+abbrev pub event_dropped : ℕ → Timeline → Timeline
+event_dropped number t = after_edit (unwrap_or (turn_of_event number t.past) 0) (event_drop number t.past) false t
+
 -- what every engine keeps
-pub record IsTimeline (setup : Start) (known highest : ℕ) : Type 0 where
+pub record IsTimeline (setup : SetupData) (known highest stride : ℕ) : Type 0 where
   pub good : IsGood setup
   pub below : AllBelow (core_size setup) setup.patches
   pub reached : known ≤ highest
-  pub limit : highest ≤ 1000000000
+  pub limit : highest ≤ last_turn
+  pub same_stride : stride ≡ setup.stride

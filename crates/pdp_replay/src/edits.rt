@@ -1,7 +1,8 @@
-ghost use Rattle.std.specs.Prelude.{◌≡◌, ◌+◌, ◌*◌, ◌<◌, Ok, IfOk, false, unwrap_or};
-ghost use Rattle.pdp_script.specs.Refusal.{for_memory, answered, left, result_map};
-ghost use Rattle.pdp_replay.specs.Start.{Start};
-ghost use Rattle.pdp_replay.specs.Edit.{core_word_at, core_edit, revert_edit, event_insertion, event_alteration, event_drop, turn_of_event, lesser_turn, known_after_edit, patch_at, patch_count};
+ghost use Rattle.std.specs.Prelude.{◌≡◌, ◌*◌, ◌<◌, Ok, IfOk, OnErr, false, min};
+ghost use Rattle.pdp_script.specs.Refusal.{for_memory, edit_answer, result_map};
+ghost use Rattle.pdp_replay.specs.Setup.{SetupData};
+ghost use Rattle.pdp_replay.specs.Edit.{core_word_at, core_edit, revert_edit, insertion_answer, event_alteration, event_drop, patch_at, patch_count};
+ghost use Rattle.pdp_replay.specs.Timeline.{core_edited, core_reverted, event_inserted, event_altered, event_dropped};
 
 use crate::engine::Engine;
 use crate::patch::Patch;
@@ -17,38 +18,33 @@ impl Engine {
     /// a growth was refused. A refused edit changes nothing. (This project's profile.)
     #[tactic(auto, unfolding(crate::specs::Edit::core_edit))]
     pub fn set_core(&mut self, address: u32, word: u16) -> Result<(), Fault>
-        ensures answer { result ≡ answered (core_edit address word self.old.past) (for_memory result) tt }
-        ensures after { self.new.past ≡ left (core_edit address word self.old.past) (for_memory result) self.old.past }
-        ensures known { self.new.known ≡ known_after_edit result 0 self.old.known }
-        ensures ran { self.new.turns ≡ self.old.turns }
-        ensures highest { self.new.highest ≡ self.old.highest }
-        ensures stride { self.new.stride ≡ self.old.stride }
+        ensures answer { result ≡ edit_answer (core_edit address word self.old.past) (for_memory result) tt }
+        ensures after { self.new ≡ core_edited address word (for_memory result) self.old }
+        ensures refused { OnErr result (self.new ≡ self.old) }
     {
         let number = core_word(self.setup.units, address)?;
         self.patches.insert(number, word)?;
-        self.known = 0;
+        lower_known(&mut self.known, 0);
         Ok(())
     }
 
     /// Takes back the patch of the core word at this address (octal, bytes): as of power-up it is its image's word again,
-    /// or 0. The other patches keep their order. The known turn becomes 0; no turn is run. Takes no memory.
+    /// or 0. The other patches keep their order. The known turn becomes 0; no turn is run.
     ///
     /// Err(OutsideCore) where the address is not in core; else Err(OddAddress) where it is odd; else Err(NoSuchPatch) where
-    /// the word has no patch. A refused edit changes nothing. (This project's profile.)
+    /// the word has no patch; else Err(NoMemory) where a growth was refused. A refused edit changes nothing. (This project's
+    /// profile.)
     #[tactic(auto, unfolding(crate::specs::Edit::revert_edit))]
     pub fn revert_core(&mut self, address: u32) -> Result<(), Fault>
-        ensures answer { result ≡ result_map (λ _. tt) (revert_edit address self.old.past) }
-        ensures after { self.new.past ≡ left (revert_edit address self.old.past) false self.old.past }
-        ensures known { self.new.known ≡ known_after_edit result 0 self.old.known }
-        ensures ran { self.new.turns ≡ self.old.turns }
-        ensures highest { self.new.highest ≡ self.old.highest }
-        ensures stride { self.new.stride ≡ self.old.stride }
+        ensures answer { result ≡ edit_answer (revert_edit address self.old.past) (for_memory result) tt }
+        ensures after { self.new ≡ core_reverted address (for_memory result) self.old }
+        ensures refused { OnErr result (self.new ≡ self.old) }
     {
         let number = core_word(self.setup.units, address)?;
         if self.patches.shift_remove(&number).is_none() {
             return Err(Fault::NoSuchPatch);
         }
-        self.known = 0;
+        lower_known(&mut self.known, 0);
         Ok(())
     }
 
@@ -60,15 +56,12 @@ impl Engine {
     /// uses up no number. (This project's profile.)
     #[tactic(auto, unfolding(crate::specs::Edit::event_insertion))]
     pub fn insert(&mut self, turn: u32, event: Event) -> Result<u32, Fault>
-        ensures answer { result ≡ answered (event_insertion turn event self.old.past) (for_memory result) (self.old.past.script.given + 1) }
-        ensures after { self.new.past ≡ left (event_insertion turn event self.old.past) (for_memory result) self.old.past }
-        ensures known { self.new.known ≡ known_after_edit result turn self.old.known }
-        ensures ran { self.new.turns ≡ self.old.turns }
-        ensures highest { self.new.highest ≡ self.old.highest }
-        ensures stride { self.new.stride ≡ self.old.stride }
+        ensures answer { result ≡ insertion_answer turn event (for_memory result) self.old.past }
+        ensures after { self.new ≡ event_inserted turn event (for_memory result) self.old }
+        ensures refused { OnErr result (self.new ≡ self.old) }
     {
         let number = self.script.insert(turn, event)?;
-        self.known = self.known.min(turn);
+        lower_known(&mut self.known, turn);
         Ok(number)
     }
 
@@ -80,15 +73,12 @@ impl Engine {
     #[tactic(auto, unfolding(crate::specs::Edit::event_alteration))]
     pub fn alter(&mut self, number: u32, turn: u32, event: Event) -> Result<(), Fault>
         ensures answer { result ≡ result_map (λ _. tt) (event_alteration number turn event self.old.past) }
-        ensures after { self.new.past ≡ left (event_alteration number turn event self.old.past) false self.old.past }
-        ensures known { self.new.known ≡ known_after_edit result (lesser_turn (turn_of_event number self.old.past) turn) self.old.known }
-        ensures ran { self.new.turns ≡ self.old.turns }
-        ensures highest { self.new.highest ≡ self.old.highest }
-        ensures stride { self.new.stride ≡ self.old.stride }
+        ensures after { self.new ≡ event_altered number turn event self.old }
+        ensures refused { OnErr result (self.new ≡ self.old) }
     {
         let before = self.script.turn_of(number).unwrap_or(turn);
         self.script.alter(number, turn, event)?;
-        self.known = self.known.min(before).min(turn);
+        lower_known(&mut self.known, before.min(turn));
         Ok(())
     }
 
@@ -99,15 +89,12 @@ impl Engine {
     #[tactic(auto, unfolding(crate::specs::Edit::event_drop))]
     pub fn drop_event(&mut self, number: u32) -> Result<(), Fault>
         ensures answer { result ≡ result_map (λ _. tt) (event_drop number self.old.past) }
-        ensures after { self.new.past ≡ left (event_drop number self.old.past) false self.old.past }
-        ensures known { self.new.known ≡ known_after_edit result (unwrap_or (turn_of_event number self.old.past) 0) self.old.known }
-        ensures ran { self.new.turns ≡ self.old.turns }
-        ensures highest { self.new.highest ≡ self.old.highest }
-        ensures stride { self.new.stride ≡ self.old.stride }
+        ensures after { self.new ≡ event_dropped number self.old }
+        ensures refused { OnErr result (self.new ≡ self.old) }
     {
         let before = self.script.turn_of(number).unwrap_or(0);
         self.script.drop_event(number)?;
-        self.known = self.known.min(before);
+        lower_known(&mut self.known, before);
         Ok(())
     }
 
@@ -128,12 +115,19 @@ impl Engine {
     }
 }
 
+/// Forgets what is known past this turn.
+fn lower_known(known: &mut u32, turn: u32)
+    ensures { known.new ≡ min known.old turn }
+{
+    *known = (*known).min(turn);
+}
+
 /// The number of the core word at this address (octal, bytes), of a core of so many units.
 ///
 /// Err(OutsideCore) where the address is not in core; else Err(OddAddress) where it is odd.
 #[tactic(auto, unfolding(crate::specs::Edit::core_word_at))]
 fn core_word(units: u8, address: u32) -> Result<u32, Fault>
-    ensures number { (s : Start) → s.units ≡ units → core_word_at address s ≡ result }
+    ensures number { (s : SetupData) → s.units ≡ units → core_word_at address s ≡ result }
     ensures below { IfOk result (λ number. number < units * UNIT_WORDS) }
 {
     let number = address / 2;

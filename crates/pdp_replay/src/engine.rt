@@ -1,8 +1,8 @@
-ghost use Rattle.std.specs.Prelude.{◌≡◌, ◌+◌, ◌≤◌, ◌<◌, ◌^◌, min, max, IfOk, IsErr, false};
-ghost use Rattle.pdp_script.specs.Refusal.{for_memory, asked, result_map};
-ghost use Rattle.pdp_replay.specs.Start.{given, start_of};
-ghost use Rattle.pdp_replay.specs.Answer.{answer_to, turn_asked, first_turn_needed};
-ghost use Rattle.pdp_replay.specs.Known.{known_after, IsStride};
+ghost use Rattle.std.specs.Prelude.{◌≡◌, ◌+◌, ◌≤◌, ◌<◌, ◌^◌, max, IfOk, OnOk, IsErr, false};
+ghost use Rattle.pdp_script.specs.Refusal.{for_memory, question_answer, result_map};
+ghost use Rattle.pdp_replay.specs.Setup.{given, setup_checked};
+ghost use Rattle.pdp_replay.specs.Answer.{answer_to, value_in};
+ghost use Rattle.pdp_replay.specs.Known.{known_after, IsStride, IsWithinBound};
 ghost use Rattle.pdp_replay.specs.Timeline.{fresh};
 
 use crate::question::{Answer, Question};
@@ -22,21 +22,22 @@ pub struct Engine {
     pub(crate) setup: Setup,
     pub(crate) patches: IndexMap<u32, u16>,
     pub(crate) script: Script,
-    meter: Meter,
+    pub(crate) meter: Meter,
     pub(crate) known: u32,
     highest: u32,
+    stride: u32,
 }
 
 impl Model for Engine {
     ghost use Rattle.pdp_replay.specs.Timeline.{Timeline, IsTimeline};
     ghost use Rattle.pdp_replay.specs.Past.{past_from};
-    ghost use Rattle.pdp_replay.specs.Start.{start_from};
+    ghost use Rattle.pdp_replay.specs.Setup.{setup_from};
 
     ghost Value = { Timeline };
 
-    ghost view = { λ e. record { past = past_from e.setup e.patches e.script; known = e.known; highest = e.highest; stride = e.setup.stride; turns = e.meter } };
+    ghost view = { λ e. record { past = past_from e.setup e.patches e.script; known = e.known; highest = e.highest; stride = e.stride; turns = e.meter } };
 
-    ghost invariant = { λ e. IsTimeline (start_from e.setup e.patches) e.known e.highest };
+    ghost invariant = { λ e. IsTimeline (setup_from e.setup e.patches) e.known e.highest e.stride };
 }
 
 impl Engine {
@@ -44,11 +45,12 @@ impl Engine {
     ///
     /// Err(BadSetup) where units, start or stride is out of range; else Err(BadImage) where an image or the tape is too
     /// long; else Err(NoMemory) where a growth was refused. (This project's profile.)
-    #[tactic(auto, using(crate::proofs::Setups::good_is), unfolding(crate::specs::Start::start_of))]
+    #[tactic(auto, using(crate::proofs::Setups::good_is), unfolding(crate::specs::Setup::setup_checked))]
     pub fn new(alloc: Global, setup: Setup) -> Result<Engine, Fault>
-        ensures engine { result ≡ result_map fresh (asked (start_of (given setup)) (for_memory result)) }
+        ensures engine { result ≡ result_map fresh (question_answer (setup_checked (given setup)) (for_memory result)) }
     {
         setup.check()?;
+        let stride = setup.stride;
         Ok(Engine {
             setup,
             patches: IndexMap::new(alloc),
@@ -56,6 +58,7 @@ impl Engine {
             meter: Meter::new(),
             known: 0,
             highest: 0,
+            stride,
         })
     }
 
@@ -69,15 +72,17 @@ impl Engine {
     #[tactic(auto, unfolding(crate::specs::Answer::answer_to))]
     pub fn ask(&mut self, alloc: Global, question: Question) -> Result<Answer, Fault>
         // The answer is that of the run from power-up, and want of memory is the last refusal.
-        ensures value { result_map (λ a. a.value) result ≡ asked (answer_to question self.old.past) (for_memory result) }
+        ensures value { value_in result ≡ question_answer (answer_to question self.old.past) (for_memory result) }
         ensures past { self.new.past ≡ self.old.past }
 
         // It ran at most one stride of turns more than those past what was known, also where it is then refused.
-        ensures bound { self.new.turns + min (first_turn_needed question) self.old.known + 1 ≤ self.old.turns + turn_asked question + self.old.stride }
+        ensures bound { IsWithinBound question self.old self.new.turns }
         ensures ran { IfOk result (λ a. self.new.turns ≡ self.old.turns + a.ran) }
+        ensures counted { self.old.turns ≤ self.new.turns }
 
         // What is known afterwards, and the stride.
-        ensures known { IfOk result (λ a. (a.known ≡ known_after question self.old.known) × (self.new.known ≡ a.known)) }
+        ensures known { OnOk result (self.new.known ≡ known_after question self.old.known) }
+        ensures known_told { IfOk result (λ a. a.known ≡ self.new.known) }
         ensures known_least { self.old.known ≤ self.new.known }
         ensures known_most { self.new.known ≤ known_after question self.old.known }
         ensures highest { self.new.highest ≡ max self.old.highest self.new.known }
@@ -105,7 +110,7 @@ impl Engine {
             value,
             ran: self.meter.count() - before,
             known: self.known,
-            stride: self.setup.stride,
+            stride: self.stride,
         })
     }
 }

@@ -1,7 +1,6 @@
-ghost use Rattle.std.specs.Prelude.{◌≡◌, ◌+◌, ◌-◌, ◌*◌, ◌<◌, ◌≤◌, ◌++◌, length, replicate, None, IfOk, All, slice_get, unwrap_or, option_to_list};
-ghost use Rattle.pdp_store.specs.Stored.{Stored};
-ghost use Rattle.pdp_replay.specs.Core.{padded, put_all, AllBelow};
-ghost use Rattle.indexmap.specs.IndexMap.{IndexMap};
+ghost use Rattle.std.specs.Prelude.{◌≡◌, ◌+◌, ◌-◌, ◌*◌, ◌<◌, ◌≤◌, ◌++◌, length, replicate, None, IfOk};
+ghost use Rattle.pdp_replay.specs.Core.{AllBelow};
+ghost use Rattle.pdp_replay.specs.Image.{padded, patch_alone, with_put, AreApart};
 
 use indexmap::IndexMap;
 use pdp_store::{Flat, Store};
@@ -27,7 +26,8 @@ pub fn image_store(alloc: Global, words: usize, image: &[u16]) -> Result<Flat, N
 pub fn put_patches(store: &mut Flat, patches: &IndexMap<u32, u16>)
     requires below { AllBelow (length store.old.words) patches.now.entries }
     requires blank { store.old.lasts ≡ replicate (length store.old.words) None }
-    ensures { store.new ≡ record { words = put_all patches.now.entries store.old.words; lasts = store.old.lasts } }
+    ensures put { store.new ≡ with_put patches.now.entries store.old }
+    ensures apart { AreApart patches.now.entries }
 {
     for index in 0..patches.len() {
         put_patch(store, patches, index);
@@ -37,9 +37,9 @@ pub fn put_patches(store: &mut Flat, patches: &IndexMap<u32, u16>)
 /// Puts the patch of this index into the store.
 #[tactic(auto, using(crate::proofs::Lists::blank_stays))]
 fn put_patch(store: &mut Flat, patches: &IndexMap<u32, u16>, index: usize)
-    requires below { AllBelow (length store.old.words) (option_to_list (slice_get patches.now.entries index)) }
+    requires below { AllBelow (length store.old.words) (patch_alone patches.now.entries index) }
     requires blank { store.old.lasts ≡ replicate (length store.old.words) None }
-    ensures { store.new ≡ record { words = put_all (option_to_list (slice_get patches.now.entries index)) store.old.words; lasts = store.old.lasts } }
+    ensures { store.new ≡ with_put (patch_alone patches.now.entries index) store.old }
 {
     if let Some((number, word)) = patches.get_index(index) {
         store.set(*number as usize, *word);

@@ -1,14 +1,13 @@
 ghost use Rattle.std.specs.Prelude.{◌≡◌, ◌+◌, ◌*◌, ◌/◌, ◌≤◌, length, IfOk, OnOk};
 ghost use Rattle.pdp_replay.specs.Past.{Past};
-ghost use Rattle.pdp_replay.specs.Start.{Start};
-ghost use Rattle.pdp_replay.specs.Turns.{state_at};
-ghost use Rattle.pdp_replay.specs.Answer.{answer, question_checked, range_checked, turn_asked, IsWithin};
+ghost use Rattle.pdp_replay.specs.Setup.{SetupData};
+ghost use Rattle.pdp_replay.specs.Answer.{question_checked, range_checked, turn_asked, IsWithin, IsAnswerIn};
 
+use crate::answer_words::Words;
 use crate::setup::UNIT_WORDS;
-use crate::words::Words;
-use pdp_cpu::{Machine, Regs, TURN_LIMIT};
-use pdp_script::Fault;
-use pdp_store::Flat;
+use crate::travel::FlatMachine;
+use pdp_cpu::Regs;
+use pdp_script::{Fault, LAST_TURN};
 use pdp_word::NoMemory;
 use std::alloc::Global;
 
@@ -20,8 +19,8 @@ const MOST_WORDS: u32 = 256;
 pub enum Question {
     /// The registers before this turn, counted from 0 at power-up.
     Regs(u32),
-    /// So many words of core before this turn (1 to 256), from this address (octal, bytes, even) on.
-    Core { turn: u32, address: u32, count: u32 },
+    /// Words of core before this turn: from this address (octal, bytes, even) on, so many (1 to 256).
+    Core(u32, u32, u32),
 }
 
 impl Question {
@@ -31,7 +30,7 @@ impl Question {
     {
         match self {
             Question::Regs(turn) => turn,
-            Question::Core { turn, .. } => turn,
+            Question::Core(turn, _, _) => turn,
         }
     }
 
@@ -41,15 +40,15 @@ impl Question {
     #[tactic(auto, unfolding(crate::specs::Answer::question_checked))]
     pub(crate) fn check(self, units: u8) -> Result<(), Fault>
         ensures refusal { (p : Past) → p.setup.units ≡ units → question_checked self p ≡ result }
-        ensures turn { OnOk result (turn_asked self ≤ TURN_LIMIT) }
+        ensures turn { OnOk result (turn_asked self ≤ LAST_TURN) }
         ensures within { OnOk result (IsWithin self (units * UNIT_WORDS)) }
     {
-        if self.turn() > TURN_LIMIT {
+        if self.turn() > LAST_TURN {
             return Err(Fault::TurnTooLarge);
         }
         match self {
             Question::Regs(_) => Ok(()),
-            Question::Core { address, count, .. } => check_range(units, address, count),
+            Question::Core(_, address, count) => check_range(units, address, count),
         }
     }
 
@@ -57,13 +56,13 @@ impl Question {
     ///
     /// Err where there is no memory for it.
     #[tactic(auto, unfolding(crate::specs::Answer::answer))]
-    pub(crate) fn answer(self, alloc: Global, machine: &Machine<Flat>) -> Result<Value, NoMemory>
+    pub(crate) fn answer(self, alloc: Global, machine: &FlatMachine) -> Result<Value, NoMemory>
         requires within { IsWithin self (length machine.now.world.bus.core) }
-        ensures { (p : Past) → machine.now.world ≡ state_at p (turn_asked self) → IfOk result (λ value. value ≡ answer self p) }
+        ensures { IfOk result (IsAnswerIn machine.now.world self) }
     {
         match self {
             Question::Regs(_) => Ok(Value::Regs(machine.regs())),
-            Question::Core { address, count, .. } => {
+            Question::Core(_, address, count) => {
                 let words = Words::read(alloc, machine, address / 2, count)?;
                 Ok(Value::Core(words))
             }
@@ -77,7 +76,7 @@ impl Question {
 /// else Err(OddAddress) where the address is odd.
 #[tactic(auto, unfolding(crate::specs::Answer::range_checked))]
 fn check_range(units: u8, address: u32, count: u32) -> Result<(), Fault>
-    ensures refusal { (s : Start) → s.units ≡ units → range_checked address count s ≡ result }
+    ensures refusal { (s : SetupData) → s.units ≡ units → range_checked address count s ≡ result }
     ensures within { OnOk result (address / 2 + count ≤ units * UNIT_WORDS) }
 {
     if count < 1 || count > MOST_WORDS {

@@ -1,20 +1,23 @@
 ghost use Rattle.std.specs.Prelude.{◌≡◌, Result};
 ghost use Rattle.pdp_script.specs.Refusal.{result_map};
-ghost use Rattle.pdp_replay.specs.Start.{given, start_of};
+ghost use Rattle.pdp_replay.specs.Setup.{given, setup_checked};
 
 use pdp_script::Fault;
+
+/// The most units of core.
+const MOST_UNITS: u8 = 31;
 
 /// The words of one unit of core.
 pub(crate) const UNIT_WORDS: usize = 4_096;
 
 /// The words of a drive: 203 cylinders of 2 surfaces of 12 sectors of 256 words.
-pub(crate) const DISK_WORDS: usize = 1_247_232;
+const DISK_WORDS: usize = 1_247_232;
 
 /// The most bytes of a paper tape.
-pub(crate) const TAPE_BYTES: usize = 1_048_576;
+const TAPE_BYTES: usize = 1_048_576;
 
 /// The one stride for now, in turns.
-pub(crate) const ONLY_STRIDE: u32 = 2_000_000_000;
+const ONLY_STRIDE: u32 = 2_000_000_000;
 
 /// What a run starts from (this project's profile).
 #[derive(Debug, Drop)]
@@ -38,12 +41,12 @@ impl Setup {
     ///
     /// Err(BadSetup) where the units, the start or the stride is out of range; else Err(BadImage) where core's image,
     /// the drive's or the tape is too long.
-    #[tactic(auto, unfolding(crate::specs::Start::start_of))]
+    #[tactic(auto, unfolding(crate::specs::Setup::setup_checked))]
     pub(crate) fn check(&self) -> Result<(), Fault>
-        ensures { result ≡ result_map (λ _. tt) (start_of (given self.now)) }
+        ensures { result ≡ result_map (λ _. tt) (setup_checked (given self.now)) }
     {
         let units = self.units;
-        if units < 1 || units > 31 || self.start % 2 != 0 || self.stride != ONLY_STRIDE {
+        if units < 1 || units > MOST_UNITS || self.start % 2 != 0 || self.stride != ONLY_STRIDE {
             return Err(Fault::BadSetup);
         }
         let words = usize::from(units) * UNIT_WORDS;

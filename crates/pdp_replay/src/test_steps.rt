@@ -67,11 +67,7 @@ pub enum Edit {
 
 /// The question before this turn for so many words of core from this address on.
 pub const fn core(turn: u32, address: u32, count: u32) -> Question {
-    Question::Core {
-        turn,
-        address,
-        count,
-    }
+    Question::Core(turn, address, count)
 }
 
 /// Asserts that these steps, taken in turn with this engine, give what they say. A failure names a step, counted from 0.

@@ -1,32 +1,35 @@
 ghost use Rattle.std.specs.Prelude.{◌≡◌, ◌+◌, ◌-◌, ◌≤◌, ◌<◌, ◌*◌, [], ℕ, length, IfOk, OnOk};
 ghost use Rattle.pdp_script.specs.Entries.{events_at};
-ghost use Rattle.pdp_replay.specs.Start.{start_from, IsGood};
+ghost use Rattle.pdp_replay.specs.Setup.{setup_from, IsGood};
 ghost use Rattle.pdp_replay.specs.Core.{AllBelow};
-ghost use Rattle.pdp_replay.specs.Past.{Past, past_from};
+ghost use Rattle.pdp_replay.specs.Past.{past_from};
 ghost use Rattle.pdp_replay.specs.Quiet.{quiet_turns};
-ghost use Rattle.pdp_replay.specs.Turns.{power, state_at};
+ghost use Rattle.pdp_replay.specs.Turns.{power, state_at, at, RunsTo};
 
 use crate::image::{image_store, put_patches};
 use crate::setup::{Setup, UNIT_WORDS};
 use indexmap::IndexMap;
 use pdp_cpu::{Machine, Meter};
-use pdp_script::Script;
+use pdp_script::{LAST_TURN, Script};
 use pdp_store::Flat;
 use pdp_word::NoMemory;
 use std::alloc::Global;
 
+/// The machine that an engine runs.
+pub type FlatMachine = Machine<Flat>;
+
 /// The machine as of power-up of this setup with its patches.
 ///
 /// Err where there is no memory for its core.
-#[tactic(auto, using(crate::proofs::CoreWords::length_padded), unfolding(crate::specs::Turns::power, crate::specs::Core::core_words))]
+#[tactic(auto, using(crate::proofs::CoreWords::length_padded, crate::proofs::CoreWords::core_is_filled), unfolding(crate::specs::Turns::power))]
 fn powered(
     alloc: Global,
     setup: &Setup,
     patches: &IndexMap<u32, u16>,
-) -> Result<Machine<Flat>, NoMemory>
-    requires good { IsGood (start_from setup.now patches.now) }
+) -> Result<FlatMachine, NoMemory>
+    requires good { IsGood (setup_from setup.now patches.now) }
     requires below { AllBelow (setup.now.units * UNIT_WORDS) patches.now.entries }
-    ensures { IfOk result (λ m. m ≡ record { turn = 0; world = power (start_from setup.now patches.now) }) }
+    ensures { IfOk result (λ m. m ≡ record { turn = 0; world = power (setup_from setup.now patches.now) }) }
 {
     let words = usize::from(setup.units) * UNIT_WORDS;
     let mut store = image_store(alloc, words, &setup.core)?;
@@ -45,37 +48,39 @@ pub fn machine_at(
     script: &Script,
     meter: &mut Meter,
     turn: u32,
-) -> Result<Machine<Flat>, NoMemory>
-    requires good { IsGood (start_from setup.now patches.now) }
+) -> Result<FlatMachine, NoMemory>
+    requires good { IsGood (setup_from setup.now patches.now) }
     requires below { AllBelow (setup.now.units * UNIT_WORDS) patches.now.entries }
-    requires limit { turn ≤ 1000000000 }
-    ensures machine { IfOk result (λ m. m ≡ record { turn = turn; world = state_at (past_from setup.now patches.now script.now) turn }) }
+    requires limit { turn ≤ LAST_TURN }
+    ensures machine { IfOk result (λ m. m ≡ at (past_from setup.now patches.now script.now) turn) }
     ensures size { IfOk result (λ m. length m.world.bus.core ≡ setup.now.units * UNIT_WORDS) }
     ensures least { meter.old ≤ meter.new }
     ensures most { meter.new ≤ meter.old + turn }
 {
     let mut machine = powered(alloc, setup, patches)?;
-    run_to(&mut machine, script, meter, turn)?;
+    run_to(&mut machine, script, meter, 0, turn)?;
     Ok(machine)
 }
 
-/// Runs a machine as of power-up to this turn, with the events of the script; the meter counts each turn.
+/// Runs the machine from one turn to another, with the events of the script; the meter counts each turn.
 ///
 /// Err where a turn's room was refused.
 #[tactic(auto, using(crate::proofs::States::quiet_reaches, crate::proofs::States::state_next))]
 fn run_to(
-    machine: &mut Machine<Flat>,
+    machine: &mut FlatMachine,
     script: &Script,
     meter: &mut Meter,
+    from: u32,
     to: u32,
 ) -> Result<(), NoMemory>
-    requires first { machine.old.turn ≡ 0 }
-    requires limit { to ≤ 1000000000 }
-    ensures machine { (past : Past) → past.script ≡ script.now → machine.old.world ≡ state_at past 0 → OnOk result (machine.new ≡ record { turn = to; world = state_at past to }) }
+    requires here { machine.old.turn ≡ from }
+    requires forward { from ≤ to }
+    requires limit { to ≤ LAST_TURN }
+    ensures machine { RunsTo script.now from to machine.old.world (λ there. OnOk result (machine.new ≡ there)) }
     ensures least { meter.old ≤ meter.new }
-    ensures most { meter.new ≤ meter.old + to }
+    ensures most { meter.new + from ≤ meter.old + to }
 {
-    let mut turn = 0;
+    let mut turn = from;
     while turn < to {
         let next = quiet_until(script, turn, to);
         run_quiet(machine, meter, next - turn)?;
@@ -106,8 +111,8 @@ fn quiet_until(script: &Script, from: u32, to: u32) -> u32
 ///
 /// Err where a turn's room was refused.
 #[tactic(auto, using(crate::proofs::States::quiet_none, crate::proofs::States::quiet_next))]
-fn run_quiet(machine: &mut Machine<Flat>, meter: &mut Meter, turns: u32) -> Result<(), NoMemory>
-    requires { machine.old.turn + turns ≤ 1000000000 }
+fn run_quiet(machine: &mut FlatMachine, meter: &mut Meter, turns: u32) -> Result<(), NoMemory>
+    requires { machine.old.turn + turns ≤ LAST_TURN }
     ensures machine { OnOk result (machine.new ≡ quiet_turns turns machine.old) }
     ensures turn { OnOk result (machine.new.turn ≡ machine.old.turn + turns) }
     ensures least { meter.old ≤ meter.new }

@@ -1,21 +1,21 @@
--- The entries of slots and events in step: what a change to both does to them.
+-- The entries of labels and events in step: what a change to both does to them.
 use Rattle.std.proofs.Common.{◌≡◌, ℕ, zero, suc, ◌-◌, ◌<◌, ◌≤◌, Some, None, List, [], ◌∷◌, length, get_or, set, take, refl, sym, ap, arith, ⊎_elim}
 use Rattle.std.specs.List.{All, AllWithin, HoldsAt, insert, remove, slice_range}
 use Rattle.std.proofs.lemmas.Bool.{cases_lt, lt-ltb, le-ltb, ne_eqb, eq-eqb, le-leb, lt-leb}
 use Rattle.pdp_script.specs.Entries.{Entry, entry_of, events_at, turn_from, IsNextTurn, inserted, without, replaced}
-use Rattle.pdp_script.specs.Slots.{entry_at, joined, IsInOrder, IsKept}
+use Rattle.pdp_script.specs.Labels.{entry_at, joined, IsInOrder, IsKept}
 use Rattle.pdp_script.specs.Script.{IsScript}
 use Rattle.pdp_script.proofs.Events.{no_events-tail}
 use Rattle.std.proofs.lemmas.List.{get_or_default}
-use Rattle.pdp_script.specs.declared.slots.Slot.{Slot}
+use Rattle.pdp_script.specs.declared.labels.Label.{Label}
 use Rattle.pdp_unibus.specs.declared.event.Event.{Event}
 
-pub length-joined : (ss : List Slot) (es : List Event) → length ss ≡ length es → length (joined ss es) ≡ length ss
+pub length-joined : (ss : List Label) (es : List Event) → length ss ≡ length es → length (joined ss es) ≡ length ss
 length-joined [] es e = refl
 length-joined (s ∷ ss) [] e = absurd (omega arith)
 length-joined (s ∷ ss) (v ∷ es) e = omega (arith, length-joined ss es (omega arith))
 
-pub inserted-joined : (ss : List Slot) (es : List Event) (i : ℕ) (s : Slot) (v : Event) → length ss ≡ length es → i ≤ length ss
+pub inserted-joined : (ss : List Label) (es : List Event) (i : ℕ) (s : Label) (v : Event) → length ss ≡ length es → i ≤ length ss
     → AllWithin (λ x. x.turn ≤ s.turn) ss 0 i → AllWithin (λ x. s.turn < x.turn) ss i (length ss)
     → inserted (joined ss es) (entry_at s v) ≡ joined (insert ss i s) (insert es i v)
 inserted-joined [] [] zero s v e le below above = refl
@@ -28,7 +28,7 @@ inserted-joined (x ∷ ss) (w ∷ es) (suc i) s v e le below above =
     let later = le-ltb s.turn x.turn (below 0 x (omega arith) (omega arith)) in
     rw later (ap (λ (l : List Entry). entry_at x w ∷ l) (inserted-joined ss es i s v (omega arith) (omega arith) (λ k d a b. below (suc k) d (omega arith) (omega arith)) (λ k d a b. above (suc k) d (omega arith) (omega arith))))
 
-pub without-joined : (ss : List Slot) (es : List Event) (i n : ℕ) → length ss ≡ length es → i < length ss
+pub without-joined : (ss : List Label) (es : List Event) (i n : ℕ) → length ss ≡ length es → i < length ss
     → AllWithin (λ x. x.number ≡ n → ⊥) ss 0 i → HoldsAt (λ x. x.number ≡ n) ss i
     → without (joined ss es) n ≡ joined (remove ss i) (remove es i)
 without-joined [] es i n e lt below at = absurd (omega arith)
@@ -39,7 +39,7 @@ without-joined (x ∷ ss) (w ∷ es) (suc i) n e lt below at =
     let other = ne_eqb x.number n (below 0 x (omega arith) (omega arith)) in
     rw other (ap (λ (l : List Entry). entry_at x w ∷ l) (without-joined ss es i n (omega arith) (omega arith) (λ k d a b. below (suc k) d (omega arith) (omega arith)) (λ d. at d)))
 
-pub entry_of-joined : (ss : List Slot) (es : List Event) (i n : ℕ) (s : Slot) (v : Event) → length ss ≡ length es → i < length ss
+pub entry_of-joined : (ss : List Label) (es : List Event) (i n : ℕ) (s : Label) (v : Event) → length ss ≡ length es → i < length ss
     → AllWithin (λ x. x.number ≡ n → ⊥) ss 0 i → HoldsAt (λ x. x.number ≡ n) ss i
     → entry_of (joined ss es) n ≡ Some (entry_at (get_or ss i s) (get_or es i v))
 entry_of-joined [] es i n s v e lt below at = absurd (omega arith)
@@ -50,14 +50,14 @@ entry_of-joined (x ∷ ss) (w ∷ es) (suc i) n s v e lt below at =
     let other = ne_eqb x.number n (below 0 x (omega arith) (omega arith)) in
     rw other (entry_of-joined ss es i n s v (omega arith) (omega arith) (λ k d a b. below (suc k) d (omega arith) (omega arith)) (λ d. at d))
 
-pub no_entry-joined : (ss : List Slot) (es : List Event) (n : ℕ) → All (λ x. x.number ≡ n → ⊥) ss → entry_of (joined ss es) n ≡ None
+pub no_entry-joined : (ss : List Label) (es : List Event) (n : ℕ) → All (λ x. x.number ≡ n → ⊥) ss → entry_of (joined ss es) n ≡ None
 no_entry-joined [] es n none = refl
 no_entry-joined (x ∷ ss) [] n none = refl
 no_entry-joined (x ∷ ss) (w ∷ es) n none =
     let other = ne_eqb x.number n (none 0 x (omega arith)) in
     rw other (no_entry-joined ss es n (λ k d a. none (suc k) d (omega arith)))
 
-pub turn_from-joined : (ss : List Slot) (es : List Event) (i from : ℕ) (s : Slot) → length ss ≡ length es → i < length ss
+pub turn_from-joined : (ss : List Label) (es : List Event) (i from : ℕ) (s : Label) → length ss ≡ length es → i < length ss
     → AllWithin (λ x. x.turn < from) ss 0 i → AllWithin (λ x. from ≤ x.turn) ss i (length ss)
     → turn_from (joined ss es) from ≡ Some (get_or ss i s).turn
 turn_from-joined [] es i from s e lt below above = absurd (omega arith)
@@ -68,22 +68,22 @@ turn_from-joined (x ∷ ss) (w ∷ es) (suc i) from s e lt below above =
     let other = lt-leb from x.turn (below 0 x (omega arith) (omega arith)) in
     rw other (turn_from-joined ss es i from s (omega arith) (omega arith) (λ k d a b. below (suc k) d (omega arith) (omega arith)) (λ k d a b. above (suc k) d (omega arith) (omega arith)))
 
-pub no_turn_from-joined : (ss : List Slot) (es : List Event) (from : ℕ) → All (λ x. x.turn < from) ss → turn_from (joined ss es) from ≡ None
+pub no_turn_from-joined : (ss : List Label) (es : List Event) (from : ℕ) → All (λ x. x.turn < from) ss → turn_from (joined ss es) from ≡ None
 no_turn_from-joined [] es from none = refl
 no_turn_from-joined (x ∷ ss) [] from none = refl
 no_turn_from-joined (x ∷ ss) (w ∷ es) from none =
     let other = lt-leb from x.turn (none 0 x (omega arith)) in
     rw other (no_turn_from-joined ss es from (λ k d a. none (suc k) d (omega arith)))
 
-pub no_events-joined : (ss : List Slot) (es : List Event) (t : ℕ) → All (λ x. x.turn ≡ t → ⊥) ss → events_at (joined ss es) t ≡ []
+pub no_events-joined : (ss : List Label) (es : List Event) (t : ℕ) → All (λ x. x.turn ≡ t → ⊥) ss → events_at (joined ss es) t ≡ []
 no_events-joined [] es t none = refl
 no_events-joined (x ∷ ss) [] t none = refl
 no_events-joined (x ∷ ss) (w ∷ es) t none =
     let other = ne_eqb x.turn t (none 0 x (omega arith)) in
     rw other (no_events-joined ss es t (λ k d a. none (suc k) d (omega arith)))
 
--- the events of a turn stand between the first slot that isn't of an earlier turn and the first of a later one
-first_events-joined : (ss : List Slot) (es : List Event) (j t : ℕ) → length ss ≡ length es → j ≤ length ss
+-- the events of a turn stand between the first label that isn't of an earlier turn and the first of a later one
+first_events-joined : (ss : List Label) (es : List Event) (j t : ℕ) → length ss ≡ length es → j ≤ length ss
     → AllWithin (λ x. x.turn ≡ t) ss 0 j → AllWithin (λ x. x.turn ≡ t → ⊥) ss j (length ss)
     → events_at (joined ss es) t ≡ take j es
 first_events-joined [] [] zero t e le same above = refl
@@ -96,7 +96,7 @@ first_events-joined (x ∷ ss) (w ∷ es) (suc j) t e le same above =
     let here = eq-eqb x.turn t (same 0 x (omega arith) (omega arith)) in
     rw here (ap (λ (l : List Event). w ∷ l) (first_events-joined ss es j t (omega arith) (omega arith) (λ k d a b. same (suc k) d (omega arith) (omega arith)) (λ k d a b. above (suc k) d (omega arith) (omega arith))))
 
-pub events_at-joined : (ss : List Slot) (es : List Event) (i j t : ℕ) → length ss ≡ length es → i ≤ j → j ≤ length ss
+pub events_at-joined : (ss : List Label) (es : List Event) (i j t : ℕ) → length ss ≡ length es → i ≤ j → j ≤ length ss
     → AllWithin (λ x. x.turn ≡ t → ⊥) ss 0 i → AllWithin (λ x. x.turn ≡ t) ss i j → AllWithin (λ x. x.turn ≡ t → ⊥) ss j (length ss)
     → events_at (joined ss es) t ≡ slice_range es i j
 events_at-joined ss es zero j t e ij le below same above =
@@ -109,27 +109,27 @@ events_at-joined (x ∷ ss) (w ∷ es) (suc i) (suc j) t e ij le below same abov
     let less : suc j - suc i ≡ j - i = omega arith in
     rw (other, less) (events_at-joined ss es i j t (omega arith) (omega arith) (omega arith) (λ k d a b. below (suc k) d (omega arith) (omega arith)) (λ k d a b. same (suc k) d (omega arith) (omega arith)) (λ k d a b. above (suc k) d (omega arith) (omega arith)))
 
-pub replaced-joined : (ss : List Slot) (es : List Event) (i : ℕ) (s : Slot) (v : Event) → length ss ≡ length es → i < length ss
+pub replaced-joined : (ss : List Label) (es : List Event) (i : ℕ) (s : Label) (v : Event) → length ss ≡ length es → i < length ss
     → AllWithin (λ x. x.number ≡ s.number → ⊥) ss 0 i → HoldsAt (λ x. x ≡ s) ss i
     → replaced (joined ss es) (entry_at s v) ≡ joined ss (set es i v)
 replaced-joined [] es i s v e lt below at = absurd (omega arith)
 replaced-joined (x ∷ ss) [] i s v e lt below at = absurd (omega arith)
 replaced-joined (x ∷ ss) (w ∷ es) zero s v e lt below at =
-    let here = eq-eqb x.number s.number (ap (λ (y : Slot). y.number) (at x)) in rw here (ap (λ (y : Slot). entry_at y v ∷ joined ss es) (sym (at x)))
+    let here = eq-eqb x.number s.number (ap (λ (y : Label). y.number) (at x)) in rw here (ap (λ (y : Label). entry_at y v ∷ joined ss es) (sym (at x)))
 replaced-joined (x ∷ ss) (w ∷ es) (suc i) s v e lt below at =
     let other = ne_eqb x.number s.number (below 0 x (omega arith) (omega arith)) in
     rw other (ap (λ (l : List Entry). entry_at x w ∷ l) (replaced-joined ss es i s v (omega arith) (omega arith) (λ k d a b. below (suc k) d (omega arith) (omega arith)) (λ d. at d)))
 
-no_slot : Slot
-no_slot = record { number = 0; turn = 0 }
+no_label : Label
+no_label = record { number = 0; turn = 0 }
 
-pub places_in_order : (ss : List Slot) (from to t : ℕ) → from ≤ length ss → AllWithin (λ s. s.turn < t) ss 0 from
+pub places_in_order : (ss : List Label) (from to t : ℕ) → from ≤ length ss → AllWithin (λ s. s.turn < t) ss 0 from
     → AllWithin (λ s. t < s.turn) ss to (length ss) → from ≤ to
 places_in_order ss from to t within before after =
-    ⊎_elim (λ (lt : to < from). absurd (omega (arith, before to no_slot (omega arith) lt, after to no_slot (omega arith) (omega arith))))
+    ⊎_elim (λ (lt : to < from). absurd (omega (arith, before to no_label (omega arith) lt, after to no_label (omega arith) (omega arith))))
     (λ (le : from ≤ to). le) (cases_lt to from)
 
-pub events_between : (ss : List Slot) (es : List Event) (from to t : ℕ) → length ss ≡ length es → from ≤ length ss → to ≤ length ss
+pub events_between : (ss : List Label) (es : List Event) (from to t : ℕ) → length ss ≡ length es → from ≤ length ss → to ≤ length ss
     → AllWithin (λ s. s.turn < t) ss 0 from → AllWithin (λ s. t ≤ s.turn) ss from (length ss)
     → AllWithin (λ s. s.turn ≤ t) ss 0 to → AllWithin (λ s. t < s.turn) ss to (length ss)
     → events_at (joined ss es) t ≡ slice_range es from to
@@ -140,7 +140,7 @@ events_between ss es from to t step low high before from_on up_to after =
     (λ k d a b e. absurd (omega (arith, after k d a b)))
 
 -- a turn with an event
-some_events-joined : (ss : List Slot) (es : List Event) (i : ℕ) (s : Slot) → length ss ≡ length es → i < length ss
+some_events-joined : (ss : List Label) (es : List Event) (i : ℕ) (s : Label) → length ss ≡ length es → i < length ss
     → events_at (joined ss es) (get_or ss i s).turn ≡ [] → ⊥
 some_events-joined [] es i s step lt none = absurd (omega arith)
 some_events-joined (x ∷ ss) [] i s step lt none = absurd (omega arith)
@@ -151,34 +151,34 @@ some_events-joined (x ∷ ss) (w ∷ es) (suc i) s step lt none =
     some_events-joined ss es i s (omega arith) (omega arith)
     (no_events-tail (entry_at x w) (joined ss es) (get_or ss i s).turn none)
 
-pub is_next_turn-joined : (ss : List Slot) (es : List Event) (i from : ℕ) (s : Slot) → length ss ≡ length es → i < length ss → IsInOrder ss
+pub is_next_turn-joined : (ss : List Label) (es : List Event) (i from : ℕ) (s : Label) → length ss ≡ length es → i < length ss → IsInOrder ss
     → AllWithin (λ x. x.turn < from) ss 0 i → AllWithin (λ x. from ≤ x.turn) ss i (length ss)
     → IsNextTurn (joined ss es) from (Some (get_or ss i s).turn)
 is_next_turn-joined ss es i from s step lt ordered below above = (
   above i s (omega arith) lt,
   some_events-joined ss es i s step lt,
   λ t high low. no_events-joined ss es t (λ k d a e. ⊎_elim (λ (early : k < i). absurd (omega (arith, below k d (omega arith) early)))
-      (λ (late : i ≤ k). let same = get_or_default ss i s d lt in absurd (omega (arith, ordered i k d late a, ap (λ (x : Slot). x.turn) same))) (cases_lt k i)),
+      (λ (late : i ≤ k). let same = get_or_default ss i s d lt in absurd (omega (arith, ordered i k d late a, ap (λ (x : Label). x.turn) same))) (cases_lt k i)),
 )
 
-pub no_next_turn-joined : (ss : List Slot) (es : List Event) (from : ℕ) → All (λ x. x.turn < from) ss → IsNextTurn (joined ss es) from None
+pub no_next_turn-joined : (ss : List Label) (es : List Event) (from : ℕ) → All (λ x. x.turn < from) ss → IsNextTurn (joined ss es) from None
 no_next_turn-joined ss es from below t high = no_events-joined ss es t (λ k d a e. absurd (omega (arith, below k d a)))
 
-get_or-joined : (ss : List Slot) (es : List Event) (k : ℕ) (d : Entry) → length ss ≡ length es → k < length (joined ss es)
-    → get_or (joined ss es) k d ≡ entry_at (get_or ss k no_slot) (get_or es k d.event)
+get_or-joined : (ss : List Label) (es : List Event) (k : ℕ) (d : Entry) → length ss ≡ length es → k < length (joined ss es)
+    → get_or (joined ss es) k d ≡ entry_at (get_or ss k no_label) (get_or es k d.event)
 get_or-joined [] es k d step lt = absurd (omega arith)
 get_or-joined (x ∷ ss) [] k d step lt = absurd (omega arith)
 get_or-joined (x ∷ ss) (w ∷ es) zero d step lt = refl
 get_or-joined (x ∷ ss) (w ∷ es) (suc k) d step lt = get_or-joined ss es k d (omega arith) (omega arith)
 
-pub IsScript-joined : (ss : List Slot) (es : List Event) (given : ℕ) → IsKept ss es given → IsScript (record { entries = joined ss es; given = given })
+pub IsScript-joined : (ss : List Label) (es : List Event) (given : ℕ) → IsKept ss es given → IsScript (record { entries = joined ss es; given = given })
 IsScript-joined ss es given kept =
     let step = kept.in_step in
     let long = length-joined ss es step in
     record {
-      ordered = λ i j d le lt. rw (get_or-joined ss es i d step (omega arith), get_or-joined ss es j d step lt) (kept.ordered i j no_slot le (omega arith));
+      ordered = λ i j d le lt. rw (get_or-joined ss es i d step (omega arith), get_or-joined ss es j d step lt) (kept.ordered i j no_label le (omega arith));
       few = omega (arith, kept.few);
-      in_range = λ k d lt. rw (get_or-joined ss es k d step lt) (kept.in_range k no_slot (omega arith));
-      numbered = λ k d lt. rw (get_or-joined ss es k d step lt) (kept.numbered k no_slot (omega arith));
-      distinct = λ i j d le lt. rw (get_or-joined ss es i d step (omega arith), get_or-joined ss es j d step lt) (kept.distinct i j no_slot le (omega arith));
+      in_range = λ k d lt. rw (get_or-joined ss es k d step lt) (kept.in_range k no_label (omega arith));
+      numbered = λ k d lt. rw (get_or-joined ss es k d step lt) (kept.numbered k no_label (omega arith));
+      distinct = λ i j d le lt. rw (get_or-joined ss es i d step (omega arith), get_or-joined ss es j d step lt) (kept.distinct i j no_label le (omega arith));
     }

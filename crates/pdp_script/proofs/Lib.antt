@@ -2,4 +2,5 @@ pub mod Edits
 pub mod Events
 pub mod Joined
 pub mod Kept
+pub mod Others
 pub mod Places

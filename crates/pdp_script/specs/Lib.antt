@@ -1,5 +1,6 @@
+pub mod EditLaws
 pub mod Entries
 pub mod Fault
 pub mod Refusal
 pub mod Script
-pub mod Slots
+pub mod Labels

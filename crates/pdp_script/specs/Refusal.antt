@@ -10,23 +10,23 @@ for_memory (Ok x) = false
 for_memory (Err NoMemory) = true
 for_memory (Err _) = false
 
--- what an edit answers, that would come out as `due`: an earlier refusal wins over want of memory
-abbrev pub answered : {X Y : Type 0} → Result X Fault → Bool → Y → Result Y Fault
-answered (Err fault) refused y = Err fault
-answered (Ok x) true y = Err NoMemory
-answered (Ok x) false y = Ok y
+-- what an edit answers, that would come out as `due` but for memory: any other refusal wins over want of memory
+abbrev pub edit_answer : {X Y : Type 0} → Result X Fault → Bool → Y → Result Y Fault
+edit_answer (Err fault) refused y = Err fault
+edit_answer (Ok x) true y = Err NoMemory
+edit_answer (Ok x) false y = Ok y
 
--- what a question answers, that would come out as `due`
-abbrev pub asked : {X : Type 0} → Result X Fault → Bool → Result X Fault
-asked (Err fault) refused = Err fault
-asked (Ok x) true = Err NoMemory
-asked (Ok x) false = Ok x
+-- what a question answers, that would come out as `due` but for memory; a new engine likewise
+abbrev pub question_answer : {X : Type 0} → Result X Fault → Bool → Result X Fault
+question_answer (Err fault) refused = Err fault
+question_answer (Ok x) true = Err NoMemory
+question_answer (Ok x) false = Ok x
 
--- what an edit leaves: the new state, and after any refusal the old one
-abbrev pub left : {S : Type 0} → Result S Fault → Bool → S → S
-left (Err fault) refused old = old
-left (Ok new) true old = old
-left (Ok new) false old = new
+-- what an edit leaves of a past, or of a part of one: the new one, and after any refusal the old one
+abbrev pub past_left : {S : Type 0} → Result S Fault → Bool → S → S
+past_left (Err fault) refused old = old
+past_left (Ok new) true old = old
+past_left (Ok new) false old = new
 
 -- a result with its value changed by f, and its refusal as it is
 abbrev pub result_map : {X Y E : Type 0} → (X → Y) → Result X E → Result Y E

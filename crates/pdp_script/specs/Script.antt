@@ -1,10 +1,11 @@
 -- The script of a run as callers see it, and what each edit makes of it (this project's profile).
-use Rattle.std.specs.Prelude.{ℕ, ◌≡◌, ◌+◌, ◌≤◌, ◌||◌, cond, eqb, nat_lt, nat_le, Option, Some, None, List, length, Result, Ok, Err}
+use Rattle.std.specs.Prelude.{Bool, ℕ, ◌≡◌, ◌+◌, ◌≤◌, ◌||◌, cond, eqb, nat_lt, nat_le, Option, Some, None, List, length, Result, Ok, Err}
 use Rattle.std.specs.List.{All, AllPairs}
 use Rattle.std.specs.List.Sorted.{IsNonDecreasingBy}
 use Rattle.pdp_script.specs.declared.faults.Fault.{Fault}
 use Rattle.pdp_script.specs.declared.faults.Fault.TheVariants.{NoSuchEvent, ScriptFull, TurnTooLarge}
 use Rattle.pdp_script.specs.Entries.{Entry, entry_of, inserted, without, altered}
+use Rattle.pdp_script.specs.Refusal.{edit_answer}
 use Rattle.pdp_unibus.specs.declared.event.Event.{Event}
 
 -- the entries in order, and how many numbers were given: the next is one more
@@ -34,6 +35,10 @@ insert_edit turn event script =
     cond (nat_lt last_turn turn) (Err TurnTooLarge)
     (cond (nat_le most_events (length script.entries) || eqb script.given most_numbers) (Err ScriptFull)
     (Ok (with_event turn event script)))
+
+-- what an insertion answers: one more than how many numbers were given, or its refusal
+abbrev pub insert_answer : ℕ → Event → Bool → ScriptData → Result ℕ Fault
+insert_answer turn event refused script = edit_answer (insert_edit turn event script) refused (script.given + 1)
 
 -- the script with other entries, or the refusal where there was no such entry
 abbrev pub of_entry : Option Entry → (Entry → List Entry) → ScriptData → Result ScriptData Fault

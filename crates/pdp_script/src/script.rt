@@ -1,11 +1,11 @@
 ghost use Rattle.std.specs.Prelude.{◌≡◌, ℕ, ◌+◌, [], Option, true, false};
 ghost use Rattle.pdp_script.specs.Entries.{entry_of, events_at, turn_from, IsNextTurn};
-ghost use Rattle.pdp_script.specs.Refusal.{answered, for_memory, left};
-ghost use Rattle.pdp_script.specs.Script.{insert_edit, alter_edit, drop_edit, IsScript};
+ghost use Rattle.pdp_script.specs.Refusal.{edit_answer, for_memory, past_left};
+ghost use Rattle.pdp_script.specs.Script.{insert_edit, insert_answer, alter_edit, drop_edit, IsScript};
 ghost use Rattle.std.specs.Option.{option_map};
 
 use crate::faults::Fault;
-use crate::slots::{Slot, place_after, place_from, place_of, put_last};
+use crate::labels::{Label, place_after, place_from, place_of, put_last};
 use pdp_unibus::Event;
 use std::alloc::Global;
 use std::marker::Model;
@@ -20,7 +20,7 @@ pub const MOST_EVENTS: usize = 65_536;
 /// number of its own (this project's profile).
 #[derive(Debug, Drop)]
 pub struct Script {
-    slots: Vec<Slot>,
+    labels: Vec<Label>,
     events: Vec<Event>,
     given: u32,
 }
@@ -30,11 +30,11 @@ impl Model for Script {
 
     ghost Value = { ScriptData };
 
-    ghost use Rattle.pdp_script.specs.Slots.{joined, IsKept};
+    ghost use Rattle.pdp_script.specs.Labels.{joined, IsKept};
 
-    ghost view = { λ s. record { entries = joined s.slots.items s.events.items; given = s.given } };
+    ghost view = { λ s. record { entries = joined s.labels.items s.events.items; given = s.given } };
 
-    ghost invariant = { λ s. IsKept s.slots.items s.events.items s.given };
+    ghost invariant = { λ s. IsKept s.labels.items s.events.items s.given };
 }
 
 impl Script {
@@ -44,7 +44,7 @@ impl Script {
         ensures none_given { result.given ≡ 0 }
     {
         Script {
-            slots: Vec::new(alloc),
+            labels: Vec::new(alloc),
             events: Vec::new(alloc),
             given: 0,
         }
@@ -55,8 +55,8 @@ impl Script {
         ensures events { result.now ≡ events_at self.now.entries turn }
         ensures kept { IsScript self.now }
     {
-        let from = place_from(&self.slots, turn);
-        let to = place_after(&self.slots, turn);
+        let from = place_from(&self.labels, turn);
+        let to = place_after(&self.labels, turn);
         &self.events[from..to]
     }
 
@@ -65,10 +65,10 @@ impl Script {
         ensures turn { result ≡ option_map (λ e. e.turn) (entry_of self.now.entries number) }
         ensures kept { IsScript self.now }
     {
-        let Some(place) = place_of(&self.slots, number) else {
+        let Some(place) = place_of(&self.labels, number) else {
             return None;
         };
-        Some(self.slots[place].turn)
+        Some(self.labels[place].turn)
     }
 
     /// The least turn of an event that is not below `from`, if there is one.
@@ -77,9 +77,9 @@ impl Script {
         ensures least { IsNextTurn self.now.entries from result }
         ensures kept { IsScript self.now }
     {
-        let first = place_from(&self.slots, from);
-        if first < self.slots.len() {
-            Some(self.slots[first].turn)
+        let first = place_from(&self.labels, from);
+        if first < self.labels.len() {
+            Some(self.labels[first].turn)
         } else {
             None
         }
@@ -94,8 +94,8 @@ impl Script {
     /// are there, or 4,294,967,295 numbers were given; `NoMemory` where a growth was refused. The
     /// script is then as it was, and no number is used up.
     pub fn insert(&mut self, turn: u32, event: Event) -> Result<u32, Fault>
-        ensures answer { result ≡ answered (insert_edit turn event self.old) (for_memory result) (self.old.given + 1) }
-        ensures after { self.new ≡ left (insert_edit turn event self.old) (for_memory result) self.old }
+        ensures answer { result ≡ insert_answer turn event (for_memory result) self.old }
+        ensures after { self.new ≡ past_left (insert_edit turn event self.old) (for_memory result) self.old }
     {
         if turn > LAST_TURN {
             return Err(Fault::TurnTooLarge);
@@ -103,13 +103,13 @@ impl Script {
         if self.events.len() >= MOST_EVENTS || self.given == u32::MAX {
             return Err(Fault::ScriptFull);
         }
-        self.slots.reserve(1)?;
-        self.events.reserve(1)?;
         let number = self.given + 1;
+        self.labels.reserve(1)?;
+        self.events.reserve(1)?;
         put_last(
-            &mut self.slots,
+            &mut self.labels,
             &mut self.events,
-            Slot { number, turn },
+            Label { number, turn },
             event,
         );
         self.given = number;
@@ -123,13 +123,13 @@ impl Script {
     ///
     /// `NoSuchEvent` where no event has this number. The script is then as it was.
     pub fn drop_event(&mut self, number: u32) -> Result<(), Fault>
-        ensures answer { result ≡ answered (drop_edit number self.old) false tt }
-        ensures after { self.new ≡ left (drop_edit number self.old) false self.old }
+        ensures answer { result ≡ edit_answer (drop_edit number self.old) false tt }
+        ensures after { self.new ≡ past_left (drop_edit number self.old) false self.old }
     {
-        let Some(dropped) = place_of(&self.slots, number) else {
+        let Some(dropped) = place_of(&self.labels, number) else {
             return Err(Fault::NoSuchEvent);
         };
-        self.slots.remove(dropped);
+        self.labels.remove(dropped);
         self.events.remove(dropped);
         Ok(())
     }
@@ -142,24 +142,24 @@ impl Script {
     /// In this order: `TurnTooLarge` at a turn above 1,000,000,000; `NoSuchEvent` where no event has
     /// this number. The script is then as it was.
     pub fn alter(&mut self, number: u32, turn: u32, event: Event) -> Result<(), Fault>
-        ensures answer { result ≡ answered (alter_edit number turn event self.old) false tt }
-        ensures after { self.new ≡ left (alter_edit number turn event self.old) false self.old }
+        ensures answer { result ≡ edit_answer (alter_edit number turn event self.old) false tt }
+        ensures after { self.new ≡ past_left (alter_edit number turn event self.old) false self.old }
     {
         if turn > LAST_TURN {
             return Err(Fault::TurnTooLarge);
         }
-        let Some(place) = place_of(&self.slots, number) else {
+        let Some(place) = place_of(&self.labels, number) else {
             return Err(Fault::NoSuchEvent);
         };
-        if self.slots[place].turn == turn {
+        if self.labels[place].turn == turn {
             self.events[place] = event;
         } else {
-            self.slots.remove(place);
+            self.labels.remove(place);
             self.events.remove(place);
             put_last(
-                &mut self.slots,
+                &mut self.labels,
                 &mut self.events,
-                Slot { number, turn },
+                Label { number, turn },
                 event,
             );
         }

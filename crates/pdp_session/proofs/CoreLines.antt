@@ -4,8 +4,8 @@ use Rattle.std.proofs.KnownBytes.{Appends-trans}
 use Rattle.std.specs.Io.KnownBytes.{Appends}
 use Rattle.std.specs.Prelude.{Option}
 use Rattle.std.proofs.lemmas.List.{take_all}
-use Rattle.pdp_session.specs.Replies.{word_text, word_texts, core_line}
-use Rattle.pdp_session.specs.Sends.{Cut, Sends}
+use Rattle.pdp_session.specs.Reply.{word_text, word_texts, mem_line}
+use Rattle.pdp_session.specs.Inside.Sends.{Cut, Sends}
 use Rattle.pdp_session.proofs.Pieces.{cut_first, cut_last, cut_later}
 
 word_texts_suc : (words : List ℕ) (i : ℕ) → i < length words
@@ -31,16 +31,16 @@ IsCoreTo words i written written_after = Appends written written_after (codes "m
 
 -- the writer failed in the name
 pub core_cut_at_name : (words : List ℕ) (written written_after : Option (List ℕ))
-    → Cut (codes "mem") written written_after → Cut (core_line words) written written_after
-unfolding core_line
+    → Cut (codes "mem") written written_after → Cut (mem_line words) written written_after
+unfolding mem_line
 core_cut_at_name words written written_after cut =
     cut_first (codes "mem" ++ word_texts words) (codes "\n") written written_after
     (cut_first (codes "mem") (word_texts words) written written_after cut)
 
 -- or in a word
 pub core_cut_at_word : (words : List ℕ) (i : ℕ) (written between written_after : Option (List ℕ)) → i < length words
-    → IsCoreTo words i written between → Cut (word_text (get_or words i 0)) between written_after → Cut (core_line words) written written_after
-unfolding core_line
+    → IsCoreTo words i written between → Cut (word_text (get_or words i 0)) between written_after → Cut (mem_line words) written written_after
+unfolding mem_line
 core_cut_at_word words i written between written_after below before cut =
     let front = codes "mem" ++ word_texts (take i words) in
     let text = word_text (get_or words i 0) in
@@ -66,8 +66,8 @@ core_goes_on words i written between written_after below before word =
 
 -- after all words the line ends, or the writer fails there
 pub core_ends : {T E : Type 0} (words : List ℕ) (i : ℕ) (written between written_after : Option (List ℕ)) (result : Result T E) → length words ≤ i
-    → IsCoreTo words i written between → Sends (codes "\n") between written_after result → Sends (core_line words) written written_after result
-unfolding core_line
+    → IsCoreTo words i written between → Sends (codes "\n") between written_after result → Sends (mem_line words) written written_after result
+unfolding mem_line
 core_ends words i written between written_after (Ok x) all before sent =
     let front : Appends written between (codes "mem" ++ word_texts words) = rw (take_all i words all) at before in
     Appends-trans written between written_after (codes "mem" ++ word_texts words) (codes "\n") front sent

@@ -1,11 +1,11 @@
 -- How a session ends, and how it doesn't begin.
 use Rattle.std.proofs.Common.{◌≡◌, ℕ, Bool, true, false, cond, Result, Ok, Err, Option, None, Some, IfSome, List, [], refl, ap, ◌∙◌}
 use Rattle.std.specs.Io.KnownBytes.{IsAtEnd}
-use Rattle.pdp_script.specs.Refusal.{asked, result_map}
+use Rattle.pdp_script.specs.Refusal.{question_answer, result_map}
 use Rattle.pdp_script.specs.declared.faults.Fault.{Fault}
 use Rattle.pdp_script.specs.declared.faults.Fault.TheVariants.{BadImage, BadSetup}
 use Rattle.pdp_session.specs.Session.{is_told_first}
-use Rattle.pdp_replay.specs.Start.{Start, start_of, has_good_numbers, has_good_images}
+use Rattle.pdp_replay.specs.Setup.{SetupData, setup_checked, has_good_numbers, has_good_images}
 
 -- at the end of the input nothing more comes
 pub at_end : (rest : Option (List ℕ)) (P : List ℕ → Type 0) → IsAtEnd rest → P [] → IfSome rest P
@@ -16,30 +16,30 @@ pub at_any : (rest : Option (List ℕ)) (P : List ℕ → Type 0) → ((more : L
 at_any None P p = tt
 at_any (Some more) P p = p more
 
-abbrev is_start : Result Start Fault → Bool
+abbrev is_start : Result SetupData Fault → Bool
 is_start (Ok setup) = true
 is_start (Err fault) = is_told_first fault
 
-start_of-refuses : (setup : Start) → is_start (start_of setup) ≡ true
-unfolding start_of
-start_of-refuses setup = by_tests (has_good_numbers setup) (has_good_images setup)
+setup_checked-refuses : (setup : SetupData) → is_start (setup_checked setup) ≡ true
+unfolding setup_checked
+setup_checked-refuses setup = by_tests (has_good_numbers setup) (has_good_images setup)
   where
     by_tests : (numbers images : Bool) → is_start (cond numbers (cond images (Ok setup) (Err BadImage)) (Err BadSetup)) ≡ true
     by_tests true true = refl
     by_tests true false = refl
     by_tests false images = refl
 
-asked-refuses : (due : Result Start Fault) (refused : Bool) → is_start due ≡ true → is_start (asked due refused) ≡ true
-asked-refuses (Err fault) refused e = e
-asked-refuses (Ok setup) true e = refl
-asked-refuses (Ok setup) false e = refl
+question_answer-refuses : (due : Result SetupData Fault) (refused : Bool) → is_start due ≡ true → is_start (question_answer due refused) ≡ true
+question_answer-refuses (Err fault) refused e = e
+question_answer-refuses (Ok setup) true e = refl
+question_answer-refuses (Ok setup) false e = refl
 
-is_start-result_map : {X : Type 0} (f : Start → X) (due : Result Start Fault) (fault : Fault) → Err fault ≡ result_map f due → is_told_first fault ≡ is_start due
+is_start-result_map : {X : Type 0} (f : SetupData → X) (due : Result SetupData Fault) (fault : Fault) → Err fault ≡ result_map f due → is_told_first fault ≡ is_start due
 is_start-result_map f (Ok setup) fault e = cc
 is_start-result_map f (Err other) fault e = let same : fault ≡ other = cc in ap is_told_first same
 
 -- no engine is refused because a stream failed
-pub start_refuses : {X : Type 0} (f : Start → X) (setup : Start) (fault : Fault) (refused : Bool) → Err fault ≡ result_map f (asked (start_of setup) refused)
+pub start_refuses : {X : Type 0} (f : SetupData → X) (setup : SetupData) (fault : Fault) (refused : Bool) → Err fault ≡ result_map f (question_answer (setup_checked setup) refused)
     → is_told_first fault ≡ true
 start_refuses f setup fault refused e =
-    is_start-result_map f (asked (start_of setup) refused) fault e ∙ asked-refuses (start_of setup) refused (start_of-refuses setup)
+    is_start-result_map f (question_answer (setup_checked setup) refused) fault e ∙ question_answer-refuses (setup_checked setup) refused (setup_checked-refuses setup)

@@ -4,6 +4,7 @@ pub mod HeldLines
 pub mod LineLists
 pub mod PatchLines
 pub mod Pieces
+pub mod Pulls
 pub mod Reaching
 pub mod Replying
 pub mod Served

@@ -6,8 +6,8 @@ use Rattle.std.specs.Prelude.{Option}
 use Rattle.std.proofs.lemmas.List.{take_all}
 use Rattle.pdp_replay.specs.Edit.{patch_shown, patch_count}
 use Rattle.pdp_replay.specs.Past.{Past}
-use Rattle.pdp_session.specs.Replies.{count_line, patch_line, patch_lines, patches_text}
-use Rattle.pdp_session.specs.Sends.{Cut}
+use Rattle.pdp_session.specs.Reply.{count_line, patch_line, patch_lines, patches_text}
+use Rattle.pdp_session.specs.Inside.Sends.{Cut}
 use Rattle.pdp_session.proofs.Pieces.{take_one_more, taken_and_left, cut_first, cut_later}
 
 patch_lines-append : (xs ys : List (ℕ × ℕ)) → patch_lines (xs ++ ys) ≡ patch_lines xs ++ patch_lines ys

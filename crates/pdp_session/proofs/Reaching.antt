@@ -5,12 +5,12 @@ use Rattle.std.proofs.lemmas.List.{take_all, length-take-le}
 use Rattle.std.proofs.lemmas.List.Elements.{All-nil, All-push}
 use Rattle.pdp_script.specs.declared.faults.Fault.TheVariants.{NoMemory}
 use Rattle.pdp_replay.specs.Past.{Past}
-use Rattle.pdp_session.specs.declared.replies.Reply.TheVariants.{Refused}
-use Rattle.pdp_session.specs.Commands.{reply_to, past_after}
+use Rattle.pdp_session.specs.declared.reply.Reply.TheVariants.{Refused}
+use Rattle.pdp_session.specs.Command.{reply_to, past_after}
 use Rattle.pdp_session.specs.Lines.{is_line_feed, without_return, ended_lines, lines_of}
-use Rattle.pdp_session.specs.Progress.{Replied, Reached}
-use Rattle.pdp_session.specs.Replies.{text_to}
-use Rattle.pdp_session.specs.Session.{Answers, BeginsAnswers}
+use Rattle.pdp_session.specs.Inside.Progress.{Replied, Reached}
+use Rattle.pdp_session.specs.Reply.{text_to}
+use Rattle.pdp_session.specs.Session.{RepliesTo, BeginsReplies}
 use Rattle.pdp_session.proofs.HeldLines.{line_means-held, line_means-held_returned, held-push}
 use Rattle.pdp_session.proofs.LineLists.{ended_lines-feed, ended_lines-open, lines_of-feed, lines_of-open, lines_of-nil}
 use Rattle.pdp_session.proofs.Replying.{nothing_replied, next_replied, answers, begins_answers}
@@ -74,7 +74,7 @@ lines_of-done past done out held now next r =
 
 -- the writer failed within the last reply
 pub broken : (past : Past) (done out unwritten held : List ℕ) (now : Past) → Reached past done (out ++ unwritten) held now
-    → (next : List ℕ) → BeginsAnswers past (lines_of (done ++ next)) out
+    → (next : List ℕ) → BeginsReplies past (lines_of (done ++ next)) out
 broken past done out unwritten held now r next =
     rw (lines_of-done past done (out ++ unwritten) held now next r) (begins_answers past r.lines out unwritten now (lines_of (r.tail ++ next)) r.replied)
 
@@ -93,7 +93,7 @@ tail_none held (byte ∷ bytes) kept none = by_length (cases_lt 202 (length (byt
     by_length (inr short) = absurd (omega (arith, ap length kept, ap length (take_all 202 (byte ∷ bytes) short)))
 
 -- no line was open
-pub all_answered : (past : Past) (done out held : List ℕ) (now : Past) → length held ≡ 0 → Reached past done out held now → Answers past (lines_of done) out
+pub all_answered : (past : Past) (done out held : List ℕ) (now : Past) → length held ≡ 0 → Reached past done out held now → RepliesTo past (lines_of done) out
 all_answered past done out held now none r =
     let all : lines_of done ≡ r.lines =
     ap lines_of (sym (append-nil done)) ∙ lines_of-done past done out held now [] r
@@ -110,7 +110,7 @@ last_replied past done out held now flag memory some r =
     rw all (next_replied past r.lines out now r.tail held flag (rw r.kept (line_means-held r.tail)) memory r.replied)
 
 -- the reader failed: the line that was open has no reply
-pub ended_answered : (past : Past) (done out held : List ℕ) (now : Past) → Reached past done out held now → Answers past (ended_lines done) out
+pub ended_answered : (past : Past) (done out held : List ℕ) (now : Past) → Reached past done out held now → RepliesTo past (ended_lines done) out
 ended_answered past done out held now r =
     let all : ended_lines done ≡ r.lines =
     ap ended_lines r.split ∙ r.ended r.tail ∙ ap (λ back. r.lines ++ back) (ended_lines-open r.tail r.is_open) ∙ append-nil r.lines in

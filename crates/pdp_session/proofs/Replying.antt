@@ -5,14 +5,14 @@ use Rattle.std.proofs.lemmas.Bool.{eqb-true, eq-eqb, false≢true}
 use Rattle.std.proofs.lemmas.List.Folds.{concat-append}
 use Rattle.pdp_script.specs.declared.faults.Fault.TheVariants.{NoMemory}
 use Rattle.pdp_replay.specs.Past.{Past}
-use Rattle.pdp_session.specs.declared.replies.Reply.TheVariants.{Refused}
+use Rattle.pdp_session.specs.declared.reply.Reply.TheVariants.{Refused}
 use Rattle.pdp_script.specs.Refusal.{result_map}
 use Rattle.pdp_script.specs.declared.faults.Fault.{Fault}
-use Rattle.pdp_session.specs.Commands.{edit_reply, reply_to, past_after}
+use Rattle.pdp_session.specs.Command.{edit_reply, reply_to, past_after}
 use Rattle.pdp_session.specs.Grammar.{line_means}
-use Rattle.pdp_session.specs.Progress.{Replied}
-use Rattle.pdp_session.specs.Replies.{text_of, text_to, refusal_text}
-use Rattle.pdp_session.specs.Session.{replies, Answers, BeginsAnswers}
+use Rattle.pdp_session.specs.Inside.Progress.{Replied}
+use Rattle.pdp_session.specs.Reply.{text_of, text_to, refusal_text}
+use Rattle.pdp_session.specs.Session.{replies, RepliesTo, BeginsReplies}
 
 slice_get-front : {X : Type 0} (xs ys : List X) (k : ℕ) (x : X) → slice_get xs k ≡ Some x → slice_get (xs ++ ys) k ≡ Some x
 slice_get-front [] ys k x e = cc
@@ -82,7 +82,7 @@ next_replied past lines out now line heard flag means memory before =
     }
 
 -- all lines were answered
-pub answers : (past : Past) (lines : List (List ℕ)) (out : List ℕ) (now : Past) → Replied past lines out now → Answers past lines out
+pub answers : (past : Past) (lines : List (List ℕ)) (out : List ℕ) (now : Past) → Replied past lines out now → RepliesTo past lines out
 unfolding replies
 answers past lines out now before =
     let whole : replies 0 lines before.refused past ≡ before.given =
@@ -95,7 +95,7 @@ answers past lines out now before =
 
 -- and then the writer failed, whatever lines come next
 pub begins_answers : (past : Past) (lines : List (List ℕ)) (out unwritten : List ℕ) (now : Past) (next : List (List ℕ))
-    → Replied past lines (out ++ unwritten) now → BeginsAnswers past (lines ++ next) out
+    → Replied past lines (out ++ unwritten) now → BeginsReplies past (lines ++ next) out
 begins_answers past lines out unwritten now next before =
     let later = replies before.count next before.refused now in
     let whole : replies 0 (lines ++ next) before.refused past ≡ before.given ++ later = before.goes before.refused next (λ k less. refl) in

@@ -3,11 +3,11 @@ use Rattle.std.proofs.Common.{◌≡◌, ℕ, ◌+◌, ◌<◌, Result, Ok, Err,
 use Rattle.std.proofs.KnownBytes.{Appends-nil, Appends-trans}
 use Rattle.std.proofs.lemmas.List.{take_more}
 use Rattle.pdp_replay.specs.Past.{Past}
-use Rattle.pdp_session.specs.Commands.{past_after}
+use Rattle.pdp_session.specs.Command.{past_after}
 use Rattle.pdp_session.specs.Lines.{without_return, lines_of}
-use Rattle.pdp_session.specs.Progress.{Reached, Goes, Breaks, Serves, Moves, Finishes}
-use Rattle.pdp_session.specs.Replies.{text_to}
-use Rattle.pdp_session.specs.Session.{BeginsAnswers}
+use Rattle.pdp_session.specs.Inside.Progress.{Reached, Goes, Breaks, Serves, Moves, Finishes}
+use Rattle.pdp_session.specs.Reply.{text_to}
+use Rattle.pdp_session.specs.Session.{BeginsReplies}
 use Rattle.pdp_session.proofs.Reaching.{line_reached, broken, last_replied}
 use Rattle.pdp_session.proofs.Replying.{answers, begins_answers}
 
@@ -44,7 +44,7 @@ last_finishes past done out held now after written written_after (Ok x) some r s
 }
 last_finishes past done out held now after written written_after (Err e) some r s =
     let text = text_to held s.refused now in
-    let begins : BeginsAnswers past (lines_of done ++ []) (out ++ s.sends.taken) =
+    let begins : BeginsReplies past (lines_of done ++ []) (out ++ s.sends.taken) =
     begins_answers past (lines_of done) (out ++ s.sends.taken) s.sends.unwritten (past_after held s.refused now) []
     (rw (← cut_text out text s.sends.taken s.sends.unwritten s.sends.split) (last_replied past done out held now s.refused s.only some r)) in
     record {

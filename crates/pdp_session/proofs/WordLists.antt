@@ -4,7 +4,7 @@ use Rattle.std.specs.List.{slice_split, onto_first, filter, position_or_len, sli
 use Rattle.std.proofs.lemmas.List.Splits.{slice_split-cons_yes}
 use Rattle.std.proofs.lemmas.Bool.{lt-ltb}
 use Rattle.std.proofs.lemmas.List.Sums.{prefix_len-le-length}
-use Rattle.pdp_session.specs.Words.{is_blank, words_of}
+use Rattle.pdp_session.specs.Grammar.Words.{is_blank, words_of}
 
 -- a blank in front changes nothing
 pub words_of-blank : (byte : ℕ) (bytes : List ℕ) → is_blank byte ≡ true → words_of (byte ∷ bytes) ≡ words_of bytes

@@ -6,39 +6,43 @@ use Rattle.std.specs.Str.{bytes_eq}
 use Rattle.pdp_word.specs.Number.{number_of}
 use Rattle.pdp_script.specs.declared.faults.Fault.{Fault}
 use Rattle.pdp_script.specs.declared.faults.Fault.TheVariants.{BadLine, LineTooLong}
-use Rattle.pdp_replay.specs.declared.question.Question.TheVariants.{Regs, Core}
-use Rattle.pdp_session.specs.declared.grammar.Command.{Command}
-use Rattle.pdp_session.specs.declared.grammar.Command.TheVariants.{SetCore, RevertCore, Insert, Alter, DropEvent, ListPatches, Ask}
-use Rattle.pdp_session.specs.Arguments.{◌>>=◌, first_of, one_of, two_of, word_named, event_named, turn_named, count_named}
-use Rattle.pdp_session.specs.Events.{event_of}
-use Rattle.pdp_session.specs.Words.{words_of}
+use Rattle.pdp_session.specs.declared.command.Command.{Command}
+use Rattle.pdp_session.specs.declared.command.Command.TheVariants.{SetCore, RevertCore, Insert, Alter, DropEvent, ListPatches, Ask}
+use Rattle.pdp_session.specs.Grammar.Arguments.{◌>>=◌, first_of, one_of, two_of, word_named, event_named, turn_named}
+use Rattle.pdp_session.specs.Grammar.Events.{event_of}
+use Rattle.pdp_session.specs.Grammar.Questions.{question_with}
+use Rattle.pdp_session.specs.Grammar.Words.{words_of}
+pub mod Arguments
+pub mod Events
+pub mod Questions
+pub mod Words
 
 -- `core A W`: an address and a word, in octal
-abbrev pub set_core_with : List (List ℕ) → Option Command
-set_core_with arguments = do
+abbrev pub core_form : List (List ℕ) → Option Command
+core_form arguments = do
   (address, word) ← two_of arguments
   a ← number_of 8 address
   w ← word_named word
   Some (SetCore a w)
 
 -- `uncore A`: an address, in octal
-abbrev pub revert_core_with : List (List ℕ) → Option Command
-revert_core_with arguments = do
+abbrev pub uncore_form : List (List ℕ) → Option Command
+uncore_form arguments = do
   address ← one_of arguments
   a ← number_of 8 address
   Some (RevertCore a)
 
 -- `at T event`: a turn, in decimal, and an event
-abbrev pub insert_with : List (List ℕ) → Option Command
-insert_with arguments = do
+abbrev pub at_form : List (List ℕ) → Option Command
+at_form arguments = do
   (turn, event) ← first_of arguments
   t ← turn_named turn
   e ← event_of event
   Some (Insert t e)
 
 -- `alter E T event`: the number of an event and a turn, in decimal, and an event
-abbrev pub alter_with : List (List ℕ) → Option Command
-alter_with arguments = do
+abbrev pub alter_form : List (List ℕ) → Option Command
+alter_form arguments = do
   (number, others) ← first_of arguments
   (turn, event) ← first_of others
   n ← event_named number
@@ -47,46 +51,27 @@ alter_with arguments = do
   Some (Alter n t e)
 
 -- `drop E`: the number of an event, in decimal
-abbrev pub drop_with : List (List ℕ) → Option Command
-drop_with arguments = do
+abbrev pub drop_form : List (List ℕ) → Option Command
+drop_form arguments = do
   number ← one_of arguments
   n ← event_named number
   Some (DropEvent n)
 
 -- `patches`
-abbrev pub patches_with : List (List ℕ) → Option Command
-patches_with [] = Some ListPatches
-patches_with _ = None
+abbrev pub patches_form : List (List ℕ) → Option Command
+patches_form [] = Some ListPatches
+patches_form _ = None
 
--- `regs N`: a turn, in decimal
-abbrev pub regs_with : List (List ℕ) → Option Command
-regs_with arguments = do
-  turn ← one_of arguments
-  n ← turn_named turn
-  Some (Ask (Regs n))
-
--- `mem N A C`: a turn, in decimal, an address, in octal, and a count, in decimal
-abbrev pub core_with : List (List ℕ) → Option Command
-core_with arguments = do
-  (turn, others) ← first_of arguments
-  (address, count) ← two_of others
-  n ← turn_named turn
-  a ← number_of 8 address
-  c ← count_named count
-  Some (Ask (Core n a c))
-
--- a command by its name and the words that follow it
+-- a command by its name and the words that follow it; a name that is none of these may be a question's
 unfoldable pub command_with : List ℕ → List (List ℕ) → Option Command
 command_with name arguments =
-    if bytes_eq name (codes "core") then set_core_with arguments
-    else if bytes_eq name (codes "uncore") then revert_core_with arguments
-    else if bytes_eq name (codes "at") then insert_with arguments
-    else if bytes_eq name (codes "alter") then alter_with arguments
-    else if bytes_eq name (codes "drop") then drop_with arguments
-    else if bytes_eq name (codes "patches") then patches_with arguments
-    else if bytes_eq name (codes "regs") then regs_with arguments
-    else if bytes_eq name (codes "mem") then core_with arguments
-    else None
+    if bytes_eq name (codes "core") then core_form arguments
+    else if bytes_eq name (codes "uncore") then uncore_form arguments
+    else if bytes_eq name (codes "at") then at_form arguments
+    else if bytes_eq name (codes "alter") then alter_form arguments
+    else if bytes_eq name (codes "drop") then drop_form arguments
+    else if bytes_eq name (codes "patches") then patches_form arguments
+    else option_map Ask (question_with name arguments)
 
 -- its first byte is `#`
 abbrev pub is_comment : List ℕ → Bool

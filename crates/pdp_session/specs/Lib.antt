@@ -1,11 +1,10 @@
-pub mod Arguments
-pub mod Commands
-pub mod Events
-pub mod Grammar
+-- The session language: the lines of a text, what a line means, what it does to the past, and what it is answered.
 pub mod Lines
-pub mod Progress
-pub mod Replies
-pub mod Sends
-pub mod Session
+pub mod Grammar
+pub mod Command
+pub mod Reply
+-- A session: from the bytes of its input to the bytes of its output.
 pub mod Streams
-pub mod Words
+pub mod Session
+-- A proof's own: no public contract names this.
+pub mod Inside

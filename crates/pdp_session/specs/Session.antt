@@ -1,13 +1,13 @@
 -- What a session writes: from the bytes of its input to the bytes of its output.
-use Rattle.std.specs.Prelude.{◌≡◌, ℕ, ◌+◌, Bool, true, false, List, [], ◌∷◌, ◌++◌, Option, Some, IfSome, Result, Ok, Err}
+use Rattle.std.specs.Prelude.{◌≡◌, ℕ, ◌+◌, ◌≤◌, Bool, true, false, List, [], ◌∷◌, ◌++◌, length, Option, Some, IfSome, Result, Ok, Err}
 use Rattle.std.specs.List.{concat, slice_get}
 use Rattle.std.specs.Io.KnownBytes.{Appends, Consumes, IsAtEnd}
 use Rattle.pdp_script.specs.declared.faults.Fault.{Fault}
 use Rattle.pdp_script.specs.declared.faults.Fault.TheVariants.{NoMemory, Input, Output, BadImage, BadSetup}
 use Rattle.pdp_replay.specs.Past.{Past}
-use Rattle.pdp_session.specs.Commands.{past_after}
+use Rattle.pdp_session.specs.Command.{past_after}
 use Rattle.pdp_session.specs.Lines.{ended_lines, lines_of}
-use Rattle.pdp_session.specs.Replies.{text_to, refusal_text}
+use Rattle.pdp_session.specs.Reply.{text_to, refusal_text}
 
 -- the faults of a start: told before anything is read or written, or not at all
 abbrev pub is_told_first : Fault → Bool
@@ -28,13 +28,13 @@ abbrev pub OnlyForMemory : (ℕ → Bool) → List (List ℕ) → Type 0
 OnlyForMemory refused texts = (n : ℕ) → refused n ≡ true → slice_get texts n ≡ Some (refusal_text NoMemory)
 
 -- `out` is the replies to these lines
-pub record Answers (past : Past) (lines : List (List ℕ)) (out : List ℕ) : Type 0 where
+pub record RepliesTo (past : Past) (lines : List (List ℕ)) (out : List ℕ) : Type 0 where
   pub refused : ℕ → Bool
   pub only : OnlyForMemory refused (replies 0 lines refused past)
   pub text : concat (replies 0 lines refused past) ≡ out
 
 -- `out` is a beginning of the replies to these lines
-pub record BeginsAnswers (past : Past) (lines : List (List ℕ)) (out : List ℕ) : Type 0 where
+pub record BeginsReplies (past : Past) (lines : List (List ℕ)) (out : List ℕ) : Type 0 where
   pub refused : ℕ → Bool
   pub only : OnlyForMemory refused (replies 0 lines refused past)
   pub unwritten : List ℕ
@@ -44,9 +44,9 @@ pub record BeginsAnswers (past : Past) (lines : List (List ℕ)) (out : List ℕ
 -- where that is known: after all its input; or where the reader failed, after all lines that had ended;
 -- or where the writer failed, within the replies to the whole input; or before it began, for want of memory.
 abbrev pub SessionEnds : Past → List ℕ → List ℕ → Option (List ℕ) → Result (Unit {0}) Fault → Type 0
-SessionEnds past read out rest (Ok x) = IsAtEnd rest × Answers past (lines_of read) out
-SessionEnds past read out rest (Err Input) = Answers past (ended_lines read) out
-SessionEnds past read out rest (Err Output) = IfSome rest (λ more. BeginsAnswers past (lines_of (read ++ more)) out)
+SessionEnds past read out rest (Ok x) = IsAtEnd rest × RepliesTo past (lines_of read) out
+SessionEnds past read out rest (Err Input) = RepliesTo past (ended_lines read) out
+SessionEnds past read out rest (Err Output) = IfSome rest (λ more. BeginsReplies past (lines_of (read ++ more)) out)
 SessionEnds past read out rest (Err NoMemory) = (read ≡ []) × (out ≡ [])
 SessionEnds past read out rest (Err _) = ⊥
 
@@ -55,11 +55,20 @@ abbrev pub Ends : Result Past Fault → List ℕ → List ℕ → Option (List �
 Ends (Ok past) read out rest result = SessionEnds past read out rest result
 Ends (Err fault) read out rest result = (result ≡ Err fault) × (read ≡ []) × (out ≡ [])
 
+-- The most pulls that a session has made which ends so and has read so many bytes: each brought a byte at least,
+-- but for the one that found the end of the input.
+abbrev pub most_pulls : Result (Unit {0}) Fault → ℕ → ℕ
+most_pulls (Ok x) count = count + 1
+most_pulls (Err Output) count = count + 1
+most_pulls (Err _) count = count
+
 -- A session over what a setup makes, from the bytes that its reader has and its writer holds before it to
--- those after it, where they are known.
-pub record Session (due : Result Past Fault) (unread read_after written written_after : Option (List ℕ)) (result : Result (Unit {0}) Fault) : Type 0 where
+-- those after it, where they are known, and from the pulls that its reader has left to those that are left after it.
+pub record Session (due : Result Past Fault) (unread read_after : Option (List ℕ)) (pulls pulls_after : ℕ)
+    (written written_after : Option (List ℕ)) (result : Result (Unit {0}) Fault) : Type 0 where
   pub read : List ℕ
   pub out : List ℕ
   pub takes : Consumes unread read_after read
   pub writes : Appends written written_after out
+  pub pulled : pulls ≤ pulls_after + most_pulls result (length read)
   pub ends : Ends due read out read_after result

@@ -1,23 +1,22 @@
 //! The session: lines of commands in, lines of replies out.
+//!
+//! It stands on pdp_replay, whose engine it calls for each command, on pdp_word for the numbers of lines and
+//! replies, and on arrayvec and itoa for their text. Its contract is that of [`run`]: what is written is the
+//! defined replies to the lines that were read. What a command means for the machine it leaves to the engine; where
+//! bytes come from and go to, to [`Feed`] and [`Drain`].
 #![tactic(auto)]
 
-mod arguments;
-mod commands;
-mod events;
+mod command;
 mod grammar;
 mod lines;
-mod readers;
-mod replies;
-mod sending;
-mod serving;
-mod sessions;
+mod reply;
+mod session;
 mod streams;
-mod texts;
-mod words;
-mod writers;
 
-pub use pdp_replay::{Answer, Engine, Fault, Question, Regs, RunState, Setup, Value};
-pub use readers::FromRead;
-pub use sessions::run;
-pub use streams::{Drain, Failed, Feed};
-pub use writers::ToWrite;
+pub use pdp_replay::{
+    Answer, Engine, Event, Fault, Patch, Question, Regs, RunState, Setup, Value, Words,
+    core_words_are_first_words, some_edits_need_no_memory,
+};
+pub use pdp_script::Script;
+pub use session::run;
+pub use streams::{Drain, Failed, Feed, FromRead, ToWrite};

@@ -1,6 +1,14 @@
-ghost use Rattle.std.specs.Prelude.{◌≡◌, ℕ, ◌<◌, ◌≤◌, Option, List, Bool, ◌||◌, is_err, length, IfOk, OnOk};
+ghost use Rattle.std.specs.Prelude.{◌≡◌, ℕ, ◌+◌, ◌≤◌, Option, List, Bool, ◌||◌, is_err, length, IfOk, OnOk, OnErr};
 ghost use Rattle.std.specs.Io.KnownBytes.{ReadConsumes, WriteAppends};
 ghost use Rattle.pdp_session.specs.Streams.{put_failed};
+
+mod from_read;
+mod sending;
+mod to_write;
+
+pub use from_read::FromRead;
+pub use sending::send;
+pub use to_write::ToWrite;
 
 /// A stream failed: a read or a write was refused, or the reader has no pulls left.
 #[derive(Clone, Copy, Debug, PartialEq, Eq)]
@@ -19,11 +27,13 @@ pub trait Feed {
 
     /// Takes the next bytes into the front of `buf` and answers how many there were: 0 only at the end
     /// of the input, or where `buf` has no room. Each pull that doesn't fail lowers what [`left`](Feed::left)
-    /// answers. [`Failed`] comes where the input can't be read or no pulls are left, and then no byte was taken.
+    /// answers by 1. [`Failed`] comes where the input can't be read or no pulls are left; then no byte was taken,
+    /// and as many pulls are left as before.
     fn pull(&mut self, buf: &mut [u8]) -> Result<usize, Failed>
         ensures bound { IfOk result (λ n. n ≤ length buf.new) }
         ensures bytes { ReadConsumes (remaining self.old) (remaining self.new) result buf.new }
-        ensures falls { OnOk result (pulls self.new < pulls self.old) }
+        ensures lowers { OnOk result (pulls self.new + 1 ≡ pulls self.old) }
+        ensures keeps { OnErr result (pulls self.new ≡ pulls self.old) }
         ensures fails { has_failed self.new ≡ (has_failed self.old || is_err result) };
 
     /// How many pulls are left: at 0 the next one fails.

@@ -1,7 +1,8 @@
 //! Stores: lists of 16-bit words, each with the stamp of the last write to it.
 //!
-//! Core memory and the disk drives of the machine are stores. [`Store`] says what a store does,
-//! [`Flat`] keeps one in two arrays.
+//! It stands on pdp_word. The contract of [`Store`] says what each call answers and what it does to the list of
+//! words and to their last stamps; [`Flat`] keeps that contract in two arrays. Core is a store, and a drive will be
+//! one. Addresses, and which turn and agent a stamp names, it leaves to pdp_unibus.
 #![tactic(auto)]
 
 ghost use Rattle.std.specs.Prelude.{◌≡◌, ◌<◌, length, slice_index, slice_index_or, slice_set};

@@ -10,11 +10,11 @@ device_read None w = refl
 device_read (Some r) w = refl
 
 pub device_write : (r : Option Register) (word : ℕ) (w : BusWorld)
-    → write_to (device_slave r) word w ≡ record { value = told_at r; after = with_board w (left_by_write r word w.board) }
+    → write_to (device_slave r) word w ≡ record { value = told_at r; after = with_board w (left_by_write r word w.turn w.board) }
 device_write None word w = refl
 device_write (Some r) word w = refl
 
 pub device_byte_write : (r : Option Register) (address byte : ℕ) (w : BusWorld)
-    → write_byte_to (device_slave r) address byte w ≡ record { value = told_at r; after = with_board w (left_by_byte r address byte w.board) }
+    → write_byte_to (device_slave r) address byte w ≡ record { value = told_at r; after = with_board w (left_by_byte r address byte w.turn w.board) }
 device_byte_write None address byte w = refl
 device_byte_write (Some r) address byte w = refl

@@ -1,2 +1,3 @@
 pub mod Devices
-pub mod Events
+pub mod KeyLaws
+pub mod StatusLaws

@@ -23,10 +23,10 @@ powered_board = record {
     mode = Kernel;
     previous = Kernel;
     priority = Level0;
-    trace = false;
+    trace_bit = false;
     codes = record { n = false; z = false; v = false; c = false };
   };
-  keyboard = record { done = false; enable = false; key = 0 };
+  console = record { done = false; enable = false; buffer = 0 };
   switches = 0;
 }
 

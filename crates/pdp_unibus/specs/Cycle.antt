@@ -1,8 +1,8 @@
-use Rattle.std.specs.Prelude.{ℕ, ◌+◌, ◌-◌, ◌*◌, ◌/◌, ◌%◌, ◌==◌, Option, Some, None, Result, Ok, Err, length, slice_index, slice_set, nat_lt, if◌then◌else◌}
+use Rattle.std.specs.Prelude.{ℕ, ◌/◌, Option, Some, None, Result, Ok, Err, length, slice_index, slice_set, nat_lt, if◌then◌else◌}
 use Rattle.pdp_store.specs.declared.Agent.TheVariants.{Cpu}
 use Rattle.pdp_store.specs.declared.Stamp.{Stamp}
 use Rattle.pdp_unibus.specs.BusWorld.{BusWorld, with_board}
-use Rattle.pdp_unibus.specs.Register.{register_at, value_in, after_read, after_write}
+use Rattle.pdp_unibus.specs.Register.{register_at, value_in, after_read, after_write, after_byte, word_with_byte}
 use Rattle.pdp_unibus.specs.declared.register.Register.{Register}
 use Rattle.pdp_unibus.specs.declared.board.Board.{Board}
 use Rattle.pdp_unibus.specs.declared.bus.Timeout.{Timeout}
@@ -33,11 +33,6 @@ abbrev pub slave_at : ℕ → ℕ → Slave
 slave_at words address =
     (if nat_lt (address / 2) words then Core (address / 2) else device_slave (register_at address))
 
--- the word with the byte of this address replaced: the even address is the low half
-abbrev pub word_with_byte : ℕ → ℕ → ℕ → ℕ
-word_with_byte word address byte =
-    (if address % 2 == 0 then word - word % 256 + byte else byte * 256 + word % 256)
-
 -- the stamp that a write of the processor leaves in this turn
 abbrev pub stamp_of_cycle : BusWorld → Stamp
 stamp_of_cycle w = record { turn = w.turn; agent = Cpu }
@@ -60,15 +55,14 @@ read_from Nobody w = timed_out w
 
 abbrev pub write_to : Slave → ℕ → BusWorld → Answer
 write_to (Core k) word w = record { value = Ok 0; after = core_written w k word }
-write_to (Device r) word w = record { value = Ok 0; after = with_board w (after_write r word w.board) }
+write_to (Device r) word w = record { value = Ok 0; after = with_board w (after_write r word w.turn w.board) }
 write_to Nobody word w = timed_out w
 
--- a byte that is written to a register goes with the other half as a read would give it, without the effect of a read
 abbrev pub write_byte_to : Slave → ℕ → ℕ → BusWorld → Answer
 write_byte_to (Core k) address byte w =
     record { value = Ok 0; after = core_written w k (word_with_byte (slice_index w.core k) address byte) }
 write_byte_to (Device r) address byte w =
-    record { value = Ok 0; after = with_board w (after_write r (word_with_byte (value_in r w.board) address byte) w.board) }
+    record { value = Ok 0; after = with_board w (after_byte r address byte w.turn w.board) }
 write_byte_to Nobody address byte w = timed_out w
 
 -- one bus cycle: who answers, and what
@@ -95,10 +89,10 @@ abbrev pub left_by_read : Option Register → Board → Board
 left_by_read None b = b
 left_by_read (Some r) b = after_read r b
 
-abbrev pub left_by_write : Option Register → ℕ → Board → Board
-left_by_write None word b = b
-left_by_write (Some r) word b = after_write r word b
+abbrev pub left_by_write : Option Register → ℕ → ℕ → Board → Board
+left_by_write None word turn b = b
+left_by_write (Some r) word turn b = after_write r word turn b
 
-abbrev pub left_by_byte : Option Register → ℕ → ℕ → Board → Board
-left_by_byte None address byte b = b
-left_by_byte (Some r) address byte b = after_write r (word_with_byte (value_in r b) address byte) b
+abbrev pub left_by_byte : Option Register → ℕ → ℕ → ℕ → Board → Board
+left_by_byte None address byte turn b = b
+left_by_byte (Some r) address byte turn b = after_byte r address byte turn b

@@ -1,16 +1,15 @@
--- Registers on the bus: PDP-11 Peripherals Handbook, KL11; DEC PDP-11/40 Processor Handbook (1972), Switch register and Processor status word.
-use Rattle.std.specs.Prelude.{ℕ, ◌-◌, ◌%◌, ◌==◌, Option, Some, None, if◌then◌else◌}
-use Rattle.pdp_console.specs.Keyboard.{keyboard_status, with_keyboard_status, keyboard_buffer, buffer_read}
+-- Registers on the bus, and who owns them: PDP-11 Peripherals Handbook, KL11; DEC PDP-11/40 Processor Handbook (1972), Switch register and Processor status word.
+use Rattle.std.specs.Prelude.{ℕ, ◌+◌, ◌-◌, ◌*◌, ◌%◌, ◌==◌, ◌&&◌, nat_le, Option, Some, None, option_map, if◌then◌else◌}
+use Rattle.pdp_console.specs.Kl.{kl_read, kl_register_at, kl_value, kl_written}
 use Rattle.pdp_unibus.specs.Status.{status_word, status_written}
 use Rattle.pdp_unibus.specs.declared.board.Board.{Board}
 use Rattle.pdp_unibus.specs.declared.register.Register.{Register}
-use Rattle.pdp_unibus.specs.declared.register.Register.TheVariants.{KeyboardStatus, KeyboardBuffer, Switches, ProgramStatus}
+use Rattle.pdp_unibus.specs.declared.register.Register.TheVariants.{Console, Switches, ProgramStatus}
 
--- the register whose word has this even address
+-- the owners: a device has its registers from its first address on
 abbrev pub register_of_word : ℕ → Option Register
 register_of_word address = (
-    if address == 0o777560 then Some KeyboardStatus else
-    if address == 0o777562 then Some KeyboardBuffer else
+    if nat_le 0o777560 address && nat_le address 0o777566 then option_map Console (kl_register_at (address - 0o777560)) else
     if address == 0o777570 then Some Switches else
     if address == 0o777776 then Some ProgramStatus else None)
 
@@ -20,21 +19,28 @@ register_at address = register_of_word (address - address % 2)
 
 -- what a read gives
 unfoldable pub value_in : Register → Board → ℕ
-value_in KeyboardStatus b = keyboard_status b.keyboard
-value_in KeyboardBuffer b = keyboard_buffer b.keyboard
+value_in (Console r) b = kl_value r b.console
 value_in Switches b = b.switches
 value_in ProgramStatus b = status_word b.status
 
 -- what a read does
 unfoldable pub after_read : Register → Board → Board
-after_read KeyboardStatus b = b
-after_read KeyboardBuffer b = record b { keyboard = buffer_read b.keyboard }
+after_read (Console r) b = record b { console = kl_read r b.console }
 after_read Switches b = b
 after_read ProgramStatus b = b
 
--- what a write of a word does; the buffer and the switches can't be written
-unfoldable pub after_write : Register → ℕ → Board → Board
-after_write KeyboardStatus word b = record b { keyboard = with_keyboard_status b.keyboard word }
-after_write KeyboardBuffer word b = b
-after_write Switches word b = b
-after_write ProgramStatus word b = record b { status = status_written word b.status }
+-- what a write of a word does in a turn; the switches can't be written
+unfoldable pub after_write : Register → ℕ → ℕ → Board → Board
+after_write (Console r) word turn b = record b { console = kl_written r word turn b.console }
+after_write Switches word turn b = b
+after_write ProgramStatus word turn b = record b { status = status_written word b.status }
+
+-- the word with the byte of this address replaced: the even address is the low half
+abbrev pub word_with_byte : ℕ → ℕ → ℕ → ℕ
+word_with_byte word address byte =
+    (if address % 2 == 0 then word - word % 256 + byte else byte * 256 + word % 256)
+
+-- what a write of a byte does: the word is written with the other half as a read would give it, without the effect of a
+-- read. A register whose bytes go otherwise has an equation of its own here.
+unfoldable pub after_byte : Register → ℕ → ℕ → ℕ → Board → Board
+after_byte register address byte turn b = after_write register (word_with_byte (value_in register b) address byte) turn b

@@ -1,8 +1,8 @@
 -- The program status word: DEC PDP-11/40 Processor Handbook (1972), Processor status word.
-use Rattle.std.specs.Prelude.{ℕ, ◌+◌, ◌*◌, ◌/◌, ◌%◌, ◌==◌, if◌then◌else◌}
+use Rattle.std.specs.Prelude.{ℕ, ◌+◌, ◌*◌, ◌==◌, if◌then◌else◌}
 use Rattle.pdp_kt11.specs.Mode.{mode_bits, mode_of}
+use Rattle.pdp_word.specs.Bits.{bit_of, field, has_bit}
 use Rattle.pdp_word.specs.declared.codes.Codes.{Codes}
-use Rattle.pdp_unibus.specs.Flag.{flag_bit}
 use Rattle.pdp_unibus.specs.declared.priority.Priority.{Priority}
 use Rattle.pdp_unibus.specs.declared.priority.Priority.TheVariants.{Level0, Level1, Level2, Level3, Level4, Level5, Level6, Level7}
 use Rattle.pdp_unibus.specs.declared.status.Status.{Status}
@@ -22,7 +22,7 @@ priority_bits Level7 = 7
 abbrev pub status_word : Status → ℕ
 status_word s =
     mode_bits s.mode * 0o40000 + mode_bits s.previous * 0o10000 + priority_bits s.priority * 0o40
-    + flag_bit s.trace * 0o20 + flag_bit s.codes.n * 8 + flag_bit s.codes.z * 4 + flag_bit s.codes.v * 2 + flag_bit s.codes.c
+    + bit_of s.trace_bit * 0o20 + bit_of s.codes.n * 8 + bit_of s.codes.z * 4 + bit_of s.codes.v * 2 + bit_of s.codes.c
 
 -- the priority of three bits
 unfoldable pub priority_of : ℕ → Priority
@@ -37,15 +37,15 @@ priority_of bits =
     else Level7
 
 -- the codes in bits 3 to 0
-abbrev pub codes_in : ℕ → Codes
-codes_in word = record { n = word / 8 % 2 == 1; z = word / 4 % 2 == 1; v = word / 2 % 2 == 1; c = word % 2 == 1 }
+abbrev pub status_codes : ℕ → Codes
+status_codes word = record { n = has_bit 3 word; z = has_bit 2 word; v = has_bit 1 word; c = has_bit 0 word }
 
 -- the program status after its word was written: T and bits 11-8 can't be written
 unfoldable pub status_written : ℕ → Status → Status
 status_written word s = record {
-  mode = mode_of (word / 0o40000 % 4);
-  previous = mode_of (word / 0o10000 % 4);
-  priority = priority_of (word / 0o40 % 8);
-  trace = s.trace;
-  codes = codes_in word;
+  mode = mode_of (field 14 2 word);
+  previous = mode_of (field 12 2 word);
+  priority = priority_of (field 5 3 word);
+  trace_bit = s.trace_bit;
+  codes = status_codes word;
 }

@@ -1,17 +1,15 @@
 ghost use Rattle.std.specs.Prelude.{◌≡◌};
-ghost use Rattle.pdp_unibus.specs.Register.{value_in, after_read, after_write};
-ghost use Rattle.pdp_unibus.specs.Event.{after_event, after_events};
+ghost use Rattle.pdp_unibus.specs.Register.{value_in, after_byte, after_read, after_write, word_with_byte};
 
-use crate::event::Event;
 use crate::register::Register;
 use crate::status::Status;
-use pdp_console::Keyboard;
+use pdp_console::Kl;
 
 /// What the bus holds besides the lists of words: the program status word, and the devices.
 #[derive(Clone, Copy, Debug, Default)]
 pub struct Board {
     pub status: Status,
-    pub keyboard: Keyboard,
+    pub console: Kl,
     /// The switch register.
     pub switches: u16,
 }
@@ -23,8 +21,7 @@ impl Board {
         ensures { result ≡ value_in register self.now }
     {
         match register {
-            Register::KeyboardStatus => self.keyboard.status(),
-            Register::KeyboardBuffer => self.keyboard.buffer(),
+            Register::Console(register) => self.console.value(register),
             Register::Switches => self.switches,
             Register::ProgramStatus => self.status.word(),
         }
@@ -37,49 +34,44 @@ impl Board {
         ensures after { self.new ≡ after_read register self.old }
     {
         match register {
-            Register::KeyboardStatus => self.keyboard.status(),
-            Register::KeyboardBuffer => self.keyboard.read_buffer(),
+            Register::Console(register) => self.console.read_reg(register),
             Register::Switches => self.switches,
             Register::ProgramStatus => self.status.word(),
         }
     }
 
-    /// A write of a word to the register.
+    /// A write of a word to the register, in this turn.
     #[tactic(auto, unfolding(crate::specs::Register::after_write))]
-    pub fn write(&mut self, register: Register, word: u16)
-        ensures { self.new ≡ after_write register word self.old }
+    pub fn write(&mut self, register: Register, word: u16, turn: u32)
+        ensures { self.new ≡ after_write register word turn self.old }
     {
         match register {
-            Register::KeyboardStatus => self.keyboard.set_status(word),
-            Register::KeyboardBuffer | Register::Switches => {}
+            Register::Console(register) => self.console.write_reg(register, word, turn),
+            Register::Switches => {}
             Register::ProgramStatus => self.status = self.status.written(word),
         }
     }
 
-    /// What an event does to the devices. `Continue` is the processor's; ticks and completions have no device yet.
-    #[tactic(auto, unfolding(crate::specs::Event::after_event))]
-    pub fn take_event(&mut self, event: Event)
-        ensures { self.new ≡ after_event event self.old }
+    /// A write of a byte to the register, at an address in its word, in this turn: the other half is written as a read would
+    /// give it, without the effect of a read.
+    #[tactic(auto, unfolding(crate::specs::Register::after_byte))]
+    pub fn write_byte(&mut self, register: Register, address: u32, byte: u8, turn: u32)
+        ensures { self.new ≡ after_byte register address byte turn self.old }
     {
-        match event {
-            Event::Key(key) => self.keyboard.strike(key),
-            Event::Switches(word) => self.switches = word,
-            Event::Tick
-            | Event::PrinterDone
-            | Event::ReaderDone
-            | Event::PunchDone
-            | Event::DiskDone
-            | Event::Continue => {}
-        }
+        let word = with_byte(self.value(register), address, byte);
+        self.write(register, word, turn);
     }
+}
 
-    /// What events do to the devices, in their order.
-    #[tactic(auto, using(crate::proofs::Events::after_more_events))]
-    pub fn take_events(&mut self, events: &[Event])
-        ensures { self.new ≡ after_events events.now self.old }
-    {
-        for event in events {
-            self.take_event(*event);
-        }
+/// The word with the byte of this address replaced: the even address is the low half.
+#[inline(always)]
+pub fn with_byte(word: u16, address: u32, byte: u8) -> u16
+    ensures { result ≡ word_with_byte word address byte }
+{
+    let byte = u16::from(byte);
+    if address % 2 == 0 {
+        word - word % 256 + byte
+    } else {
+        byte * 256 + word % 256
     }
 }

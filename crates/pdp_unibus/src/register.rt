@@ -1,13 +1,13 @@
 ghost use Rattle.std.specs.Prelude.{◌≡◌};
 ghost use Rattle.pdp_unibus.specs.Register.{register_at};
 
+use pdp_console::KlRegister;
+
 /// A register on the bus, of a device or of the processor.
 #[derive(Clone, Copy, Debug, PartialEq, Eq)]
 pub enum Register {
-    /// 777560
-    KeyboardStatus,
-    /// 777562
-    KeyboardBuffer,
+    /// 777560 to 777567: the console terminal's.
+    Console(KlRegister),
     /// 777570
     Switches,
     /// 777776
@@ -22,9 +22,9 @@ pub enum Register {
 pub fn register_at_address(address: u32) -> Option<Register>
     ensures { result ≡ register_at address }
 {
-    match address - address % 2 {
-        0o777560 => Some(Register::KeyboardStatus),
-        0o777562 => Some(Register::KeyboardBuffer),
+    let word = address - address % 2;
+    match word {
+        0o777560..=0o777566 => KlRegister::at(word - 0o777560).map(Register::Console),
         0o777570 => Some(Register::Switches),
         0o777776 => Some(Register::ProgramStatus),
         _ => None,

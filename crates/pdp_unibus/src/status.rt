@@ -1,9 +1,8 @@
-ghost use Rattle.std.specs.Prelude.{◌≡◌, ◌<◌};
-ghost use Rattle.pdp_unibus.specs.Flag.{flag_bit};
+ghost use Rattle.std.specs.Prelude.{◌≡◌};
 
 use crate::priority::Priority;
 use pdp_kt11::Mode;
-use pdp_word::Codes;
+use pdp_word::{Codes, bit_of, field, has_bit};
 
 /// What the program status word says: modes, priority, the trace bit and the condition codes.
 ///
@@ -13,16 +12,8 @@ pub struct Status {
     pub mode: Mode,
     pub previous: Mode,
     pub priority: Priority,
-    pub trace: bool,
+    pub trace_bit: bool,
     pub codes: Codes,
-}
-
-/// 1 for a bit that is set, 0 for one that is clear.
-fn bit(flag: bool) -> u16
-    ensures value { result ≡ flag_bit flag }
-    ensures one_bit { result < 2 }
-{
-    if flag { 1 } else { 0 }
 }
 
 impl Status {
@@ -35,8 +26,8 @@ impl Status {
     {
         let Codes { n, z, v, c } = self.codes;
         let modes = self.mode.bits() * 16384 + self.previous.bits() * 4096;
-        let codes = bit(n) * 8 + bit(z) * 4 + bit(v) * 2 + bit(c);
-        modes + self.priority.bits() * 32 + bit(self.trace) * 16 + codes
+        let codes = bit_of(n) * 8 + bit_of(z) * 4 + bit_of(v) * 2 + bit_of(c);
+        modes + self.priority.bits() * 32 + bit_of(self.trace_bit) * 16 + codes
     }
 
     /// The program status after its word was written: modes, priority and codes as the word has them. T stays, and bits
@@ -46,15 +37,15 @@ impl Status {
         ensures { result ≡ status_written word self }
     {
         Status {
-            mode: Mode::of_bits(word / 16384 % 4),
-            previous: Mode::of_bits(word / 4096 % 4),
-            priority: Priority::of_bits(word / 32 % 8),
-            trace: self.trace,
+            mode: Mode::of_bits(field(14, 2, word)),
+            previous: Mode::of_bits(field(12, 2, word)),
+            priority: Priority::of_bits(field(5, 3, word)),
+            trace_bit: self.trace_bit,
             codes: Codes {
-                n: word / 8 % 2 == 1,
-                z: word / 4 % 2 == 1,
-                v: word / 2 % 2 == 1,
-                c: word % 2 == 1,
+                n: has_bit(3, word),
+                z: has_bit(2, word),
+                v: has_bit(1, word),
+                c: has_bit(0, word),
             },
         }
     }

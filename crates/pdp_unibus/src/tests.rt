@@ -4,6 +4,7 @@ use crate::{
     Board, Bus, Event, Priority, Register, Status, Timeout, register_at_address,
     timeouts_change_nothing,
 };
+use pdp_console::KlRegister;
 use pdp_kt11::Mode;
 use pdp_store::{Agent, Flat, Stamp};
 use pdp_word::{Codes, NoMemory};
@@ -21,7 +22,7 @@ fn reads_and_writes_core(rt: HostRuntime) -> Result<(), NoMemory> {
     assert_eq!(rt; bus.words(), 256);
     assert_eq!(rt; word_and_last(&rt, &bus, 0o40), (0, None));
 
-    bus.events(7, &[]);
+    bus.begin(7);
     assert_eq!(rt; bus.write(0o000100, 0o012345), Ok(()));
     assert_eq!(rt; bus.read(0o000100), Ok(0o012345));
     assert_eq!(rt; bus.read(0o000101), Ok(0o012345));
@@ -32,7 +33,7 @@ fn reads_and_writes_core(rt: HostRuntime) -> Result<(), NoMemory> {
     assert_eq!(rt; word_and_last(&rt, &bus, 0o40), (0o012345, Some(stamp)));
 
     // The even byte is the low half.
-    bus.events(8, &[]);
+    bus.begin(8);
     assert_eq!(rt; bus.write_byte(0o000100, 0o377), Ok(()));
     assert_eq!(rt; bus.read(0o000100), Ok(0o012377));
     assert_eq!(rt; bus.write_byte(0o000101, 0o201), Ok(()));
@@ -70,7 +71,7 @@ fn lays_out_the_status_word(rt: HostRuntime) {
         mode: Mode::User,
         previous: Mode::Kernel,
         priority: Priority::Level7,
-        trace: true,
+        trace_bit: true,
         codes: Codes {
             n: true,
             z: false,
@@ -113,7 +114,7 @@ fn takes_words_of_status_apart(rt: HostRuntime) {
         mode: Mode::User,
         previous: Mode::Kernel,
         priority: Priority::Level7,
-        trace: false,
+        trace_bit: false,
         codes: Codes {
             n: false,
             z: true,
@@ -126,7 +127,7 @@ fn takes_words_of_status_apart(rt: HostRuntime) {
         mode: Mode::Bad1,
         previous: Mode::Bad2,
         priority: Priority::Level4,
-        trace: false,
+        trace_bit: false,
         codes: Codes {
             n: true,
             z: false,
@@ -141,7 +142,7 @@ fn takes_words_of_status_apart(rt: HostRuntime) {
 fn writes_all_of_status_but_trace(rt: HostRuntime) {
     let plain = Status::default();
     let traced = Status {
-        trace: true,
+        trace_bit: true,
         ..Status::default()
     };
     // The word that is written, and the one that is read after it where T was clear.
@@ -202,10 +203,10 @@ fn keeps_condition_codes(rt: HostRuntime) -> Result<(), NoMemory> {
 #[test]
 fn reads_and_writes_registers(rt: HostRuntime) -> Result<(), NoMemory> {
     let mut bus = Bus::new(Flat::new(rt.alloc(), 256, true)?);
-    bus.events(
-        3,
-        &[Event::Key(0o101), Event::Switches(0o123456), Event::Tick],
-    );
+    bus.begin(3);
+    for event in [Event::Key(0o101), Event::Switches(0o123456), Event::Tick] {
+        bus.event(event);
+    }
     assert_eq!(rt; bus.read(0o777560), Ok(0o200));
     assert_eq!(rt; bus.read(0o777562), Ok(0o101));
     assert_eq!(rt; bus.read(0o777560), Ok(0));
@@ -228,18 +229,33 @@ fn reads_and_writes_registers(rt: HostRuntime) -> Result<(), NoMemory> {
 fn holds_devices_on_a_board(rt: HostRuntime) {
     assert_eq!(rt;
         register_at_address(0o777563),
-        Some(Register::KeyboardBuffer)
+        Some(Register::Console(KlRegister::KeyboardBuffer))
     );
     assert_eq!(rt; register_at_address(0o777564), None);
     let mut board = Board::default();
-    board.take_event(Event::Key(0o101));
-    board.take_events(&[Event::Switches(0o52), Event::Key(0o102)]);
-    assert_eq!(rt; board.value(Register::KeyboardBuffer), 0o102);
-    assert_eq!(rt; board.value(Register::KeyboardStatus), 0o200);
-    assert_eq!(rt; board.read(Register::KeyboardBuffer), 0o102);
-    assert_eq!(rt; board.read(Register::KeyboardStatus), 0);
-    board.write(Register::KeyboardStatus, 0o100);
-    assert_eq!(rt; board.read(Register::KeyboardStatus), 0o100);
+    board.console.key(0o102);
+    board.switches = 0o52;
+    assert_eq!(rt;
+        board.value(Register::Console(KlRegister::KeyboardBuffer)),
+        0o102
+    );
+    assert_eq!(rt;
+        board.value(Register::Console(KlRegister::KeyboardStatus)),
+        0o200
+    );
+    assert_eq!(rt;
+        board.read(Register::Console(KlRegister::KeyboardBuffer)),
+        0o102
+    );
+    assert_eq!(rt;
+        board.read(Register::Console(KlRegister::KeyboardStatus)),
+        0
+    );
+    board.write(Register::Console(KlRegister::KeyboardStatus), 0o100, 1);
+    assert_eq!(rt;
+        board.read(Register::Console(KlRegister::KeyboardStatus)),
+        0o100
+    );
     assert_eq!(rt; board.read(Register::Switches), 0o52);
 }
 
@@ -264,7 +280,7 @@ fn reads_and_writes_the_status_word(rt: HostRuntime) -> Result<(), NoMemory> {
     assert_eq!(rt; bus.status().mode, Mode::User);
     assert_eq!(rt; bus.status().previous, Mode::User);
     assert_eq!(rt; bus.status().priority, Priority::Level7);
-    assert!(rt; !bus.status().trace);
+    assert!(rt; !bus.status().trace_bit);
 
     // A cycle at the odd address reaches the same word.
     assert_eq!(rt; bus.write(0o777777, 0o050021), Ok(()));
@@ -312,13 +328,13 @@ fn writes_bytes_of_the_status_word(rt: HostRuntime) -> Result<(), NoMemory> {
 #[test]
 fn keeps_trace_in_writes_of_the_status_word(rt: HostRuntime) {
     let mut board = Board::default();
-    board.status.trace = true;
+    board.status.trace_bit = true;
     assert_eq!(rt; board.value(Register::ProgramStatus), 0o000020);
-    board.write(Register::ProgramStatus, 0o177757);
+    board.write(Register::ProgramStatus, 0o177757, 1);
     assert_eq!(rt; board.value(Register::ProgramStatus), 0o170377);
     assert_eq!(rt; board.read(Register::ProgramStatus), 0o170377);
     // A read leaves it.
     assert_eq!(rt; board.read(Register::ProgramStatus), 0o170377);
-    board.write(Register::ProgramStatus, 0);
+    board.write(Register::ProgramStatus, 0, 1);
     assert_eq!(rt; board.read(Register::ProgramStatus), 0o000020);
 }

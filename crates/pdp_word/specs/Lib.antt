@@ -1,3 +1,4 @@
+pub mod Bits
 pub mod Number
 pub mod Size
 pub mod Word

@@ -1,4 +1,4 @@
-/// The four condition codes of the processor status word (DEC PDP-11/40 Processor Handbook (1972),
+/// The four condition codes of the program status word (DEC PDP-11/40 Processor Handbook (1972),
 /// Processor status word): negative, zero, overflow and carry. All are clear by default.
 #[derive(Clone, Copy, Debug, Default, PartialEq, Eq)]
 pub struct Codes {

@@ -1,17 +1,24 @@
 //! Numbers, words and bytes: what every part of the machine speaks of.
+//!
+//! It stands on no other crate. Its contracts say exactly which texts are numbers and which number each is, what
+//! the last six octal digits of a number are, and the signed number of a word, its low byte, and the word that a
+//! byte or two bytes make. Sizes, condition codes and `NoMemory` are plain types here: what sets or answers them it
+//! leaves to the crates above.
 #![tactic(auto)]
 
+mod bits;
 mod codes;
 mod memory;
 mod number;
 mod size;
 mod word;
 
+pub use bits::{bit_of, field, has_bit};
 pub use codes::Codes;
 pub use memory::NoMemory;
 pub use number::{read_decimal, read_octal, write_octal6};
 pub use size::Size;
-pub use word::{join, low_byte, signed};
+pub use word::{join, low_byte, sign_extend, signed};
 
 #[cfg(test)]
 mod tests;

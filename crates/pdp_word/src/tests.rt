@@ -40,6 +40,19 @@ fn words_and_bytes(rt: HostRuntime) {
 }
 
 #[test]
+fn bytes_with_their_sign(rt: HostRuntime) {
+    for (byte, want) in [
+        (0, 0),
+        (0o101, 0o000101),
+        (0o177, 0o000177),
+        (0o200, 0o177600),
+        (0o377, 0o177777),
+    ] {
+        assert_eq!(rt; sign_extend(byte), want, "at {byte:03o}");
+    }
+}
+
+#[test]
 fn codes_are_clear_at_first(rt: HostRuntime) {
     assert_eq!(rt;
         Codes::default(),
@@ -58,4 +71,15 @@ fn want_of_memory(rt: HostRuntime) -> Result<(), Fail> {
     assert_eq!(rt; bytes.push(1u8).map_err(NoMemory::from), Ok(()));
     assert_eq!(rt; NoMemory::from(AllocError), NoMemory);
     Ok(())
+}
+
+#[test]
+fn bits_have_the_numbers_of_the_handbook(rt: HostRuntime) {
+    assert_eq!(rt; bit_of(true), 1);
+    assert_eq!(rt; bit_of(false), 0);
+    assert_eq!(rt; field(14, 2, 0o140000), 3);
+    assert_eq!(rt; field(12, 2, 0o120000), 2);
+    assert_eq!(rt; field(5, 3, 0o000240), 5);
+    assert!(rt; has_bit(15, 0o100000));
+    assert!(rt; !has_bit(0, 0o177776));
 }

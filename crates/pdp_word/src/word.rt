@@ -1,5 +1,5 @@
 ghost use Rattle.std.specs.Prelude.{◌≡◌};
-ghost use Rattle.pdp_word.specs.Word.{signed, low_byte, high_byte, join};
+ghost use Rattle.pdp_word.specs.Word.{signed, low_byte, high_byte, join, sign_extended};
 
 /// A word read as a two's complement number of 16 bits, from -100000 to 77777 (octal)
 /// (DEC PDP-11/40 Processor Handbook (1972), Instruction set).
@@ -32,4 +32,13 @@ pub fn join(high: u8, low: u8) -> u16
     ensures low { low_byte result ≡ low }
 {
     u16::from(high) * 256 + u16::from(low)
+}
+
+/// The word that MOVB leaves in a register: the byte below, its top bit in all of the high byte
+/// (DEC PDP-11/40 Processor Handbook (1972), Instruction set, MOV).
+#[inline]
+pub fn sign_extend(byte: u8) -> u16
+    ensures { result ≡ sign_extended byte }
+{
+    i16::from(byte.cast_signed()).cast_unsigned()
 }

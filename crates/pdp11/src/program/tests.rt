@@ -19,11 +19,20 @@ Options:
 ";
 
 #[derive(Drop)]
-struct NoFiles;
+struct NoFiles {
+    failed: bool,
+}
 
 impl Files for NoFiles {
+    ghost has_failed = { λ s. s.failed };
+
     fn bytes(&mut self, _alloc: Global, _name: &str) -> Result<Vec<u8>, FileFailure> {
+        self.failed = true;
         Err(FileFailure::Unreadable)
+    }
+
+    fn failed(&self) -> bool {
+        self.failed
     }
 }
 
@@ -49,7 +58,13 @@ fn outcome_of(alloc: Global, words: &[&str], written: &mut Vec<u8>) -> (u8, &'st
     let input: &[u8] = &[];
     let mut reader = FromRead::new(input);
     let mut writer = ToWrite::new(written);
-    outcome(alloc, words, &mut NoFiles, &mut reader, &mut writer)
+    outcome(
+        alloc,
+        words,
+        &mut NoFiles { failed: false },
+        &mut reader,
+        &mut writer,
+    )
 }
 
 #[test]
@@ -121,7 +136,7 @@ fn tells_of_failed_streams(rt: HostRuntime) -> Result<(), Fail> {
     let told = outcome(
         alloc,
         &["pdp11", "--help"],
-        &mut NoFiles,
+        &mut NoFiles { failed: false },
         &mut empty,
         &mut full,
     );
@@ -129,12 +144,24 @@ fn tells_of_failed_streams(rt: HostRuntime) -> Result<(), Fail> {
     let mut no_room: [u8; 0] = [];
     let mut full = ToWrite::new(no_room.as_mut_slice());
     let mut lines = FromRead::new(b"regs 0\n".as_slice());
-    let told = outcome(alloc, &["pdp11"], &mut NoFiles, &mut lines, &mut full);
+    let told = outcome(
+        alloc,
+        &["pdp11"],
+        &mut NoFiles { failed: false },
+        &mut lines,
+        &mut full,
+    );
     assert_eq!(rt; told, INPUT_OR_OUTPUT);
     let mut written = Vec::new(alloc);
     let mut writer = ToWrite::new(&mut written);
     let mut broken = FromRead::new(Broken);
-    let told = outcome(alloc, &["pdp11"], &mut NoFiles, &mut broken, &mut writer);
+    let told = outcome(
+        alloc,
+        &["pdp11"],
+        &mut NoFiles { failed: false },
+        &mut broken,
+        &mut writer,
+    );
     assert_eq!(rt; told, INPUT_OR_OUTPUT);
     Ok(())
 }

@@ -1,5 +1,5 @@
 use super::{codes, effect};
-use crate::{Size, mov, sign_extend};
+use crate::{Size, mov};
 
 #[test]
 fn moves_words_and_bytes(rt: HostRuntime) {
@@ -16,18 +16,5 @@ fn moves_words_and_bytes(rt: HostRuntime) {
             effect(want, after),
             "at {value:06o}"
         );
-    }
-}
-
-#[test]
-fn extends_signs(rt: HostRuntime) {
-    for (byte, want) in [
-        (0, 0),
-        (0o101, 0o000101),
-        (0o177, 0o000177),
-        (0o200, 0o177600),
-        (0o377, 0o177777),
-    ] {
-        assert_eq!(rt; sign_extend(byte), want, "at {byte:03o}");
     }
 }

@@ -1,6 +1,6 @@
 // Branches.
 ghost use Rattle.std.specs.Prelude.{◌≡◌};
-ghost use Rattle.pdp_decode.specs.Instruction.{HasSpecs};
+ghost use Rattle.pdp_decode.specs.Instruction.{FieldsFit};
 ghost use Rattle.pdp_decode.specs.Table.{decoded_by, branches, high_branches};
 
 use crate::decoding::fields::offset;
@@ -11,7 +11,7 @@ use crate::instruction::Instr;
 #[tactic(auto, unfolding(crate::specs::Table::branches))]
 pub(crate) const fn branch_instr(word: u16) -> Instr
     ensures value { result ≡ decoded_by branches word }
-    ensures valid { HasSpecs result }
+    ensures valid { FieldsFit result }
 {
     let offset = offset(word);
     match word {
@@ -31,7 +31,7 @@ pub(crate) const fn branch_instr(word: u16) -> Instr
 #[tactic(auto, unfolding(crate::specs::Table::high_branches))]
 pub(crate) const fn high_branch_instr(word: u16) -> Instr
     ensures value { result ≡ decoded_by high_branches word }
-    ensures valid { HasSpecs result }
+    ensures valid { FieldsFit result }
 {
     let offset = offset(word);
     match word {

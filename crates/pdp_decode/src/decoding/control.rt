@@ -1,6 +1,6 @@
 // Control, condition codes and traps.
 ghost use Rattle.std.specs.Prelude.{◌≡◌};
-ghost use Rattle.pdp_decode.specs.Instruction.{HasSpecs};
+ghost use Rattle.pdp_decode.specs.Instruction.{FieldsFit};
 ghost use Rattle.pdp_decode.specs.Table.{decoded_by, control, traps};
 
 use crate::decoding::fields::{code, codes, last_register, operand};
@@ -11,7 +11,7 @@ use crate::instruction::Instr;
 #[tactic(auto, unfolding(crate::specs::Table::control))]
 pub(crate) const fn control_instr(word: u16) -> Instr
     ensures value { result ≡ decoded_by control word }
-    ensures valid { HasSpecs result }
+    ensures valid { FieldsFit result }
 {
     let destination = operand(word);
     let codes = codes(word);
@@ -39,7 +39,7 @@ pub(crate) const fn control_instr(word: u16) -> Instr
 #[tactic(auto, unfolding(crate::specs::Table::traps))]
 pub(crate) const fn trap_instr(word: u16) -> Instr
     ensures value { result ≡ decoded_by traps word }
-    ensures valid { HasSpecs result }
+    ensures valid { FieldsFit result }
 {
     let code = code(word);
     match word {

@@ -1,6 +1,6 @@
 // Instructions with two operands, one of them maybe a register.
 ghost use Rattle.std.specs.Prelude.{◌≡◌};
-ghost use Rattle.pdp_decode.specs.Instruction.{HasSpecs};
+ghost use Rattle.pdp_decode.specs.Instruction.{FieldsFit};
 ghost use Rattle.pdp_decode.specs.Table.{decoded_by, double_operands, register_operands, high_double_operands};
 
 use crate::decoding::fields::{operand, register, source, words};
@@ -11,7 +11,7 @@ use crate::instruction::Instr;
 #[tactic(auto, unfolding(crate::specs::Table::double_operands))]
 pub(crate) const fn double_operand_instr(word: u16) -> Instr
     ensures value { result ≡ decoded_by double_operands word }
-    ensures valid { HasSpecs result }
+    ensures valid { FieldsFit result }
 {
     let source = source(word);
     let destination = operand(word);
@@ -49,7 +49,7 @@ pub(crate) const fn double_operand_instr(word: u16) -> Instr
 #[tactic(auto, unfolding(crate::specs::Table::register_operands))]
 pub(crate) const fn register_operand_instr(word: u16) -> Instr
     ensures value { result ≡ decoded_by register_operands word }
-    ensures valid { HasSpecs result }
+    ensures valid { FieldsFit result }
 {
     let source = operand(word);
     let register = register(word);
@@ -75,7 +75,7 @@ pub(crate) const fn register_operand_instr(word: u16) -> Instr
 #[tactic(auto, unfolding(crate::specs::Table::high_double_operands))]
 pub(crate) const fn high_double_operand_instr(word: u16) -> Instr
     ensures value { result ≡ decoded_by high_double_operands word }
-    ensures valid { HasSpecs result }
+    ensures valid { FieldsFit result }
 {
     let source = source(word);
     let destination = operand(word);

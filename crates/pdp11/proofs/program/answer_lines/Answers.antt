@@ -4,7 +4,7 @@ use Rattle.pdp_script.specs.declared.faults.Fault.{Fault}
 use Rattle.pdp_script.specs.declared.faults.Fault.TheVariants.{NoMemory, OutsideCore, OddAddress, OutsideDisk, NoSuchEvent, ScriptFull, TurnTooLarge, CountOutOfRange, NoSuchPatch, BadLine, LineTooLong, Input, Output, BadImage, BadSetup}
 use Rattle.pdp_script.specs.Refusal.{result_map}
 use Rattle.pdp_replay.specs.Past.{Past, unscripted, beginning}
-use Rattle.pdp_replay.specs.Start.{Start, given, start_of, has_good_images, has_good_numbers}
+use Rattle.pdp_replay.specs.Setup.{SetupData, given, setup_checked, has_good_images, has_good_numbers}
 use Rattle.pdp_session.specs.Session.{Ends, SessionEnds}
 use Rattle.pdp11.specs.Ending.{CanEnd}
 use Rattle.pdp11.proofs.program.answer_lines.Goals as goal
@@ -27,14 +27,14 @@ ends_good p read out rest (Err NoSuchPatch) h = absurd h
 ends_good p read out rest (Err BadLine) h = absurd h
 ends_good p read out rest (Err LineTooLong) h = absurd h
 
-ends_started : (b c : Bool) (s : Start) (read out : List ℕ) (rest : Option (List ℕ)) (r : Result (Unit {0}) Fault)
+ends_started : (b c : Bool) (s : SetupData) (read out : List ℕ) (rest : Option (List ℕ)) (r : Result (Unit {0}) Fault)
     → Ends (result_map unscripted (if b then if c then Ok s else Err BadImage else Err BadSetup)) read out rest r → CanEnd r
 ends_started true true s read out rest r h = ends_good (unscripted s) read out rest r h
 ends_started true false s read out rest r h = rw h.0 tt
 ends_started false c s read out rest r h = rw h.0 tt
 
-can_end : (s : Start) (read out : List ℕ) (rest : Option (List ℕ)) (r : Result (Unit {0}) Fault) → Ends (beginning s) read out rest r → CanEnd r
-unfolding start_of
+can_end : (s : SetupData) (read out : List ℕ) (rest : Option (List ℕ)) (r : Result (Unit {0}) Fault) → Ends (beginning s) read out rest r → CanEnd r
+unfolding setup_checked
 can_end s read out rest r h = ends_started (has_good_numbers s) (has_good_images s) s read out rest r h
 
 pub returns-clause-failed : goal.returns-clause-failed

@@ -1,5 +1,5 @@
 use Rattle.std.proofs.Common.{◌≡◌, take}
-use Rattle.pdp_replay.specs.Core.{put_all}
+use Rattle.pdp_replay.specs.Image.{put_all}
 use Rattle.pdp_replay.proofs.image.put_patches.Given as goal
 
 abbrev pub invariant-loop-index : goal.invariant-loop-index

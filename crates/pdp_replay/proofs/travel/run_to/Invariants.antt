@@ -1,16 +1,16 @@
 use Rattle.std.proofs.Common.{◌≡◌, ◌+◌, ◌-◌, ◌≤◌}
 use Rattle.pdp_replay.specs.Past.{Past}
-use Rattle.pdp_replay.specs.Turns.{state_at}
-use Rattle.pdp_replay.proofs.States.{at}
+use Rattle.pdp_replay.specs.Turns.{state_at, at}
 use Rattle.pdp_replay.proofs.travel.run_to.Given as goal
 
 abbrev pub invariant-loop-turn : goal.invariant-loop-turn
 invariant-loop-turn l = record {
   turn : l.machine.turn ≡ l.turn;
-  here : (past : Past) → past.script ≡ l.script → l.fn.machine.world ≡ state_at past 0 → l.machine ≡ at past l.turn;
+  here : (past : Past) → past.script ≡ l.script → l.fn.machine.world ≡ state_at past l.from → l.machine ≡ at past l.turn;
+  begun : l.from ≤ l.turn;
   within : l.turn ≤ l.to;
   least : l.fn.meter ≤ l.meter;
-  most : l.meter ≤ l.fn.meter + l.turn;
+  most : l.meter + l.from ≤ l.fn.meter + l.turn;
 }
 
 abbrev pub decreases-loop-turn : goal.decreases-loop-turn

@@ -8,4 +8,5 @@ invariant_of-self-2 c = record {
   below = rw c.shift_remove.ensures.entries (below_removed _ _ _ c.self.invariant.below);
   reached = omega arith;
   limit = c.self.invariant.limit;
+  same_stride = c.self.invariant.same_stride;
 }

@@ -8,4 +8,5 @@ invariant_of-self-2 c = record {
   below = rw c.in_ok-insert.ensures.entries (below_inserted _ _ _ _ c.in_ok-number.ensures.below c.self.invariant.below);
   reached = omega arith;
   limit = c.self.invariant.limit;
+  same_stride = c.self.invariant.same_stride;
 }

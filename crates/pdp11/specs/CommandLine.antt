@@ -1,0 +1,39 @@
+-- What the words of the command line ask for.
+use Rattle.std.specs.Prelude.{◌≡◌, ◌≢◌, List, [], Option, Some, None, Result, Ok, Err, ◌⊎◌, codes}
+use Rattle.clap.specs.Words.{App, Kinds, IsAmong, Rule, Text, first_of, matches_of, new_app, new_rule, with_rule}
+use Rattle.clap.specs.declared.builder.action.ArgAction.TheVariants.{Set}
+use Rattle.clap.specs.declared.error.kind.ErrorKind.{ErrorKind}
+use Rattle.clap.specs.declared.error.kind.ErrorKind.TheVariants.{DisplayHelp}
+use Rattle.pdp11.specs.Numbers.{options_given}
+use Rattle.pdp11.specs.declared.ending.Ending.{Ending}
+use Rattle.pdp11.specs.declared.ending.Ending.TheVariants.{BadArguments, NoMemory}
+use Rattle.pdp11.specs.declared.options.Options.{Options}
+use Rattle.pdp11.specs.declared.command_line.Request.{Request}
+use Rattle.pdp11.specs.declared.command_line.Request.TheVariants.{Help, Session}
+
+-- an option of one value, as --units N; N is what help calls the value
+abbrev pub option_rule : Text → Rule
+option_rule name = record (new_rule name) { long = Some name; action = Some Set; value_names = 1 }
+
+-- the program's options, beside which clap knows -h and --help
+abbrev pub command_line : App
+command_line = with_rule (with_rule (with_rule (new_app (codes "pdp11")) (option_rule (codes "units"))) (option_rule (codes "start"))) (option_rule (codes "stride"))
+
+-- the options that these words give, by clap's rules, where it refuses nothing
+abbrev pub options_in : List Text → Option Options
+options_in words =
+    let rows = matches_of command_line words in
+    options_given (first_of (codes "units") rows) (first_of (codes "start") rows) (first_of (codes "stride") rows)
+
+-- a fault that is not asking for help
+abbrev pub IsRefused : Kinds → Type 0
+IsRefused faults = (kind : ErrorKind) × (kind ≢ DisplayHelp) × IsAmong kind faults
+
+-- An answer about words in which clap finds these faults, of which asking for help is one: so help wins over a
+-- number that can't be read, which is looked at where there is no fault.
+abbrev pub Asks : Kinds → List Text → Result Request Ending → Type 0
+Asks faults words (Ok (Help text)) = IsAmong DisplayHelp faults
+Asks faults words (Ok (Session options)) = (faults ≡ []) × (options_in words ≡ Some options)
+Asks faults words (Err BadArguments) = IsRefused faults ⊎ ((faults ≡ []) × (options_in words ≡ None))
+Asks faults words (Err NoMemory) = Unit {0}
+Asks faults words (Err _) = ⊥

@@ -1,0 +1,10 @@
+-- When a file has failed.
+use Rattle.std.specs.Prelude.{Bool, true, false, Result, Ok, Err}
+use Rattle.pdp11.specs.declared.files.FileFailure.{FileFailure}
+use Rattle.pdp11.specs.declared.files.FileFailure.TheVariants.{NoMemory, Unreadable}
+
+-- it couldn't be read; want of memory for its bytes is no failure of the file
+abbrev pub is_unreadable : {T : Type 0} → Result T FileFailure → Bool
+is_unreadable (Ok bytes) = false
+is_unreadable (Err NoMemory) = false
+is_unreadable (Err Unreadable) = true

@@ -1,0 +1,38 @@
+-- The console terminal: PDP-11 Peripherals Handbook, KL11.
+use Rattle.std.specs.Prelude.{ℕ, ◌+◌, ◌/◌, ◌%◌, ◌==◌, true, false, Option, Some, None, if◌then◌else◌}
+use Rattle.pdp_console.specs.declared.kl.Kl.{Kl}
+use Rattle.pdp_console.specs.declared.kl.KlRegister.{KlRegister}
+use Rattle.pdp_console.specs.declared.kl.KlRegister.TheVariants.{KeyboardStatus, KeyboardBuffer}
+use Rattle.pdp_console.specs.declared.kl.KlRow.{KlRow}
+
+-- a key sets done, and replaces the byte
+abbrev pub struck : Kl → ℕ → Kl
+struck k key = record k { done = true; buffer = key }
+
+-- 7 done, 6 enable
+abbrev pub keyboard_status : Kl → ℕ
+keyboard_status k = (if k.done then 0o200 else 0) + (if k.enable then 0o100 else 0)
+
+-- the registers by the bytes from the first one
+abbrev pub kl_register_at : ℕ → Option KlRegister
+kl_register_at offset = (
+    if offset == 0 then Some KeyboardStatus else
+    if offset == 2 then Some KeyboardBuffer else None)
+
+-- a row for each register: what it shows, what a read leaves, and what a write of this word in this turn leaves
+abbrev pub kl_row : KlRegister → ℕ → ℕ → Kl → KlRow
+kl_row KeyboardStatus word turn k =
+    record { value = keyboard_status k; read = k; written = record k { enable = word / 0o100 % 2 == 1 } }
+kl_row KeyboardBuffer word turn k = record { value = k.buffer; read = record k { done = false }; written = k }
+
+-- what a read gives
+abbrev pub kl_value : KlRegister → Kl → ℕ
+kl_value register k = (kl_row register 0 0 k).value
+
+-- what a read does
+abbrev pub kl_read : KlRegister → Kl → Kl
+kl_read register k = (kl_row register 0 0 k).read
+
+-- what a write of a word does in a turn
+abbrev pub kl_written : KlRegister → ℕ → ℕ → Kl → Kl
+kl_written register word turn k = (kl_row register word turn k).written

@@ -1,0 +1,241 @@
+-- An instruction that can't go on leaves the program status word.
+use Rattle.std.proofs.Common.{◌≡◌, ℕ, Bool, true, false, [], refl, ◌∙◌, subst, Ok, Err, Result, length, if◌then◌else◌}
+use Rattle.pdp_kt11.specs.declared.place.Access.TheVariants.{Read}
+use Rattle.pdp_unibus.specs.BusWorld.{BusWorld}
+use Rattle.pdp_unibus.specs.Cycle.{Slave, Core, Device, Nobody, slave_at}
+use Rattle.pdp_unibus.specs.Register.{after_read}
+use Rattle.pdp_unibus.specs.declared.board.Board.{Board}
+use Rattle.pdp_unibus.specs.declared.register.Register.{Register}
+use Rattle.pdp_unibus.specs.declared.register.Register.TheVariants as register
+use Rattle.pdp_unibus.specs.declared.status.Status.{Status}
+use Rattle.pdp_decode.specs.declared.instruction.Spec.{Spec}
+use Rattle.pdp_word.specs.declared.size.Size.{Size}
+use Rattle.pdp_word.specs.declared.size.Size.TheVariants.{Word, Byte}
+use Rattle.pdp_operand.specs.Handbook.Reference.{Kind, ReadWord, ReadByte, WriteWord, WriteByte, Reference, access_of, perform, physical_address}
+use Rattle.pdp_operand.specs.Phases.Phase.{Phase, Inner, State, Stop, Request, Nothing, Ask, Raise, run, step, and_then, by_request, after_reply, inner_of}
+use Rattle.pdp_operand.specs.Phases.Plan.{Plan, ◌▸◌, one, run_plan}
+use Rattle.pdp_operand.specs.Handbook.Operand.{find, lower, shrink, stack_limit, name_register, point, grow, index, indirect, read_operand, reference_at, reading, mode_now}
+use Rattle.pdp_operand.specs.declared.place.Place.{Place}
+use Rattle.pdp_operand.specs.declared.place.Place.TheVariants.{Reg, Mem}
+use Rattle.pdp_operand.specs.declared.trap.Trap.{Trap}
+use Rattle.pdp_operand.proofs.Shape.{reply_by, shape_of, shape_at, shape_by, perform_is}
+
+abbrev pub status_in : State → Status
+status_in s = s.world.bus.board.status
+
+-- the program status word is this one where the run stopped; it is, wherever the run ended; the run did not stop
+abbrev pub Stops : Status → Result State Stop → Type 0
+Stops status (Ok t) = Unit {0}
+Stops status (Err stop) = stop.world.bus.board.status ≡ status
+
+abbrev pub Ends : Status → Result State Stop → Type 0
+Ends status (Ok t) = status_in t ≡ status
+Ends status (Err stop) = stop.world.bus.board.status ≡ status
+
+abbrev pub Goes : Result State Stop → Type 0
+Goes (Ok t) = Unit {0}
+Goes (Err stop) = ⊥
+
+-- what each run of a plan does
+pub record Safe (plan : Plan) : Type 0 where
+  pub at : (s : State) → Stops (status_in s) (run_plan plan s)
+
+pub record Steady (plan : Plan) : Type 0 where
+  pub at : (s : State) → Ends (status_in s) (run_plan plan s)
+
+pub record Sure (plan : Plan) : Type 0 where
+  pub at : (s : State) → Goes (run_plan plan s)
+
+-- plans one after the other
+stops_on : (status : Status) (r : Result State Stop) (next : State → Result State Stop) → Ends status r
+    → ((t : State) → Stops (status_in t) (next t)) → Stops status (and_then r next)
+stops_on status (Ok t) next ends rest = subst (λ status. Stops status (next t)) ends (rest t)
+stops_on status (Err stop) next ends rest = ends
+
+ends_on : (status : Status) (r : Result State Stop) (next : State → Result State Stop) → Ends status r
+    → ((t : State) → Ends (status_in t) (next t)) → Ends status (and_then r next)
+ends_on status (Ok t) next ends rest = subst (λ status. Ends status (next t)) ends (rest t)
+ends_on status (Err stop) next ends rest = ends
+
+gone_stops : (status : Status) (r : Result State Stop) → Goes r → Stops status r
+gone_stops status (Ok t) goes = tt
+gone_stops status (Err stop) goes = absurd goes
+
+surely_on : (status : Status) (r : Result State Stop) (next : State → Result State Stop) → Stops status r
+    → ((t : State) → Goes (next t)) → Stops status (and_then r next)
+surely_on status (Ok t) next stops rest = gone_stops status (next t) (rest t)
+surely_on status (Err stop) next stops rest = stops
+
+pub steady_safe : (a b : Plan) → Steady a → Safe b → Safe (a ▸ b)
+steady_safe a b first second =
+    record { at = λ s. stops_on (status_in s) (run_plan a s) (run_plan b) (first.at s) second.at }
+
+pub steady_steady : (a b : Plan) → Steady a → Steady b → Steady (a ▸ b)
+steady_steady a b first second =
+    record { at = λ s. ends_on (status_in s) (run_plan a s) (run_plan b) (first.at s) second.at }
+
+pub safe_sure : (a b : Plan) → Safe a → Sure b → Safe (a ▸ b)
+safe_sure a b first second =
+    record { at = λ s. surely_on (status_in s) (run_plan a s) (run_plan b) (first.at s) second.at }
+
+pub steady_if : (c : Bool) (a b : Plan) → Steady a → Steady b → Steady (if c then a else b)
+steady_if true a b first second = first
+steady_if false a b first second = second
+
+-- a reference that is not answered leaves the board, and one that reads leaves the program status word
+abbrev Unanswered : Board → Result ℕ Trap → Board → Type 0
+Unanswered board (Ok value) after = Unit {0}
+Unanswered board (Err trap) after = after.status ≡ board.status
+
+unanswered_at : (kind : Kind) (physical : ℕ) (b : BusWorld) (slave : Slave)
+    → Unanswered b.board (reply_by (shape_at kind physical b.turn b.board slave) b).value (reply_by (shape_at kind physical b.turn b.board slave) b).after.board
+unanswered_at ReadWord physical b (Core k) = tt
+unanswered_at ReadByte physical b (Core k) = tt
+unanswered_at (WriteWord word) physical b (Core k) = tt
+unanswered_at (WriteByte byte) physical b (Core k) = tt
+unanswered_at ReadWord physical b (Device r) = tt
+unanswered_at ReadByte physical b (Device r) = tt
+unanswered_at (WriteWord word) physical b (Device r) = tt
+unanswered_at (WriteByte byte) physical b (Device r) = tt
+unanswered_at ReadWord physical b Nobody = refl
+unanswered_at ReadByte physical b Nobody = refl
+unanswered_at (WriteWord word) physical b Nobody = refl
+unanswered_at (WriteByte byte) physical b Nobody = refl
+
+unanswered_by : (kind : Kind) (b : BusWorld) (place : Result ℕ Trap)
+    → Unanswered b.board (reply_by (shape_by kind (length b.core) b.turn b.board place) b).value (reply_by (shape_by kind (length b.core) b.turn b.board place) b).after.board
+unanswered_by kind b (Ok physical) = unanswered_at kind physical b (slave_at (length b.core) physical)
+unanswered_by kind b (Err trap) = refl
+
+unanswered : (r : Reference) (b : BusWorld) → Unanswered b.board (perform r b).value (perform r b).after.board
+unfolding shape_of
+unanswered r b = rw (perform_is r b) (unanswered_by r.kind b (physical_address r))
+
+read_leaves : (r : Register) (board : Board) → (after_read r board).status ≡ board.status
+unfolding after_read
+read_leaves (register.Console r) board = refl
+read_leaves register.Switches board = refl
+read_leaves register.ProgramStatus board = refl
+
+read_at : (kind : Kind) (physical : ℕ) (b : BusWorld) (slave : Slave) → access_of kind ≡ Read
+    → (reply_by (shape_at kind physical b.turn b.board slave) b).after.board.status ≡ b.board.status
+read_at ReadWord physical b (Core k) reads = refl
+read_at ReadByte physical b (Core k) reads = refl
+read_at ReadWord physical b (Device r) reads = read_leaves r b.board
+read_at ReadByte physical b (Device r) reads = read_leaves r b.board
+read_at ReadWord physical b Nobody reads = refl
+read_at ReadByte physical b Nobody reads = refl
+read_at (WriteWord word) physical b slave reads = absurd (cc reads)
+read_at (WriteByte byte) physical b slave reads = absurd (cc reads)
+
+read_by : (kind : Kind) (b : BusWorld) (place : Result ℕ Trap) → access_of kind ≡ Read
+    → (reply_by (shape_by kind (length b.core) b.turn b.board place) b).after.board.status ≡ b.board.status
+read_by kind b (Ok physical) reads = read_at kind physical b (slave_at (length b.core) physical) reads
+read_by kind b (Err trap) reads = refl
+
+read_keeps : (r : Reference) (b : BusWorld) → access_of r.kind ≡ Read → (perform r b).after.board.status ≡ b.board.status
+unfolding shape_of
+read_keeps r b reads = rw (perform_is r b) (read_by r.kind b (physical_address r) reads)
+
+-- one phase: each is safe; it is steady where it reads at most and leaves the word itself; it is sure where it asks for nothing
+replied_stops : (p : Phase) (s : State) (value : Result ℕ Trap) (after : BusWorld) → Unanswered s.world.bus.board value after.board
+    → Stops (status_in s) (and_then (after_reply p s (record { value = value; after = after })) (λ t. run [] t))
+unfolding run
+replied_stops p s (Ok value) after so = tt
+replied_stops p s (Err trap) after so = so
+
+requested_stops : (p : Phase) (s : State) (request : Request) → Stops (status_in s) (and_then (by_request p s request) (λ t. run [] t))
+unfolding run
+requested_stops p s Nothing = tt
+requested_stops p s (Raise trap) = refl
+requested_stops p s (Ask r) = replied_stops p s (perform r s.world.bus).value (perform r s.world.bus).after (unanswered r s.world.bus)
+
+pub phase_safe : (p : Phase) → Safe (one p)
+unfolding run
+phase_safe p = record { at = λ s. requested_stops p s (p.request (inner_of s)) }
+
+abbrev pub ReadsAtMost : Request → Type 0
+ReadsAtMost Nothing = Unit {0}
+ReadsAtMost (Ask r) = access_of r.kind ≡ Read
+ReadsAtMost (Raise trap) = Unit {0}
+
+abbrev LeavesStatus : Phase → Type 0
+LeavesStatus p = (i : Inner) (value : ℕ) → (p.resume i value).board.status ≡ i.board.status
+
+replied_ends : (p : Phase) (s : State) (value : Result ℕ Trap) (after : BusWorld) → LeavesStatus p → after.board.status ≡ status_in s
+    → Ends (status_in s) (and_then (after_reply p s (record { value = value; after = after })) (λ t. run [] t))
+unfolding run
+replied_ends p s (Ok value) after leaves so = leaves _ value ∙ so
+replied_ends p s (Err trap) after leaves so = so
+
+requested_ends : (p : Phase) (s : State) (request : Request) → LeavesStatus p → ReadsAtMost request
+    → Ends (status_in s) (and_then (by_request p s request) (λ t. run [] t))
+unfolding run
+requested_ends p s Nothing leaves reads = leaves _ 0
+requested_ends p s (Raise trap) leaves reads = refl
+requested_ends p s (Ask r) leaves reads =
+    replied_ends p s (perform r s.world.bus).value (perform r s.world.bus).after leaves (read_keeps r s.world.bus reads)
+
+pub phase_steady : (p : Phase) → ((i : Inner) → ReadsAtMost (p.request i)) → LeavesStatus p → Steady (one p)
+unfolding run
+phase_steady p reads leaves =
+    record { at = λ s. requested_ends p s (p.request (inner_of s)) leaves (reads (inner_of s)) }
+
+requested_goes : (p : Phase) (s : State) (request : Request) → request ≡ Nothing → Goes (and_then (by_request p s request) (λ t. run [] t))
+unfolding run
+requested_goes p s request is = rw is tt
+
+pub phase_sure : (p : Phase) → ((i : Inner) → p.request i ≡ Nothing) → Sure (one p)
+unfolding run
+phase_sure p asks = record { at = λ s. requested_goes p s (p.request (inner_of s)) (asks (inner_of s)) }
+
+-- finding and reading an operand
+reads_place : (size : Size) (place : Place) → ReadsAtMost (reference_at (reading size) place)
+reads_place Word (Reg slot) = tt
+reads_place Word (Mem cell) = refl
+reads_place Byte (Reg slot) = tt
+reads_place Byte (Mem cell) = refl
+
+limit_reads : (c : Bool) (trap : Trap) → ReadsAtMost (if c then Raise trap else Nothing)
+limit_reads true trap = tt
+limit_reads false trap = tt
+
+steady_index : (r : ℕ) → Steady (one (index r))
+unfolding index
+steady_index r = phase_steady _ (λ i. refl) (λ i value. refl)
+
+steady_indirect : Steady (one indirect)
+unfolding indirect
+steady_indirect = phase_steady _ (λ i. reads_place Word i.latch.place) (λ i value. refl)
+
+steady_grow : (r step : ℕ) → Steady (one (grow r step))
+unfolding grow
+steady_grow r step = phase_steady _ (λ i. tt) (λ i value. refl)
+
+steady_lower : (r step : ℕ) → Steady (lower mode_now r step)
+unfolding lower shrink stack_limit
+steady_lower r step =
+    steady_steady _ _ (phase_steady _ (λ i. tt) (λ i value. refl)) (phase_steady _ (λ i. limit_reads _ _) (λ i value. refl))
+
+steady_name : (r : ℕ) → Steady (one (name_register r))
+unfolding name_register
+steady_name r = phase_steady _ (λ i. tt) (λ i value. refl)
+
+steady_point : (r : ℕ) → Steady (one (point r))
+unfolding point
+steady_point r = phase_steady _ (λ i. tt) (λ i value. refl)
+
+pub steady_find : (size : Size) (spec : Spec) → Steady (find size spec)
+unfolding find
+steady_find size spec =
+    steady_if _ _ _ (steady_name _)
+    (steady_if _ _ _ (steady_point _)
+    (steady_if _ _ _ (steady_grow _ _)
+    (steady_if _ _ _ (steady_steady _ _ (steady_grow _ _) steady_indirect)
+    (steady_if _ _ _ (steady_lower _ _)
+    (steady_if _ _ _ (steady_steady _ _ (steady_lower _ _) steady_indirect)
+    (steady_if _ _ _ (steady_index _) (steady_steady _ _ (steady_index _) steady_indirect)))))))
+
+pub steady_read : (size : Size) → Steady (one (read_operand size))
+unfolding read_operand
+steady_read size = phase_steady _ (λ i. reads_place size i.latch.place) (λ i value. refl)

@@ -1,0 +1,2 @@
+-- What the laws of turns speak of.
+pub mod TurnLaws

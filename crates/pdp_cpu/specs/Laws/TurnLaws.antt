@@ -1,0 +1,27 @@
+-- What the laws of turns speak of.
+use Rattle.std.specs.Prelude.{ℕ, ◌≡◌, List}
+use Rattle.pdp_unibus.specs.declared.event.Event.{Event}
+use Rattle.pdp_unibus.specs.BusWorld.{BusWorld}
+use Rattle.pdp_operand.specs.Laws.Count.{course_length}
+use Rattle.pdp_operand.specs.Phases.Phase.{State, Stop}
+use Rattle.pdp_operand.specs.Laws.Page.{AlikeOutside, SamePage}
+use Rattle.pdp_operand.specs.declared.processor.Processor.{Processor}
+use Rattle.pdp_operand.specs.Phases.World.{World, world}
+use Rattle.pdp_cpu.specs.Turns.Turn.{course_at, at_turn, one_turn, turn_trace}
+
+-- how many phases turn t runs
+unfoldable pub turn_phases : ℕ → List Event → World → ℕ
+turn_phases t events w = course_length (course_at (at_turn t events w)) (at_turn t events w)
+
+-- turn t with these events, of the processor p on bus b, and on bus c: it ends in the same way on both, with the same trace, and leaves each
+-- its own words of the page
+pub record Undisturbed (page t : ℕ) (events : List Event) (p : Processor) (b c : BusWorld) : Type 0 where
+  pub processor : (one_turn t events (world p b)).processor ≡ (one_turn t events (world p c)).processor
+  pub bus : AlikeOutside page (one_turn t events (world p b)).bus (one_turn t events (world p c)).bus
+  pub trace : turn_trace t events (world p b) ≡ turn_trace t events (world p c)
+  pub page_of_one : SamePage page b (one_turn t events (world p b)).bus
+  pub page_of_other : SamePage page c (one_turn t events (world p c)).bus
+
+-- the program status word, codes and all, is as it was in the state before
+abbrev pub LeavesStatus : State → Stop → Type 0
+LeavesStatus s stop = stop.world.bus.board.status ≡ s.world.bus.board.status

@@ -1,0 +1,4 @@
+-- A turn of the machine, and the machine as a contract sees it.
+pub mod Turn
+pub mod MachineState
+pub mod Regs

@@ -1,0 +1,5 @@
+-- What the laws of courses speak of.
+pub mod Trace
+pub mod Count
+pub mod Touched
+pub mod Page

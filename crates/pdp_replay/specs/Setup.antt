@@ -1,0 +1,77 @@
+-- What a run starts from, as plain data.
+use Rattle.std.specs.Prelude.{ℕ, ◌≡◌, ◌≤◌, ◌*◌, ◌%◌, ◌==◌, ◌&&◌, Bool, List, [], Result, Ok, Err, length, nat_le, if◌then◌else◌}
+use Rattle.indexmap.specs.IndexMap.{IndexMap}
+use Rattle.std.specs.declared.hash.BuildHasherDefault.{BuildHasherDefault}
+use Rattle.std.specs.declared.hash.FoldHasher.{FoldHasher}
+use Rattle.pdp_script.specs.declared.faults.Fault.{Fault}
+use Rattle.pdp_script.specs.declared.faults.Fault.TheVariants.{BadImage, BadSetup}
+use Rattle.pdp_replay.specs.declared.setup.Setup.{Setup}
+
+-- the size of core in units of 4,096 words, the start address, the images, the tape, the starting stride,
+-- and the patches: the number and the new value of each patched core word, in the order in which they were first given
+pub record SetupData : Type 0 where
+  pub units : ℕ
+  pub start : ℕ
+  pub core : List ℕ
+  pub disk : List ℕ
+  pub tape : List ℕ
+  pub stride : ℕ
+  pub patches : List (ℕ × ℕ)
+
+-- the limits of a setup (this project's profile): the units of core and the words of one, the words of a drive (203
+-- cylinders of 2 surfaces of 12 sectors of 256 words), the bytes of a tape, and the one stride for now
+abbrev pub most_units : ℕ
+most_units = 31
+
+abbrev pub unit_words : ℕ
+unit_words = 4096
+
+abbrev pub disk_words : ℕ
+disk_words = 1247232
+
+abbrev pub tape_bytes : ℕ
+tape_bytes = 1048576
+
+abbrev pub only_stride : ℕ
+only_stride = 2000000000
+
+-- how many words core has
+abbrev pub core_size : SetupData → ℕ
+core_size s = s.units * unit_words
+
+abbrev pub with_patches : Setup → List (ℕ × ℕ) → SetupData
+with_patches setup patches = record {
+  units = setup.units;
+  start = setup.start;
+  core = setup.core.items;
+  disk = setup.disk.items;
+  tape = setup.tape.items;
+  stride = setup.stride;
+  patches = patches;
+}
+
+-- a setup with the patches of an engine
+abbrev pub setup_from : Setup → IndexMap ℕ ℕ (BuildHasherDefault FoldHasher) → SetupData
+setup_from setup patches = with_patches setup patches.entries
+
+-- a setup without patches
+abbrev pub given : Setup → SetupData
+given setup = with_patches setup []
+
+-- units within their limits, an even start, and the one stride
+abbrev pub has_good_numbers : SetupData → Bool
+has_good_numbers s = nat_le 1 s.units && nat_le s.units most_units && s.start % 2 == 0 && s.stride == only_stride
+
+-- core's image within core, a drive's image within the drive, a tape within its limit
+abbrev pub has_good_images : SetupData → Bool
+has_good_images s = nat_le (length s.core) (core_size s) && nat_le (length s.disk) disk_words && nat_le (length s.tape) tape_bytes
+
+-- what a run can start from, or why not
+unfoldable pub setup_checked : SetupData → Result SetupData Fault
+setup_checked s = (if has_good_numbers s then if has_good_images s then Ok s else Err BadImage else Err BadSetup)
+
+-- what is kept of a setup that a run can start from
+pub record IsGood (s : SetupData) : Type 0 where
+  pub units : s.units ≤ most_units
+  pub stride : s.stride ≡ only_stride
+  pub core : length s.core ≤ core_size s

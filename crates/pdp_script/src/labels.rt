@@ -1,0 +1,52 @@
+ghost use Rattle.std.specs.Prelude.{◌≡◌, ℕ, ◌<◌, ◌≤◌, length, MatchOption, vec_len, vec_capacity};
+ghost use Rattle.std.specs.List.{All, AllWithin};
+ghost use Rattle.pdp_script.specs.Labels.{IsFirstOf, IsInOrder, PutsLast};
+
+use pdp_unibus::Event;
+
+/// The number and the turn of an event of the script.
+#[derive(Clone, Copy, Debug, PartialEq, Eq)]
+pub struct Label {
+    pub number: u32,
+    pub turn: u32,
+}
+
+/// The place of the first label whose turn isn't below `turn`, or the number of labels.
+pub fn place_from(labels: &[Label], turn: u32) -> usize
+    requires { IsInOrder labels.now }
+    ensures within { result ≤ length labels.now }
+    ensures before { AllWithin (λ (s : Label). s.turn < turn) labels.now 0 result }
+    ensures after { AllWithin (λ (s : Label). turn ≤ s.turn) labels.now result (length labels.now) }
+{
+    labels.partition_point(|label| label.turn < turn)
+}
+
+/// The place of the first label of a turn above `turn`, or the number of labels.
+pub fn place_after(labels: &[Label], turn: u32) -> usize
+    requires { IsInOrder labels.now }
+    ensures within { result ≤ length labels.now }
+    ensures before { AllWithin (λ (s : Label). s.turn ≤ turn) labels.now 0 result }
+    ensures after { AllWithin (λ (s : Label). turn < s.turn) labels.now result (length labels.now) }
+{
+    labels.partition_point(|label| label.turn <= turn)
+}
+
+/// The place of the first label of this number.
+pub fn place_of(labels: &[Label], number: u32) -> Option<usize>
+    ensures { MatchOption result (All (λ (s : Label). s.number ≡ number → ⊥) labels.now) (IsFirstOf labels.now number) }
+{
+    labels.iter().position(|label| label.number == number)
+}
+
+/// Puts an event last among its turn's, in the room that is there.
+pub fn put_last(labels: &mut Vec<Label>, events: &mut Vec<Event>, label: Label, event: Event)
+    requires in_step { length labels.old.items ≡ length events.old.items }
+    requires ordered { IsInOrder labels.old.items }
+    requires labels_room { vec_len labels.old < vec_capacity labels.old }
+    requires events_room { vec_len events.old < vec_capacity events.old }
+    ensures { PutsLast labels.old.items events.old.items label event labels.new.items events.new.items }
+{
+    let place = place_after(labels, label.turn);
+    labels.insert(place, label).unwrap();
+    events.insert(place, event).unwrap();
+}

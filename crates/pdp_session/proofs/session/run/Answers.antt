@@ -1,0 +1,20 @@
+use Rattle.std.proofs.Common.{◌≡◌, true, false, sym, ap, ◌∙◌}
+use Rattle.pdp_script.specs.declared.faults.Fault.TheVariants.{Input, Output}
+use Rattle.pdp_replay.specs.Timeline.{fresh}
+use Rattle.pdp_session.specs.Session.{is_told_first}
+use Rattle.pdp_session.proofs.Ending.{start_refuses}
+use Rattle.pdp_session.proofs.session.run.Goals as goal
+
+pub returns-in-Err-clause-input : goal.returns-in-Err-clause-input
+returns-in-Err-clause-input g c = λ failed.
+    let of_start : is_told_first c.in-Err.fault ≡ true = start_refuses fresh _ c.in-Err.fault _ c.in-Err.ensures.engine in
+    let fault : c.in-Err.fault ≡ Input = cc in
+    let never : false ≡ true = sym (ap is_told_first fault) ∙ of_start in
+    cc
+
+pub returns-in-Err-clause-output : goal.returns-in-Err-clause-output
+returns-in-Err-clause-output g c = λ failed.
+    let of_start : is_told_first c.in-Err.fault ≡ true = start_refuses fresh _ c.in-Err.fault _ c.in-Err.ensures.engine in
+    let fault : c.in-Err.fault ≡ Output = cc in
+    let never : false ≡ true = sym (ap is_told_first fault) ∙ of_start in
+    cc

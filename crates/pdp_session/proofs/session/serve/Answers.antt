@@ -1,0 +1,99 @@
+use Rattle.std.proofs.Common.{◌≡◌, ◌<◌, ◌++◌, [], length, take, refl, arith, append-nil, rules}
+use Rattle.std.proofs.KnownBytes.{Appends-nil, Appends-trans, Consumes-nil, Consumes-trans, Consumes-kept}
+use Rattle.pdp_session.specs.Lines.{lines_of}
+use Rattle.pdp_session.specs.Session.{BeginsReplies}
+use Rattle.pdp_session.proofs.Ending.{at_end, at_any}
+use Rattle.pdp_session.proofs.Pulls.{some_read}
+use Rattle.pdp_session.proofs.Reaching.{nothing_reached, ended_answered}
+use Rattle.pdp_session.proofs.session.serve.Goals as goal
+
+pub loop-engine-init : goal.loop-engine-init
+loop-engine-init g c = record {
+  read = [];
+  out = [];
+  takes = Consumes-nil _;
+  writes = Appends-nil _;
+  reached = rw c.new-held.ensures (nothing_reached c.args.engine.now.past);
+  pulled = omega arith;
+  room = refl;
+  reads = c.requires.reader_sound;
+  drains = c.requires.writer_sound;
+}
+
+pub returns-in-Ok-finish-clause-session : goal.returns-in-Ok-finish-clause-session
+returns-in-Ok-finish-clause-session g c =
+    let before = c.loop-engine.invariant in
+    let none : c.in-Ok-eq0.field-0 ≡ 0 = search rules in
+    let bytes = rw none at c.in-Ok-eq0.ensures.bytes in
+    let room : 0 < length c.pull.new.buf = omega arith in
+    let finished = c.in-Ok-finish.ensures.finishes c.args.engine.now.past before.read before.out before.reached in
+    record {
+      read = before.read;
+      out = before.out ++ finished.more;
+      takes = rw append-nil at (Consumes-trans _ _ _ before.read [] before.takes bytes.0);
+      writes = Appends-trans _ _ _ before.out finished.more before.writes finished.writes;
+      pulled = omega (arith, c.in-Ok-eq0.ensures.lowers, before.pulled);
+      ends = (bytes.1 refl room, finished.answers);
+    }
+
+pub returns-in-Err-finish-clause-session : goal.returns-in-Err-finish-clause-session
+returns-in-Err-finish-clause-session g c =
+    let before = c.loop-engine.invariant in
+    let none : c.in-Ok-eq0.field-0 ≡ 0 = search rules in
+    let bytes = rw none at c.in-Ok-eq0.ensures.bytes in
+    let room : 0 < length c.pull.new.buf = omega arith in
+    let finished = c.in-Err-finish.ensures.finishes c.args.engine.now.past before.read before.out before.reached in
+    let out = before.out ++ finished.more in
+    record {
+      read = before.read;
+      out = out;
+      takes = rw append-nil at (Consumes-trans _ _ _ before.read [] before.takes bytes.0);
+      writes = Appends-trans _ _ _ before.out finished.more before.writes finished.writes;
+      pulled = omega (arith, c.in-Ok-eq0.ensures.lowers, before.pulled);
+      ends = at_end _ (λ more. BeginsReplies c.args.engine.now.past (lines_of (before.read ++ more)) out) (bytes.1 refl room) (rw append-nil finished.begins);
+    }
+
+pub loop-engine-preserved : goal.loop-engine-preserved
+loop-engine-preserved g c =
+    let before = c.loop-engine.invariant in
+    let some : 0 < c.in-Ok.count = search rules in
+    let goes = rw c.split_at.ensures.front at (c.in-Ok-take_bytes.ensures.moves c.args.engine.now.past before.read before.out before.reached) in
+    record {
+      read = before.read ++ take c.in-Ok.count c.pull.new.buf;
+      out = before.out ++ goes.more;
+      takes = Consumes-trans _ _ _ before.read _ before.takes c.in-Ok.ensures.bytes.0;
+      writes = Appends-trans _ _ _ before.out goes.more before.writes goes.writes;
+      reached = goes.reached;
+      pulled = some_read _ _ _ before.read c.pull.new.buf c.in-Ok.count c.in-Ok.ensures.lowers c.in-Ok.ensures.bound some before.pulled;
+      room = search rules;
+      reads = search rules;
+      drains = search rules;
+    }
+
+pub returns-in-Err-take_bytes-clause-session : goal.returns-in-Err-take_bytes-clause-session
+returns-in-Err-take_bytes-clause-session g c =
+    let before = c.loop-engine.invariant in
+    let some : 0 < c.in-Ok.count = search rules in
+    let breaks = rw c.split_at.ensures.front at (c.in-Err-take_bytes.ensures.moves c.args.engine.now.past before.read before.out before.reached) in
+    let read = before.read ++ take c.in-Ok.count c.pull.new.buf in
+    let out = before.out ++ breaks.more in
+    record {
+      read = read;
+      out = out;
+      takes = Consumes-trans _ _ _ before.read _ before.takes c.in-Ok.ensures.bytes.0;
+      writes = Appends-trans _ _ _ before.out breaks.more before.writes breaks.writes;
+      pulled = omega (arith, some_read _ _ _ before.read c.pull.new.buf c.in-Ok.count c.in-Ok.ensures.lowers c.in-Ok.ensures.bound some before.pulled);
+      ends = at_any _ (λ more. BeginsReplies c.args.engine.now.past (lines_of (read ++ more)) out) breaks.broken;
+    }
+
+pub returns-in-Err-clause-session : goal.returns-in-Err-clause-session
+returns-in-Err-clause-session g c =
+    let before = c.loop-engine.invariant in
+    record {
+      read = before.read;
+      out = before.out;
+      takes = Consumes-kept _ _ _ before.read before.takes c.in-Err.ensures.bytes;
+      writes = before.writes;
+      pulled = omega (arith, c.in-Err.ensures.keeps, before.pulled);
+      ends = ended_answered c.args.engine.now.past before.read before.out _ _ before.reached;
+    }

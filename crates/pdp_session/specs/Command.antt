@@ -1,0 +1,70 @@
+-- What a line is answered, and the past that it leaves. Want of memory comes in as a flag: it is
+-- told only where nothing else refuses the line, and only of a command.
+use Rattle.std.specs.Prelude.{Bool, true, false, List, ℕ, ◌+◌, Option, None, Some, Result, Ok, Err}
+use Rattle.pdp_script.specs.Refusal.{edit_answer, question_answer, past_left}
+use Rattle.pdp_script.specs.declared.faults.Fault.{Fault}
+use Rattle.pdp_script.specs.declared.faults.Fault.TheVariants.{NoMemory}
+use Rattle.pdp_replay.specs.Answer.{answer_to}
+use Rattle.pdp_replay.specs.Edit.{core_edit, revert_edit, event_insertion, event_alteration, event_drop}
+use Rattle.pdp_replay.specs.Past.{Past}
+use Rattle.pdp_replay.specs.declared.question.Value.{Value}
+use Rattle.pdp_session.specs.declared.command.Command.{Command}
+use Rattle.pdp_session.specs.declared.command.Command.TheVariants.{SetCore, RevertCore, Insert, Alter, DropEvent, ListPatches, Ask}
+use Rattle.pdp_session.specs.declared.reply.Reply.{Reply}
+use Rattle.pdp_session.specs.declared.reply.Reply.TheVariants.{Nothing, Done, Inserted, Shown, Listed, Refused}
+use Rattle.pdp_session.specs.Grammar.{line_means}
+
+-- of an edit's result
+abbrev pub edit_reply : {X : Type 0} → Result X Fault → Reply
+edit_reply (Ok x) = Done
+edit_reply (Err fault) = Refused fault
+
+-- of an insertion's result
+abbrev pub insertion_reply : Result ℕ Fault → Reply
+insertion_reply (Ok number) = Inserted number
+insertion_reply (Err fault) = Refused fault
+
+-- of a question's result
+abbrev pub ask_reply : Result Value Fault → Reply
+ask_reply (Ok value) = Shown value
+ask_reply (Err fault) = Refused fault
+
+abbrev pub command_reply : Command → Bool → Past → Reply
+command_reply (SetCore address word) refused past = edit_reply {X = Unit {0}} (edit_answer (core_edit address word past) refused tt)
+command_reply (RevertCore address) refused past = edit_reply {X = Unit {0}} (edit_answer (revert_edit address past) refused tt)
+command_reply (Insert turn event) refused past = insertion_reply (edit_answer (event_insertion turn event past) refused (past.script.given + 1))
+command_reply (Alter number turn event) refused past = edit_reply (event_alteration number turn event past)
+command_reply (DropEvent number) refused past = edit_reply (event_drop number past)
+command_reply ListPatches refused past = Listed
+command_reply (Ask question) refused past = ask_reply (question_answer (answer_to question past) refused)
+
+abbrev pub command_leaves : Command → Bool → Past → Past
+command_leaves (SetCore address word) refused past = past_left (core_edit address word past) refused past
+command_leaves (RevertCore address) refused past = past_left (revert_edit address past) refused past
+command_leaves (Insert turn event) refused past = past_left (event_insertion turn event past) refused past
+command_leaves (Alter number turn event) refused past = past_left (event_alteration number turn event past) false past
+command_leaves (DropEvent number) refused past = past_left (event_drop number past) false past
+command_leaves ListPatches refused past = past
+command_leaves (Ask question) refused past = past
+
+abbrev pub reply_meant : Result (Option Command) Fault → Bool → Past → Reply
+reply_meant (Err fault) refused past = Refused fault
+reply_meant (Ok None) refused past = Nothing
+reply_meant (Ok (Some command)) refused past = command_reply command refused past
+
+abbrev pub past_meant : Result (Option Command) Fault → Bool → Past → Past
+past_meant (Err fault) refused past = past
+past_meant (Ok None) refused past = past
+past_meant (Ok (Some command)) refused past = command_leaves command refused past
+
+-- what a line is answered, and the past after it
+unfoldable pub reply_to : List ℕ → Bool → Past → Reply
+reply_to line refused past = reply_meant (line_means line) refused past
+
+unfoldable pub past_after : List ℕ → Bool → Past → Past
+past_after line refused past = past_meant (line_means line) refused past
+
+-- was this line refused for want of memory?
+abbrev pub wants_memory : Reply → Bool
+wants_memory (Refused NoMemory) = true
+wants_memory _ = false

@@ -1,0 +1,95 @@
+-- What a reply is as text: lines that each end in LF (this project's profile).
+use Rattle.std.specs.Prelude.{ℕ, Bool, List, [], ◌∷◌, ◌++◌, codes, decimal, option_to_list, slice_get, slice_index}
+use Rattle.pdp_word.specs.Number.{octal_digits}
+use Rattle.pdp_script.specs.Fault.{number_of_fault, name_of_fault}
+use Rattle.pdp_script.specs.declared.faults.Fault.{Fault}
+use Rattle.pdp_cpu.specs.declared.regs.Regs.{Regs}
+use Rattle.pdp_operand.specs.declared.processor.RunState.{RunState}
+use Rattle.pdp_operand.specs.declared.processor.RunState.TheVariants.{Run, Wait, Halted}
+use Rattle.pdp_replay.specs.Edit.{patch_shown, patch_count}
+use Rattle.pdp_replay.specs.Past.{Past}
+use Rattle.pdp_replay.specs.declared.patch.Patch.{Patch}
+use Rattle.pdp_replay.specs.declared.patch.Patch.TheVariants.{Core}
+use Rattle.pdp_replay.specs.declared.question.Value.{Value}
+use Rattle.pdp_replay.specs.declared.question.Value.TheVariants.{Regs as RegsAre, Core as CoreIs}
+use Rattle.pdp_session.specs.declared.reply.Reply.{Reply}
+use Rattle.pdp_session.specs.declared.reply.Reply.TheVariants.{Nothing, Done, Inserted, Shown, Listed, Refused}
+use Rattle.pdp_session.specs.Command.{reply_to, past_after}
+
+-- a name, a word in six octal digits, and the space after it
+abbrev pub field : List ℕ → ℕ → List ℕ
+field name word = name ++ codes " " ++ octal_digits 6 word ++ codes " "
+
+abbrev pub state_name : RunState → List ℕ
+state_name Run = codes "run"
+state_name Wait = codes "wait"
+state_name Halted = codes "halted"
+
+abbrev pub regs_line : Regs → List ℕ
+regs_line regs =
+    field (codes "R0") (slice_index regs.r 0)
+    ++ field (codes "R1") (slice_index regs.r 1)
+    ++ field (codes "R2") (slice_index regs.r 2)
+    ++ field (codes "R3") (slice_index regs.r 3)
+    ++ field (codes "R4") (slice_index regs.r 4)
+    ++ field (codes "R5") (slice_index regs.r 5)
+    ++ field (codes "KSP") regs.ksp
+    ++ field (codes "USP") regs.usp
+    ++ field (codes "PC") regs.pc
+    ++ field (codes "PS") regs.ps
+    ++ state_name regs.state
+
+abbrev pub refusal_line : Fault → List ℕ
+refusal_line fault = codes "refused " ++ decimal (number_of_fault fault) ++ codes " " ++ name_of_fault fault
+
+abbrev pub refusal_text : Fault → List ℕ
+refusal_text fault = refusal_line fault ++ codes "\n"
+
+-- a patch as the line that makes it
+abbrev pub patch_line : Patch → List ℕ
+patch_line (Core address word) = codes "core " ++ octal_digits 6 address ++ codes " " ++ octal_digits 6 word ++ codes "\n"
+
+abbrev pub patch_lines : List (ℕ × ℕ) → List ℕ
+patch_lines [] = []
+patch_lines (entry ∷ entries) = patch_line (patch_shown entry) ++ patch_lines entries
+
+-- the line of the patch of this index, where there is one
+abbrev pub patch_line_at : ℕ → Past → List ℕ
+patch_line_at index past = patch_lines (option_to_list (slice_get past.setup.patches index))
+
+abbrev pub count_line : ℕ → List ℕ
+count_line count = codes "patches " ++ decimal count ++ codes "\n"
+
+-- how many patches there are, and a line for each
+unfoldable pub patches_text : Past → List ℕ
+patches_text past = count_line (patch_count past) ++ patch_lines past.setup.patches
+
+-- a word of core, in six octal digits, after a space
+abbrev pub word_text : ℕ → List ℕ
+word_text word = codes " " ++ octal_digits 6 word
+
+abbrev pub word_texts : List ℕ → List ℕ
+word_texts [] = []
+word_texts (word ∷ words) = word_text word ++ word_texts words
+
+-- words of core, in one line
+unfoldable pub mem_line : List ℕ → List ℕ
+mem_line words = codes "mem" ++ word_texts words ++ codes "\n"
+
+-- the answer to a question as text: one row for each kind of question
+abbrev pub value_text : Value → List ℕ
+value_text (RegsAre regs) = regs_line regs ++ codes "\n"
+value_text (CoreIs words) = mem_line words
+
+-- a reply as text; a list of patches is that of the past as it is then
+unfoldable pub text_of : Reply → Past → List ℕ
+text_of Nothing past = []
+text_of Done past = codes "ok" ++ codes "\n"
+text_of (Inserted number) past = codes "event " ++ decimal number ++ codes "\n"
+text_of (Shown value) past = value_text value
+text_of Listed past = patches_text past
+text_of (Refused fault) past = refusal_text fault
+
+-- the text that a line is answered
+abbrev pub text_to : List ℕ → Bool → Past → List ℕ
+text_to line refused past = text_of (reply_to line refused past) (past_after line refused past)

@@ -1,0 +1,82 @@
+ghost use Rattle.std.specs.Prelude.{◌≡◌};
+ghost use Rattle.pdp_session.specs.Command.{edit_reply, command_reply, command_leaves, reply_to, past_after, wants_memory};
+
+use crate::grammar::read_line;
+use crate::reply::Reply;
+use pdp_replay::{Engine, Event, Fault, Question};
+use std::alloc::Global;
+
+// A command of the session language.
+#[derive(Debug, PartialEq, Eq, Drop)]
+pub enum Command {
+    SetCore {
+        address: u32,
+        word: u16,
+    },
+    RevertCore {
+        address: u32,
+    },
+    Insert {
+        turn: u32,
+        event: Event,
+    },
+    Alter {
+        number: u32,
+        turn: u32,
+        event: Event,
+    },
+    DropEvent {
+        number: u32,
+    },
+    ListPatches,
+    Ask(Question),
+}
+
+// Does what a line says, and answers its reply. The line comes without what ended it.
+#[tactic(auto, unfolding(crate::specs::Command::reply_to, crate::specs::Command::past_after))]
+pub fn answer_line(alloc: Global, engine: &mut Engine, line: &[u8]) -> Reply
+    ensures reply { result ≡ reply_to line.now (wants_memory result) engine.old.past }
+    ensures after { engine.new.past ≡ past_after line.now (wants_memory result) engine.old.past }
+{
+    match read_line(line) {
+        Ok(None) => Reply::Nothing,
+        Ok(Some(command)) => run_command(alloc, engine, command),
+        Err(fault) => Reply::Refused(fault),
+    }
+}
+
+#[tactic(auto, using(crate::proofs::Replying::reply_of_edit))]
+fn run_command(alloc: Global, engine: &mut Engine, command: Command) -> Reply
+    ensures reply { result ≡ command_reply command (wants_memory result) engine.old.past }
+    ensures after { engine.new.past ≡ command_leaves command (wants_memory result) engine.old.past }
+{
+    match command {
+        Command::SetCore { address, word } => edit_reply(engine.set_core(address, word)),
+        Command::RevertCore { address } => edit_reply(engine.revert_core(address)),
+        Command::Insert { turn, event } => match engine.insert(turn, event) {
+            Ok(number) => Reply::Inserted(number),
+            Err(fault) => Reply::Refused(fault),
+        },
+        Command::Alter {
+            number,
+            turn,
+            event,
+        } => edit_reply(engine.alter(number, turn, event)),
+        Command::DropEvent { number } => edit_reply(engine.drop_event(number)),
+        Command::ListPatches => Reply::Listed,
+        Command::Ask(question) => match engine.ask(alloc, question) {
+            Ok(answer) => Reply::Shown(answer.value),
+            Err(fault) => Reply::Refused(fault),
+        },
+    }
+}
+
+// The reply to an edit.
+fn edit_reply(edited: Result<(), Fault>) -> Reply
+    ensures { result ≡ edit_reply edited }
+{
+    match edited {
+        Ok(()) => Reply::Done,
+        Err(fault) => Reply::Refused(fault),
+    }
+}

@@ -1,0 +1,67 @@
+ghost use Rattle.std.specs.Prelude.{◌≡◌};
+ghost use Rattle.std.specs.Option.{option_map};
+ghost use Rattle.pdp_session.specs.Grammar.Arguments.{one_of, two_of, word_named, byte_named, event_named, turn_named, count_named};
+ghost use Rattle.pdp_session.specs.Grammar.Words.{words_of};
+
+use super::words::next_word;
+use pdp_word::{read_decimal, read_octal};
+
+// The word of a text that has one.
+pub fn one_word(text: &[u8]) -> Option<&[u8]>
+    ensures { option_map (λ word. word.now) result ≡ one_of (words_of text.now) }
+{
+    let (word, rest) = next_word(text)?;
+    if next_word(rest).is_some() {
+        return None;
+    }
+    Some(word)
+}
+
+// The words of a text that has two.
+pub fn two_words(text: &[u8]) -> Option<(&[u8], &[u8])>
+    ensures { option_map (λ words. (words.0.now, words.1.now)) result ≡ two_of (words_of text.now) }
+{
+    let (first, rest) = next_word(text)?;
+    let second = one_word(rest)?;
+    Some((first, second))
+}
+
+// A word of the machine, in octal; `None` above 177777.
+pub fn read_word(text: &[u8]) -> Option<u16>
+    ensures { result ≡ word_named text.now }
+{
+    let number = read_octal(text)?;
+    u16::try_from(number).ok()
+}
+
+// A byte, in octal; `None` above 377.
+pub fn read_byte(text: &[u8]) -> Option<u8>
+    ensures { result ≡ byte_named text.now }
+{
+    let number = read_octal(text)?;
+    u8::try_from(number).ok()
+}
+
+// An event by its number, in decimal; one that 32 bits can't hold becomes 0, which no event has.
+pub fn read_event_number(text: &[u8]) -> Option<u32>
+    ensures { result ≡ event_named text.now }
+{
+    let number = read_decimal(text)?;
+    Some(u32::try_from(number).unwrap_or(0))
+}
+
+// A turn, in decimal; one that 32 bits can't hold becomes the largest that they hold, which no run reaches.
+pub fn read_turn(text: &[u8]) -> Option<u32>
+    ensures { result ≡ turn_named text.now }
+{
+    let number = read_decimal(text)?;
+    Some(u32::try_from(number).unwrap_or(u32::MAX))
+}
+
+// A count, in decimal; one that 32 bits can't hold becomes the largest that they hold, which no count may be.
+pub fn read_count(text: &[u8]) -> Option<u32>
+    ensures { result ≡ count_named text.now }
+{
+    let number = read_decimal(text)?;
+    Some(u32::try_from(number).unwrap_or(u32::MAX))
+}

@@ -1,0 +1,42 @@
+ghost use Rattle.std.specs.Prelude.{◌≡◌};
+ghost use Rattle.pdp_session.specs.Grammar.Questions.{regs_form, mem_form, question_with};
+ghost use Rattle.pdp_session.specs.Grammar.Words.{words_of};
+
+use super::arguments::{one_word, read_count, read_turn, two_words};
+use super::words::next_word;
+use pdp_replay::Question;
+use pdp_word::read_octal;
+
+// The question of a name, with the words that follow it.
+#[tactic(auto, unfolding(crate::specs::Grammar::Questions::question_with))]
+pub fn read_question(name: &[u8], arguments: &[u8]) -> Option<Question>
+    ensures { result ≡ question_with name.now (words_of arguments.now) }
+{
+    if name == b"regs".as_slice() {
+        read_regs(arguments)
+    } else if name == b"mem".as_slice() {
+        read_mem(arguments)
+    } else {
+        None
+    }
+}
+
+// `regs N`
+fn read_regs(arguments: &[u8]) -> Option<Question>
+    ensures { result ≡ regs_form (words_of arguments.now) }
+{
+    let turn = read_turn(one_word(arguments)?)?;
+    Some(Question::Regs(turn))
+}
+
+// `mem N A C`
+fn read_mem(arguments: &[u8]) -> Option<Question>
+    ensures { result ≡ mem_form (words_of arguments.now) }
+{
+    let (turn, others) = next_word(arguments)?;
+    let (address, count) = two_words(others)?;
+    let turn = read_turn(turn)?;
+    let address = read_octal(address)?;
+    let count = read_count(count)?;
+    Some(Question::Core(turn, address, count))
+}

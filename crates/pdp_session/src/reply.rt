@@ -1,0 +1,100 @@
+ghost use Rattle.std.specs.Prelude.{◌≡◌, ◌||◌, is_err};
+ghost use Rattle.pdp_session.specs.Reply.{text_of, value_text, patches_text, patch_line_at, mem_line};
+ghost use Rattle.pdp_session.specs.Inside.Sends.{Sends};
+
+mod texts;
+
+use crate::streams::{Drain, Failed, send};
+use pdp_replay::{Engine, Fault, Value};
+use texts::{
+    Text, count_text, done_text, insertion_text, patch_text, refusal_text, regs_text, word_text,
+};
+
+// What a line is answered.
+#[derive(Debug, PartialEq, Eq, Drop)]
+pub enum Reply {
+    Nothing,
+    Done,
+    Inserted(u32),
+    Shown(Value),
+    // The patches of the past as it is then.
+    Listed,
+    Refused(Fault),
+}
+
+// Writes a reply: nothing, or lines that each end in LF.
+#[tactic(auto, unfolding(crate::specs::Reply::text_of))]
+pub fn send_reply<W: Drain>(engine: &Engine, reply: Reply, writer: &mut W) -> Result<(), Failed>
+    ensures sends { Sends (text_of reply engine.now.past) (W.written writer.old) (W.written writer.new) result }
+    ensures fails { W.has_failed writer.new ≡ (W.has_failed writer.old || is_err result) }
+{
+    let text = match reply {
+        Reply::Nothing => Text::new(),
+        Reply::Done => done_text(),
+        Reply::Inserted(number) => insertion_text(number),
+        Reply::Shown(value) => return send_value(&value, writer),
+        Reply::Listed => return send_patches(engine, writer),
+        Reply::Refused(fault) => refusal_text(fault),
+    };
+    send(writer, text.as_slice())
+}
+
+// Writes the answer to a question: one row for each kind of question.
+fn send_value<W: Drain>(value: &Value, writer: &mut W) -> Result<(), Failed>
+    ensures sends { Sends (value_text value.now) (W.written writer.old) (W.written writer.new) result }
+    ensures fails { W.has_failed writer.new ≡ (W.has_failed writer.old || is_err result) }
+{
+    match value {
+        Value::Regs(regs) => send(writer, regs_text(*regs).as_slice()),
+        Value::Core(words) => send_core(words.words(), writer),
+    }
+}
+
+// Writes how many patches there are, and a line for each.
+fn send_patches<W: Drain>(engine: &Engine, writer: &mut W) -> Result<(), Failed>
+    ensures sends { Sends (patches_text engine.now.past) (W.written writer.old) (W.written writer.new) result }
+    ensures fails { W.has_failed writer.new ≡ (W.has_failed writer.old || is_err result) }
+{
+    let count = engine.patch_count();
+    match send(writer, count_text(count).as_slice()) {
+        Ok(()) => {}
+        Err(failed) => return Err(failed),
+    }
+    for index in 0..count {
+        match send_patch(engine, index, writer) {
+            Ok(()) => {}
+            Err(failed) => return Err(failed),
+        }
+    }
+    Ok(())
+}
+
+// Writes the line of the patch of this index, where there is one.
+fn send_patch<W: Drain>(engine: &Engine, index: usize, writer: &mut W) -> Result<(), Failed>
+    ensures sends { Sends (patch_line_at index engine.now.past) (W.written writer.old) (W.written writer.new) result }
+    ensures fails { W.has_failed writer.new ≡ (W.has_failed writer.old || is_err result) }
+{
+    let text = match engine.patches(index) {
+        Some(patch) => patch_text(patch),
+        None => Text::new(),
+    };
+    send(writer, text.as_slice())
+}
+
+// Writes words of core, in one line.
+fn send_core<W: Drain>(words: &[u16], writer: &mut W) -> Result<(), Failed>
+    ensures sends { Sends (mem_line words.now) (W.written writer.old) (W.written writer.new) result }
+    ensures fails { W.has_failed writer.new ≡ (W.has_failed writer.old || is_err result) }
+{
+    match send(writer, b"mem") {
+        Ok(()) => {}
+        Err(failed) => return Err(failed),
+    }
+    for word in words {
+        match send(writer, word_text(*word).as_slice()) {
+            Ok(()) => {}
+            Err(failed) => return Err(failed),
+        }
+    }
+    send(writer, b"\n")
+}

@@ -1,0 +1,136 @@
+ghost use Rattle.std.specs.Prelude.{◌≡◌, ◌+◌, ◌≤◌, ◌++◌, length, codes, decimal};
+ghost use Rattle.pdp_session.specs.Reply.{field, regs_line, state_name, refusal_text, count_line, patch_line, word_text};
+
+use arrayvec::ArrayVec;
+use itoa::Buffer;
+use pdp_replay::{Fault, Patch, Regs, RunState};
+use pdp_word::write_octal6;
+
+// The most bytes that a text has: a line of `pages` with its LF. That is 34 words, each of six digits after a space,
+// and the names pages, SR0, SR2, KPDR, KPAR, UPDR and UPAR, a space before each but the first.
+const LONGEST: usize = 272;
+
+// A line of a reply, with its LF, or a piece of one. It takes no memory.
+pub type Text = ArrayVec<u8, LONGEST>;
+
+// Adds `bytes` at the end.
+fn add(text: &mut Text, bytes: &[u8])
+    requires { length text.old.items + length bytes.now ≤ LONGEST }
+    ensures { text.new.items ≡ text.old.items ++ bytes.now }
+{
+    let _ = text.try_extend_from_slice(bytes);
+}
+
+// A name, the word in six octal digits, and the space after it.
+fn add_field(text: &mut Text, name: &str, word: u16)
+    requires { length text.old.items + length name.now + 8 ≤ LONGEST }
+    ensures field { text.new.items ≡ text.old.items ++ field name.now word }
+    ensures length { length text.new.items ≡ length text.old.items + length name.now + 8 }
+{
+    add(text, name.as_bytes());
+    add(text, b" ");
+    add(text, &write_octal6(u32::from(word)));
+    add(text, b" ");
+}
+
+// The reply to an edit that was made.
+pub fn done_text() -> Text
+    ensures { result.items ≡ codes "ok" ++ codes "\n" }
+{
+    let mut text = Text::new();
+    add(&mut text, b"ok\n");
+    text
+}
+
+// The reply to an insertion that was made.
+pub fn insertion_text(number: u32) -> Text
+    ensures { result.items ≡ codes "event " ++ decimal number ++ codes "\n" }
+{
+    let mut text = Text::new();
+    let mut buffer = Buffer::new();
+    add(&mut text, b"event ");
+    add(&mut text, buffer.format(number).as_bytes());
+    add(&mut text, b"\n");
+    text
+}
+
+// The first line of a list of so many patches.
+pub fn count_text(count: usize) -> Text
+    ensures { result.items ≡ count_line count }
+{
+    let mut text = Text::new();
+    let mut buffer = Buffer::new();
+    add(&mut text, b"patches ");
+    add(&mut text, buffer.format(count).as_bytes());
+    add(&mut text, b"\n");
+    text
+}
+
+// A patch as the line that makes it.
+pub fn patch_text(patch: Patch) -> Text
+    ensures { result.items ≡ patch_line patch }
+{
+    let Patch::Core(address, word) = patch;
+    let mut text = Text::new();
+    add(&mut text, b"core ");
+    add(&mut text, &write_octal6(address));
+    add(&mut text, b" ");
+    add(&mut text, &write_octal6(u32::from(word)));
+    add(&mut text, b"\n");
+    text
+}
+
+// A word of core, after a space.
+pub fn word_text(word: u16) -> Text
+    ensures { result.items ≡ word_text word }
+{
+    let mut text = Text::new();
+    add(&mut text, b" ");
+    add(&mut text, &write_octal6(u32::from(word)));
+    text
+}
+
+// The registers and the run state.
+pub fn regs_text(regs: Regs) -> Text
+    ensures { result.items ≡ regs_line regs ++ codes "\n" }
+{
+    let mut text = Text::new();
+    add_field(&mut text, "R0", regs.r[0]);
+    add_field(&mut text, "R1", regs.r[1]);
+    add_field(&mut text, "R2", regs.r[2]);
+    add_field(&mut text, "R3", regs.r[3]);
+    add_field(&mut text, "R4", regs.r[4]);
+    add_field(&mut text, "R5", regs.r[5]);
+    add_field(&mut text, "KSP", regs.ksp);
+    add_field(&mut text, "USP", regs.usp);
+    add_field(&mut text, "PC", regs.pc);
+    add_field(&mut text, "PS", regs.ps);
+    add(&mut text, state_name(regs.state).as_bytes());
+    add(&mut text, b"\n");
+    text
+}
+
+fn state_name(state: RunState) -> &'static str
+    ensures name { result.now ≡ state_name state }
+    ensures length { length result.now ≤ 6 }
+{
+    match state {
+        RunState::Run => "run",
+        RunState::Wait => "wait",
+        RunState::Halted => "halted",
+    }
+}
+
+// The number and the name of a refusal.
+pub fn refusal_text(fault: Fault) -> Text
+    ensures { result.items ≡ refusal_text fault }
+{
+    let mut text = Text::new();
+    let mut buffer = Buffer::new();
+    add(&mut text, b"refused ");
+    add(&mut text, buffer.format(fault.number()).as_bytes());
+    add(&mut text, b" ");
+    add(&mut text, fault.name().as_bytes());
+    add(&mut text, b"\n");
+    text
+}

@@ -1,0 +1,90 @@
+ghost use Rattle.std.specs.Prelude.{◌≡◌, false};
+
+use super::{Failed, Feed};
+use std::io::{ErrorKind, Read};
+
+/// A [`Feed`] over one of std's readers.
+#[derive(Drop)]
+pub struct FromRead<R> {
+    reader: R,
+    left: u64,
+    failed: bool,
+}
+
+// How many pulls a `FromRead` begins with: more than any input has.
+const PULLS: u64 = 1_000_000_000_000;
+
+impl<R: Read> FromRead<R> {
+    /// A feed of what `reader` gives, with 1,000,000,000,000 pulls left. An interrupted read is made again,
+    /// within the same pull.
+    pub fn new(reader: R) -> Self
+        ensures remaining { ⟦<FromRead<R> as Feed>⟧.remaining result ≡ R.remaining reader }
+        ensures pulls { ⟦<FromRead<R> as Feed>⟧.pulls result ≡ 1000000000000 }
+        ensures sound { ⟦<FromRead<R> as Feed>⟧.has_failed result ≡ false }
+    {
+        FromRead {
+            reader,
+            left: PULLS,
+            failed: false,
+        }
+    }
+}
+
+impl<R: Read> Feed for FromRead<R> {
+    ghost remaining = { λ s. R.remaining s.reader };
+
+    ghost pulls = { λ s. s.left };
+
+    ghost has_failed = { λ s. s.failed };
+
+    fn pull(&mut self, buf: &mut [u8]) -> Result<usize, Failed> {
+        if self.left == 0 {
+            self.failed = true;
+            return Err(Failed);
+        }
+        'tries: for _ in 0..u64::MAX {
+            match self.reader.read(buf) {
+                Ok(count) => {
+                    self.left -= 1;
+                    return Ok(count);
+                }
+                Err(error) => {
+                    if error.kind() != ErrorKind::Interrupted {
+                        break 'tries;
+                    }
+                }
+            }
+        }
+        self.failed = true;
+        Err(Failed)
+    }
+
+    fn left(&self) -> u64 {
+        self.left
+    }
+
+    fn failed(&self) -> bool {
+        self.failed
+    }
+}
+
+#[cfg(test)]
+mod tests {
+    use super::*;
+    use std::test::Fail;
+
+    #[test]
+    fn feeds(rt: HostRuntime) -> Result<(), Fail> {
+        let mut reader = FromRead::new(b"abc".as_slice());
+        let mut buf = [0; 2];
+        assert_eq!(rt; reader.left(), 1_000_000_000_000);
+        assert_eq!(rt; reader.pull(&mut buf), Ok(2));
+        assert_eq!(rt; buf, [b'a', b'b']);
+        assert_eq!(rt; reader.left(), 999_999_999_999);
+        assert_eq!(rt; reader.pull(&mut buf), Ok(1));
+        assert_eq!(rt; reader.pull(&mut buf), Ok(0));
+        assert_eq!(rt; reader.left(), 999_999_999_997);
+        assert!(rt; !reader.failed());
+        Ok(())
+    }
+}

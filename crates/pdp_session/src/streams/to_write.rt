@@ -1,0 +1,72 @@
+ghost use Rattle.std.specs.Prelude.{◌≡◌, false};
+
+use super::{Drain, Failed};
+use std::io::{ErrorKind, Write};
+
+/// A [`Drain`] over one of std's writers.
+#[derive(Drop)]
+pub struct ToWrite<W> {
+    writer: W,
+    failed: bool,
+}
+
+impl<W: Write> ToWrite<W> {
+    /// A drain into `writer`. An interrupted write is made again.
+    pub fn new(writer: W) -> Self
+        ensures written { ⟦<ToWrite<W> as Drain>⟧.written result ≡ W.contents writer }
+        ensures sound { ⟦<ToWrite<W> as Drain>⟧.has_failed result ≡ false }
+    {
+        ToWrite {
+            writer,
+            failed: false,
+        }
+    }
+}
+
+impl<W: Write> Drain for ToWrite<W> {
+    ghost written = { λ s. W.contents s.writer };
+
+    ghost has_failed = { λ s. s.failed };
+
+    fn put(&mut self, bytes: &[u8]) -> Result<usize, Failed> {
+        'tries: for _ in 0..u64::MAX {
+            match self.writer.write(bytes) {
+                Ok(taken) => {
+                    if taken == 0 && !bytes.is_empty() {
+                        self.failed = true;
+                    }
+                    return Ok(taken);
+                }
+                Err(error) => {
+                    if error.kind() != ErrorKind::Interrupted {
+                        break 'tries;
+                    }
+                }
+            }
+        }
+        self.failed = true;
+        Err(Failed)
+    }
+
+    fn failed(&self) -> bool {
+        self.failed
+    }
+}
+
+#[cfg(test)]
+mod tests {
+    use super::*;
+    use std::test::Fail;
+
+    #[test]
+    fn drains(rt: HostRuntime) -> Result<(), Fail> {
+        let mut bytes = Vec::new(rt.alloc());
+        {
+            let mut writer = ToWrite::new(&mut bytes);
+            assert_eq!(rt; writer.put(b"abc"), Ok(3));
+            assert!(rt; !writer.failed());
+        }
+        assert_eq!(rt; bytes.as_slice(), b"abc".as_slice());
+        Ok(())
+    }
+}

@@ -1,0 +1,12 @@
+use Rattle.pdp_unibus.proofs.StatusLaws.{written_back, written_register, written_status}
+use Rattle.pdp_unibus.proofs.laws.status_reads_back.Goals as goal
+
+-- src/laws.rt
+pub returns-clause-word : goal.returns-clause-word
+returns-clause-word c = written_status
+
+pub returns-clause-register : goal.returns-clause-register
+returns-clause-register c = written_register
+
+pub returns-clause-unchanged : goal.returns-clause-unchanged
+returns-clause-unchanged c = written_back

@@ -1,0 +1,61 @@
+-- What the laws of the registers say: each name is the law's sentence.
+use Rattle.std.specs.Prelude.{◌≡◌, ℕ, ◌+◌, ◌*◌, ◌/◌, ◌%◌, ◌<◌, ◌≢◌, List, [], ◌∷◌}
+use Rattle.pdp_word.specs.Bits.{bit_of, field}
+use Rattle.pdp_console.specs.declared.kl.KlRegister.TheVariants.{KeyboardStatus, KeyboardBuffer}
+use Rattle.pdp_unibus.specs.BusWorld.{BusWorld}
+use Rattle.pdp_unibus.specs.Event.{bus_after}
+use Rattle.pdp_unibus.specs.Register.{after_read, after_write, value_in}
+use Rattle.pdp_unibus.specs.Status.{status_word, status_written}
+use Rattle.pdp_unibus.specs.declared.board.Board.{Board}
+use Rattle.pdp_unibus.specs.declared.event.Event.TheVariants.{Key}
+use Rattle.pdp_unibus.specs.declared.register.Register.{Register}
+use Rattle.pdp_unibus.specs.declared.register.Register.TheVariants.{Console, ProgramStatus}
+use Rattle.pdp_unibus.specs.declared.status.Status.{Status}
+
+-- bits 15-12, 7-5 and 3-0 of a word: those of the program status word that can be written
+abbrev pub writable_part : ℕ → ℕ
+writable_part word = word / 0o10000 * 0o10000 + word % 0o400 / 0o40 * 0o40 + word % 0o20
+
+-- the program status word reads back what was written to it, without bits 11-8 and with T as it was
+abbrev pub WrittenStatusReadsBack : Type 0
+WrittenStatusReadsBack = (s : Status) (word : ℕ) → word < 0o200000
+    → status_word (status_written word s) ≡ writable_part word + bit_of s.trace_bit * 0o20
+
+-- the same through its register
+abbrev pub WrittenRegisterReadsBack : Type 0
+WrittenRegisterReadsBack = (b : Board) (word turn : ℕ) → word < 0o200000
+    → value_in ProgramStatus (after_write ProgramStatus word turn b) ≡ writable_part word + bit_of b.status.trace_bit * 0o20
+
+-- what was read from the program status word changes nothing when it is written
+abbrev pub ReadStatusWritesBack : Type 0
+ReadStatusWritesBack = (s : Status) → status_written (status_word s) s ≡ s
+
+-- a register that is read, or written with a word in a turn
+pub data Use : Type 0 where
+  Reading : Register → Use
+  Writing : Register → ℕ → ℕ → Use
+
+abbrev pub after_use : Use → Board → Board
+after_use (Reading register) b = after_read register b
+after_use (Writing register word turn) b = after_write register word turn b
+
+-- the board after registers were used, in their order
+abbrev pub after_uses : List Use → Board → Board
+after_uses [] b = b
+after_uses (use_of ∷ uses) b = after_uses uses (after_use use_of b)
+
+abbrev pub NeverReading : Register → List Use → Type 0
+NeverReading register [] = Unit {0}
+NeverReading register (Reading other ∷ uses) = (other ≢ register) × NeverReading register uses
+NeverReading register (Writing other word turn ∷ uses) = NeverReading register uses
+
+-- a key that was struck waits until the buffer is read: done, bit 7 of the status, is set, and the buffer holds the key
+abbrev pub KeysWaitUntilRead : Type 0
+KeysWaitUntilRead = (w : BusWorld) (key : ℕ) (uses : List Use) → NeverReading (Console KeyboardBuffer) uses
+    → (field 7 1 (value_in (Console KeyboardStatus) (after_uses uses (bus_after (Key key) w).board)) ≡ 1)
+    × (value_in (Console KeyboardBuffer) (after_uses uses (bus_after (Key key) w).board) ≡ key)
+
+-- a read of the buffer clears done, and no register that is then read or written sets it
+abbrev pub KeysAreReadOnce : Type 0
+KeysAreReadOnce = (b : Board) (uses : List Use)
+    → field 7 1 (value_in (Console KeyboardStatus) (after_uses uses (after_read (Console KeyboardBuffer) b))) ≡ 0
