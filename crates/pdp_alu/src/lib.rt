@@ -42,6 +42,7 @@ pub use logic::{bic, bis, bit, xor};
 pub use long::{LongEffect, high_word, join_words, low_word};
 pub use moves::mov;
 pub use multiplication::mul;
+pub use operand::cut;
 pub use pdp_word::{Codes, Size};
 pub use quotient::Div;
 pub use shifts::{asl, asr, rol, ror};

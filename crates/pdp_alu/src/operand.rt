@@ -5,8 +5,10 @@ ghost use Rattle.pdp_alu.specs.Operand.{all_ones, most_negative, most_positive, 
 
 use pdp_word::Size;
 
-// A number cut to the size: of a word the low byte where the size is a byte.
-#[inline]
+/// A number cut to the size: the whole word, or its low byte where the size is a byte.
+///
+/// DEC PDP-11/40 Processor Handbook (1972), Addressing modes.
+#[inline(always)]
 pub fn cut(size: Size, number: u16) -> u16
     ensures { result ≡ number % span size }
 {

@@ -10,14 +10,14 @@ use Rattle.pdp_cpu.specs.Handbook.Branch.{branch_plan, sob_plan}
 use Rattle.pdp_cpu.specs.Handbook.ChangeCodes.{clear_plan, set_plan}
 use Rattle.pdp_cpu.specs.Handbook.Control.{halt_plan, reserved_plan}
 use Rattle.pdp_cpu.specs.Handbook.TwoOperands.{compare_plan, combine_plan}
-use Rattle.pdp_cpu.specs.Handbook.Execute.{finish}
+use Rattle.pdp_cpu.specs.Handbook.Execute.{finish_plan}
 use Rattle.pdp_cpu.specs.Handbook.Extended.{mul_plan, div_plan, ash_plan, ashc_plan}
 use Rattle.pdp_cpu.specs.Handbook.Action.{action_of, plan_of_action, plan_of}
 use Rattle.pdp_cpu.specs.declared.action.Action.{Action}
 use Rattle.pdp_cpu.specs.declared.action.Action.TheVariants as action
 use Rattle.pdp_cpu.specs.Handbook.Jump.{jmp_plan, jsr_plan, rts_plan, mark_plan, pop_register, push, pop}
 use Rattle.pdp_cpu.specs.Handbook.Moves.{mov_plan, movb_plan}
-use Rattle.pdp_cpu.specs.Handbook.Operands.{operands, source_first, place_first, is_late}
+use Rattle.pdp_cpu.specs.Handbook.Operands.{operands_plan, source_first, place_first, is_late}
 use Rattle.pdp_cpu.specs.Handbook.Operation.{size_of_comparison, size_of_combination, size_of_modification, size_of_replacement}
 use Rattle.pdp_cpu.specs.Handbook.OneOperand.{tst_plan, modify_plan, replace_plan}
 use Rattle.pdp_cpu.specs.declared.operation.Combination.{Combination}
@@ -29,19 +29,19 @@ size_when : (late : Bool) (a b : Plan) (n : ℕ) → size_of a ≤ n → size_of
 size_when true a b n first second = first
 size_when false a b n first second = second
 
-size_of_operands : (size : Size) (source destination : Spec) → size_of (operands size source destination) ≤ 8
-unfolding operands source_first place_first
+size_of_operands : (size : Size) (source destination : Spec) → size_of (operands_plan size source destination) ≤ 8
+unfolding operands_plan source_first place_first
 size_of_operands size source destination =
     size_when (is_late source destination) _ _ 8
     (omega (arith, size_of_find size destination))
     (omega (arith, size_of_find size source, size_of_find size destination))
 
 size_of_mov : (source destination : Spec) → size_of (mov_plan source destination) ≤ 12
-unfolding mov_plan finish
+unfolding mov_plan finish_plan
 size_of_mov source destination = omega (arith, size_of_operands Word source destination)
 
 size_of_movb : (source destination : Spec) → size_of (movb_plan source destination) ≤ 12
-unfolding movb_plan finish
+unfolding movb_plan finish_plan
 size_of_movb source destination = omega (arith, size_of_operands Byte source destination)
 
 size_of_compare : (c : Comparison) (source destination : Spec) → size_of (compare_plan c source destination) ≤ 12
@@ -49,15 +49,15 @@ unfolding compare_plan
 size_of_compare c source destination = omega (arith, size_of_operands (size_of_comparison c) source destination)
 
 size_of_combine : (c : Combination) (source destination : Spec) → size_of (combine_plan c source destination) ≤ 12
-unfolding combine_plan finish
+unfolding combine_plan finish_plan
 size_of_combine c source destination = omega (arith, size_of_operands (size_of_combination c) source destination)
 
 size_of_modify : (m : Modification) (destination : Spec) → size_of (modify_plan m destination) ≤ 12
-unfolding modify_plan finish
+unfolding modify_plan finish_plan
 size_of_modify m destination = omega (arith, size_of_find (size_of_modification m) destination)
 
 size_of_replace : (r : Replacement) (destination : Spec) → size_of (replace_plan r destination) ≤ 12
-unfolding replace_plan finish
+unfolding replace_plan finish_plan
 size_of_replace r destination = omega (arith, size_of_find (size_of_replacement r) destination)
 
 size_of_tst : (size : Size) (destination : Spec) → size_of (tst_plan size destination) ≤ 12

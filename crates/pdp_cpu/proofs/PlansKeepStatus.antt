@@ -13,12 +13,12 @@ use Rattle.pdp_cpu.specs.Handbook.Branch.{branch_plan, sob_plan}
 use Rattle.pdp_cpu.specs.Handbook.ChangeCodes.{clear_plan, set_plan}
 use Rattle.pdp_cpu.specs.Handbook.Control.{halt_plan, reserved_plan}
 use Rattle.pdp_cpu.specs.Handbook.TwoOperands.{compare_plan, combine_plan, execute_comparison, execute_combination}
-use Rattle.pdp_cpu.specs.Handbook.Execute.{finish, store_codes}
+use Rattle.pdp_cpu.specs.Handbook.Execute.{finish_plan, store_codes}
 use Rattle.pdp_cpu.specs.Handbook.Extended.{mul_plan, div_plan, ash_plan, ashc_plan, multiply, divide, shift, shift_pair}
-use Rattle.pdp_cpu.specs.Handbook.Instruction.{fetch}
+use Rattle.pdp_cpu.specs.Handbook.Instruction.{fetch_instruction}
 use Rattle.pdp_cpu.specs.Handbook.Jump.{aim, jump_request, jmp_plan, jsr_plan, rts_plan, mark_plan, pop_register, take_link, link, return_by, take_mark}
 use Rattle.pdp_cpu.specs.Handbook.Moves.{execute_mov, mov_plan, movb_plan}
-use Rattle.pdp_cpu.specs.Handbook.Operands.{operands, source_first, place_first, keep_source, take_register}
+use Rattle.pdp_cpu.specs.Handbook.Operands.{operands_plan, source_first, place_first, keep_source, take_register}
 use Rattle.pdp_cpu.specs.Handbook.OneOperand.{execute_tst, execute_modification, execute_replacement, tst_plan, modify_plan, replace_plan}
 use Rattle.pdp_cpu.specs.declared.action.Action.{Action}
 use Rattle.pdp_cpu.specs.declared.action.Action.TheVariants as action
@@ -34,12 +34,12 @@ sure_codes : Sure (one store_codes)
 unfolding store_codes
 sure_codes = phase_sure _ (λ i. refl)
 
-safe_finish : (how : Fill) → Safe (finish how)
-unfolding finish
+safe_finish : (how : Fill) → Safe (finish_plan how)
+unfolding finish_plan
 safe_finish how = safe_sure _ _ (phase_safe _) sure_codes
 
-steady_operands : (size : Size) (source destination : Spec) → Steady (operands size source destination)
-unfolding operands source_first place_first keep_source take_register
+steady_operands : (size : Size) (source destination : Spec) → Steady (operands_plan size source destination)
+unfolding operands_plan source_first place_first keep_source take_register
 steady_operands size source destination =
     steady_if _ _ _ (steady_steady _ _ (steady_find size destination) (phase_steady _ (λ i. tt) (λ i value. refl)))
     (steady_steady _ _ (steady_find size source)
@@ -176,6 +176,6 @@ pub stopped_plan_keeps_status : (instr : Instr) (s : State) (stop : Stop) → ru
 stopped_plan_keeps_status instr s stop is =
     where_stopped s.world.bus.board.status (run_plan (plan_of instr) s) stop is ((safe_action (action_of instr)).at s)
 
-pub stopped_fetch_keeps_status : (s : State) (stop : Stop) → run_plan (one fetch) s ≡ Err stop
+pub stopped_fetch_keeps_status : (s : State) (stop : Stop) → run_plan (one fetch_instruction) s ≡ Err stop
     → stop.world.bus.board.status ≡ s.world.bus.board.status
-stopped_fetch_keeps_status s stop is = where_stopped s.world.bus.board.status (run_plan (one fetch) s) stop is ((phase_safe fetch).at s)
+stopped_fetch_keeps_status s stop is = where_stopped s.world.bus.board.status (run_plan (one fetch_instruction) s) stop is ((phase_safe fetch_instruction).at s)

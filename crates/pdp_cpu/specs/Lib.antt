@@ -1,5 +1,5 @@
 pub mod Handbook
 pub mod Turns
 -- where the answers of functions are kept in the latch
-pub mod Outcome
+pub mod KeptAnswers
 pub mod Laws

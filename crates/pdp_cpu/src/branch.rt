@@ -1,5 +1,5 @@
 ghost use Rattle.std.specs.Prelude.{◌≡◌, Ok};
-ghost use Rattle.pdp_operand.specs.Outcome.{Runs};
+ghost use Rattle.pdp_operand.specs.Contract.{Runs};
 ghost use Rattle.pdp_cpu.specs.Handbook.Branch.{branch_plan, branched, sob_plan, fallen};
 
 use crate::condition::Condition;

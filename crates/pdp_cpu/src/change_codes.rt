@@ -1,6 +1,6 @@
 ghost use Rattle.std.specs.Prelude.{◌≡◌, Ok};
 ghost use Rattle.pdp_operand.specs.declared.processor.Processor.{Processor};
-ghost use Rattle.pdp_operand.specs.Outcome.{Runs};
+ghost use Rattle.pdp_operand.specs.Contract.{Runs};
 ghost use Rattle.pdp_cpu.specs.Handbook.ChangeCodes.{clear_plan, set_plan};
 
 use pdp_store::Store;

@@ -1,5 +1,5 @@
 ghost use Rattle.std.specs.Prelude.{◌≡◌, Ok};
-ghost use Rattle.pdp_operand.specs.Outcome.{Runs};
+ghost use Rattle.pdp_operand.specs.Contract.{Runs};
 ghost use Rattle.pdp_cpu.specs.Handbook.Control.{halt_plan};
 ghost use Rattle.pdp_unibus.specs.BusWorld.{BusWorld};
 

@@ -1,8 +1,8 @@
 ghost use Rattle.std.specs.Prelude.{◌≡◌, ◌<◌, Some};
 ghost use Rattle.pdp_word.specs.Size.{span};
 ghost use Rattle.pdp_operand.specs.Handbook.Operand.{size_of_fill};
-ghost use Rattle.pdp_operand.specs.Outcome.{RunsWhere};
-ghost use Rattle.pdp_cpu.specs.Handbook.Execute.{finish as finish_plan, IsDue};
+ghost use Rattle.pdp_operand.specs.Contract.{RunsWhere};
+ghost use Rattle.pdp_cpu.specs.Handbook.Execute.{finish_plan, IsDue};
 
 use pdp_alu::Effect;
 use pdp_operand::{Fill, Place, Processor, Trap, store};
@@ -12,7 +12,7 @@ use pdp_unibus::Bus;
 /// Writes the value of an effect to its place, and then stores its codes, but where the program status word was written.
 /// Where the write faults the codes stay.
 #[inline(always)]
-#[tactic(auto, using(crate::proofs::Steps::run_store_codes, crate::proofs::Steps::run_store_none), unfolding(crate::specs::Handbook::Execute::finish))]
+#[tactic(auto, using(crate::proofs::Steps::run_store_codes, crate::proofs::Steps::run_store_none), unfolding(crate::specs::Handbook::Execute::finish_plan))]
 pub fn finish<S: Store>(
     processor: &mut Processor,
     bus: &mut Bus<S>,

@@ -1,6 +1,6 @@
 //! MUL, DIV, ASH and ASHC.
 ghost use Rattle.std.specs.Prelude.{◌≡◌, ◌<◌};
-ghost use Rattle.pdp_operand.specs.Outcome.{Runs};
+ghost use Rattle.pdp_operand.specs.Contract.{Runs};
 ghost use Rattle.pdp_cpu.specs.Handbook.Extended.{ash_plan, ashc_plan, codes_of, div_plan, mul_plan, with_quotient};
 
 use crate::pair::Pair;

@@ -1,7 +1,7 @@
 ghost use Rattle.std.specs.Prelude.{◌≡◌};
 ghost use Rattle.pdp_unibus.specs.BusWorld.{BusWorld};
 ghost use Rattle.pdp_operand.specs.declared.processor.Processor.{Processor};
-ghost use Rattle.pdp_operand.specs.Outcome.{GivesWhere, IsAt, in_value, Runs};
+ghost use Rattle.pdp_operand.specs.Contract.{GivesWhere, IsAt, in_value, Runs};
 ghost use Rattle.pdp_operand.specs.Phases.Plan.{one};
 ghost use Rattle.pdp_cpu.specs.Handbook.Jump.{aim as aim_phase, jmp_plan, jsr_plan, rts_plan, mark_plan, pop_register as pop_plan, linked, marked};
 

@@ -7,7 +7,7 @@ ghost use Rattle.pdp_decode.specs.declared.instruction.Instr.{Instr};
 ghost use Rattle.pdp_operand.specs.Phases.Phase.{State, Stop};
 ghost use Rattle.pdp_operand.specs.Phases.Plan.{one, run_plan};
 ghost use Rattle.pdp_cpu.specs.Handbook.Action.{plan_of};
-ghost use Rattle.pdp_cpu.specs.Handbook.Instruction.{fetch};
+ghost use Rattle.pdp_cpu.specs.Handbook.Instruction.{fetch_instruction};
 ghost use Rattle.pdp_operand.specs.Laws.Page.{AlikeOutside};
 ghost use Rattle.pdp_operand.specs.Laws.Touched.{IsOfTurn};
 ghost use Rattle.pdp_operand.specs.Laws.Trace.{Avoids, last_write};
@@ -59,7 +59,7 @@ pub fn turns_leave_what_they_never_touch()
 ///
 /// That a fault leaves the codes is this project's profile.
 pub fn what_cannot_go_on_leaves_the_codes()
-    ensures fetch { (s : State) (stop : Stop) → run_plan (one fetch) s ≡ Err stop → LeavesStatus s stop }
+    ensures fetch { (s : State) (stop : Stop) → run_plan (one fetch_instruction) s ≡ Err stop → LeavesStatus s stop }
     ensures plan { (instr : Instr) (s : State) (stop : Stop) →
         run_plan (plan_of instr) s ≡ Err stop → LeavesStatus s stop }
 {}

@@ -1,4 +1,4 @@
-ghost use Rattle.pdp_operand.specs.Outcome.{Runs};
+ghost use Rattle.pdp_operand.specs.Contract.{Runs};
 ghost use Rattle.pdp_cpu.specs.Handbook.Moves.{mov_plan, movb_plan};
 
 use crate::execute::finish;

@@ -1,9 +1,10 @@
 ghost use Rattle.std.specs.Prelude.{◌≡◌, ◌%◌, Ok};
 ghost use Rattle.pdp_word.specs.Size.{span};
-ghost use Rattle.pdp_operand.specs.Outcome.{Gives};
-ghost use Rattle.pdp_cpu.specs.Handbook.Operands.{operands as operands_plan, source_first, place_first};
-ghost use Rattle.pdp_cpu.specs.Outcome.{in_operands};
+ghost use Rattle.pdp_operand.specs.Contract.{Gives};
+ghost use Rattle.pdp_cpu.specs.Handbook.Operands.{operands_plan, source_first, place_first};
+ghost use Rattle.pdp_cpu.specs.KeptAnswers.{in_operands};
 
+use pdp_alu::cut;
 use pdp_decode::Spec;
 use pdp_operand::{Place, Processor, Slot, Trap, address, fetch};
 use pdp_store::Store;
@@ -13,7 +14,7 @@ use pdp_word::Size;
 /// The source's value and the destination's place. A source in a register is read after the address of a destination in
 /// memory was formed, any other source before.
 #[inline(always)]
-#[tactic(auto, unfolding(crate::specs::Handbook::Operands::operands))]
+#[tactic(auto, unfolding(crate::specs::Handbook::Operands::operands_plan))]
 pub fn operands<S: Store>(
     processor: &mut Processor,
     bus: &mut Bus<S>,
@@ -50,7 +51,7 @@ fn read_registers<S: Store>(
 {
     let from = Slot::of(bus.status().mode, source.reg);
     let to = Slot::of(bus.status().mode, destination.reg);
-    (cut(processor.register(from), size), Place::Reg(to))
+    (cut(size, processor.register(from)), Place::Reg(to))
 }
 
 #[inline(always)]
@@ -85,17 +86,6 @@ fn read_late<S: Store>(
 {
     let place = address(processor, bus, destination, size)?;
     let slot = Slot::of(bus.status().mode, source.reg);
-    let value = cut(processor.register(slot), size);
+    let value = cut(size, processor.register(slot));
     Ok((value, place))
-}
-
-/// A word, or its low byte.
-#[inline(always)]
-fn cut(word: u16, size: Size) -> u16
-    ensures { result ≡ word % span size }
-{
-    match size {
-        Size::Word => word,
-        Size::Byte => word % 256,
-    }
 }

@@ -1,5 +1,5 @@
 ghost use Rattle.std.specs.Prelude.{◌≡◌};
-ghost use Rattle.pdp_operand.specs.Outcome.{Runs};
+ghost use Rattle.pdp_operand.specs.Contract.{Runs};
 ghost use Rattle.pdp_cpu.specs.Handbook.TwoOperands.{compare_plan, combine_plan};
 
 use crate::execute::finish;

@@ -1,5 +1,5 @@
 pub mod Handbook
 pub mod Phases
 -- how functions of the code and plans belong together
-pub mod Outcome
+pub mod Contract
 pub mod Laws

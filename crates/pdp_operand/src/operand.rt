@@ -1,7 +1,7 @@
 ghost use Rattle.std.specs.Prelude.{◌≡◌, ◌<◌, Ok, IfOk};
 ghost use Rattle.pdp_word.specs.Size.{span};
 ghost use Rattle.pdp_operand.specs.Handbook.Operand.{cell_in, find, grow, index, indirect, is_status, lower, mode_now, point, read_operand, shrink, size_of_fill, stack_limit, step_of, write_operand};
-ghost use Rattle.pdp_operand.specs.Outcome.{Gives, GivesWhere, IsAt, IsToWrite, in_cell, in_codes, in_place, in_value, nowhere};
+ghost use Rattle.pdp_operand.specs.Contract.{Gives, GivesWhere, IsAt, IsToWrite, in_cell, in_codes, in_place, in_value, nowhere};
 ghost use Rattle.pdp_operand.specs.Phases.Plan.{one};
 ghost use Rattle.pdp_operand.specs.Handbook.Slot.{slot_of};
 ghost use Rattle.pdp_operand.specs.declared.place.Place.TheVariants.{Mem};

@@ -1,5 +1,5 @@
 use super::{codes, effect};
-use crate::{Size, mov};
+use crate::{Size, cut, mov};
 
 #[test]
 fn moves_words_and_bytes(rt: HostRuntime) {
@@ -17,4 +17,10 @@ fn moves_words_and_bytes(rt: HostRuntime) {
             "at {value:06o}"
         );
     }
+}
+
+#[test]
+fn cuts_to_a_size(rt: HostRuntime) {
+    assert_eq!(rt; cut(Size::Word, 0o177401), 0o177401);
+    assert_eq!(rt; cut(Size::Byte, 0o177401), 0o001);
 }
