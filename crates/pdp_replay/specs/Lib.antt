@@ -1,3 +1,4 @@
+pub mod PatchedWords
 pub mod Setup
 pub mod Core
 pub mod Image

@@ -7,6 +7,7 @@ use Rattle.pdp_script.specs.Refusal.{result_map}
 use Rattle.pdp_script.specs.Script.{ScriptData}
 use Rattle.pdp_script.specs.declared.faults.Fault.{Fault}
 use Rattle.pdp_replay.specs.Setup.{SetupData, setup_from, setup_checked}
+use Rattle.pdp_replay.specs.declared.patch.PatchKey.{PatchKey}
 use Rattle.pdp_replay.specs.declared.setup.Setup.{Setup}
 
 pub record Past : Type 0 where
@@ -14,7 +15,7 @@ pub record Past : Type 0 where
   pub script : ScriptData
 
 -- a setup with the patches and the script of an engine
-abbrev pub past_from : Setup → IndexMap ℕ ℕ (BuildHasherDefault FoldHasher) → ScriptData → Past
+abbrev pub past_from : Setup → IndexMap PatchKey ℕ (BuildHasherDefault FoldHasher) → ScriptData → Past
 past_from setup patches script = record { setup = setup_from setup patches; script = script }
 
 -- without events, and no number given

@@ -1,11 +1,12 @@
 ghost use Rattle.std.specs.Prelude.{◌≡◌, ◌*◌, ◌<◌, Ok, IfOk, OnErr, false, min};
 ghost use Rattle.pdp_script.specs.Refusal.{for_memory, edit_answer, result_map};
+ghost use Rattle.pdp_replay.specs.PatchedWords.{core_number};
 ghost use Rattle.pdp_replay.specs.Setup.{SetupData};
 ghost use Rattle.pdp_replay.specs.Edit.{core_word_at, core_edit, revert_edit, insertion_answer, event_alteration, event_drop, patch_at, patch_count};
 ghost use Rattle.pdp_replay.specs.Timeline.{core_edited, core_reverted, event_inserted, event_altered, event_dropped};
 
 use crate::engine::Engine;
-use crate::patch::Patch;
+use crate::patch::{Patch, PatchKey};
 use crate::setup::UNIT_WORDS;
 use pdp_script::Fault;
 use pdp_unibus::Event;
@@ -22,8 +23,8 @@ impl Engine {
         ensures after { self.new ≡ core_edited address word (for_memory result) self.old }
         ensures refused { OnErr result (self.new ≡ self.old) }
     {
-        let number = core_word(self.setup.units, address)?;
-        self.patches.insert(number, word)?;
+        let key = PatchKey::Core(core_word(self.setup.units, address)?);
+        self.patches.insert(key, word)?;
         lower_known(&mut self.known, 0);
         Ok(())
     }
@@ -40,8 +41,8 @@ impl Engine {
         ensures after { self.new ≡ core_reverted address (for_memory result) self.old }
         ensures refused { OnErr result (self.new ≡ self.old) }
     {
-        let number = core_word(self.setup.units, address)?;
-        if self.patches.shift_remove(&number).is_none() {
+        let key = PatchKey::Core(core_word(self.setup.units, address)?);
+        if self.patches.shift_remove(&key).is_none() {
             return Err(Fault::NoSuchPatch);
         }
         lower_known(&mut self.known, 0);
@@ -110,8 +111,8 @@ impl Engine {
     pub fn patches(&self, index: usize) -> Option<Patch>
         ensures { result ≡ patch_at self.now.past index }
     {
-        let (number, word) = self.patches.get_index(index)?;
-        Some(Patch::Core(*number * 2, *word))
+        let (key, word) = self.patches.get_index(index)?;
+        Some(Patch::Core(key.core_number() * 2, *word))
     }
 }
 

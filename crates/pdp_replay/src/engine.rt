@@ -5,6 +5,7 @@ ghost use Rattle.pdp_replay.specs.Answer.{answer_to, value_in};
 ghost use Rattle.pdp_replay.specs.Known.{known_after, IsStride, IsWithinBound};
 ghost use Rattle.pdp_replay.specs.Timeline.{fresh};
 
+use crate::patch::PatchKey;
 use crate::question::{Answer, Question};
 use crate::setup::Setup;
 use crate::travel::machine_at;
@@ -20,7 +21,7 @@ use std::marker::Model;
 #[derive(Drop)]
 pub struct Engine {
     pub(crate) setup: Setup,
-    pub(crate) patches: IndexMap<u32, u16>,
+    pub(crate) patches: IndexMap<PatchKey, u16>,
     pub(crate) script: Script,
     pub(crate) meter: Meter,
     pub(crate) known: u32,

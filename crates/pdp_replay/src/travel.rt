@@ -7,6 +7,7 @@ ghost use Rattle.pdp_replay.specs.Quiet.{quiet_turns};
 ghost use Rattle.pdp_replay.specs.Turns.{power, state_at, at, RunsTo};
 
 use crate::image::{image_store, put_patches};
+use crate::patch::PatchKey;
 use crate::setup::{Setup, UNIT_WORDS};
 use indexmap::IndexMap;
 use pdp_cpu::{Machine, Meter};
@@ -25,7 +26,7 @@ pub type FlatMachine = Machine<Flat>;
 fn powered(
     alloc: Global,
     setup: &Setup,
-    patches: &IndexMap<u32, u16>,
+    patches: &IndexMap<PatchKey, u16>,
 ) -> Result<FlatMachine, NoMemory>
     requires good { IsGood (setup_from setup.now patches.now) }
     requires below { AllBelow (setup.now.units * UNIT_WORDS) patches.now.entries }
@@ -44,7 +45,7 @@ fn powered(
 pub fn machine_at(
     alloc: Global,
     setup: &Setup,
-    patches: &IndexMap<u32, u16>,
+    patches: &IndexMap<PatchKey, u16>,
     script: &Script,
     meter: &mut Meter,
     turn: u32,

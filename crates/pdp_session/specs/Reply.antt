@@ -8,6 +8,7 @@ use Rattle.pdp_operand.specs.declared.processor.RunState.{RunState}
 use Rattle.pdp_operand.specs.declared.processor.RunState.TheVariants.{Run, Wait, Halted}
 use Rattle.pdp_replay.specs.Edit.{patch_shown, patch_count}
 use Rattle.pdp_replay.specs.Past.{Past}
+use Rattle.pdp_replay.specs.PatchedWords.{Patches}
 use Rattle.pdp_replay.specs.declared.patch.Patch.{Patch}
 use Rattle.pdp_replay.specs.declared.patch.Patch.TheVariants.{Core}
 use Rattle.pdp_replay.specs.declared.question.Value.{Value}
@@ -49,7 +50,7 @@ refusal_text fault = refusal_line fault ++ codes "\n"
 abbrev pub patch_line : Patch → List ℕ
 patch_line (Core address word) = codes "core " ++ octal_digits 6 address ++ codes " " ++ octal_digits 6 word ++ codes "\n"
 
-abbrev pub patch_lines : List (ℕ × ℕ) → List ℕ
+abbrev pub patch_lines : Patches → List ℕ
 patch_lines [] = []
 patch_lines (entry ∷ entries) = patch_line (patch_shown entry) ++ patch_lines entries
 
