@@ -1,5 +1,5 @@
-pub mod Ending
+pub mod Exit
 pub mod Files
 pub mod Numbers
 pub mod CommandLine
-pub mod Outcome
+pub mod ProgramRun

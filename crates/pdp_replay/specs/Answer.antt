@@ -8,7 +8,7 @@ use Rattle.pdp_script.specs.declared.faults.Fault.{Fault}
 use Rattle.pdp_script.specs.declared.faults.Fault.TheVariants.{OutsideCore, OddAddress, TurnTooLarge, CountOutOfRange}
 use Rattle.pdp_replay.specs.Past.{Past}
 use Rattle.pdp_replay.specs.Setup.{SetupData, core_size}
-use Rattle.pdp_replay.specs.Turns.{state_at}
+use Rattle.pdp_replay.specs.States.{state_at}
 use Rattle.pdp_replay.specs.declared.question.Answer.{Answer}
 use Rattle.pdp_replay.specs.declared.question.Question.{Question}
 use Rattle.pdp_replay.specs.declared.question.Question.TheVariants as question
@@ -70,5 +70,5 @@ abbrev pub IsAnswerIn : World → Question → Value → Type 0
 IsAnswerIn world q value = (p : Past) → world ≡ state_at p (turn_asked q) → value ≡ answer q p
 
 -- the value of an answer
-abbrev pub value_in : Result Answer Fault → Result Value Fault
-value_in result = result_map (λ a. a.value) result
+abbrev pub value_answered : Result Answer Fault → Result Value Fault
+value_answered result = result_map (λ a. a.value) result

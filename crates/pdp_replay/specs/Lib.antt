@@ -3,7 +3,7 @@ pub mod Setup
 pub mod Core
 pub mod Image
 pub mod Past
-pub mod Turns
+pub mod States
 pub mod Quiet
 pub mod Answer
 pub mod Edit

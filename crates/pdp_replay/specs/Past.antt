@@ -23,8 +23,8 @@ abbrev pub unscripted : SetupData → Past
 unscripted setup = record { setup = setup; script = record { entries = []; given = 0 } }
 
 -- the past that a run begins with, or why there is none
-abbrev pub beginning : SetupData → Result Past Fault
-beginning setup = result_map unscripted (setup_checked setup)
+abbrev pub starting_past : SetupData → Result Past Fault
+starting_past setup = result_map unscripted (setup_checked setup)
 
 abbrev pub with_setup : Past → SetupData → Past
 with_setup p setup = record p { setup = setup }

@@ -1,7 +1,7 @@
 ghost use Rattle.std.specs.Prelude.{◌≡◌, ◌+◌, ◌≤◌, ◌<◌, ◌^◌, max, IfOk, OnOk, IsErr, false};
 ghost use Rattle.pdp_script.specs.Refusal.{for_memory, question_answer, result_map};
 ghost use Rattle.pdp_replay.specs.Setup.{given, setup_checked};
-ghost use Rattle.pdp_replay.specs.Answer.{answer_to, value_in};
+ghost use Rattle.pdp_replay.specs.Answer.{answer_to, value_answered};
 ghost use Rattle.pdp_replay.specs.Known.{known_after, IsStride, IsWithinBound};
 ghost use Rattle.pdp_replay.specs.Timeline.{fresh};
 
@@ -73,7 +73,7 @@ impl Engine {
     #[tactic(auto, unfolding(crate::specs::Answer::answer_to))]
     pub fn ask(&mut self, alloc: Global, question: Question) -> Result<Answer, Fault>
         // The answer is that of the run from power-up, and want of memory is the last refusal.
-        ensures value { value_in result ≡ question_answer (answer_to question self.old.past) (for_memory result) }
+        ensures value { value_answered result ≡ question_answer (answer_to question self.old.past) (for_memory result) }
         ensures past { self.new.past ≡ self.old.past }
 
         // It ran at most one stride of turns more than those past what was known, also where it is then refused.

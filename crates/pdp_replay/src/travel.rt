@@ -4,7 +4,7 @@ ghost use Rattle.pdp_replay.specs.Setup.{setup_from, IsGood};
 ghost use Rattle.pdp_replay.specs.Core.{AllBelow};
 ghost use Rattle.pdp_replay.specs.Past.{past_from};
 ghost use Rattle.pdp_replay.specs.Quiet.{quiet_turns};
-ghost use Rattle.pdp_replay.specs.Turns.{power, state_at, at, RunsTo};
+ghost use Rattle.pdp_replay.specs.States.{power, state_at, at, RunsTo};
 
 use crate::image::{image_store, put_patches};
 use crate::patch::PatchKey;
@@ -22,7 +22,7 @@ pub type FlatMachine = Machine<Flat>;
 /// The machine as of power-up of this setup with its patches.
 ///
 /// Err where there is no memory for its core.
-#[tactic(auto, using(crate::proofs::CoreWords::length_padded, crate::proofs::CoreWords::core_is_filled), unfolding(crate::specs::Turns::power))]
+#[tactic(auto, using(crate::proofs::CoreWords::length_padded, crate::proofs::CoreWords::core_is_filled), unfolding(crate::specs::States::power))]
 fn powered(
     alloc: Global,
     setup: &Setup,

@@ -12,10 +12,10 @@ abbrev pub entry_at : Label → Event → Entry
 entry_at label event = record { number = label.number; turn = label.turn; event = event }
 
 -- the entries of labels and the events in step with them
-abbrev pub joined : List Label → List Event → List Entry
-joined [] events = []
-joined (label ∷ labels) [] = []
-joined (label ∷ labels) (event ∷ events) = entry_at label event ∷ joined labels events
+abbrev pub labelled : List Label → List Event → List Entry
+labelled [] events = []
+labelled (label ∷ labels) [] = []
+labelled (label ∷ labels) (event ∷ events) = entry_at label event ∷ labelled labels events
 
 abbrev pub IsInOrder : List Label → Type 0
 IsInOrder labels = IsNonDecreasingBy (λ s. s.turn) labels

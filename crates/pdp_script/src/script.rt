@@ -30,9 +30,9 @@ impl Model for Script {
 
     ghost Value = { ScriptData };
 
-    ghost use Rattle.pdp_script.specs.Labels.{joined, IsKept};
+    ghost use Rattle.pdp_script.specs.Labels.{labelled, IsKept};
 
-    ghost view = { λ s. record { entries = joined s.labels.items s.events.items; given = s.given } };
+    ghost view = { λ s. record { entries = labelled s.labels.items s.events.items; given = s.given } };
 
     ghost invariant = { λ s. IsKept s.labels.items s.events.items s.given };
 }
