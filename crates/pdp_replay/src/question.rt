@@ -7,7 +7,8 @@ use crate::answer_words::Words;
 use crate::setup::UNIT_WORDS;
 use crate::travel::FlatMachine;
 use pdp_cpu::Regs;
-use pdp_script::{Fault, LAST_TURN};
+use pdp_script::Fault;
+use pdp_unibus::LAST_TURN;
 use pdp_word::NoMemory;
 use std::alloc::Global;
 

@@ -11,8 +11,9 @@ use crate::patch::PatchKey;
 use crate::setup::{Setup, UNIT_WORDS};
 use indexmap::IndexMap;
 use pdp_cpu::{Machine, Meter};
-use pdp_script::{LAST_TURN, Script};
+use pdp_script::Script;
 use pdp_store::Flat;
+use pdp_unibus::LAST_TURN;
 use pdp_word::NoMemory;
 use std::alloc::Global;
 

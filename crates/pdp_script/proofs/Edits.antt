@@ -9,7 +9,8 @@ use Rattle.pdp_unibus.specs.declared.event.Event.{Event}
 use Rattle.pdp_script.specs.declared.labels.Label.{Label}
 use Rattle.pdp_script.specs.declared.faults.Fault.TheVariants.{NoSuchEvent, ScriptFull}
 use Rattle.pdp_script.specs.Entries.{entry_of, inserted, changed_in_place}
-use Rattle.pdp_script.specs.Script.{ScriptData, last_turn, most_events, most_numbers, with_event, insert_edit, alter_edit, drop_edit}
+use Rattle.pdp_script.specs.Script.{ScriptData, most_events, most_numbers, with_event, insert_edit, alter_edit, drop_edit}
+use Rattle.pdp_unibus.specs.LastTurn.{last_turn}
 use Rattle.pdp_script.specs.Labels.{entry_at, labelled, IsFirstOf, PutsLast}
 use Rattle.pdp_script.proofs.Labelled.{entry_of-labelled, no_entry-labelled, without-labelled, inserted-labelled, changed_in_place-labelled, length-labelled}
 

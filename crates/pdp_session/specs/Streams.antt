@@ -1,6 +1,10 @@
 -- When a put has failed.
 use Rattle.std.specs.Prelude.{ℕ, Bool, true, ◌==◌, ◌&&◌, nat_lt, Result, Ok, Err}
 
+-- how many pulls a feed over one of std's readers begins with: more than any input has
+abbrev pub pulls_at_first : ℕ
+pulls_at_first = 1000000000000
+
 -- a failure, or none of some bytes was taken
 abbrev pub put_failed : {E : Type 0} → Result ℕ E → ℕ → Bool
 put_failed (Ok taken) offered = taken == 0 && nat_lt 0 offered
