@@ -1,4 +1,4 @@
--- What the words of the command line ask for.
+-- What the words of the command line ask for (this project's profile).
 use Rattle.std.specs.Prelude.{◌≡◌, ◌≢◌, List, [], Option, Some, None, Result, Ok, Err, ◌⊎◌, codes}
 use Rattle.clap.specs.Words.{App, Kinds, IsAmong, Rule, Text, first_of, matches_of, new_app, new_rule, with_rule}
 use Rattle.clap.specs.declared.builder.action.ArgAction.TheVariants.{Set}

@@ -1,3 +1,4 @@
+-- The program: its exit, its files, the words of its command line and its whole run (this project's profile).
 pub mod Exit
 pub mod Files
 pub mod Numbers

@@ -1,4 +1,4 @@
--- The numbers that the options give.
+-- The numbers that the options give (this project's profile).
 use Rattle.std.specs.Prelude.{ℕ, List, Option, Some, None, min, option_map}
 use Rattle.pdp_word.specs.Number.{number_of}
 use Rattle.pdp_replay.specs.Setup.{only_stride}

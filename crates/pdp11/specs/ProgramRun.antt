@@ -1,4 +1,4 @@
--- What the program has done with its streams when it ends.
+-- What the program has done with its streams when it ends (this project's profile).
 use Rattle.std.specs.Prelude.{◌≡◌, ℕ, ◌++◌, List, [], Option, Result, Ok, Err, string_bytes}
 use Rattle.std.specs.Io.KnownBytes.{Appends, Keeps}
 use Rattle.clap.specs.Words.{Text, fault_of}
@@ -38,7 +38,8 @@ pub record RunsSession (options : Options) (before after : Option (List ℕ)) (p
   pub session : Session (starting_past (setup_with options)) before after pulls pulls_after before_out after_out answer
   pub ends : exit ≡ exit_of answer
 
--- what was done where the words ask for this: the reader's known bytes and pulls before and after, and the writer's bytes
+-- what was done where the words ask for this: the reader's known bytes and pulls before and after, and the writer's
+-- bytes
 abbrev pub Does : Result Request Exit → Option (List ℕ) → Option (List ℕ) → ℕ → ℕ → Option (List ℕ) → Option (List ℕ) → Exit → Type 0
 Does (Ok (Help text)) before after pulls pulls_after before_out after_out exit =
     Keeps before after × (pulls_after ≡ pulls) × Shows (string_bytes text) before_out after_out exit

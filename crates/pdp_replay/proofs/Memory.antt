@@ -1,4 +1,4 @@
--- Edits that are never refused for want of memory.
+-- Edits that are never refused as out of memory.
 use Rattle.std.proofs.Common.{◌≡◌, ℕ, Bool, true, false, cond, refl, ◌∙◌, Option, None, Some, Result, Ok, Err, List, nat_lt}
 use Rattle.pdp_script.specs.Entries.{Entry, entry_of, altered, without}
 use Rattle.pdp_script.specs.Refusal.{for_memory, result_map}

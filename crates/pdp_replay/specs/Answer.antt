@@ -1,4 +1,4 @@
--- What a question must be answered, from the run from power-up alone.
+-- What a question must be answered, from the run from power-up alone (this project's profile).
 use Rattle.std.specs.Prelude.{ℕ, ◌≡◌, ◌+◌, ◌/◌, ◌%◌, ◌==◌, ◌≤◌, ◌&&◌, List, take, drop, Result, Ok, Err, nat_le, if◌then◌else◌}
 use Rattle.pdp_cpu.specs.Turns.Regs.{regs_of}
 use Rattle.pdp_operand.specs.Phases.World.{World}

@@ -1,4 +1,4 @@
--- The words of core as of power-up.
+-- The words of core as of power-up (this project's profile).
 use Rattle.std.specs.Prelude.{ℕ, ◌≡◌, ◌<◌, List, length, map, slice_index, unwrap_or}
 use Rattle.std.specs.List.{All, range_with_len}
 use Rattle.pdp_replay.specs.PatchedWords.{Patches, core_key, core_number, patch_of}

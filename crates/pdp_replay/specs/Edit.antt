@@ -1,4 +1,4 @@
--- What a command makes of the past.
+-- What a command makes of the past (this project's profile).
 use Rattle.std.specs.Prelude.{ℕ, ◌≡◌, ◌+◌, Bool, false, ◌/◌, ◌%◌, ◌*◌, ◌==◌, Option, Some, None, Result, Ok, Err, length, min, nat_lt, is_some, slice_get, if◌then◌else◌}
 use Rattle.std.specs.Option.{option_map}
 use Rattle.indexmap.specs.IndexMap.{insert_entry, shift_remove_entry}
@@ -54,7 +54,7 @@ event_alteration number turn event p = of_script p (alter_edit number turn event
 unfoldable pub event_drop : ℕ → Past → Result Past Fault
 event_drop number p = of_script p (drop_edit number p.script)
 
--- no alteration and no drop of an event is refused for want of memory
+-- no alteration and no drop of an event is refused as out of memory
 abbrev pub AlterationNeedsNoMemory : Type 0
 AlterationNeedsNoMemory = (number turn : ℕ) (event : Event) (p : Past) → for_memory (event_alteration number turn event p) ≡ false
 

@@ -1,3 +1,4 @@
+-- Setups, edits and questions, and the run that they are of (this project's profile).
 pub mod PatchedWords
 pub mod Setup
 pub mod Core

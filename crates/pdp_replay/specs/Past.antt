@@ -1,4 +1,4 @@
--- The past: what determines a run, its setup with the patches and its script.
+-- The past: what determines a run, its setup with the patches and its script (this project's profile).
 use Rattle.std.specs.Prelude.{ℕ, [], Result}
 use Rattle.std.specs.declared.hash.BuildHasherDefault.{BuildHasherDefault}
 use Rattle.std.specs.declared.hash.FoldHasher.{FoldHasher}

@@ -1,4 +1,4 @@
--- What a run starts from, as plain data.
+-- What a run starts from, as plain data (this project's profile).
 use Rattle.std.specs.Prelude.{ℕ, ◌≡◌, ◌≤◌, ◌*◌, ◌%◌, ◌==◌, ◌&&◌, Bool, List, [], Result, Ok, Err, length, nat_le, if◌then◌else◌}
 use Rattle.indexmap.specs.IndexMap.{IndexMap}
 use Rattle.std.specs.declared.hash.BuildHasherDefault.{BuildHasherDefault}
@@ -20,7 +20,7 @@ pub record SetupData : Type 0 where
   pub stride : ℕ
   pub patches : Patches
 
--- the limits of a setup (this project's profile): the units of core and the words of one, the words of a drive (203
+-- the limits of a setup: the units of core and the words of one, the words of a drive (203
 -- cylinders of 2 surfaces of 12 sectors of 256 words), the bytes of a tape, and the one stride for now
 abbrev pub most_units : ℕ
 most_units = 31

@@ -63,16 +63,16 @@ impl Engine {
         })
     }
 
-    /// Answers a question about the run from power-up of the past as it is now. Once answered, the known turn is the larger
-    /// of what it was and the turn asked about.
+    /// Answers a question about the run from power-up of the past as it is now. Once answered, the known turn is the
+    /// larger of what it was and the turn asked about.
     ///
-    /// Err(TurnTooLarge) where its turn is above 1,000,000,000; else, of words of core, Err(CountOutOfRange) where their
-    /// count is not 1 to 256, else Err(OutsideCore) where one of them is not in core, else Err(OddAddress) where the address
-    /// is odd; else Err(NoMemory) where a growth was refused. No refusal changes the past, and one for another cause than
-    /// memory changes nothing. (This project's profile.)
+    /// Err(TurnTooLarge) where its turn is above 1,000,000,000; else, of words of core, Err(CountOutOfRange) where
+    /// their count is not 1 to 256, else Err(OutsideCore) where one of them is not in core, else Err(OddAddress) where
+    /// the address is odd; else Err(NoMemory) where a growth was refused. No refusal changes the past, and one for
+    /// another cause than memory changes nothing. (This project's profile.)
     #[tactic(auto, unfolding(crate::specs::Answer::answer_to))]
     pub fn ask(&mut self, alloc: Global, question: Question) -> Result<Answer, Fault>
-        // The answer is that of the run from power-up, and want of memory is the last refusal.
+        // The answer is that of the run from power-up, and out of memory is the last refusal.
         ensures value { value_answered result ≡ question_answer (answer_to question self.old.past) (for_memory result) }
         ensures past { self.new.past ≡ self.old.past }
 

@@ -69,7 +69,7 @@ alter_edit-other ss es given number turn i s v ss' es' range step first is other
     rw (put.labels_after, put.events_after) (inserted-labelled (remove ss i) (remove es i) put.place (label_of number turn) v (omega arith) put.within put.before put.after) in
     rw (in_range, found, no, less, edited) refl
 
--- an insertion that nothing but want of memory refuses
+-- an insertion that nothing refuses, but being out of memory
 pub insert_edit-ok : (ss : List Label) (es : List Event) (given turn : ℕ) (v : Event) → turn ≤ last_turn → length ss ≡ length es → length ss < most_events
     → given < most_numbers → insert_edit turn v (script_of ss es given) ≡ Ok (with_event turn v (script_of ss es given))
 insert_edit-ok ss es given turn v range step room numbers =

@@ -1,4 +1,5 @@
--- The entries of a script: its events with their numbers and turns, in the order of their turns.
+-- The entries of a script: its events with their numbers and turns, in the order of their turns (this project's
+-- profile).
 use Rattle.std.specs.Prelude.{ℕ, ◌≡◌, ◌<◌, ◌≤◌, cond, eqb, nat_lt, nat_le, Option, Some, None, List, [], ◌∷◌, map}
 use Rattle.std.specs.List.{filter}
 use Rattle.pdp_unibus.specs.declared.event.Event.{Event}

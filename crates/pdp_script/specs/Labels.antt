@@ -1,4 +1,5 @@
--- How a script is kept: the numbers and turns in one list, the events in step with them in another.
+-- How the code keeps a script: the numbers and turns in one list, the events in step with them in another. No public
+-- contract names this.
 use Rattle.std.specs.Prelude.{◌≡◌, ◌<◌, ◌≤◌, ℕ, List, [], ◌∷◌, length}
 use Rattle.std.specs.List.{All, AllPairs, AllWithin, HoldsAt, insert}
 use Rattle.std.specs.List.Sorted.{IsNonDecreasingBy}

@@ -1,4 +1,4 @@
--- When a put has failed.
+-- Where the bytes of a session come from and go to: when a put has failed (this project's profile).
 use Rattle.std.specs.Prelude.{ℕ, Bool, true, ◌==◌, ◌&&◌, nat_lt, Result, Ok, Err}
 
 -- how many pulls a feed over one of std's readers begins with: more than any input has

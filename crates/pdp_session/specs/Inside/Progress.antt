@@ -23,7 +23,7 @@ abbrev pub Agrees : ℕ → (ℕ → Bool) → (ℕ → Bool) → Type 0
 Agrees n refused other = (k : ℕ) → k < n → other k ≡ refused k
 
 -- From this past, `lines` were answered with `out`, and the past is `now`. Whatever lines come next, and
--- whichever of those are refused for want of memory, the replies begin with those that were given.
+-- whichever of those are refused as out of memory, the replies begin with those that were given.
 pub record Replied (past : Past) (lines : List (List ℕ)) (out : List ℕ) (now : Past) : Type 0 where
   pub given : List (List ℕ)
   pub count : ℕ
