@@ -1,12 +1,12 @@
--- What the words of the command line ask for.
+-- What the words of the command line ask for (this project's profile).
 use Rattle.std.specs.Prelude.{◌≡◌, ◌≢◌, List, [], Option, Some, None, Result, Ok, Err, ◌⊎◌, codes}
 use Rattle.clap.specs.Words.{App, Kinds, IsAmong, Rule, Text, first_of, matches_of, new_app, new_rule, with_rule}
 use Rattle.clap.specs.declared.builder.action.ArgAction.TheVariants.{Set}
 use Rattle.clap.specs.declared.error.kind.ErrorKind.{ErrorKind}
 use Rattle.clap.specs.declared.error.kind.ErrorKind.TheVariants.{DisplayHelp}
 use Rattle.pdp11.specs.Numbers.{options_given}
-use Rattle.pdp11.specs.declared.ending.Ending.{Ending}
-use Rattle.pdp11.specs.declared.ending.Ending.TheVariants.{BadArguments, NoMemory}
+use Rattle.pdp11.specs.declared.exit.Exit.{Exit}
+use Rattle.pdp11.specs.declared.exit.Exit.TheVariants.{BadArguments, NoMemory}
 use Rattle.pdp11.specs.declared.options.Options.{Options}
 use Rattle.pdp11.specs.declared.command_line.Request.{Request}
 use Rattle.pdp11.specs.declared.command_line.Request.TheVariants.{Help, Session}
@@ -31,7 +31,7 @@ IsRefused faults = (kind : ErrorKind) × (kind ≢ DisplayHelp) × IsAmong kind 
 
 -- An answer about words in which clap finds these faults, of which asking for help is one: so help wins over a
 -- number that can't be read, which is looked at where there is no fault.
-abbrev pub Asks : Kinds → List Text → Result Request Ending → Type 0
+abbrev pub Asks : Kinds → List Text → Result Request Exit → Type 0
 Asks faults words (Ok (Help text)) = IsAmong DisplayHelp faults
 Asks faults words (Ok (Session options)) = (faults ≡ []) × (options_in words ≡ Some options)
 Asks faults words (Err BadArguments) = IsRefused faults ⊎ ((faults ≡ []) × (options_in words ≡ None))

@@ -1,9 +1,9 @@
--- When a file has failed.
+-- When a file has failed (this project's profile).
 use Rattle.std.specs.Prelude.{Bool, true, false, Result, Ok, Err}
 use Rattle.pdp11.specs.declared.files.FileFailure.{FileFailure}
 use Rattle.pdp11.specs.declared.files.FileFailure.TheVariants.{NoMemory, Unreadable}
 
--- it couldn't be read; want of memory for its bytes is no failure of the file
+-- it couldn't be read; being out of memory for its bytes is no failure of the file
 abbrev pub is_unreadable : {T : Type 0} → Result T FileFailure → Bool
 is_unreadable (Ok bytes) = false
 is_unreadable (Err NoMemory) = false

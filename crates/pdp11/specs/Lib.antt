@@ -1,5 +1,6 @@
-pub mod Ending
+-- The program: its exit, its files, the words of its command line and its whole run (this project's profile).
+pub mod Exit
 pub mod Files
 pub mod Numbers
 pub mod CommandLine
-pub mod Outcome
+pub mod ProgramRun

@@ -1,7 +1,8 @@
--- The numbers that the options give.
+-- The numbers that the options give (this project's profile).
 use Rattle.std.specs.Prelude.{ℕ, List, Option, Some, None, min, option_map}
 use Rattle.pdp_word.specs.Number.{number_of}
-use Rattle.pdp_session.specs.Grammar.Arguments.{◌>>=◌}
+use Rattle.pdp_replay.specs.Setup.{only_stride}
+use Rattle.pdp_session.specs.Grammar.Arguments.{◌>>=◌, largest_number}
 use Rattle.pdp11.specs.declared.options.Options.{Options}
 
 -- The number of an option whose field holds numbers up to `largest`: its default where the option isn't given, and
@@ -18,7 +19,18 @@ all_given units start stride = do
   n ← stride
   Some (record { units = u; start = a; stride = n })
 
--- what the texts of --units, --start and --stride ask for: without them 31, 1000 octal and 2,000,000,000
+-- what the texts of --units, --start and --stride give, in fields of 8, 16 and 32 bits: without them 31, 1000 octal and
+-- the one stride
+abbrev pub units_number : Option (List ℕ) → Option ℕ
+units_number text = number_given 10 255 31 text
+
+abbrev pub start_number : Option (List ℕ) → Option ℕ
+start_number text = number_given 8 0o177777 0o1000 text
+
+abbrev pub stride_number : Option (List ℕ) → Option ℕ
+stride_number text = number_given 10 largest_number only_stride text
+
+-- and what they ask for together
 abbrev pub options_given : Option (List ℕ) → Option (List ℕ) → Option (List ℕ) → Option Options
 options_given units start stride =
-    all_given (number_given 10 255 31 units) (number_given 8 65535 512 start) (number_given 10 4294967295 2000000000 stride)
+    all_given (units_number units) (start_number start) (stride_number stride)

@@ -2,7 +2,7 @@ ghost use Rattle.std.specs.Prelude.{◌≡◌, false, map, IfOk};
 ghost use Rattle.clap.specs.Words.{FailsBy, app_of, fault_of, found_of, matches_of, rows_of, rule_of};
 ghost use Rattle.pdp11.specs.CommandLine.{Asks, command_line, option_rule};
 
-use crate::ending::Ending;
+use crate::exit::Exit;
 use crate::options::{Options, read_options};
 use clap::error::ErrorKind;
 use clap::{Arg, ArgAction, ArgMatches, Command, Error};
@@ -21,7 +21,7 @@ pub enum Request {
 /// What these words ask for, the program's name first. `BadArguments`: an option is unknown, is given twice or
 /// without a value, there is a word that belongs to none, or a number can't be read. Help wins over the last.
 /// `NoMemory` as soon as it is out of memory.
-pub fn read_words<S: AsStr>(alloc: Global, words: &[S]) -> Result<Request, Ending>
+pub fn read_words<S: AsStr>(alloc: Global, words: &[S]) -> Result<Request, Exit>
     ensures { Asks (fault_of command_line (map S.text words.now)) (map S.text words.now) result }
 {
     match matches_of(alloc, words) {
@@ -31,13 +31,13 @@ pub fn read_words<S: AsStr>(alloc: Global, words: &[S]) -> Result<Request, Endin
             let stride = matches.get_str("stride");
             match read_options(units, start, stride) {
                 Some(options) => Ok(Request::Session(options)),
-                None => Err(Ending::BadArguments),
+                None => Err(Exit::BadArguments),
             }
         }
         Err(error) => match error.kind() {
             ErrorKind::DisplayHelp => Ok(Request::Help(error.to_string(alloc)?)),
-            ErrorKind::OutOfMemory => Err(Ending::NoMemory),
-            _ => Err(Ending::BadArguments),
+            ErrorKind::OutOfMemory => Err(Exit::NoMemory),
+            _ => Err(Exit::BadArguments),
         },
     }
 }

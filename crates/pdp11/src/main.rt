@@ -8,12 +8,12 @@
 #![tactic(auto)]
 
 mod command_line;
-mod ending;
+mod exit;
 mod files;
 mod options;
 mod program;
 
-use ending::Ending;
+use exit::Exit;
 use files::HostFiles;
 use pdp_session::{FromRead, ToWrite};
 use std::process::ExitCode;
@@ -33,7 +33,7 @@ fn main(rt: HostRuntime) -> ExitCode {
                 &mut writer,
             )
         }
-        Err(ending) => (ending.status(), ending.line()),
+        Err(exit) => (exit.status(), exit.line()),
     };
     if !line.is_empty() {
         // where this can't be written there is nobody to tell
@@ -43,12 +43,12 @@ fn main(rt: HostRuntime) -> ExitCode {
 }
 
 // The words of the command line, the program's name first. Words that aren't text are bad arguments.
-fn words_of(rt: &HostRuntime) -> Result<Vec<String>, Ending> {
+fn words_of(rt: &HostRuntime) -> Result<Vec<String>, Exit> {
     match env::args(rt) {
         Ok(words) => Ok(words.collect::<Vec<String>>(rt.alloc())?),
         Err(error) => match error.kind() {
-            io::ErrorKind::OutOfMemory => Err(Ending::NoMemory),
-            _ => Err(Ending::BadArguments),
+            io::ErrorKind::OutOfMemory => Err(Exit::NoMemory),
+            _ => Err(Exit::BadArguments),
         },
     }
 }

@@ -1,13 +1,14 @@
 ghost use Rattle.std.specs.Prelude.{◌≡◌, option_map};
-ghost use Rattle.pdp11.specs.Numbers.{number_given, options_given};
+ghost use Rattle.pdp11.specs.Numbers.{options_given, start_number, stride_number, units_number};
 
+use pdp_replay::ONLY_STRIDE;
 use pdp_word::{read_decimal, read_octal};
 
+// The units where none are given.
 const UNITS: u8 = 31;
 
+// The start address where none is given.
 const START: u16 = 0o1000;
-
-const STRIDE: u32 = 2_000_000_000;
 
 /// The numbers that a run starts from, each as its field holds it: a number that its field can't hold is the
 /// field's largest one, which is out of range too.
@@ -42,7 +43,7 @@ pub fn read_options(
 }
 
 fn units_given(text: Option<&str>) -> Option<u8>
-    ensures { result ≡ number_given 10 255 31 (option_map (λ text. text.now) text.entry) }
+    ensures { result ≡ units_number (option_map (λ text. text.now) text.entry) }
 {
     let Some(text) = text else { return Some(UNITS) };
     let units = read_decimal(text.as_bytes())?;
@@ -50,7 +51,7 @@ fn units_given(text: Option<&str>) -> Option<u8>
 }
 
 fn start_given(text: Option<&str>) -> Option<u16>
-    ensures { result ≡ number_given 8 65535 512 (option_map (λ text. text.now) text.entry) }
+    ensures { result ≡ start_number (option_map (λ text. text.now) text.entry) }
 {
     let Some(text) = text else { return Some(START) };
     let start = read_octal(text.as_bytes())?;
@@ -58,10 +59,10 @@ fn start_given(text: Option<&str>) -> Option<u16>
 }
 
 fn stride_given(text: Option<&str>) -> Option<u32>
-    ensures { result ≡ number_given 10 4294967295 2000000000 (option_map (λ text. text.now) text.entry) }
+    ensures { result ≡ stride_number (option_map (λ text. text.now) text.entry) }
 {
     let Some(text) = text else {
-        return Some(STRIDE)
+        return Some(ONLY_STRIDE)
     };
     let stride = read_decimal(text.as_bytes())?;
     Some(u32::try_from(stride).unwrap_or(u32::MAX))

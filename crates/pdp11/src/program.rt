@@ -1,10 +1,10 @@
 ghost use Rattle.std.specs.Prelude.{◌≡◌, ◌≢◌, ◌⊎◌, true, false, map};
-ghost use Rattle.pdp11.specs.Ending.{IsListed};
-ghost use Rattle.pdp11.specs.Outcome.{RunsSession, Shows, Tells, start_given};
+ghost use Rattle.pdp11.specs.Exit.{IsListed};
+ghost use Rattle.pdp11.specs.ProgramRun.{RunsSession, Shows, Tells, setup_with};
 ghost use Rattle.pdp_replay.specs.Setup.{given};
 
 use crate::command_line::{Request, read_words};
-use crate::ending::Ending;
+use crate::exit::Exit;
 use crate::files::Files;
 use crate::options::Options;
 use pdp_session::{Drain, Feed, Setup, run};
@@ -38,28 +38,28 @@ pub fn outcome<R: Feed, W: Drain, F: Files, S: AsStr>(
         (R.pulls reader.old) (R.pulls reader.new) (W.written writer.old) (W.written writer.new) result.0 result.1.now }
 {
     let _ = files;
-    let ending = match read_words(alloc, words) {
+    let exit = match read_words(alloc, words) {
         Ok(Request::Help(text)) => show(text.as_bytes(), writer),
         Ok(Request::Session(options)) => answer_lines(alloc, options, reader, writer),
-        Err(ending) => ending,
+        Err(exit) => exit,
     };
-    (ending.status(), ending.line())
+    (exit.status(), exit.line())
 }
 
 // Writes a text whole, or a beginning of it up to where the writer fails or takes no byte.
-fn show<W: Drain>(text: &[u8], writer: &mut W) -> Ending
+fn show<W: Drain>(text: &[u8], writer: &mut W) -> Exit
     ensures shows { Shows text.now (W.written writer.old) (W.written writer.new) result }
-    ensures fails { result ≢ Ending.Done → W.has_failed writer.new ≡ true }
+    ensures fails { result ≢ Exit.Done → W.has_failed writer.new ≡ true }
 {
     let mut rest = text;
     while !rest.is_empty() {
         match writer.put(rest) {
-            Ok(0) => return Ending::InputOrOutput,
+            Ok(0) => return Exit::InputOrOutput,
             Ok(taken) => rest = &rest[taken..],
-            Err(_) => return Ending::InputOrOutput,
+            Err(_) => return Exit::InputOrOutput,
         }
     }
-    Ending::Done
+    Exit::Done
 }
 
 // Answers the reader's lines on the writer.
@@ -68,21 +68,21 @@ fn answer_lines<R: Feed, W: Drain>(
     options: Options,
     reader: &mut R,
     writer: &mut W,
-) -> Ending
+) -> Exit
     requires reads { R.has_failed reader.old ≡ false }
     requires drains { W.has_failed writer.old ≡ false }
-    ensures failed { result ≡ Ending.InputOrOutput →
+    ensures failed { result ≡ Exit.InputOrOutput →
         (R.has_failed reader.new ≡ true) ⊎ (W.has_failed writer.new ≡ true) }
     ensures answers { RunsSession options (R.remaining reader.old) (R.remaining reader.new)
         (R.pulls reader.old) (R.pulls reader.new) (W.written writer.old) (W.written writer.new) result }
 {
     let setup = setup_of(alloc, options);
-    Ending::of_session(run(alloc, setup, reader, writer))
+    Exit::of_session(run(alloc, setup, reader, writer))
 }
 
 // The setup of these options, without images and tape.
 fn setup_of(alloc: Global, options: Options) -> Setup
-    ensures { given result ≡ start_given options }
+    ensures { given result ≡ setup_with options }
 {
     Setup {
         units: options.units,

@@ -34,7 +34,8 @@ pub use laws::{
     turns_keep_the_size_of_core, turns_leave_what_they_never_touch,
     what_cannot_go_on_leaves_the_codes,
 };
-pub use machine::{Machine, TURN_LIMIT};
+pub use machine::Machine;
 pub use meter::Meter;
 pub use pdp_operand::RunState;
+pub use pdp_unibus::LAST_TURN;
 pub use regs::Regs;

@@ -10,13 +10,10 @@ use crate::meter::Meter;
 use crate::regs::Regs;
 use pdp_operand::{Processor, RunState, Slot};
 use pdp_store::{Stamp, Store};
-use pdp_unibus::{Bus, Event};
+use pdp_unibus::{Bus, Event, LAST_TURN};
 use pdp_word::NoMemory;
 use std::alloc::Global;
 use std::marker::Model;
-
-/// The most turns that a machine runs, and the last turn that can be asked about (this project's profile).
-pub const TURN_LIMIT: u32 = 1_000_000_000;
 
 /// The machine: processor, bus and core, for any store of core.
 ///
@@ -69,7 +66,7 @@ impl<S: Store> Machine<S> {
     #[tactic(auto, unfolding(crate::specs::Turns::Turn::one_turn, pdp_operand::specs::Phases::Course::follow))]
     pub fn turn(&mut self, meter: &mut Meter, events: &[Event])
         requires ready { IsReady self.old }
-        requires limit { self.old.turn < TURN_LIMIT }
+        requires limit { self.old.turn < LAST_TURN }
         ensures turn { self.new ≡ after_turn events.now self.old }
         ensures counted { meter.new ≡ min (meter.old + 1) (2 ^ 64 - 1) }
         ensures grows { meter.old ≤ meter.new }

@@ -2,8 +2,9 @@
 
 ghost use Rattle.std.specs.Prelude.{◌≡◌, ◌+◌, ◌≤◌, IfOk, OnOk, length};
 
-use crate::{Machine, Meter, Regs, RunState, TURN_LIMIT, turns_keep_the_size_of_core};
+use crate::{Machine, Meter, Regs, RunState, turns_keep_the_size_of_core};
 use pdp_store::{Flat, Store};
+use pdp_unibus::LAST_TURN;
 use pdp_word::NoMemory;
 use std::alloc::Global;
 
@@ -37,7 +38,7 @@ fn machine_over(alloc: Global, start: u16, program: &[u16]) -> Result<Machine<Fl
 
 // Runs so many turns.
 fn run_turns(machine: &mut Machine<Flat>, meter: &mut Meter, turns: u16) -> Result<(), NoMemory>
-    requires { machine.old.turn + turns ≤ TURN_LIMIT }
+    requires { machine.old.turn + turns ≤ LAST_TURN }
     ensures turns { OnOk result (machine.new.turn ≡ machine.old.turn + turns) }
     ensures words { OnOk result (length machine.new.world.bus.core ≡ length machine.old.world.bus.core) }
 {

@@ -1,8 +1,9 @@
--- Edits that are never refused for want of memory.
+-- Edits that are never refused as out of memory.
 use Rattle.std.proofs.Common.{◌≡◌, ℕ, Bool, true, false, cond, refl, ◌∙◌, Option, None, Some, Result, Ok, Err, List, nat_lt}
 use Rattle.pdp_script.specs.Entries.{Entry, entry_of, altered, without}
 use Rattle.pdp_script.specs.Refusal.{for_memory, result_map}
-use Rattle.pdp_script.specs.Script.{ScriptData, last_turn, of_entry}
+use Rattle.pdp_script.specs.Script.{ScriptData, of_entry}
+use Rattle.pdp_unibus.specs.LastTurn.{last_turn}
 use Rattle.pdp_script.specs.declared.faults.Fault.{Fault}
 use Rattle.pdp_script.specs.declared.faults.Fault.TheVariants.{NoMemory, OutsideCore, OddAddress, OutsideDisk, NoSuchEvent, ScriptFull, TurnTooLarge, CountOutOfRange, NoSuchPatch, BadLine, LineTooLong, Input, Output, BadImage, BadSetup}
 use Rattle.pdp_unibus.specs.declared.event.Event.{Event}

@@ -5,7 +5,7 @@ use Rattle.pdp_cpu.specs.Turns.Turn.{one_turn}
 use Rattle.pdp_script.specs.Entries.{events_at}
 use Rattle.pdp_replay.specs.Past.{Past}
 use Rattle.pdp_replay.specs.Quiet.{quiet_turns}
-use Rattle.pdp_replay.specs.Turns.{power, state_at, at}
+use Rattle.pdp_replay.specs.States.{power, state_at, at}
 
 pub state_first : (p : Past) → state_at p 0 ≡ power p.setup
 unfolding state_at

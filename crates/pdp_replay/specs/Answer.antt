@@ -1,14 +1,14 @@
--- What a question must be answered, from the run from power-up alone.
+-- What a question must be answered, from the run from power-up alone (this project's profile).
 use Rattle.std.specs.Prelude.{ℕ, ◌≡◌, ◌+◌, ◌/◌, ◌%◌, ◌==◌, ◌≤◌, ◌&&◌, List, take, drop, Result, Ok, Err, nat_le, if◌then◌else◌}
 use Rattle.pdp_cpu.specs.Turns.Regs.{regs_of}
 use Rattle.pdp_operand.specs.Phases.World.{World}
 use Rattle.pdp_script.specs.Refusal.{result_map}
-use Rattle.pdp_script.specs.Script.{last_turn}
+use Rattle.pdp_unibus.specs.LastTurn.{last_turn}
 use Rattle.pdp_script.specs.declared.faults.Fault.{Fault}
 use Rattle.pdp_script.specs.declared.faults.Fault.TheVariants.{OutsideCore, OddAddress, TurnTooLarge, CountOutOfRange}
 use Rattle.pdp_replay.specs.Past.{Past}
 use Rattle.pdp_replay.specs.Setup.{SetupData, core_size}
-use Rattle.pdp_replay.specs.Turns.{state_at}
+use Rattle.pdp_replay.specs.States.{state_at}
 use Rattle.pdp_replay.specs.declared.question.Answer.{Answer}
 use Rattle.pdp_replay.specs.declared.question.Question.{Question}
 use Rattle.pdp_replay.specs.declared.question.Question.TheVariants as question
@@ -70,5 +70,5 @@ abbrev pub IsAnswerIn : World → Question → Value → Type 0
 IsAnswerIn world q value = (p : Past) → world ≡ state_at p (turn_asked q) → value ≡ answer q p
 
 -- the value of an answer
-abbrev pub value_in : Result Answer Fault → Result Value Fault
-value_in result = result_map (λ a. a.value) result
+abbrev pub value_answered : Result Answer Fault → Result Value Fault
+value_answered result = result_map (λ a. a.value) result

@@ -1,7 +1,6 @@
--- What a command makes of the past.
-use Rattle.std.specs.Prelude.{ℕ, ◌≡◌, ◌+◌, Bool, false, ◌/◌, ◌%◌, ◌*◌, ◌==◌, Option, Some, None, Result, Ok, Err, length, min, nat_eq, nat_lt, is_some, slice_get, if◌then◌else◌}
+-- What a command makes of the past (this project's profile).
+use Rattle.std.specs.Prelude.{ℕ, ◌≡◌, ◌+◌, Bool, false, ◌/◌, ◌%◌, ◌*◌, ◌==◌, Option, Some, None, Result, Ok, Err, length, min, nat_lt, is_some, slice_get, if◌then◌else◌}
 use Rattle.std.specs.Option.{option_map}
-use Rattle.std.specs.Map.{lookup}
 use Rattle.indexmap.specs.IndexMap.{insert_entry, shift_remove_entry}
 use Rattle.pdp_script.specs.Entries.{entry_of}
 use Rattle.pdp_script.specs.Refusal.{edit_answer, for_memory}
@@ -9,10 +8,12 @@ use Rattle.pdp_script.specs.Script.{insert_edit, alter_edit, drop_edit}
 use Rattle.pdp_script.specs.declared.faults.Fault.{Fault}
 use Rattle.pdp_script.specs.declared.faults.Fault.TheVariants.{OutsideCore, OddAddress, NoSuchPatch}
 use Rattle.pdp_unibus.specs.declared.event.Event.{Event}
+use Rattle.pdp_replay.specs.PatchedWords.{core_key, core_number, is_same_word, patch_of}
 use Rattle.pdp_replay.specs.Setup.{SetupData, core_size}
 use Rattle.pdp_replay.specs.Past.{Past, of_setup, of_script}
 use Rattle.pdp_replay.specs.declared.patch.Patch.{Patch}
 use Rattle.pdp_replay.specs.declared.patch.Patch.TheVariants.{Core}
+use Rattle.pdp_replay.specs.declared.patch.PatchKey.{PatchKey}
 
 -- the number of the core word at an address: refused outside core, and then at an odd address
 unfoldable pub core_word_at : ℕ → SetupData → Result ℕ Fault
@@ -22,22 +23,22 @@ core_word_at address s = (
     else Err OddAddress
     else Err OutsideCore)
 
--- an edit of the word of this number, or the refusal where there is no such word
-abbrev pub edited_at : Result ℕ Fault → (ℕ → Result SetupData Fault) → Result SetupData Fault
-edited_at (Ok number) edited = edited number
+-- an edit of the core word of this number, or the refusal where there is no such word
+abbrev pub edited_at : Result ℕ Fault → (PatchKey → Result SetupData Fault) → Result SetupData Fault
+edited_at (Ok number) edited = edited (core_key number)
 edited_at (Err fault) edited = Err fault
 
 -- a word is patched: one that has a patch keeps its place among the patches, a new one comes last
-abbrev pub with_patch : ℕ → SetupData → ℕ → Result SetupData Fault
-with_patch word s number = Ok (record s { patches = insert_entry nat_eq s.patches number word })
+abbrev pub with_patch : ℕ → SetupData → PatchKey → Result SetupData Fault
+with_patch word s key = Ok (record s { patches = insert_entry is_same_word s.patches key word })
 
 unfoldable pub core_edit : ℕ → ℕ → Past → Result Past Fault
 core_edit address word p = of_setup p (edited_at (core_word_at address p.setup) (with_patch word p.setup))
 
 -- a word loses its patch, if it has one; the other patches keep their order
-abbrev pub without_patch : SetupData → ℕ → Result SetupData Fault
-without_patch s number = (
-    if is_some (lookup (nat_eq number) s.patches) then Ok (record s { patches = shift_remove_entry (nat_eq number) s.patches })
+abbrev pub without_patch : SetupData → PatchKey → Result SetupData Fault
+without_patch s key = (
+    if is_some (patch_of s.patches key) then Ok (record s { patches = shift_remove_entry (is_same_word key) s.patches })
     else Err NoSuchPatch)
 
 unfoldable pub revert_edit : ℕ → Past → Result Past Fault
@@ -53,7 +54,7 @@ event_alteration number turn event p = of_script p (alter_edit number turn event
 unfoldable pub event_drop : ℕ → Past → Result Past Fault
 event_drop number p = of_script p (drop_edit number p.script)
 
--- no alteration and no drop of an event is refused for want of memory
+-- no alteration and no drop of an event is refused as out of memory
 abbrev pub AlterationNeedsNoMemory : Type 0
 AlterationNeedsNoMemory = (number turn : ℕ) (event : Event) (p : Past) → for_memory (event_alteration number turn event p) ≡ false
 
@@ -77,8 +78,8 @@ lesser_turn None turn = turn
 abbrev pub patch_count : Past → ℕ
 patch_count p = length p.setup.patches
 
-abbrev pub patch_shown : ℕ × ℕ → Patch
-patch_shown entry = Core (entry.0 * 2) entry.1
+abbrev pub patch_shown : PatchKey × ℕ → Patch
+patch_shown entry = Core (core_number entry.0 * 2) entry.1
 
 abbrev pub patch_at : Past → ℕ → Option Patch
 patch_at p index = option_map patch_shown (slice_get p.setup.patches index)

@@ -1,8 +1,10 @@
+-- Setups, edits and questions, and the run that they are of (this project's profile).
+pub mod PatchedWords
 pub mod Setup
 pub mod Core
 pub mod Image
 pub mod Past
-pub mod Turns
+pub mod States
 pub mod Quiet
 pub mod Answer
 pub mod Edit

@@ -1,4 +1,4 @@
--- The past: what determines a run, its setup with the patches and its script.
+-- The past: what determines a run, its setup with the patches and its script (this project's profile).
 use Rattle.std.specs.Prelude.{ℕ, [], Result}
 use Rattle.std.specs.declared.hash.BuildHasherDefault.{BuildHasherDefault}
 use Rattle.std.specs.declared.hash.FoldHasher.{FoldHasher}
@@ -7,6 +7,7 @@ use Rattle.pdp_script.specs.Refusal.{result_map}
 use Rattle.pdp_script.specs.Script.{ScriptData}
 use Rattle.pdp_script.specs.declared.faults.Fault.{Fault}
 use Rattle.pdp_replay.specs.Setup.{SetupData, setup_from, setup_checked}
+use Rattle.pdp_replay.specs.declared.patch.PatchKey.{PatchKey}
 use Rattle.pdp_replay.specs.declared.setup.Setup.{Setup}
 
 pub record Past : Type 0 where
@@ -14,7 +15,7 @@ pub record Past : Type 0 where
   pub script : ScriptData
 
 -- a setup with the patches and the script of an engine
-abbrev pub past_from : Setup → IndexMap ℕ ℕ (BuildHasherDefault FoldHasher) → ScriptData → Past
+abbrev pub past_from : Setup → IndexMap PatchKey ℕ (BuildHasherDefault FoldHasher) → ScriptData → Past
 past_from setup patches script = record { setup = setup_from setup patches; script = script }
 
 -- without events, and no number given
@@ -22,8 +23,8 @@ abbrev pub unscripted : SetupData → Past
 unscripted setup = record { setup = setup; script = record { entries = []; given = 0 } }
 
 -- the past that a run begins with, or why there is none
-abbrev pub beginning : SetupData → Result Past Fault
-beginning setup = result_map unscripted (setup_checked setup)
+abbrev pub starting_past : SetupData → Result Past Fault
+starting_past setup = result_map unscripted (setup_checked setup)
 
 abbrev pub with_setup : Past → SetupData → Past
 with_setup p setup = record p { setup = setup }

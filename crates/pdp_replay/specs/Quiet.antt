@@ -1,4 +1,4 @@
--- Turns without events.
+-- Turns without events, as the code runs them. No public contract names this.
 use Rattle.std.specs.Prelude.{ℕ, zero, suc, []}
 use Rattle.pdp_cpu.specs.Turns.MachineState.{MachineState, after_turn}
 

@@ -1,14 +1,16 @@
--- What a run starts from, as plain data.
+-- What a run starts from, as plain data (this project's profile).
 use Rattle.std.specs.Prelude.{ℕ, ◌≡◌, ◌≤◌, ◌*◌, ◌%◌, ◌==◌, ◌&&◌, Bool, List, [], Result, Ok, Err, length, nat_le, if◌then◌else◌}
 use Rattle.indexmap.specs.IndexMap.{IndexMap}
 use Rattle.std.specs.declared.hash.BuildHasherDefault.{BuildHasherDefault}
 use Rattle.std.specs.declared.hash.FoldHasher.{FoldHasher}
 use Rattle.pdp_script.specs.declared.faults.Fault.{Fault}
 use Rattle.pdp_script.specs.declared.faults.Fault.TheVariants.{BadImage, BadSetup}
+use Rattle.pdp_replay.specs.PatchedWords.{Patches}
+use Rattle.pdp_replay.specs.declared.patch.PatchKey.{PatchKey}
 use Rattle.pdp_replay.specs.declared.setup.Setup.{Setup}
 
 -- the size of core in units of 4,096 words, the start address, the images, the tape, the starting stride,
--- and the patches: the number and the new value of each patched core word, in the order in which they were first given
+-- and the patches: each patched word and its new value, in the order in which they were first given
 pub record SetupData : Type 0 where
   pub units : ℕ
   pub start : ℕ
@@ -16,9 +18,9 @@ pub record SetupData : Type 0 where
   pub disk : List ℕ
   pub tape : List ℕ
   pub stride : ℕ
-  pub patches : List (ℕ × ℕ)
+  pub patches : Patches
 
--- the limits of a setup (this project's profile): the units of core and the words of one, the words of a drive (203
+-- the limits of a setup: the units of core and the words of one, the words of a drive (203
 -- cylinders of 2 surfaces of 12 sectors of 256 words), the bytes of a tape, and the one stride for now
 abbrev pub most_units : ℕ
 most_units = 31
@@ -39,7 +41,7 @@ only_stride = 2000000000
 abbrev pub core_size : SetupData → ℕ
 core_size s = s.units * unit_words
 
-abbrev pub with_patches : Setup → List (ℕ × ℕ) → SetupData
+abbrev pub with_patches : Setup → Patches → SetupData
 with_patches setup patches = record {
   units = setup.units;
   start = setup.start;
@@ -51,7 +53,7 @@ with_patches setup patches = record {
 }
 
 -- a setup with the patches of an engine
-abbrev pub setup_from : Setup → IndexMap ℕ ℕ (BuildHasherDefault FoldHasher) → SetupData
+abbrev pub setup_from : Setup → IndexMap PatchKey ℕ (BuildHasherDefault FoldHasher) → SetupData
 setup_from setup patches = with_patches setup patches.entries
 
 -- a setup without patches

@@ -1,7 +1,7 @@
--- An engine as a contract sees it.
+-- An engine as a contract sees it (this project's profile).
 use Rattle.std.specs.Prelude.{ℕ, ◌≡◌, ◌≤◌, Bool, true, false, min, unwrap_or, Result, Ok, Err}
 use Rattle.pdp_script.specs.Refusal.{past_left}
-use Rattle.pdp_script.specs.Script.{last_turn}
+use Rattle.pdp_unibus.specs.LastTurn.{last_turn}
 use Rattle.pdp_script.specs.declared.faults.Fault.{Fault}
 use Rattle.pdp_unibus.specs.declared.event.Event.{Event}
 use Rattle.pdp_replay.specs.Edit.{core_edit, revert_edit, event_insertion, event_alteration, event_drop, turn_of_event, lesser_turn}

@@ -1,11 +1,12 @@
 ghost use Rattle.std.specs.Prelude.{◌≡◌, ◌*◌, ◌<◌, Ok, IfOk, OnErr, false, min};
 ghost use Rattle.pdp_script.specs.Refusal.{for_memory, edit_answer, result_map};
+ghost use Rattle.pdp_replay.specs.PatchedWords.{core_number};
 ghost use Rattle.pdp_replay.specs.Setup.{SetupData};
 ghost use Rattle.pdp_replay.specs.Edit.{core_word_at, core_edit, revert_edit, insertion_answer, event_alteration, event_drop, patch_at, patch_count};
 ghost use Rattle.pdp_replay.specs.Timeline.{core_edited, core_reverted, event_inserted, event_altered, event_dropped};
 
 use crate::engine::Engine;
-use crate::patch::Patch;
+use crate::patch::{Patch, PatchKey};
 use crate::setup::UNIT_WORDS;
 use pdp_script::Fault;
 use pdp_unibus::Event;
@@ -14,34 +15,34 @@ impl Engine {
     /// Makes the core word at this address (octal, bytes) equal to `word` as of power-up. A word that has a patch keeps
     /// its place among the patches. The known turn becomes 0; no turn is run.
     ///
-    /// Err(OutsideCore) where the address is not in core; else Err(OddAddress) where it is odd; else Err(NoMemory) where
-    /// a growth was refused. A refused edit changes nothing. (This project's profile.)
+    /// Err(OutsideCore) where the address is not in core; else Err(OddAddress) where it is odd; else Err(NoMemory)
+    /// where a growth was refused. A refused edit changes nothing. (This project's profile.)
     #[tactic(auto, unfolding(crate::specs::Edit::core_edit))]
     pub fn set_core(&mut self, address: u32, word: u16) -> Result<(), Fault>
         ensures answer { result ≡ edit_answer (core_edit address word self.old.past) (for_memory result) tt }
         ensures after { self.new ≡ core_edited address word (for_memory result) self.old }
         ensures refused { OnErr result (self.new ≡ self.old) }
     {
-        let number = core_word(self.setup.units, address)?;
-        self.patches.insert(number, word)?;
+        let key = PatchKey::Core(core_word(self.setup.units, address)?);
+        self.patches.insert(key, word)?;
         lower_known(&mut self.known, 0);
         Ok(())
     }
 
-    /// Takes back the patch of the core word at this address (octal, bytes): as of power-up it is its image's word again,
-    /// or 0. The other patches keep their order. The known turn becomes 0; no turn is run.
+    /// Takes back the patch of the core word at this address (octal, bytes): as of power-up it is its image's word
+    /// again, or 0. The other patches keep their order. The known turn becomes 0; no turn is run.
     ///
-    /// Err(OutsideCore) where the address is not in core; else Err(OddAddress) where it is odd; else Err(NoSuchPatch) where
-    /// the word has no patch; else Err(NoMemory) where a growth was refused. A refused edit changes nothing. (This project's
-    /// profile.)
+    /// Err(OutsideCore) where the address is not in core; else Err(OddAddress) where it is odd; else Err(NoSuchPatch)
+    /// where the word has no patch; else Err(NoMemory) where a growth was refused. A refused edit changes nothing.
+    /// (This project's profile.)
     #[tactic(auto, unfolding(crate::specs::Edit::revert_edit))]
     pub fn revert_core(&mut self, address: u32) -> Result<(), Fault>
         ensures answer { result ≡ edit_answer (revert_edit address self.old.past) (for_memory result) tt }
         ensures after { self.new ≡ core_reverted address (for_memory result) self.old }
         ensures refused { OnErr result (self.new ≡ self.old) }
     {
-        let number = core_word(self.setup.units, address)?;
-        if self.patches.shift_remove(&number).is_none() {
+        let key = PatchKey::Core(core_word(self.setup.units, address)?);
+        if self.patches.shift_remove(&key).is_none() {
             return Err(Fault::NoSuchPatch);
         }
         lower_known(&mut self.known, 0);
@@ -52,8 +53,8 @@ impl Engine {
     /// last that was given, 1 at first. The known turn becomes at most that turn; no turn is run.
     ///
     /// Err(TurnTooLarge) at a turn above 1,000,000,000; else Err(ScriptFull) where 65,536 events are there, or
-    /// 4,294,967,295 numbers were given; else Err(NoMemory) where a growth was refused. A refused edit changes nothing, and
-    /// uses up no number. (This project's profile.)
+    /// 4,294,967,295 numbers were given; else Err(NoMemory) where a growth was refused. A refused edit changes
+    /// nothing, and uses up no number. (This project's profile.)
     #[tactic(auto, unfolding(crate::specs::Edit::event_insertion))]
     pub fn insert(&mut self, turn: u32, event: Event) -> Result<u32, Fault>
         ensures answer { result ≡ insertion_answer turn event (for_memory result) self.old.past }
@@ -65,11 +66,12 @@ impl Engine {
         Ok(number)
     }
 
-    /// Gives the event of this number another turn and event: at the same turn it keeps its place, at another it goes last
-    /// among those of the turn. The known turn becomes at most the lesser of both turns; no turn is run. Takes no memory.
+    /// Gives the event of this number another turn and event: at the same turn it keeps its place, at another it goes
+    /// last among those of the turn. The known turn becomes at most the lesser of both turns; no turn is run. Takes no
+    /// memory.
     ///
-    /// Err(TurnTooLarge) at a turn above 1,000,000,000; else Err(NoSuchEvent) where no event has this number. A refused edit
-    /// changes nothing. (This project's profile.)
+    /// Err(TurnTooLarge) at a turn above 1,000,000,000; else Err(NoSuchEvent) where no event has this number. A
+    /// refused edit changes nothing. (This project's profile.)
     #[tactic(auto, unfolding(crate::specs::Edit::event_alteration))]
     pub fn alter(&mut self, number: u32, turn: u32, event: Event) -> Result<(), Fault>
         ensures answer { result ≡ result_map (λ _. tt) (event_alteration number turn event self.old.past) }
@@ -82,8 +84,8 @@ impl Engine {
         Ok(())
     }
 
-    /// Takes the event of this number out of the script. Its number is never given again. The known turn becomes at most
-    /// its turn; no turn is run. Takes no memory.
+    /// Takes the event of this number out of the script. Its number is never given again. The known turn becomes at
+    /// most its turn; no turn is run. Takes no memory.
     ///
     /// Err(NoSuchEvent) where no event has this number; nothing changes then. (This project's profile.)
     #[tactic(auto, unfolding(crate::specs::Edit::event_drop))]
@@ -105,13 +107,13 @@ impl Engine {
         self.patches.len()
     }
 
-    /// The patch of this index, counted from 0 in the order in which the words were first given one; None past the last.
-    /// Takes no memory.
+    /// The patch of this index, counted from 0 in the order in which the words were first given one; None past the
+    /// last. Takes no memory.
     pub fn patches(&self, index: usize) -> Option<Patch>
         ensures { result ≡ patch_at self.now.past index }
     {
-        let (number, word) = self.patches.get_index(index)?;
-        Some(Patch::Core(*number * 2, *word))
+        let (key, word) = self.patches.get_index(index)?;
+        Some(Patch::Core(key.core_number() * 2, *word))
     }
 }
 

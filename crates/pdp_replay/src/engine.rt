@@ -1,10 +1,11 @@
 ghost use Rattle.std.specs.Prelude.{◌≡◌, ◌+◌, ◌≤◌, ◌<◌, ◌^◌, max, IfOk, OnOk, IsErr, false};
 ghost use Rattle.pdp_script.specs.Refusal.{for_memory, question_answer, result_map};
 ghost use Rattle.pdp_replay.specs.Setup.{given, setup_checked};
-ghost use Rattle.pdp_replay.specs.Answer.{answer_to, value_in};
+ghost use Rattle.pdp_replay.specs.Answer.{answer_to, value_answered};
 ghost use Rattle.pdp_replay.specs.Known.{known_after, IsStride, IsWithinBound};
 ghost use Rattle.pdp_replay.specs.Timeline.{fresh};
 
+use crate::patch::PatchKey;
 use crate::question::{Answer, Question};
 use crate::setup::Setup;
 use crate::travel::machine_at;
@@ -20,7 +21,7 @@ use std::marker::Model;
 #[derive(Drop)]
 pub struct Engine {
     pub(crate) setup: Setup,
-    pub(crate) patches: IndexMap<u32, u16>,
+    pub(crate) patches: IndexMap<PatchKey, u16>,
     pub(crate) script: Script,
     pub(crate) meter: Meter,
     pub(crate) known: u32,
@@ -62,17 +63,17 @@ impl Engine {
         })
     }
 
-    /// Answers a question about the run from power-up of the past as it is now. Once answered, the known turn is the larger
-    /// of what it was and the turn asked about.
+    /// Answers a question about the run from power-up of the past as it is now. Once answered, the known turn is the
+    /// larger of what it was and the turn asked about.
     ///
-    /// Err(TurnTooLarge) where its turn is above 1,000,000,000; else, of words of core, Err(CountOutOfRange) where their
-    /// count is not 1 to 256, else Err(OutsideCore) where one of them is not in core, else Err(OddAddress) where the address
-    /// is odd; else Err(NoMemory) where a growth was refused. No refusal changes the past, and one for another cause than
-    /// memory changes nothing. (This project's profile.)
+    /// Err(TurnTooLarge) where its turn is above 1,000,000,000; else, of words of core, Err(CountOutOfRange) where
+    /// their count is not 1 to 256, else Err(OutsideCore) where one of them is not in core, else Err(OddAddress) where
+    /// the address is odd; else Err(NoMemory) where a growth was refused. No refusal changes the past, and one for
+    /// another cause than memory changes nothing. (This project's profile.)
     #[tactic(auto, unfolding(crate::specs::Answer::answer_to))]
     pub fn ask(&mut self, alloc: Global, question: Question) -> Result<Answer, Fault>
-        // The answer is that of the run from power-up, and want of memory is the last refusal.
-        ensures value { value_in result ≡ question_answer (answer_to question self.old.past) (for_memory result) }
+        // The answer is that of the run from power-up, and out of memory is the last refusal.
+        ensures value { value_answered result ≡ question_answer (answer_to question self.old.past) (for_memory result) }
         ensures past { self.new.past ≡ self.old.past }
 
         // It ran at most one stride of turns more than those past what was known, also where it is then refused.

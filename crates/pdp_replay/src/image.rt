@@ -2,6 +2,7 @@ ghost use Rattle.std.specs.Prelude.{◌≡◌, ◌+◌, ◌-◌, ◌*◌, ◌<�
 ghost use Rattle.pdp_replay.specs.Core.{AllBelow};
 ghost use Rattle.pdp_replay.specs.Image.{padded, patch_alone, with_put, AreApart};
 
+use crate::patch::PatchKey;
 use indexmap::IndexMap;
 use pdp_store::{Flat, Store};
 use pdp_word::NoMemory;
@@ -23,7 +24,7 @@ pub fn image_store(alloc: Global, words: usize, image: &[u16]) -> Result<Flat, N
 
 /// Puts each patch into the store, in the order in which they were given.
 #[tactic(auto, using(crate::proofs::Patches::put_one_more, crate::proofs::Patches::one_below, crate::proofs::Patches::length_put_all))]
-pub fn put_patches(store: &mut Flat, patches: &IndexMap<u32, u16>)
+pub fn put_patches(store: &mut Flat, patches: &IndexMap<PatchKey, u16>)
     requires below { AllBelow (length store.old.words) patches.now.entries }
     requires blank { store.old.lasts ≡ replicate (length store.old.words) None }
     ensures put { store.new ≡ with_put patches.now.entries store.old }
@@ -36,12 +37,12 @@ pub fn put_patches(store: &mut Flat, patches: &IndexMap<u32, u16>)
 
 /// Puts the patch of this index into the store.
 #[tactic(auto, using(crate::proofs::Lists::blank_stays))]
-fn put_patch(store: &mut Flat, patches: &IndexMap<u32, u16>, index: usize)
+fn put_patch(store: &mut Flat, patches: &IndexMap<PatchKey, u16>, index: usize)
     requires below { AllBelow (length store.old.words) (patch_alone patches.now.entries index) }
     requires blank { store.old.lasts ≡ replicate (length store.old.words) None }
     ensures { store.new ≡ with_put (patch_alone patches.now.entries index) store.old }
 {
-    if let Some((number, word)) = patches.get_index(index) {
-        store.set(*number as usize, *word);
+    if let Some((key, word)) = patches.get_index(index) {
+        store.set(key.core_number() as usize, *word);
     }
 }

@@ -24,7 +24,7 @@ pub use pdp_cpu::{Regs, RunState};
 pub use pdp_script::Fault;
 pub use pdp_unibus::Event;
 pub use question::{Answer, Question, Value};
-pub use setup::Setup;
+pub use setup::{ONLY_STRIDE, Setup};
 
 #[cfg(test)]
 mod core_tests;

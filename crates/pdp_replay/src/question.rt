@@ -7,14 +7,16 @@ use crate::answer_words::Words;
 use crate::setup::UNIT_WORDS;
 use crate::travel::FlatMachine;
 use pdp_cpu::Regs;
-use pdp_script::{Fault, LAST_TURN};
+use pdp_script::Fault;
+use pdp_unibus::LAST_TURN;
 use pdp_word::NoMemory;
 use std::alloc::Global;
 
 /// The most words of core that a question may ask for.
 const MOST_WORDS: u32 = 256;
 
-/// What can be asked of a run (this project's profile); each question names the turn before which the machine is looked at.
+/// What can be asked of a run (this project's profile); each question names the turn before which the machine is
+/// looked at.
 #[derive(Clone, Copy, Debug, PartialEq, Eq)]
 pub enum Question {
     /// The registers before this turn, counted from 0 at power-up.
@@ -72,8 +74,8 @@ impl Question {
 
 /// Whether so many words from this address (octal, bytes) on can be asked for, of a core of so many units.
 ///
-/// Err(CountOutOfRange) where the count is not 1 to 256; else Err(OutsideCore) where a word of the range is not in core;
-/// else Err(OddAddress) where the address is odd.
+/// Err(CountOutOfRange) where the count is not 1 to 256; else Err(OutsideCore) where a word of the range is not in
+/// core; else Err(OddAddress) where the address is odd.
 #[tactic(auto, unfolding(crate::specs::Answer::range_checked))]
 fn check_range(units: u8, address: u32, count: u32) -> Result<(), Fault>
     ensures refusal { (s : SetupData) → s.units ≡ units → range_checked address count s ≡ result }

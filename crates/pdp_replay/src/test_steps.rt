@@ -70,7 +70,8 @@ pub const fn core(turn: u32, address: u32, count: u32) -> Question {
     Question::Core(turn, address, count)
 }
 
-/// Asserts that these steps, taken in turn with this engine, give what they say. A failure names a step, counted from 0.
+/// Asserts that these steps, taken in turn with this engine, give what they say. A failure names a step, counted from
+/// 0.
 pub fn follow(
     rt: &impl Abort,
     alloc: Global,

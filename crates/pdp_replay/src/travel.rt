@@ -4,14 +4,16 @@ ghost use Rattle.pdp_replay.specs.Setup.{setup_from, IsGood};
 ghost use Rattle.pdp_replay.specs.Core.{AllBelow};
 ghost use Rattle.pdp_replay.specs.Past.{past_from};
 ghost use Rattle.pdp_replay.specs.Quiet.{quiet_turns};
-ghost use Rattle.pdp_replay.specs.Turns.{power, state_at, at, RunsTo};
+ghost use Rattle.pdp_replay.specs.States.{power, state_at, at, RunsTo};
 
 use crate::image::{image_store, put_patches};
+use crate::patch::PatchKey;
 use crate::setup::{Setup, UNIT_WORDS};
 use indexmap::IndexMap;
 use pdp_cpu::{Machine, Meter};
-use pdp_script::{LAST_TURN, Script};
+use pdp_script::Script;
 use pdp_store::Flat;
+use pdp_unibus::LAST_TURN;
 use pdp_word::NoMemory;
 use std::alloc::Global;
 
@@ -21,11 +23,11 @@ pub type FlatMachine = Machine<Flat>;
 /// The machine as of power-up of this setup with its patches.
 ///
 /// Err where there is no memory for its core.
-#[tactic(auto, using(crate::proofs::CoreWords::length_padded, crate::proofs::CoreWords::core_is_filled), unfolding(crate::specs::Turns::power))]
+#[tactic(auto, using(crate::proofs::CoreWords::length_padded, crate::proofs::CoreWords::core_is_filled), unfolding(crate::specs::States::power))]
 fn powered(
     alloc: Global,
     setup: &Setup,
-    patches: &IndexMap<u32, u16>,
+    patches: &IndexMap<PatchKey, u16>,
 ) -> Result<FlatMachine, NoMemory>
     requires good { IsGood (setup_from setup.now patches.now) }
     requires below { AllBelow (setup.now.units * UNIT_WORDS) patches.now.entries }
@@ -44,7 +46,7 @@ fn powered(
 pub fn machine_at(
     alloc: Global,
     setup: &Setup,
-    patches: &IndexMap<u32, u16>,
+    patches: &IndexMap<PatchKey, u16>,
     script: &Script,
     meter: &mut Meter,
     turn: u32,

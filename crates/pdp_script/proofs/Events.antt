@@ -4,7 +4,7 @@ use Rattle.std.proofs.lemmas.Bool.{ne_eqb, eq-eqb, ltb-true, cond-true, cond-fal
 use Rattle.std.specs.List.{All, filter}
 use Rattle.std.specs.List.Sorted.{IsNonDecreasingBy}
 use Rattle.pdp_unibus.specs.declared.event.Event.{Event}
-use Rattle.pdp_script.specs.Entries.{Entry, entry_of, events_at, inserted, without, replaced, altered}
+use Rattle.pdp_script.specs.Entries.{Entry, entry_of, events_at, inserted, without, changed_in_place, altered}
 
 -- an entry of another turn before the others
 pub events_at-other : (e : Entry) (es : List Entry) (t : ℕ) → (e.turn ≡ t → ⊥) → events_at (e ∷ es) t ≡ events_at es t
@@ -32,21 +32,21 @@ events_at-dropped (e ∷ es) number old t found other =
     let same : e ≡ old = cc in sym (events_at-other e es t (λ q. other (sym (ap (λ (x : Entry). x.turn) same) ∙ q))))
     (λ no. events_at-cons e (without es number) es t (events_at-dropped es number old t (sym (cond-false (eqb e.number number) (Some e) (entry_of es number) no) ∙ found) other))
 
-pub events_at-replaced : (entries : List Entry) (entry old : Entry) (t : ℕ) → entry_of entries entry.number ≡ Some old
-    → (old.turn ≡ t → ⊥) → (entry.turn ≡ t → ⊥) → events_at (replaced entries entry) t ≡ events_at entries t
-events_at-replaced [] entry old t found from to = refl
-events_at-replaced (e ∷ es) entry old t found from to =
-    cond_both (eqb e.number entry.number) (entry ∷ es) (e ∷ replaced es entry) (λ l. events_at l t ≡ events_at (e ∷ es) t)
+pub events_at-changed_in_place : (entries : List Entry) (entry old : Entry) (t : ℕ) → entry_of entries entry.number ≡ Some old
+    → (old.turn ≡ t → ⊥) → (entry.turn ≡ t → ⊥) → events_at (changed_in_place entries entry) t ≡ events_at entries t
+events_at-changed_in_place [] entry old t found from to = refl
+events_at-changed_in_place (e ∷ es) entry old t found from to =
+    cond_both (eqb e.number entry.number) (entry ∷ es) (e ∷ changed_in_place es entry) (λ l. events_at l t ≡ events_at (e ∷ es) t)
     (λ yes. let is : Some e ≡ Some old = sym (cond-true (eqb e.number entry.number) (Some e) (entry_of es entry.number) yes) ∙ found in
     let same : e ≡ old = cc in
     events_at-other entry es t to ∙ sym (events_at-other e es t (λ q. from (sym (ap (λ (x : Entry). x.turn) same) ∙ q))))
-    (λ no. events_at-cons e (replaced es entry) es t (events_at-replaced es entry old t (sym (cond-false (eqb e.number entry.number) (Some e) (entry_of es entry.number) no) ∙ found) from to))
+    (λ no. events_at-cons e (changed_in_place es entry) es t (events_at-changed_in_place es entry old t (sym (cond-false (eqb e.number entry.number) (Some e) (entry_of es entry.number) no) ∙ found) from to))
 
 pub events_at-altered : (entries : List Entry) (entry old : Entry) (t : ℕ) → entry_of entries entry.number ≡ Some old
     → (old.turn ≡ t → ⊥) → (entry.turn ≡ t → ⊥) → events_at (altered entries old entry) t ≡ events_at entries t
 events_at-altered entries entry old t found from to =
-    cond_both (eqb old.turn entry.turn) (replaced entries entry) (inserted (without entries entry.number) entry) (λ l. events_at l t ≡ events_at entries t)
-    (λ _. events_at-replaced entries entry old t found from to)
+    cond_both (eqb old.turn entry.turn) (changed_in_place entries entry) (inserted (without entries entry.number) entry) (λ l. events_at l t ≡ events_at entries t)
+    (λ _. events_at-changed_in_place entries entry old t found from to)
     (λ _. events_at-inserted (without entries entry.number) entry t to ∙ events_at-dropped entries entry.number old t found from)
 
 -- where a turn has no events, it has none in the rest of the list

@@ -7,7 +7,8 @@ use Rattle.std.proofs.lemmas.List.Quantifiers.{all_pairs_remove}
 use Rattle.std.proofs.lemmas.List.Sorted.{IsNonDecreasingBy-insert}
 use Rattle.pdp_unibus.specs.declared.event.Event.{Event}
 use Rattle.pdp_script.specs.declared.labels.Label.{Label}
-use Rattle.pdp_script.specs.Script.{last_turn, most_events}
+use Rattle.pdp_script.specs.Script.{most_events}
+use Rattle.pdp_unibus.specs.LastTurn.{last_turn}
 use Rattle.pdp_script.specs.Labels.{IsFirstOf, IsKept, PutsLast}
 use Rattle.pdp_script.proofs.Places.{AllPairs-insert, IsNonDecreasingBy-remove, All-remove_others}
 

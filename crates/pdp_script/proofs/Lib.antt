@@ -1,6 +1,6 @@
 pub mod Edits
 pub mod Events
-pub mod Joined
+pub mod Labelled
 pub mod Kept
 pub mod Others
 pub mod Places

@@ -4,7 +4,7 @@ use Rattle.std.proofs.lemmas.Bool.{ne_eqb, eq-eqb, eqb-true, cond-true, cond-fal
 use Rattle.std.proofs.lemmas.List.Elements.{All-cons}
 use Rattle.std.specs.List.{All}
 use Rattle.pdp_unibus.specs.declared.event.Event.{Event}
-use Rattle.pdp_script.specs.Entries.{Entry, entry_of, events_at, inserted, without, replaced, altered}
+use Rattle.pdp_script.specs.Entries.{Entry, entry_of, events_at, inserted, without, changed_in_place, altered}
 use Rattle.pdp_script.specs.EditLaws.{AreInOrder, AreNumberedApart, others, with_event_of}
 use Rattle.pdp_script.proofs.Events.{events_at-inserted_last, events_at-dropped}
 
@@ -36,17 +36,17 @@ others-without (e ∷ es) n =
     (λ yes. sym (others-same e es n yes))
     (λ _. others-cons e (without es n) es n (others-without es n))
 
-others-replaced : (entries : List Entry) (entry : Entry) → others entry.number (replaced entries entry) ≡ others entry.number entries
-others-replaced [] entry = refl
-others-replaced (e ∷ es) entry =
-    cond_both (eqb e.number entry.number) (entry ∷ es) (e ∷ replaced es entry) (λ l. others entry.number l ≡ others entry.number (e ∷ es))
+others-changed_in_place : (entries : List Entry) (entry : Entry) → others entry.number (changed_in_place entries entry) ≡ others entry.number entries
+others-changed_in_place [] entry = refl
+others-changed_in_place (e ∷ es) entry =
+    cond_both (eqb e.number entry.number) (entry ∷ es) (e ∷ changed_in_place es entry) (λ l. others entry.number l ≡ others entry.number (e ∷ es))
     (λ yes. others-same entry es entry.number (eq-eqb entry.number entry.number refl) ∙ sym (others-same e es entry.number yes))
-    (λ _. others-cons e (replaced es entry) es entry.number (others-replaced es entry))
+    (λ _. others-cons e (changed_in_place es entry) es entry.number (others-changed_in_place es entry))
 
 pub others-altered : (entries : List Entry) (entry old : Entry) → others entry.number (altered entries old entry) ≡ others entry.number entries
 others-altered entries entry old =
-    cond_both (eqb old.turn entry.turn) (replaced entries entry) (inserted (without entries entry.number) entry) (λ l. others entry.number l ≡ others entry.number entries)
-    (λ _. others-replaced entries entry)
+    cond_both (eqb old.turn entry.turn) (changed_in_place entries entry) (inserted (without entries entry.number) entry) (λ l. others entry.number l ≡ others entry.number entries)
+    (λ _. others-changed_in_place entries entry)
     (λ _. others-inserted (without entries entry.number) entry ∙ others-without entries entry.number)
 
 -- where no entry has this number, all are others
@@ -82,11 +82,11 @@ none_changed (e ∷ es) n event none =
     ap (λ (x : Entry). x ∷ map (with_event_of n event) es) (with_event_of-other e n event (ne_eqb e.number n (none 0 e (omega arith))))
     ∙ ap (λ (l : List Entry). e ∷ l) (none_changed es n event (λ k d lt. none (suc k) d (omega arith)))
 
-replaced-one : (entries : List Entry) (old : Entry) (event : Event) → AreNumberedApart entries → entry_of entries old.number ≡ Some old
-    → replaced entries (record old { event = event }) ≡ map (with_event_of old.number event) entries
-replaced-one [] old event apart found = refl
-replaced-one (e ∷ es) old event apart found =
-    cond_both (eqb e.number old.number) (record old { event = event } ∷ es) (e ∷ replaced es (record old { event = event }))
+changed_in_place-one : (entries : List Entry) (old : Entry) (event : Event) → AreNumberedApart entries → entry_of entries old.number ≡ Some old
+    → changed_in_place entries (record old { event = event }) ≡ map (with_event_of old.number event) entries
+changed_in_place-one [] old event apart found = refl
+changed_in_place-one (e ∷ es) old event apart found =
+    cond_both (eqb e.number old.number) (record old { event = event } ∷ es) (e ∷ changed_in_place es (record old { event = event }))
     (λ l. l ≡ map (with_event_of old.number event) (e ∷ es))
     (λ yes. let is : Some e ≡ Some old = sym (cond-true (eqb e.number old.number) (Some e) (entry_of es old.number) yes) ∙ found in
     let same : e ≡ old = cc in
@@ -94,13 +94,13 @@ replaced-one (e ∷ es) old event apart found =
     ∙ ap (λ (x : Entry). x ∷ es) (sym (with_event_of-same e old.number event yes))
     ∙ ap (λ (l : List Entry). with_event_of old.number event e ∷ l) (sym (none_changed es old.number event (none_after e es old.number apart yes))))
     (λ no. ap (λ (l : List Entry). e ∷ l)
-    (replaced-one es old event (apart_after e es apart) (sym (cond-false (eqb e.number old.number) (Some e) (entry_of es old.number) no) ∙ found))
+    (changed_in_place-one es old event (apart_after e es apart) (sym (cond-false (eqb e.number old.number) (Some e) (entry_of es old.number) no) ∙ found))
     ∙ ap (λ (x : Entry). x ∷ map (with_event_of old.number event) es) (sym (with_event_of-other e old.number event no)))
 
 pub altered-in_place : (entries : List Entry) (old : Entry) (event : Event) → AreNumberedApart entries → entry_of entries old.number ≡ Some old
     → altered entries old (record old { event = event }) ≡ map (with_event_of old.number event) entries
 altered-in_place entries old event apart found =
-    let here = eq-eqb old.turn old.turn refl in rw here (replaced-one entries old event apart found)
+    let here = eq-eqb old.turn old.turn refl in rw here (changed_in_place-one entries old event apart found)
 
 All-without : (P : Entry → Type 0) (es : List Entry) (n : ℕ) → All P es → All P (without es n)
 All-without P [] n all = all

@@ -1,4 +1,4 @@
--- What edits do to a script, in the terms of its events: by turns, and by entries.
+-- What edits do to a script, in the terms of its events: by turns, and by entries (this project's profile).
 use Rattle.std.specs.Prelude.{ℕ, ◌≡◌, ◌==◌, not, if◌then◌else◌, Some, List, [], ◌∷◌, ◌++◌, map}
 use Rattle.std.specs.List.{AllPairs, filter}
 use Rattle.std.specs.List.Sorted.{IsNonDecreasingBy}

@@ -1,4 +1,5 @@
--- The entries of a script: its events with their numbers and turns, in the order of their turns.
+-- The entries of a script: its events with their numbers and turns, in the order of their turns (this project's
+-- profile).
 use Rattle.std.specs.Prelude.{ℕ, ◌≡◌, ◌<◌, ◌≤◌, cond, eqb, nat_lt, nat_le, Option, Some, None, List, [], ◌∷◌, map}
 use Rattle.std.specs.List.{filter}
 use Rattle.pdp_unibus.specs.declared.event.Event.{Event}
@@ -39,11 +40,11 @@ without [] number = []
 without (e ∷ es) number = cond (eqb e.number number) es (e ∷ without es number)
 
 -- with this entry in the place of the first of its number
-abbrev pub replaced : List Entry → Entry → List Entry
-replaced [] entry = []
-replaced (e ∷ es) entry = cond (eqb e.number entry.number) (entry ∷ es) (e ∷ replaced es entry)
+abbrev pub changed_in_place : List Entry → Entry → List Entry
+changed_in_place [] entry = []
+changed_in_place (e ∷ es) entry = cond (eqb e.number entry.number) (entry ∷ es) (e ∷ changed_in_place es entry)
 
 -- with this entry for `old` of the same number: in its place if the turn is the same, else last of its new turn
 abbrev pub altered : List Entry → Entry → Entry → List Entry
 altered entries old entry =
-    cond (eqb old.turn entry.turn) (replaced entries entry) (inserted (without entries entry.number) entry)
+    cond (eqb old.turn entry.turn) (changed_in_place entries entry) (inserted (without entries entry.number) entry)

@@ -1,9 +1,11 @@
--- How a script is kept: the numbers and turns in one list, the events in step with them in another.
+-- How the code keeps a script: the numbers and turns in one list, the events in step with them in another. No public
+-- contract names this.
 use Rattle.std.specs.Prelude.{◌≡◌, ◌<◌, ◌≤◌, ℕ, List, [], ◌∷◌, length}
 use Rattle.std.specs.List.{All, AllPairs, AllWithin, HoldsAt, insert}
 use Rattle.std.specs.List.Sorted.{IsNonDecreasingBy}
 use Rattle.pdp_script.specs.Entries.{Entry}
-use Rattle.pdp_script.specs.Script.{last_turn, most_events}
+use Rattle.pdp_script.specs.Script.{most_events}
+use Rattle.pdp_unibus.specs.LastTurn.{last_turn}
 use Rattle.pdp_script.specs.declared.labels.Label.{Label}
 use Rattle.pdp_unibus.specs.declared.event.Event.{Event}
 
@@ -12,10 +14,10 @@ abbrev pub entry_at : Label → Event → Entry
 entry_at label event = record { number = label.number; turn = label.turn; event = event }
 
 -- the entries of labels and the events in step with them
-abbrev pub joined : List Label → List Event → List Entry
-joined [] events = []
-joined (label ∷ labels) [] = []
-joined (label ∷ labels) (event ∷ events) = entry_at label event ∷ joined labels events
+abbrev pub labelled : List Label → List Event → List Entry
+labelled [] events = []
+labelled (label ∷ labels) [] = []
+labelled (label ∷ labels) (event ∷ events) = entry_at label event ∷ labelled labels events
 
 abbrev pub IsInOrder : List Label → Type 0
 IsInOrder labels = IsNonDecreasingBy (λ s. s.turn) labels

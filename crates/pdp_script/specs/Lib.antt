@@ -1,3 +1,4 @@
+-- The script of a run, its edits, and the faults (this project's profile).
 pub mod EditLaws
 pub mod Entries
 pub mod Fault

@@ -1,16 +1,17 @@
--- Want of memory is the one thing that a definition of an answer can't know. So a definition takes
--- it as a flag, and a contract computes that flag from the call's own result by `for_memory`.
+-- Refusals (this project's profile). Whether a call is out of memory is the one thing that a definition of an answer
+-- can't know. So a definition takes it as a flag, and a contract computes that flag from the call's own result by
+-- `for_memory`.
 use Rattle.std.specs.Prelude.{Bool, true, false, Result, Ok, Err}
 use Rattle.pdp_script.specs.declared.faults.Fault.{Fault}
 use Rattle.pdp_script.specs.declared.faults.Fault.TheVariants.{NoMemory}
 
--- was this refused for want of memory?
+-- was this refused as out of memory?
 abbrev pub for_memory : {X : Type 0} → Result X Fault → Bool
 for_memory (Ok x) = false
 for_memory (Err NoMemory) = true
 for_memory (Err _) = false
 
--- what an edit answers, that would come out as `due` but for memory: any other refusal wins over want of memory
+-- what an edit answers, that would come out as `due` but for memory: any other refusal is told first
 abbrev pub edit_answer : {X Y : Type 0} → Result X Fault → Bool → Y → Result Y Fault
 edit_answer (Err fault) refused y = Err fault
 edit_answer (Ok x) true y = Err NoMemory

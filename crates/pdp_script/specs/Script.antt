@@ -6,6 +6,7 @@ use Rattle.pdp_script.specs.declared.faults.Fault.{Fault}
 use Rattle.pdp_script.specs.declared.faults.Fault.TheVariants.{NoSuchEvent, ScriptFull, TurnTooLarge}
 use Rattle.pdp_script.specs.Entries.{Entry, entry_of, inserted, without, altered}
 use Rattle.pdp_script.specs.Refusal.{edit_answer}
+use Rattle.pdp_unibus.specs.LastTurn.{last_turn}
 use Rattle.pdp_unibus.specs.declared.event.Event.{Event}
 
 -- the entries in order, and how many numbers were given: the next is one more
@@ -13,14 +14,12 @@ pub record ScriptData : Type 0 where
   pub entries : List Entry
   pub given : ℕ
 
+-- how many events a script may have at a time, and how many numbers it gives: what 32 bits hold
 abbrev pub most_events : ℕ
 most_events = 65536
 
 abbrev pub most_numbers : ℕ
 most_numbers = 4294967295
-
-abbrev pub last_turn : ℕ
-last_turn = 1000000000
 
 -- with an event under a fresh number
 abbrev pub with_event : ℕ → Event → ScriptData → ScriptData

@@ -13,4 +13,5 @@ mod script;
 
 pub use faults::Fault;
 pub use laws::{edits_leave_other_entries, edits_leave_other_turns};
-pub use script::{LAST_TURN, MOST_EVENTS, Script};
+pub use pdp_unibus::LAST_TURN;
+pub use script::{MOST_EVENTS, Script};

@@ -6,12 +6,9 @@ ghost use Rattle.std.specs.Option.{option_map};
 
 use crate::faults::Fault;
 use crate::labels::{Label, place_after, place_from, place_of, put_last};
-use pdp_unibus::Event;
+use pdp_unibus::{Event, LAST_TURN};
 use std::alloc::Global;
 use std::marker::Model;
-
-/// The greatest turn that an event may have (this project's profile).
-pub const LAST_TURN: u32 = 1_000_000_000;
 
 /// How many events a script may have at a time (this project's profile).
 pub const MOST_EVENTS: usize = 65_536;
@@ -30,9 +27,9 @@ impl Model for Script {
 
     ghost Value = { ScriptData };
 
-    ghost use Rattle.pdp_script.specs.Labels.{joined, IsKept};
+    ghost use Rattle.pdp_script.specs.Labels.{labelled, IsKept};
 
-    ghost view = { λ s. record { entries = joined s.labels.items s.events.items; given = s.given } };
+    ghost view = { λ s. record { entries = labelled s.labels.items s.events.items; given = s.given } };
 
     ghost invariant = { λ s. IsKept s.labels.items s.events.items s.given };
 }

@@ -1,14 +1,15 @@
--- A line of which 202 bytes are held means what the whole line means.
+-- A line of which so many bytes are held means what the whole line means.
 use Rattle.std.proofs.Common.{◌≡◌, ℕ, ◌+◌, ◌-◌, ◌<◌, ◌≤◌, ◌⊎◌, inl, inr, Bool, true, false, cond, eqb, List, [], ◌∷◌, ◌++◌, length, take, get_or, Err, refl, sym, ap, ◌∙◌, arith}
 use Rattle.std.proofs.lemmas.Bool.{cases_lt, lt-ltb}
 use Rattle.std.proofs.lemmas.List.{take_all, take-append-le, length-take-le}
 use Rattle.pdp_script.specs.declared.faults.Fault.TheVariants.{LineTooLong}
+use Rattle.pdp_session.specs.Inside.Progress.{most_held}
 use Rattle.pdp_session.specs.Grammar.{line_means}
-use Rattle.pdp_session.specs.Lines.{without_return}
+use Rattle.pdp_session.specs.Lines.{longest_line, without_return}
 
-line_means-long : (line : List ℕ) → 200 < length line → line_means line ≡ Err LineTooLong
+line_means-long : (line : List ℕ) → longest_line < length line → line_means line ≡ Err LineTooLong
 unfolding line_means
-line_means-long line long = rw (lt-ltb 200 (length line) long) refl
+line_means-long line long = rw (lt-ltb longest_line (length line) long) refl
 
 length-without_return : (line : List ℕ) → length line ≤ length (without_return line) + 1
 length-without_return line = by_test (eqb (get_or line (length line - 1) 0) 13)
@@ -17,30 +18,30 @@ length-without_return line = by_test (eqb (get_or line (length line - 1) 0) 13)
     by_test true = omega (arith, length-take-le (length line - 1) line (omega arith))
     by_test false = omega arith
 
-pub line_means-held : (tail : List ℕ) → line_means (take 202 tail) ≡ line_means tail
-line_means-held tail = by_length (cases_lt 202 (length tail))
+pub line_means-held : (tail : List ℕ) → line_means (take most_held tail) ≡ line_means tail
+line_means-held tail = by_length (cases_lt most_held (length tail))
   where
-    by_length : (202 < length tail) ⊎ (length tail ≤ 202) → line_means (take 202 tail) ≡ line_means tail
-    by_length (inr short) = ap line_means (take_all 202 tail short)
+    by_length : (most_held < length tail) ⊎ (length tail ≤ most_held) → line_means (take most_held tail) ≡ line_means tail
+    by_length (inr short) = ap line_means (take_all most_held tail short)
     by_length (inl long) =
-        line_means-long (take 202 tail) (omega (arith, length-take-le 202 tail (omega arith))) ∙ sym (line_means-long tail (omega arith))
+        line_means-long (take most_held tail) (omega (arith, length-take-le most_held tail (omega arith))) ∙ sym (line_means-long tail (omega arith))
 
-pub line_means-held_returned : (tail : List ℕ) → line_means (without_return (take 202 tail)) ≡ line_means (without_return tail)
-line_means-held_returned tail = by_length (cases_lt 202 (length tail))
+pub line_means-held_returned : (tail : List ℕ) → line_means (without_return (take most_held tail)) ≡ line_means (without_return tail)
+line_means-held_returned tail = by_length (cases_lt most_held (length tail))
   where
-    by_length : (202 < length tail) ⊎ (length tail ≤ 202) → line_means (without_return (take 202 tail)) ≡ line_means (without_return tail)
-    by_length (inr short) = ap (λ line. line_means (without_return line)) (take_all 202 tail short)
+    by_length : (most_held < length tail) ⊎ (length tail ≤ most_held) → line_means (without_return (take most_held tail)) ≡ line_means (without_return tail)
+    by_length (inr short) = ap (λ line. line_means (without_return line)) (take_all most_held tail short)
     by_length (inl long) =
-        line_means-long (without_return (take 202 tail)) (omega (arith, length-take-le 202 tail (omega arith), length-without_return (take 202 tail)))
+        line_means-long (without_return (take most_held tail)) (omega (arith, length-take-le most_held tail (omega arith), length-without_return (take most_held tail)))
         ∙ sym (line_means-long (without_return tail) (omega (arith, length-without_return tail)))
 
 -- one more byte
-pub held-push : (tail : List ℕ) (byte : ℕ) → take 202 (take 202 tail ++ byte ∷ []) ≡ take 202 (tail ++ byte ∷ [])
-held-push tail byte = by_length (cases_lt 202 (length tail))
+pub held-push : (tail : List ℕ) (byte : ℕ) → take most_held (take most_held tail ++ byte ∷ []) ≡ take most_held (tail ++ byte ∷ [])
+held-push tail byte = by_length (cases_lt most_held (length tail))
   where
-    by_length : (202 < length tail) ⊎ (length tail ≤ 202) → take 202 (take 202 tail ++ byte ∷ []) ≡ take 202 (tail ++ byte ∷ [])
-    by_length (inr short) = ap (λ held. take 202 (held ++ byte ∷ [])) (take_all 202 tail short)
+    by_length : (most_held < length tail) ⊎ (length tail ≤ most_held) → take most_held (take most_held tail ++ byte ∷ []) ≡ take most_held (tail ++ byte ∷ [])
+    by_length (inr short) = ap (λ held. take most_held (held ++ byte ∷ [])) (take_all most_held tail short)
     by_length (inl long) =
-        take-append-le 202 (take 202 tail) (byte ∷ []) (omega (arith, length-take-le 202 tail (omega arith)))
-        ∙ take_all 202 (take 202 tail) (omega (arith, length-take-le 202 tail (omega arith)))
-        ∙ sym (take-append-le 202 tail (byte ∷ []) (omega arith))
+        take-append-le most_held (take most_held tail) (byte ∷ []) (omega (arith, length-take-le most_held tail (omega arith)))
+        ∙ take_all most_held (take most_held tail) (omega (arith, length-take-le most_held tail (omega arith)))
+        ∙ sym (take-append-le most_held tail (byte ∷ []) (omega arith))

@@ -1,5 +1,5 @@
 pub mod CoreLines
-pub mod Ending
+pub mod SessionEnds
 pub mod HeldLines
 pub mod LineLists
 pub mod PatchLines

@@ -6,24 +6,25 @@ use Rattle.std.specs.Prelude.{Option}
 use Rattle.std.proofs.lemmas.List.{take_all}
 use Rattle.pdp_replay.specs.Edit.{patch_shown, patch_count}
 use Rattle.pdp_replay.specs.Past.{Past}
+use Rattle.pdp_replay.specs.PatchedWords.{Patches}
 use Rattle.pdp_session.specs.Reply.{count_line, patch_line, patch_lines, patches_text}
 use Rattle.pdp_session.specs.Inside.Sends.{Cut}
 use Rattle.pdp_session.proofs.Pieces.{take_one_more, taken_and_left, cut_first, cut_later}
 
-patch_lines-append : (xs ys : List (ℕ × ℕ)) → patch_lines (xs ++ ys) ≡ patch_lines xs ++ patch_lines ys
+patch_lines-append : (xs ys : Patches) → patch_lines (xs ++ ys) ≡ patch_lines xs ++ patch_lines ys
 patch_lines-append [] ys = refl
 patch_lines-append (x ∷ xs) ys =
     ap (λ lines. patch_line (patch_shown x) ++ lines) (patch_lines-append xs ys)
     ∙ sym (append_assoc (patch_line (patch_shown x)) (patch_lines xs) (patch_lines ys))
 
 -- the lines up to a patch, and that patch's
-patch_lines_more : (ps : List (ℕ × ℕ)) (i : ℕ)
+patch_lines_more : (ps : Patches) (i : ℕ)
     → patch_lines (take (i + 1) ps) ≡ patch_lines (take i ps) ++ patch_lines (option_to_list (slice_get ps i))
 patch_lines_more ps i =
     rw add-one (ap patch_lines (take_one_more ps i) ∙ patch_lines-append (take i ps) (option_to_list (slice_get ps i)))
 
 -- the lines up to a patch, that patch's, and the others
-patch_lines_split : (ps : List (ℕ × ℕ)) (i : ℕ)
+patch_lines_split : (ps : Patches) (i : ℕ)
     → patch_lines ps ≡ patch_lines (take i ps) ++ (patch_lines (option_to_list (slice_get ps i)) ++ patch_lines (drop (suc i) ps))
 patch_lines_split ps i =
     ap patch_lines (taken_and_left ps i)

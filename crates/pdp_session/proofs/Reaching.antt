@@ -8,7 +8,7 @@ use Rattle.pdp_replay.specs.Past.{Past}
 use Rattle.pdp_session.specs.declared.reply.Reply.TheVariants.{Refused}
 use Rattle.pdp_session.specs.Command.{reply_to, past_after}
 use Rattle.pdp_session.specs.Lines.{is_line_feed, without_return, ended_lines, lines_of}
-use Rattle.pdp_session.specs.Inside.Progress.{Replied, Reached}
+use Rattle.pdp_session.specs.Inside.Progress.{most_held, Replied, Reached}
 use Rattle.pdp_session.specs.Reply.{text_to}
 use Rattle.pdp_session.specs.Session.{RepliesTo, BeginsReplies}
 use Rattle.pdp_session.proofs.HeldLines.{line_means-held, line_means-held_returned, held-push}
@@ -30,14 +30,14 @@ nothing_reached past = record {
 
 -- a byte that is no LF is held
 pub byte_reached : (past : Past) (done out held : List ℕ) (now : Past) (byte : ℕ) → is_line_feed byte ≡ false → Reached past done out held now
-    → Reached past (done ++ byte ∷ []) (out ++ []) (take 202 (held ++ byte ∷ [])) now
+    → Reached past (done ++ byte ∷ []) (out ++ []) (take most_held (held ++ byte ∷ [])) now
 byte_reached past done out held now byte goes_on before = record {
   whole = before.whole;
   tail = before.tail ++ byte ∷ [];
   lines = before.lines;
   split = ap (λ front. front ++ byte ∷ []) before.split ∙ append_assoc before.whole before.tail (byte ∷ []);
   is_open = All-push (λ b. is_line_feed b ≡ false) before.tail byte before.is_open goes_on;
-  kept = ap (λ front. take 202 (front ++ byte ∷ [])) before.kept ∙ held-push before.tail byte;
+  kept = ap (λ front. take most_held (front ++ byte ∷ [])) before.kept ∙ held-push before.tail byte;
   every = before.every;
   ended = before.ended;
   replied = rw (append-nil out) before.replied;
@@ -80,17 +80,17 @@ broken past done out unwritten held now r next =
 
 -- ---- the end of the input
 
-tail_has : (held tail : List ℕ) → held ≡ take 202 tail → 0 < length held → 0 < length tail
+tail_has : (held tail : List ℕ) → held ≡ take most_held tail → 0 < length held → 0 < length tail
 tail_has held [] kept some = absurd (omega (arith, ap length kept))
 tail_has held (byte ∷ bytes) kept some = omega arith
 
-tail_none : (held tail : List ℕ) → held ≡ take 202 tail → length held ≡ 0 → tail ≡ []
+tail_none : (held tail : List ℕ) → held ≡ take most_held tail → length held ≡ 0 → tail ≡ []
 tail_none held [] kept none = refl
-tail_none held (byte ∷ bytes) kept none = by_length (cases_lt 202 (length (byte ∷ bytes)))
+tail_none held (byte ∷ bytes) kept none = by_length (cases_lt most_held (length (byte ∷ bytes)))
   where
-    by_length : (202 < length (byte ∷ bytes)) ⊎ (length (byte ∷ bytes) ≤ 202) → (byte ∷ bytes) ≡ []
-    by_length (inl long) = absurd (omega (arith, ap length kept, length-take-le 202 (byte ∷ bytes) (omega arith)))
-    by_length (inr short) = absurd (omega (arith, ap length kept, ap length (take_all 202 (byte ∷ bytes) short)))
+    by_length : (most_held < length (byte ∷ bytes)) ⊎ (length (byte ∷ bytes) ≤ most_held) → (byte ∷ bytes) ≡ []
+    by_length (inl long) = absurd (omega (arith, ap length kept, length-take-le most_held (byte ∷ bytes) (omega arith)))
+    by_length (inr short) = absurd (omega (arith, ap length kept, ap length (take_all most_held (byte ∷ bytes) short)))
 
 -- no line was open
 pub all_answered : (past : Past) (done out held : List ℕ) (now : Past) → length held ≡ 0 → Reached past done out held now → RepliesTo past (lines_of done) out

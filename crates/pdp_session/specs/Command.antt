@@ -1,5 +1,5 @@
--- What a line is answered, and the past that it leaves. Want of memory comes in as a flag: it is
--- told only where nothing else refuses the line, and only of a command.
+-- What a line is answered, and the past that it leaves (this project's profile). Whether it is out of memory comes in
+-- as a flag: it is told only where nothing else refuses the line, and only of a command.
 use Rattle.std.specs.Prelude.{Bool, true, false, List, ℕ, ◌+◌, Option, None, Some, Result, Ok, Err}
 use Rattle.pdp_script.specs.Refusal.{edit_answer, question_answer, past_left}
 use Rattle.pdp_script.specs.declared.faults.Fault.{Fault}
@@ -64,7 +64,7 @@ reply_to line refused past = reply_meant (line_means line) refused past
 unfoldable pub past_after : List ℕ → Bool → Past → Past
 past_after line refused past = past_meant (line_means line) refused past
 
--- was this line refused for want of memory?
+-- was this line refused as out of memory?
 abbrev pub wants_memory : Reply → Bool
 wants_memory (Refused NoMemory) = true
 wants_memory _ = false

@@ -12,6 +12,7 @@ use Rattle.pdp_session.specs.Grammar.Arguments.{◌>>=◌, first_of, one_of, two
 use Rattle.pdp_session.specs.Grammar.Events.{event_of}
 use Rattle.pdp_session.specs.Grammar.Questions.{question_with}
 use Rattle.pdp_session.specs.Grammar.Words.{words_of}
+use Rattle.pdp_session.specs.Lines.{longest_line}
 pub mod Arguments
 pub mod Events
 pub mod Questions
@@ -82,9 +83,9 @@ abbrev pub command_of : List (List ℕ) → Result (Option Command) Fault
 command_of [] = Ok None
 command_of (name ∷ arguments) = ok_or (option_map (λ command. Some command) (command_with name arguments)) BadLine
 
--- a line, without what ended it: at most 200 bytes
+-- a line, without what ended it
 unfoldable pub line_means : List ℕ → Result (Option Command) Fault
 line_means line =
-    if nat_lt 200 (length line) then Err LineTooLong
+    if nat_lt longest_line (length line) then Err LineTooLong
     else if is_comment line then Ok None
     else command_of (words_of line)

@@ -1,4 +1,5 @@
--- The session language: the lines of a text, what a line means, what it does to the past, and what it is answered.
+-- The session language (this project's profile): the lines of a text, what a line means, what it does to the past, and
+-- what it is answered.
 pub mod Lines
 pub mod Grammar
 pub mod Command

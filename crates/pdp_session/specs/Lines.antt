@@ -3,6 +3,10 @@
 use Rattle.std.specs.Prelude.{ℕ, Bool, List, [], ◌∷◌, ◌++◌, ◌-◌, ◌==◌, if◌then◌else◌, length, take, slice_index}
 use Rattle.std.specs.List.{slice_split}
 
+-- the most bytes that a line of the grammar has
+abbrev pub longest_line : ℕ
+longest_line = 200
+
 abbrev pub is_line_feed : ℕ → Bool
 is_line_feed byte = byte == 10
 
@@ -11,21 +15,21 @@ abbrev pub without_return : List ℕ → List ℕ
 without_return line = if slice_index line (length line - 1) == 13 then take (length line - 1) line else line
 
 -- of the pieces between line feeds, the lines that an LF ended: all but the last
-abbrev pub ended : List (List ℕ) → List (List ℕ)
-ended [] = []
-ended (piece ∷ []) = []
-ended (piece ∷ next ∷ pieces) = without_return piece ∷ ended (next ∷ pieces)
+abbrev pub closed_pieces : List (List ℕ) → List (List ℕ)
+closed_pieces [] = []
+closed_pieces (piece ∷ []) = []
+closed_pieces (piece ∷ next ∷ pieces) = without_return piece ∷ closed_pieces (next ∷ pieces)
 
 -- of the pieces between line feeds, the line that no LF ended: the last, if it has a byte
-abbrev pub unended : List (List ℕ) → List (List ℕ)
-unended [] = []
-unended (piece ∷ []) = if length piece == 0 then [] else piece ∷ []
-unended (piece ∷ next ∷ pieces) = unended (next ∷ pieces)
+abbrev pub open_piece : List (List ℕ) → List (List ℕ)
+open_piece [] = []
+open_piece (piece ∷ []) = if length piece == 0 then [] else piece ∷ []
+open_piece (piece ∷ next ∷ pieces) = open_piece (next ∷ pieces)
 
 -- the lines that had ended
 unfoldable pub ended_lines : List ℕ → List (List ℕ)
-ended_lines text = ended (slice_split is_line_feed text)
+ended_lines text = closed_pieces (slice_split is_line_feed text)
 
 -- all lines
 unfoldable pub lines_of : List ℕ → List (List ℕ)
-lines_of text = ended (slice_split is_line_feed text) ++ unended (slice_split is_line_feed text)
+lines_of text = closed_pieces (slice_split is_line_feed text) ++ open_piece (slice_split is_line_feed text)

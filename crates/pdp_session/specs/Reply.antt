@@ -8,6 +8,7 @@ use Rattle.pdp_operand.specs.declared.processor.RunState.{RunState}
 use Rattle.pdp_operand.specs.declared.processor.RunState.TheVariants.{Run, Wait, Halted}
 use Rattle.pdp_replay.specs.Edit.{patch_shown, patch_count}
 use Rattle.pdp_replay.specs.Past.{Past}
+use Rattle.pdp_replay.specs.PatchedWords.{Patches}
 use Rattle.pdp_replay.specs.declared.patch.Patch.{Patch}
 use Rattle.pdp_replay.specs.declared.patch.Patch.TheVariants.{Core}
 use Rattle.pdp_replay.specs.declared.question.Value.{Value}
@@ -17,8 +18,8 @@ use Rattle.pdp_session.specs.declared.reply.Reply.TheVariants.{Nothing, Done, In
 use Rattle.pdp_session.specs.Command.{reply_to, past_after}
 
 -- a name, a word in six octal digits, and the space after it
-abbrev pub field : List ℕ → ℕ → List ℕ
-field name word = name ++ codes " " ++ octal_digits 6 word ++ codes " "
+abbrev pub register_text : List ℕ → ℕ → List ℕ
+register_text name word = name ++ codes " " ++ octal_digits 6 word ++ codes " "
 
 abbrev pub state_name : RunState → List ℕ
 state_name Run = codes "run"
@@ -27,16 +28,16 @@ state_name Halted = codes "halted"
 
 abbrev pub regs_line : Regs → List ℕ
 regs_line regs =
-    field (codes "R0") (slice_index regs.r 0)
-    ++ field (codes "R1") (slice_index regs.r 1)
-    ++ field (codes "R2") (slice_index regs.r 2)
-    ++ field (codes "R3") (slice_index regs.r 3)
-    ++ field (codes "R4") (slice_index regs.r 4)
-    ++ field (codes "R5") (slice_index regs.r 5)
-    ++ field (codes "KSP") regs.ksp
-    ++ field (codes "USP") regs.usp
-    ++ field (codes "PC") regs.pc
-    ++ field (codes "PS") regs.ps
+    register_text (codes "R0") (slice_index regs.r 0)
+    ++ register_text (codes "R1") (slice_index regs.r 1)
+    ++ register_text (codes "R2") (slice_index regs.r 2)
+    ++ register_text (codes "R3") (slice_index regs.r 3)
+    ++ register_text (codes "R4") (slice_index regs.r 4)
+    ++ register_text (codes "R5") (slice_index regs.r 5)
+    ++ register_text (codes "KSP") regs.ksp
+    ++ register_text (codes "USP") regs.usp
+    ++ register_text (codes "PC") regs.pc
+    ++ register_text (codes "PS") regs.ps
     ++ state_name regs.state
 
 abbrev pub refusal_line : Fault → List ℕ
@@ -49,7 +50,7 @@ refusal_text fault = refusal_line fault ++ codes "\n"
 abbrev pub patch_line : Patch → List ℕ
 patch_line (Core address word) = codes "core " ++ octal_digits 6 address ++ codes " " ++ octal_digits 6 word ++ codes "\n"
 
-abbrev pub patch_lines : List (ℕ × ℕ) → List ℕ
+abbrev pub patch_lines : Patches → List ℕ
 patch_lines [] = []
 patch_lines (entry ∷ entries) = patch_line (patch_shown entry) ++ patch_lines entries
 

@@ -1,4 +1,4 @@
--- What a session writes: from the bytes of its input to the bytes of its output.
+-- What a session writes: from the bytes of its input to the bytes of its output (this project's profile).
 use Rattle.std.specs.Prelude.{◌≡◌, ℕ, ◌+◌, ◌≤◌, Bool, true, false, List, [], ◌∷◌, ◌++◌, length, Option, Some, IfSome, Result, Ok, Err}
 use Rattle.std.specs.List.{concat, slice_get}
 use Rattle.std.specs.Io.KnownBytes.{Appends, Consumes, IsAtEnd}
@@ -17,7 +17,7 @@ is_told_first BadSetup = true
 is_told_first _ = false
 
 -- The replies to lines, one text for each, where the first has number n and `refused` is the set of the
--- numbers of those lines that are refused for want of memory. Such a line leaves the session.
+-- numbers of those lines that are refused as out of memory. Such a line leaves the session.
 unfoldable pub replies : ℕ → List (List ℕ) → (ℕ → Bool) → Past → List (List ℕ)
 replies n [] refused past = []
 replies n (line ∷ lines) refused past =
@@ -42,7 +42,7 @@ pub record BeginsReplies (past : Past) (lines : List (List ℕ)) (out : List ℕ
 
 -- How a session that begins with this past ends that has read `read` and written `out`, with `rest` left to read
 -- where that is known: after all its input; or where the reader failed, after all lines that had ended;
--- or where the writer failed, within the replies to the whole input; or before it began, for want of memory.
+-- or where the writer failed, within the replies to the whole input; or before it began, where it was out of memory.
 abbrev pub SessionEnds : Past → List ℕ → List ℕ → Option (List ℕ) → Result (Unit {0}) Fault → Type 0
 SessionEnds past read out rest (Ok x) = IsAtEnd rest × RepliesTo past (lines_of read) out
 SessionEnds past read out rest (Err Input) = RepliesTo past (ended_lines read) out

@@ -19,7 +19,7 @@ use questions::read_question;
 use words::next_word;
 
 // The most bytes that a line may have.
-const LONGEST: usize = 200;
+pub const LONGEST_LINE: usize = 200;
 
 // A line, less what ended it, as a command; `None` for a line without words and for a comment.
 // `LineTooLong` comes where the line has more than 200 bytes, and `BadLine` where it is not in the grammar.
@@ -27,7 +27,7 @@ const LONGEST: usize = 200;
 pub fn read_line(line: &[u8]) -> Result<Option<Command>, Fault>
     ensures { result ≡ line_means line.now }
 {
-    if line.len() > LONGEST {
+    if line.len() > LONGEST_LINE {
         return Err(Fault::LineTooLong);
     }
     if line.first() == Some(&b'#') {

@@ -1,6 +1,6 @@
 ghost use Rattle.std.specs.Prelude.{◌≡◌, true, false, Ok, OnOk, IfErr, IsErrOf};
 ghost use Rattle.pdp_replay.specs.Setup.{given};
-ghost use Rattle.pdp_replay.specs.Past.{beginning};
+ghost use Rattle.pdp_replay.specs.Past.{starting_past};
 ghost use Rattle.pdp_session.specs.Session.{Session, is_told_first};
 
 mod serving;
@@ -33,7 +33,7 @@ pub fn run<R: Feed, W: Drain>(
 ) -> Result<(), Fault>
     requires reader_sound { R.has_failed reader.old ≡ false }
     requires writer_sound { W.has_failed writer.old ≡ false }
-    ensures session { Session (beginning (given setup)) (R.remaining reader.old) (R.remaining reader.new)
+    ensures session { Session (starting_past (given setup)) (R.remaining reader.old) (R.remaining reader.new)
         (R.pulls reader.old) (R.pulls reader.new) (W.written writer.old) (W.written writer.new) result }
     ensures unread { IfErr result (λ fault. is_told_first fault ≡ true → reader.new ≡ reader.old) }
     ensures unwritten { IfErr result (λ fault. is_told_first fault ≡ true → writer.new ≡ writer.old) }

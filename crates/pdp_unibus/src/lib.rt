@@ -10,6 +10,7 @@
 mod board;
 mod bus;
 mod event;
+mod last_turn;
 mod laws;
 mod priority;
 mod register;
@@ -20,6 +21,7 @@ mod tests;
 pub use board::Board;
 pub use bus::{Bus, Timeout};
 pub use event::Event;
+pub use last_turn::LAST_TURN;
 pub use laws::{keys_are_read_once, status_reads_back, timeouts_change_nothing};
 pub use priority::Priority;
 pub use register::{Register, register_at_address};

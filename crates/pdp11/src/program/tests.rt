@@ -168,12 +168,12 @@ fn tells_of_failed_streams(rt: HostRuntime) -> Result<(), Fail> {
 
 #[test]
 fn tells_of_refused_setups(rt: HostRuntime) {
-    let no_memory = Ending::of_session(Err(Fault::NoMemory));
+    let no_memory = Exit::of_session(Err(Fault::NoMemory));
     assert_eq!(rt;
         (no_memory.status(), no_memory.line()),
         (4, "pdp11: refused 1 NoMemory")
     );
-    let bad_image = Ending::of_session(Err(Fault::BadImage));
+    let bad_image = Exit::of_session(Err(Fault::BadImage));
     assert_eq!(rt;
         (bad_image.status(), bad_image.line()),
         (5, "pdp11: refused 14 BadImage")

@@ -1,7 +1,9 @@
 -- What follows a command's name (this project's profile).
-use Rattle.std.specs.Prelude.{ℕ, min, nat_lt, if◌then◌else◌, List, [], ◌∷◌, Option, None, Some}
+use Rattle.std.specs.Prelude.{ℕ, min, nat_le, nat_lt, if◌then◌else◌, List, [], ◌∷◌, Option, None, Some}
 use Rattle.std.specs.Option.{option_map, option_and_then}
 use Rattle.pdp_word.specs.Number.{number_of}
+use Rattle.pdp_word.specs.Size.{span}
+use Rattle.pdp_word.specs.declared.size.Size.TheVariants.{Word, Byte}
 
 -- in a `do` block: the first `None` is the block's
 abbrev pub ◌>>=◌ : {T U : Type 0} → Option T → (T → Option U) → Option U
@@ -22,26 +24,30 @@ abbrev pub two_of : List (List ℕ) → Option (List ℕ × List ℕ)
 two_of (first ∷ second ∷ []) = Some (first, second)
 two_of _ = None
 
+-- the largest number that 32 bits hold
+abbrev pub largest_number : ℕ
+largest_number = 4294967295
+
 -- a word of the machine, in octal: at most 177777
 abbrev pub word_named : List ℕ → Option ℕ
 word_named text = do
   number ← number_of 8 text
-  if nat_lt number 0o200000 then Some number else None
+  if nat_lt number (span Word) then Some number else None
 
 -- a byte, in octal: at most 377
 abbrev pub byte_named : List ℕ → Option ℕ
 byte_named text = do
   number ← number_of 8 text
-  if nat_lt number 0o400 then Some number else None
+  if nat_lt number (span Byte) then Some number else None
 
 -- an event by its number, in decimal: one that 32 bits can't hold stands for 0, which no event has
 abbrev pub event_named : List ℕ → Option ℕ
-event_named text = option_map (λ number. if nat_lt number 4294967296 then number else 0) (number_of 10 text)
+event_named text = option_map (λ number. if nat_le number largest_number then number else 0) (number_of 10 text)
 
 -- a turn, in decimal: one that 32 bits can't hold stands for the largest that they hold
 abbrev pub turn_named : List ℕ → Option ℕ
-turn_named text = option_map (λ number. min number 4294967295) (number_of 10 text)
+turn_named text = option_map (λ number. min number largest_number) (number_of 10 text)
 
 -- a count, in decimal: one that 32 bits can't hold stands for the largest that they hold
 abbrev pub count_named : List ℕ → Option ℕ
-count_named text = option_map (λ number. min number 4294967295) (number_of 10 text)
+count_named text = option_map (λ number. min number largest_number) (number_of 10 text)

@@ -1,12 +1,12 @@
 -- How far a session has come, and how each part of it moves it on: a proof's own, which no public contract names.
-use Rattle.std.specs.Prelude.{◌≡◌, ℕ, ◌<◌, Bool, true, false, List, ◌++◌, length, take, Option, Result, Ok, Err}
+use Rattle.std.specs.Prelude.{◌≡◌, ℕ, ◌+◌, ◌<◌, Bool, true, false, List, ◌++◌, length, take, Option, Result, Ok, Err}
 use Rattle.std.specs.List.{All, concat}
 use Rattle.std.specs.Io.KnownBytes.{Appends}
 use Rattle.pdp_script.specs.declared.faults.Fault.TheVariants.{NoMemory}
 use Rattle.pdp_replay.specs.Past.{Past}
 use Rattle.pdp_session.specs.declared.reply.Reply.TheVariants.{Refused}
 use Rattle.pdp_session.specs.Command.{reply_to, past_after}
-use Rattle.pdp_session.specs.Lines.{is_line_feed, ended_lines, lines_of}
+use Rattle.pdp_session.specs.Lines.{longest_line, is_line_feed, ended_lines, lines_of}
 use Rattle.pdp_session.specs.Reply.{text_to}
 use Rattle.pdp_session.specs.Inside.Sends.{Sends}
 use Rattle.pdp_session.specs.Session.{replies, OnlyForMemory, RepliesTo, BeginsReplies}
@@ -23,7 +23,7 @@ abbrev pub Agrees : ℕ → (ℕ → Bool) → (ℕ → Bool) → Type 0
 Agrees n refused other = (k : ℕ) → k < n → other k ≡ refused k
 
 -- From this past, `lines` were answered with `out`, and the past is `now`. Whatever lines come next, and
--- whichever of those are refused for want of memory, the replies begin with those that were given.
+-- whichever of those are refused as out of memory, the replies begin with those that were given.
 pub record Replied (past : Past) (lines : List (List ℕ)) (out : List ℕ) (now : Past) : Type 0 where
   pub given : List (List ℕ)
   pub count : ℕ
@@ -34,6 +34,10 @@ pub record Replied (past : Past) (lines : List (List ℕ)) (out : List ℕ) (now
   pub goes : (other : ℕ → Bool) (next : List (List ℕ)) → Agrees count refused other →
       replies 0 (lines ++ next) other past ≡ given ++ replies count next other now
 
+-- the most bytes that are held of a line that has not ended: those of the longest line, one more, and a CR
+abbrev pub most_held : ℕ
+most_held = longest_line + 2
+
 -- The bytes `done` were read and `out` was written: all lines that ended were answered, and the line buffer
 -- has what it holds of the line that is open.
 pub record Reached (past : Past) (done out held : List ℕ) (now : Past) : Type 0 where
@@ -42,7 +46,7 @@ pub record Reached (past : Past) (done out held : List ℕ) (now : Past) : Type 
   pub lines : List (List ℕ)
   pub split : done ≡ whole ++ tail
   pub is_open : All (λ byte. is_line_feed byte ≡ false) tail
-  pub kept : held ≡ take 202 tail
+  pub kept : held ≡ take most_held tail
   pub every : (next : List ℕ) → lines_of (whole ++ next) ≡ lines ++ lines_of next
   pub ended : (next : List ℕ) → ended_lines (whole ++ next) ≡ lines ++ ended_lines next
   pub replied : Replied past lines out now

@@ -1,5 +1,5 @@
 ghost use Rattle.std.specs.Prelude.{◌≡◌, ◌+◌, ◌≤◌, ◌++◌, length, codes, decimal};
-ghost use Rattle.pdp_session.specs.Reply.{field, regs_line, state_name, refusal_text, count_line, patch_line, word_text};
+ghost use Rattle.pdp_session.specs.Reply.{register_text, regs_line, state_name, refusal_text, count_line, patch_line, word_text};
 
 use arrayvec::ArrayVec;
 use itoa::Buffer;
@@ -8,23 +8,23 @@ use pdp_word::write_octal6;
 
 // The most bytes that a text has: a line of `pages` with its LF. That is 34 words, each of six digits after a space,
 // and the names pages, SR0, SR2, KPDR, KPAR, UPDR and UPAR, a space before each but the first.
-const LONGEST: usize = 272;
+const LONGEST_TEXT: usize = 272;
 
 // A line of a reply, with its LF, or a piece of one. It takes no memory.
-pub type Text = ArrayVec<u8, LONGEST>;
+pub type Text = ArrayVec<u8, LONGEST_TEXT>;
 
 // Adds `bytes` at the end.
 fn add(text: &mut Text, bytes: &[u8])
-    requires { length text.old.items + length bytes.now ≤ LONGEST }
+    requires { length text.old.items + length bytes.now ≤ LONGEST_TEXT }
     ensures { text.new.items ≡ text.old.items ++ bytes.now }
 {
     let _ = text.try_extend_from_slice(bytes);
 }
 
 // A name, the word in six octal digits, and the space after it.
-fn add_field(text: &mut Text, name: &str, word: u16)
-    requires { length text.old.items + length name.now + 8 ≤ LONGEST }
-    ensures field { text.new.items ≡ text.old.items ++ field name.now word }
+fn add_register(text: &mut Text, name: &str, word: u16)
+    requires { length text.old.items + length name.now + 8 ≤ LONGEST_TEXT }
+    ensures register_text { text.new.items ≡ text.old.items ++ register_text name.now word }
     ensures length { length text.new.items ≡ length text.old.items + length name.now + 8 }
 {
     add(text, name.as_bytes());
@@ -95,16 +95,16 @@ pub fn regs_text(regs: Regs) -> Text
     ensures { result.items ≡ regs_line regs ++ codes "\n" }
 {
     let mut text = Text::new();
-    add_field(&mut text, "R0", regs.r[0]);
-    add_field(&mut text, "R1", regs.r[1]);
-    add_field(&mut text, "R2", regs.r[2]);
-    add_field(&mut text, "R3", regs.r[3]);
-    add_field(&mut text, "R4", regs.r[4]);
-    add_field(&mut text, "R5", regs.r[5]);
-    add_field(&mut text, "KSP", regs.ksp);
-    add_field(&mut text, "USP", regs.usp);
-    add_field(&mut text, "PC", regs.pc);
-    add_field(&mut text, "PS", regs.ps);
+    add_register(&mut text, "R0", regs.r[0]);
+    add_register(&mut text, "R1", regs.r[1]);
+    add_register(&mut text, "R2", regs.r[2]);
+    add_register(&mut text, "R3", regs.r[3]);
+    add_register(&mut text, "R4", regs.r[4]);
+    add_register(&mut text, "R5", regs.r[5]);
+    add_register(&mut text, "KSP", regs.ksp);
+    add_register(&mut text, "USP", regs.usp);
+    add_register(&mut text, "PC", regs.pc);
+    add_register(&mut text, "PS", regs.ps);
     add(&mut text, state_name(regs.state).as_bytes());
     add(&mut text, b"\n");
     text

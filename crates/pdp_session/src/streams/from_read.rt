@@ -1,4 +1,5 @@
 ghost use Rattle.std.specs.Prelude.{◌≡◌, false};
+ghost use Rattle.pdp_session.specs.Streams.{pulls_at_first};
 
 use super::{Failed, Feed};
 use std::io::{ErrorKind, Read};
@@ -19,7 +20,7 @@ impl<R: Read> FromRead<R> {
     /// within the same pull.
     pub fn new(reader: R) -> Self
         ensures remaining { ⟦<FromRead<R> as Feed>⟧.remaining result ≡ R.remaining reader }
-        ensures pulls { ⟦<FromRead<R> as Feed>⟧.pulls result ≡ 1000000000000 }
+        ensures pulls { ⟦<FromRead<R> as Feed>⟧.pulls result ≡ pulls_at_first }
         ensures sound { ⟦<FromRead<R> as Feed>⟧.has_failed result ≡ false }
     {
         FromRead {

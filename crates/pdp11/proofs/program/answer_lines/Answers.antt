@@ -3,10 +3,10 @@ use Rattle.std.proofs.Common.{ℕ, List, Option, Bool, true, false, Result, Ok, 
 use Rattle.pdp_script.specs.declared.faults.Fault.{Fault}
 use Rattle.pdp_script.specs.declared.faults.Fault.TheVariants.{NoMemory, OutsideCore, OddAddress, OutsideDisk, NoSuchEvent, ScriptFull, TurnTooLarge, CountOutOfRange, NoSuchPatch, BadLine, LineTooLong, Input, Output, BadImage, BadSetup}
 use Rattle.pdp_script.specs.Refusal.{result_map}
-use Rattle.pdp_replay.specs.Past.{Past, unscripted, beginning}
+use Rattle.pdp_replay.specs.Past.{Past, unscripted, starting_past}
 use Rattle.pdp_replay.specs.Setup.{SetupData, given, setup_checked, has_good_images, has_good_numbers}
 use Rattle.pdp_session.specs.Session.{Ends, SessionEnds}
-use Rattle.pdp11.specs.Ending.{CanEnd}
+use Rattle.pdp11.specs.Exit.{CanEnd}
 use Rattle.pdp11.proofs.program.answer_lines.Goals as goal
 
 ends_good : (p : Past) (read out : List ℕ) (rest : Option (List ℕ)) (r : Result (Unit {0}) Fault) → SessionEnds p read out rest r → CanEnd r
@@ -33,7 +33,7 @@ ends_started true true s read out rest r h = ends_good (unscripted s) read out r
 ends_started true false s read out rest r h = rw h.0 tt
 ends_started false c s read out rest r h = rw h.0 tt
 
-can_end : (s : SetupData) (read out : List ℕ) (rest : Option (List ℕ)) (r : Result (Unit {0}) Fault) → Ends (beginning s) read out rest r → CanEnd r
+can_end : (s : SetupData) (read out : List ℕ) (rest : Option (List ℕ)) (r : Result (Unit {0}) Fault) → Ends (starting_past s) read out rest r → CanEnd r
 unfolding setup_checked
 can_end s read out rest r h = ends_started (has_good_numbers s) (has_good_images s) s read out rest r h
 

@@ -1,7 +1,7 @@
 use Rattle.std.proofs.Common.{◌≡◌, length, ap, ◌∙◌, rules}
 use Rattle.pdp_replay.specs.Past.{past_from}
 use Rattle.pdp_replay.proofs.CoreSizes.{core_keeps_size}
-use Rattle.pdp_replay.specs.Turns.{at}
+use Rattle.pdp_replay.specs.States.{at}
 use Rattle.pdp_replay.proofs.States.{state_first}
 use Rattle.pdp_replay.proofs.travel.machine_at.Goals as goal
 

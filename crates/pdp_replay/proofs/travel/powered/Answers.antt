@@ -2,7 +2,7 @@ use Rattle.std.proofs.Common.{◌≡◌, ◌∙◌, None, refl, replicate, rules
 use Rattle.pdp_replay.specs.Core.{core_words}
 use Rattle.pdp_replay.specs.Image.{put_all, padded}
 use Rattle.pdp_replay.specs.Setup.{setup_from, core_size}
-use Rattle.pdp_replay.specs.Turns.{power}
+use Rattle.pdp_replay.specs.States.{power}
 use Rattle.pdp_replay.proofs.CoreWords.{core_is_filled}
 use Rattle.pdp_replay.proofs.travel.powered.Goals as goal
 

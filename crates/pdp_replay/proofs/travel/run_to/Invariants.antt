@@ -1,6 +1,6 @@
 use Rattle.std.proofs.Common.{◌≡◌, ◌+◌, ◌-◌, ◌≤◌}
 use Rattle.pdp_replay.specs.Past.{Past}
-use Rattle.pdp_replay.specs.Turns.{state_at, at}
+use Rattle.pdp_replay.specs.States.{state_at, at}
 use Rattle.pdp_replay.proofs.travel.run_to.Given as goal
 
 abbrev pub invariant-loop-turn : goal.invariant-loop-turn

@@ -2,7 +2,7 @@ use Rattle.std.proofs.Common.{◌≡◌, true, false, sym, ap, ◌∙◌}
 use Rattle.pdp_script.specs.declared.faults.Fault.TheVariants.{Input, Output}
 use Rattle.pdp_replay.specs.Timeline.{fresh}
 use Rattle.pdp_session.specs.Session.{is_told_first}
-use Rattle.pdp_session.proofs.Ending.{start_refuses}
+use Rattle.pdp_session.proofs.SessionEnds.{start_refuses}
 use Rattle.pdp_session.proofs.session.run.Goals as goal
 
 pub returns-in-Err-clause-input : goal.returns-in-Err-clause-input

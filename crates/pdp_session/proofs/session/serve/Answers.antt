@@ -2,7 +2,7 @@ use Rattle.std.proofs.Common.{◌≡◌, ◌<◌, ◌++◌, [], length, take, re
 use Rattle.std.proofs.KnownBytes.{Appends-nil, Appends-trans, Consumes-nil, Consumes-trans, Consumes-kept}
 use Rattle.pdp_session.specs.Lines.{lines_of}
 use Rattle.pdp_session.specs.Session.{BeginsReplies}
-use Rattle.pdp_session.proofs.Ending.{at_end, at_any}
+use Rattle.pdp_session.proofs.SessionEnds.{at_end, at_any}
 use Rattle.pdp_session.proofs.Pulls.{some_read}
 use Rattle.pdp_session.proofs.Reaching.{nothing_reached, ended_answered}
 use Rattle.pdp_session.proofs.session.serve.Goals as goal

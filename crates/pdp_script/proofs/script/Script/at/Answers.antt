@@ -1,5 +1,5 @@
 use Rattle.std.proofs.Common.{sym}
-use Rattle.pdp_script.proofs.Joined.{events_between, places_in_order, IsScript-joined}
+use Rattle.pdp_script.proofs.Labelled.{events_between, places_in_order, IsScript-labelled}
 use Rattle.pdp_script.proofs.script.Script.at.Goals as goal
 
 pub slice_bounds-result-count : goal.slice_bounds-result-count
@@ -23,4 +23,4 @@ returns-clause-events c =
 
 pub returns-clause-kept : goal.returns-clause-kept
 returns-clause-kept c =
-    rw (← c.self.view_is) (IsScript-joined c.self.inside.labels.items c.self.inside.events.items c.self.inside.given c.self.invariant)
+    rw (← c.self.view_is) (IsScript-labelled c.self.inside.labels.items c.self.inside.events.items c.self.inside.given c.self.invariant)

@@ -1,13 +1,13 @@
 ghost use Rattle.std.specs.Prelude.{◌≡◌};
-ghost use Rattle.pdp11.specs.Ending.{status_of, line_of, ending_of};
-ghost use Rattle.pdp11.specs.declared.ending.Ending.TheVariants.{NoMemory};
+ghost use Rattle.pdp11.specs.Exit.{status_of, line_of, exit_of};
+ghost use Rattle.pdp11.specs.declared.exit.Exit.TheVariants.{NoMemory};
 
 use pdp_script::Fault;
 use std::alloc::{AllocError, AllocFailed};
 
 /// How a run of the program ends (this project's profile).
 #[derive(Clone, Copy, Debug, PartialEq, Eq)]
-pub enum Ending {
+pub enum Exit {
     /// All input was answered, or help was written.
     Done,
     /// The words of the command line are wrong, or one is no number where a number is wanted.
@@ -22,17 +22,17 @@ pub enum Ending {
     BadSetup,
 }
 
-impl Ending {
+impl Exit {
     /// The exit status: 0, 2, 3, 4, and 5 for a bad image or setup (this project's profile).
     pub fn status(self) -> u8
         ensures { result ≡ status_of self }
     {
         match self {
-            Ending::Done => 0,
-            Ending::BadArguments => 2,
-            Ending::InputOrOutput => 3,
-            Ending::NoMemory => 4,
-            Ending::BadImage | Ending::BadSetup => 5,
+            Exit::Done => 0,
+            Exit::BadArguments => 2,
+            Exit::InputOrOutput => 3,
+            Exit::NoMemory => 4,
+            Exit::BadImage | Exit::BadSetup => 5,
         }
     }
 
@@ -41,41 +41,41 @@ impl Ending {
         ensures { result.now ≡ line_of self }
     {
         match self {
-            Ending::Done => "",
-            Ending::BadArguments => "pdp11: bad arguments",
-            Ending::InputOrOutput => "pdp11: input or output",
-            Ending::NoMemory => "pdp11: refused 1 NoMemory",
-            Ending::BadImage => "pdp11: refused 14 BadImage",
-            Ending::BadSetup => "pdp11: refused 15 BadSetup",
+            Exit::Done => "",
+            Exit::BadArguments => "pdp11: bad arguments",
+            Exit::InputOrOutput => "pdp11: input or output",
+            Exit::NoMemory => "pdp11: refused 1 NoMemory",
+            Exit::BadImage => "pdp11: refused 14 BadImage",
+            Exit::BadSetup => "pdp11: refused 15 BadSetup",
         }
     }
 
     /// How the program ends after a session that ended so.
-    pub fn of_session(answer: Result<(), Fault>) -> Ending
-        ensures { result ≡ ending_of answer }
+    pub fn of_session(answer: Result<(), Fault>) -> Exit
+        ensures { result ≡ exit_of answer }
     {
         match answer {
-            Ok(()) => Ending::Done,
-            Err(Fault::NoMemory) => Ending::NoMemory,
-            Err(Fault::BadImage) => Ending::BadImage,
-            Err(Fault::BadSetup) => Ending::BadSetup,
-            Err(_) => Ending::InputOrOutput,
+            Ok(()) => Exit::Done,
+            Err(Fault::NoMemory) => Exit::NoMemory,
+            Err(Fault::BadImage) => Exit::BadImage,
+            Err(Fault::BadSetup) => Exit::BadSetup,
+            Err(_) => Exit::InputOrOutput,
         }
     }
 }
 
-impl From<AllocError> for Ending {
+impl From<AllocError> for Exit {
     ghost from_gives = { λ _ e. e ≡ NoMemory };
 
-    fn from(_refused: AllocError) -> Ending {
-        Ending::NoMemory
+    fn from(_refused: AllocError) -> Exit {
+        Exit::NoMemory
     }
 }
 
-impl<T: Drop> From<AllocFailed<T>> for Ending {
+impl<T: Drop> From<AllocFailed<T>> for Exit {
     ghost from_gives = { λ _ e. e ≡ NoMemory };
 
-    fn from(_refused: AllocFailed<T>) -> Ending {
-        Ending::NoMemory
+    fn from(_refused: AllocFailed<T>) -> Exit {
+        Exit::NoMemory
     }
 }

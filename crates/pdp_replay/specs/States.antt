@@ -1,4 +1,4 @@
--- The states of a run.
+-- The states of a run (this project's profile).
 use Rattle.std.specs.Prelude.{ℕ, ◌≡◌, zero, suc, None, replicate}
 use Rattle.pdp_operand.specs.Phases.World.{World}
 use Rattle.pdp_cpu.specs.Turns.Turn.{one_turn}

@@ -2,10 +2,10 @@
 use Rattle.std.specs.Prelude.{ℕ, ◌≡◌, List, [], Result, Ok, Err, codes}
 use Rattle.pdp_script.specs.declared.faults.Fault.{Fault}
 use Rattle.pdp_script.specs.declared.faults.Fault.TheVariants.{NoMemory as FaultNoMemory, Input, Output, BadImage as FaultBadImage, BadSetup as FaultBadSetup}
-use Rattle.pdp11.specs.declared.ending.Ending.{Ending}
-use Rattle.pdp11.specs.declared.ending.Ending.TheVariants.{Done, BadArguments, InputOrOutput, NoMemory, BadImage, BadSetup}
+use Rattle.pdp11.specs.declared.exit.Exit.{Exit}
+use Rattle.pdp11.specs.declared.exit.Exit.TheVariants.{Done, BadArguments, InputOrOutput, NoMemory, BadImage, BadSetup}
 
-abbrev pub status_of : Ending → ℕ
+abbrev pub status_of : Exit → ℕ
 status_of Done = 0
 status_of BadArguments = 2
 status_of InputOrOutput = 3
@@ -13,7 +13,7 @@ status_of NoMemory = 4
 status_of BadImage = 5
 status_of BadSetup = 5
 
-abbrev pub line_of : Ending → List ℕ
+abbrev pub line_of : Exit → List ℕ
 line_of Done = []
 line_of BadArguments = codes "pdp11: bad arguments"
 line_of InputOrOutput = codes "pdp11: input or output"
@@ -23,15 +23,15 @@ line_of BadSetup = codes "pdp11: refused 15 BadSetup"
 
 -- a status and a line that stand in one row of the table
 abbrev pub IsListed : ℕ → List ℕ → Type 0
-IsListed status line = (ending : Ending) × (status ≡ status_of ending) × (line ≡ line_of ending)
+IsListed status line = (exit : Exit) × (status ≡ status_of exit) × (line ≡ line_of exit)
 
 -- how the program ends after a session: faults 2 to 11 are replies, and end none, so the last row is 12 and 13
-abbrev pub ending_of : Result (Unit {0}) Fault → Ending
-ending_of (Ok x) = Done
-ending_of (Err FaultNoMemory) = NoMemory
-ending_of (Err FaultBadImage) = BadImage
-ending_of (Err FaultBadSetup) = BadSetup
-ending_of (Err _) = InputOrOutput
+abbrev pub exit_of : Result (Unit {0}) Fault → Exit
+exit_of (Ok x) = Done
+exit_of (Err FaultNoMemory) = NoMemory
+exit_of (Err FaultBadImage) = BadImage
+exit_of (Err FaultBadSetup) = BadSetup
+exit_of (Err _) = InputOrOutput
 
 -- the faults that end a session: those of its start, and those of its streams
 abbrev pub CanEnd : Result (Unit {0}) Fault → Type 0

@@ -1,0 +1,5 @@
+-- The greatest turn that an event may have and that can be asked about (this project's profile).
+use Rattle.std.specs.Prelude.{ℕ}
+
+abbrev pub last_turn : ℕ
+last_turn = 1000000000
