@@ -1,5 +1,6 @@
 -- The console terminal: PDP-11 Peripherals Handbook, KL11.
-use Rattle.std.specs.Prelude.{ℕ, ◌+◌, ◌/◌, ◌%◌, ◌==◌, true, false, Option, Some, None, if◌then◌else◌}
+use Rattle.std.specs.Prelude.{ℕ, ◌+◌, ◌*◌, ◌==◌, true, false, Option, Some, None, if◌then◌else◌}
+use Rattle.pdp_word.specs.Bits.{bit_of, has_bit}
 use Rattle.pdp_console.specs.declared.kl.Kl.{Kl}
 use Rattle.pdp_console.specs.declared.kl.KlRegister.{KlRegister}
 use Rattle.pdp_console.specs.declared.kl.KlRegister.TheVariants.{KeyboardStatus, KeyboardBuffer}
@@ -11,7 +12,7 @@ struck k key = record k { done = true; buffer = key }
 
 -- 7 done, 6 enable
 abbrev pub keyboard_status : Kl → ℕ
-keyboard_status k = (if k.done then 0o200 else 0) + (if k.enable then 0o100 else 0)
+keyboard_status k = bit_of k.done * 0o200 + bit_of k.enable * 0o100
 
 -- the registers by the bytes from the first one
 abbrev pub kl_register_at : ℕ → Option KlRegister
@@ -22,7 +23,7 @@ kl_register_at offset = (
 -- a row for each register: what it shows, what a read leaves, and what a write of this word in this turn leaves
 abbrev pub kl_row : KlRegister → ℕ → ℕ → Kl → KlRow
 kl_row KeyboardStatus word turn k =
-    record { value = keyboard_status k; read = k; written = record k { enable = word / 0o100 % 2 == 1 } }
+    record { value = keyboard_status k; read = k; written = record k { enable = has_bit 6 word } }
 kl_row KeyboardBuffer word turn k = record { value = k.buffer; read = record k { done = false }; written = k }
 
 -- what a read gives

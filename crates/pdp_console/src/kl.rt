@@ -1,5 +1,7 @@
 ghost use Rattle.std.specs.Prelude.{◌≡◌};
 
+use pdp_word::{bit_of, has_bit};
+
 /// A register of the console terminal, of its keyboard.
 ///
 /// PDP-11 Peripherals Handbook, KL11.
@@ -39,12 +41,12 @@ pub struct Kl {
     pub buffer: u8,
 }
 
-/// A register's row: what it shows, what a read leaves, and what a write leaves.
+// A register's row: what it shows, what a read leaves, and what a write leaves.
 #[derive(Clone, Copy)]
-pub struct KlRow {
-    pub value: u16,
-    pub read: Kl,
-    pub written: Kl,
+struct KlRow {
+    value: u16,
+    read: Kl,
+    written: Kl,
 }
 
 impl Kl {
@@ -92,7 +94,7 @@ impl Kl {
                 value: self.keyboard_status(),
                 read: self,
                 written: Kl {
-                    enable: word / 0o100 % 2 == 1,
+                    enable: has_bit(6, word),
                     ..self
                 },
             },
@@ -111,8 +113,6 @@ impl Kl {
     fn keyboard_status(self) -> u16
         ensures { result ≡ keyboard_status self }
     {
-        let done = if self.done { 0o200 } else { 0 };
-        let enable = if self.enable { 0o100 } else { 0 };
-        done + enable
+        bit_of(self.done) * 0o200 + bit_of(self.enable) * 0o100
     }
 }

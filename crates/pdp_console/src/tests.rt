@@ -11,7 +11,7 @@ fn a_key_waits_until_it_is_read(rt: HostRuntime) {
     assert_eq!(rt; kl.read_reg(KeyboardBuffer), 0o101);
     assert_eq!(rt; kl.value(KeyboardStatus), 0);
     assert_eq!(rt; kl.read_reg(KeyboardBuffer), 0o101);
-    keys_are_read_once();
+    keys_set_done_and_reads_clear_it();
 }
 
 #[test]

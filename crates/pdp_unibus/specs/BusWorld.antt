@@ -1,3 +1,4 @@
+-- The bus and what is on it: PDP-11 Peripherals Handbook, Unibus (power-up and stamps are this project's profile).
 use Rattle.std.specs.Prelude.{ℕ, List, Option, false}
 use Rattle.pdp_kt11.specs.declared.mode.Mode.TheVariants.{Kernel}
 use Rattle.pdp_store.specs.declared.Stamp.{Stamp}

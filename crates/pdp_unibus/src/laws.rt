@@ -23,7 +23,7 @@ pub fn status_reads_back()
 /// A law of the keyboard's registers: a key waits until the buffer is read, and is read once.
 ///
 /// PDP-11 Peripherals Handbook, KL11.
-pub fn keys_are_read_once()
+pub fn keys_wait_and_are_read_once()
     ensures waiting { KeysWaitUntilRead }
     ensures once { KeysAreReadOnce }
 {}

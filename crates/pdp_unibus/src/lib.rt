@@ -20,7 +20,7 @@ mod tests;
 pub use board::Board;
 pub use bus::{Bus, Timeout};
 pub use event::Event;
-pub use laws::{keys_are_read_once, status_reads_back, timeouts_change_nothing};
+pub use laws::{keys_wait_and_are_read_once, status_reads_back, timeouts_change_nothing};
 pub use priority::Priority;
 pub use register::{Register, register_at_address};
 pub use status::Status;
