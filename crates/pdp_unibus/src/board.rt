@@ -1,4 +1,5 @@
 ghost use Rattle.std.specs.Prelude.{◌≡◌};
+ghost use Rattle.pdp_unibus.specs.BusWorld.{board_reset};
 ghost use Rattle.pdp_unibus.specs.Register.{value_in, after_byte, after_read, after_write, word_with_byte};
 
 use crate::register::Register;
@@ -60,6 +61,14 @@ impl Board {
     {
         let word = with_byte(self.value(register), address, byte);
         self.write(register, word, turn);
+    }
+
+    /// RESET of all devices. The program status and the switches stay.
+    #[tactic(auto, unfolding(crate::specs::BusWorld::board_reset))]
+    pub(crate) fn reset(&mut self)
+        ensures { self.new ≡ board_reset self.old }
+    {
+        self.console.reset();
     }
 }
 
