@@ -1,4 +1,5 @@
--- What uses of the registers leave of a key. A row of `kl_row` that leaves done and the buffer has no line of its own here.
+-- What uses of the registers leave of a key. A row of `kl_row` that leaves done and the buffer has no line of its own
+-- here.
 use Rattle.std.proofs.Common.{◌≡◌, ◌+◌, ◌*◌, Bool, true, false, refl}
 use Rattle.pdp_word.specs.Bits.{bit_of, field}
 use Rattle.pdp_console.specs.Kl.{keyboard_status, kl_read}

@@ -1,4 +1,5 @@
--- The console terminal: PDP-11 Peripherals Handbook, KL11 (when its request appears and goes is this project's profile).
+-- The console terminal: PDP-11 Peripherals Handbook, KL11 (when its request appears and goes is this project's
+-- profile).
 use Rattle.std.specs.Prelude.{ℕ, ◌+◌, ◌*◌, ◌==◌, Bool, true, false, ◌&&◌, Option, Some, None, if◌then◌else◌}
 use Rattle.pdp_word.specs.Bits.{bit_of, has_bit}
 use Rattle.pdp_word.specs.Request.{request_after}

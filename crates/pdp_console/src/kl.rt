@@ -37,8 +37,8 @@ pub struct Kl {
     pub done: bool,
     /// Interrupts of the keyboard are enabled.
     pub enable: bool,
-    /// The keyboard requests an interrupt. A request appears where done and enable are both set and were not before, and
-    /// goes when it is served or where they are not both set any more (this project's profile).
+    /// The keyboard requests an interrupt. A request appears where done and enable are both set and were not before,
+    /// and goes when it is served or where they are not both set any more (this project's profile).
     pub request: bool,
     /// The last key.
     pub buffer: u8,
@@ -57,8 +57,8 @@ impl Kl {
     ghost use Rattle.pdp_console.specs.Kl.{changed, keyboard_condition, keyboard_status, kl_reset, kl_served, struck};
     ghost use Rattle.pdp_console.specs.Kl.{kl_read, kl_row, kl_value, kl_written};
 
-    /// A key is struck: its byte is in the buffer, and done is set. A key that comes while done is set replaces the byte
-    /// (this project's profile).
+    /// A key is struck: its byte is in the buffer, and done is set. A key that comes while done is set replaces the
+    /// byte (this project's profile).
     pub fn key(&mut self, key: u8)
         ensures { self.new ≡ struck self.old key }
     {
@@ -93,8 +93,8 @@ impl Kl {
         self.change(self.row(register, word, turn).written);
     }
 
-    /// The keyboard's request is served: it goes, and nothing else changes. The next one appears where done or enable was
-    /// cleared and both are set again (this project's profile).
+    /// The keyboard's request is served: it goes, and nothing else changes. The next one appears where done or enable
+    /// was cleared and both are set again (this project's profile).
     pub fn serve(&mut self)
         ensures { self.new ≡ kl_served self.old }
     {

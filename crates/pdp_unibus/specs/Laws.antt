@@ -1,5 +1,5 @@
--- What the laws of the registers say: each name is the law's sentence (DEC PDP-11/40 Processor Handbook (1972), Processor status word;
--- PDP-11 Peripherals Handbook, KL11).
+-- What the laws of the registers say: each name is the law's sentence (DEC PDP-11/40 Processor Handbook (1972),
+-- Processor status word; PDP-11 Peripherals Handbook, KL11).
 use Rattle.std.specs.Prelude.{◌≡◌, ℕ, ◌+◌, ◌*◌, ◌/◌, ◌%◌, ◌<◌, ◌≢◌, List, [], ◌∷◌}
 use Rattle.pdp_word.specs.Bits.{bit_of, field}
 use Rattle.pdp_console.specs.declared.kl.KlRegister.TheVariants.{KeyboardStatus, KeyboardBuffer}

@@ -28,8 +28,8 @@ goes_before s t =
 abbrev pub RequestsAbove : (Source → Bool) → Priority → Source → Type 0
 RequestsAbove is_requesting priority s = (is_requesting s ≡ true) × (is_above (level_of s) priority ≡ true)
 
--- a source is chosen exactly where it requests above the priority and no other that does goes before it, whichever sources
--- request
+-- a source is chosen exactly where it requests above the priority and no other that does goes before it, whichever
+-- sources request
 abbrev pub TheFirstIsChosen : Type 0
 TheFirstIsChosen = (is_requesting : Source → Bool) (priority : Priority) (s : Source)
     → (first_above is_requesting priority ≡ Some s)

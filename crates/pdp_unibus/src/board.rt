@@ -53,8 +53,8 @@ impl Board {
         }
     }
 
-    /// A write of a byte to the register, at an address in its word, in this turn: the other half is written as a read would
-    /// give it, without the effect of a read.
+    /// A write of a byte to the register, at an address in its word, in this turn: the other half is written as a read
+    /// would give it, without the effect of a read.
     #[tactic(auto, unfolding(crate::specs::Register::after_byte))]
     pub fn write_byte(&mut self, register: Register, address: u32, byte: u8, turn: u32)
         ensures { self.new ≡ after_byte register address byte turn self.old }

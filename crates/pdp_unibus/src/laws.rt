@@ -13,8 +13,8 @@ pub fn timeouts_change_nothing()
     ensures { (c : Cycle) (w : BusWorld) (t : Timeout) → (cycle c w).value ≡ Err t → (cycle c w).after ≡ w }
 {}
 
-/// A law of the program status word: a word that is written to it reads back without bits 11-8, and with T as it was. What
-/// was read from it changes nothing when it is written. A whole word, as a trap loads it, sets T too.
+/// A law of the program status word: a word that is written to it reads back without bits 11-8, and with T as it was.
+/// What was read from it changes nothing when it is written. A whole word, as a trap loads it, sets T too.
 ///
 /// DEC PDP-11/40 Processor Handbook (1972), Processor status word; bits 11-8 and T are this project's profile.
 pub fn status_reads_back()
@@ -33,8 +33,9 @@ pub fn keys_wait_and_are_read_once()
     ensures once { KeysAreReadOnce }
 {}
 
-/// A law of interrupts: whichever sources request, the one that is chosen requests with a level above the priority, and no
-/// other that does goes before it, by its level or at the same level by its place. None is chosen exactly where none does.
+/// A law of interrupts: whichever sources request, the one that is chosen requests with a level above the priority,
+/// and no other that does goes before it, by its level or at the same level by its place. None is chosen exactly where
+/// none does.
 ///
 /// PDP-11 Peripherals Handbook, Unibus; the order at one level is this project's profile.
 pub fn the_first_request_is_chosen()
@@ -42,8 +43,8 @@ pub fn the_first_request_is_chosen()
     ensures none { NoneIsChosenWhereNoneIsAbove }
 {}
 
-/// A law of requests: whether there is any is told, a source that was served doesn't request, the others go on as before,
-/// and after RESET none does.
+/// A law of requests: whether there is any is told, a source that was served doesn't request, the others go on as
+/// before, and after RESET none does.
 ///
 /// PDP-11 Peripherals Handbook, Unibus; RESET is this project's profile.
 pub fn requests_go_one_by_one_or_by_reset()
