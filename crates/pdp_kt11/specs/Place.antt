@@ -1,3 +1,4 @@
+-- Physical addresses: DEC PDP-11/40 Processor Handbook (1972), Memory management.
 use Rattle.std.specs.Prelude.{ℕ, ◌+◌, nat_lt, if◌then◌else◌}
 
 -- the physical address of a virtual one while mapping is off:

@@ -1,4 +1,4 @@
--- A store as callers see it.
+-- A store as callers see it (stamps are this project's profile).
 use Rattle.std.specs.Prelude.{◌≡◌, ◌<◌, ℕ, Bool, if◌then◌else◌, Option, None, List, [], length, replicate, slice_set}
 use Rattle.pdp_store.specs.declared.Stamp.{Stamp}
 

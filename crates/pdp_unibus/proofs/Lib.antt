@@ -1,3 +1,4 @@
 pub mod Devices
 pub mod KeyLaws
+pub mod RequestLaws
 pub mod StatusLaws

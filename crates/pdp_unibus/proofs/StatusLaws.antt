@@ -4,9 +4,9 @@ use Rattle.pdp_kt11.specs.Mode.{mode_bits, mode_of}
 use Rattle.pdp_kt11.specs.declared.mode.Mode.{Mode}
 use Rattle.pdp_kt11.specs.declared.mode.Mode.TheVariants.{Kernel, Bad1, Bad2, User}
 use Rattle.pdp_word.specs.Bits.{bit_of}
-use Rattle.pdp_unibus.specs.Laws.{writable_part}
+use Rattle.pdp_unibus.specs.Laws.{status_part, writable_part}
 use Rattle.pdp_unibus.specs.Register.{after_write, value_in}
-use Rattle.pdp_unibus.specs.Status.{priority_bits, priority_of, status_word, status_written}
+use Rattle.pdp_unibus.specs.Status.{priority_bits, priority_of, status_of, status_word, status_written}
 use Rattle.pdp_unibus.specs.declared.board.Board.{Board}
 use Rattle.pdp_unibus.specs.declared.priority.Priority.{Priority}
 use Rattle.pdp_unibus.specs.declared.priority.Priority.TheVariants.{Level0, Level1, Level2, Level3, Level4, Level5, Level6, Level7}
@@ -47,12 +47,24 @@ parts word mode previous priority n z v c t fits mode_is previous_is priority_is
 
 pub written_status : (s : Status) (word : ℕ) → word < 0o200000
     → status_word (status_written word s) ≡ writable_part word + bit_of s.trace_bit * 0o20
-unfolding status_written
+unfolding status_written status_of
 written_status s word fits =
     parts word _ _ _ _ _ _ _ (bit_of s.trace_bit) fits
     (bits_of_mode (word / 0o40000 % 4) (omega arith)) (bits_of_mode (word / 0o10000 % 4) (omega arith))
     (bits_of_priority (word / 0o40 % 8) (omega arith)) (bit_of_flag (word / 8 % 2) (omega arith))
     (bit_of_flag (word / 4 % 2) (omega arith)) (bit_of_flag (word / 2 % 2) (omega arith)) (bit_of_flag (word / 1 % 2) (omega arith))
+
+pub whole_status : (word : ℕ) → word < 0o200000 → status_word (status_of word) ≡ status_part word
+unfolding status_of
+whole_status word fits =
+    let t : bit_of (word / 0o20 % 2 == 1) ≡ word / 0o20 % 2 = bit_of_flag (word / 0o20 % 2) (omega arith) in
+    let all : status_word (status_of word) ≡ writable_part word + bit_of (word / 0o20 % 2 == 1) * 0o20 =
+    parts word _ _ _ _ _ _ _ (bit_of (word / 0o20 % 2 == 1)) fits
+    (bits_of_mode (word / 0o40000 % 4) (omega arith)) (bits_of_mode (word / 0o10000 % 4) (omega arith))
+    (bits_of_priority (word / 0o40 % 8) (omega arith)) (bit_of_flag (word / 8 % 2) (omega arith))
+    (bit_of_flag (word / 4 % 2) (omega arith)) (bit_of_flag (word / 2 % 2) (omega arith)) (bit_of_flag (word / 1 % 2) (omega arith))
+    in
+    all ∙ omega arith
 
 pub written_register : (b : Board) (word turn : ℕ) → word < 0o200000
     → value_in ProgramStatus (after_write ProgramStatus word turn b) ≡ writable_part word + bit_of b.status.trace_bit * 0o20
@@ -105,28 +117,33 @@ flag_small false = omega arith
 -- the fields of the word that parts make
 fields : (mode previous priority t n z v c word : ℕ) → mode < 4 → previous < 4 → priority < 8 → t < 2 → n < 2 → z < 2 → v < 2 → c < 2
     → word ≡ mode * 0o40000 + previous * 0o10000 + priority * 0o40 + t * 0o20 + n * 8 + z * 4 + v * 2 + c
-    → (word / 0o40000 % 4 ≡ mode) × (word / 0o10000 % 4 ≡ previous) × (word / 0o40 % 8 ≡ priority)
+    → (word / 0o40000 % 4 ≡ mode) × (word / 0o10000 % 4 ≡ previous) × (word / 0o40 % 8 ≡ priority) × (word / 0o20 % 2 ≡ t)
     × (word / 8 % 2 ≡ n) × (word / 4 % 2 ≡ z) × (word / 2 % 2 ≡ v) × (word / 1 % 2 ≡ c)
 fields mode previous priority t n z v c word mode_fits previous_fits priority_fits t_fits n_fits z_fits v_fits c_fits is =
-    (omega arith, omega arith, omega arith, omega arith, omega arith, omega arith, omega arith)
+    (omega arith, omega arith, omega arith, omega arith, omega arith, omega arith, omega arith, omega arith)
 
-pub written_back : (s : Status) → status_written (status_word s) s ≡ s
-unfolding status_written
-written_back s = λ i. record {
+pub status_back : (s : Status) → status_of (status_word s) ≡ s
+unfolding status_of
+status_back s = λ i. record {
   mode = (ap mode_of part.0 ∙ mode_back s.mode) i;
   previous = (ap mode_of part.1 ∙ mode_back s.previous) i;
   priority = (ap priority_of part.2 ∙ priority_back s.priority) i;
-  trace_bit = s.trace_bit;
+  trace_bit = (ap (λ b. b == 1) part.3 ∙ flag_back s.trace_bit) i;
   codes = record {
-    n = (ap (λ b. b == 1) part.3 ∙ flag_back s.codes.n) i;
-    z = (ap (λ b. b == 1) part.4 ∙ flag_back s.codes.z) i;
-    v = (ap (λ b. b == 1) part.5 ∙ flag_back s.codes.v) i;
-    c = (ap (λ b. b == 1) part.6 ∙ flag_back s.codes.c) i;
+    n = (ap (λ b. b == 1) part.4 ∙ flag_back s.codes.n) i;
+    z = (ap (λ b. b == 1) part.5 ∙ flag_back s.codes.z) i;
+    v = (ap (λ b. b == 1) part.6 ∙ flag_back s.codes.v) i;
+    c = (ap (λ b. b == 1) part.7 ∙ flag_back s.codes.c) i;
   };
 } where
   part : (status_word s / 0o40000 % 4 ≡ mode_bits s.mode) × (status_word s / 0o10000 % 4 ≡ mode_bits s.previous)
-      × (status_word s / 0o40 % 8 ≡ priority_bits s.priority) × (status_word s / 8 % 2 ≡ bit_of s.codes.n)
-      × (status_word s / 4 % 2 ≡ bit_of s.codes.z) × (status_word s / 2 % 2 ≡ bit_of s.codes.v) × (status_word s / 1 % 2 ≡ bit_of s.codes.c)
+      × (status_word s / 0o40 % 8 ≡ priority_bits s.priority) × (status_word s / 0o20 % 2 ≡ bit_of s.trace_bit)
+      × (status_word s / 8 % 2 ≡ bit_of s.codes.n) × (status_word s / 4 % 2 ≡ bit_of s.codes.z)
+      × (status_word s / 2 % 2 ≡ bit_of s.codes.v) × (status_word s / 1 % 2 ≡ bit_of s.codes.c)
   part =
       fields (mode_bits s.mode) (mode_bits s.previous) (priority_bits s.priority) (bit_of s.trace_bit) (bit_of s.codes.n) (bit_of s.codes.z) (bit_of s.codes.v) (bit_of s.codes.c) (status_word s)
       (mode_small s.mode) (mode_small s.previous) (priority_small s.priority) (flag_small s.trace_bit) (flag_small s.codes.n) (flag_small s.codes.z) (flag_small s.codes.v) (flag_small s.codes.c) refl
+
+pub written_back : (s : Status) → status_written (status_word s) s ≡ s
+unfolding status_written
+written_back s = ap (λ (back : Status). record back { trace_bit = s.trace_bit }) (status_back s)

@@ -1,9 +1,12 @@
+-- The bus and what is on it: PDP-11 Peripherals Handbook, Unibus (power-up and stamps are this project's profile).
 use Rattle.std.specs.Prelude.{ℕ, List, Option, false}
+use Rattle.pdp_console.specs.Kl.{kl_reset}
 use Rattle.pdp_kt11.specs.declared.mode.Mode.TheVariants.{Kernel}
 use Rattle.pdp_store.specs.declared.Stamp.{Stamp}
 use Rattle.pdp_word.specs.declared.codes.Codes.{Codes}
 use Rattle.pdp_unibus.specs.declared.board.Board.{Board}
 use Rattle.pdp_unibus.specs.declared.priority.Priority.TheVariants.{Level0}
+use Rattle.pdp_unibus.specs.declared.status.Status.{Status}
 
 -- the bus and all that is on it, as a contract sees it
 pub record BusWorld : Type 0 where
@@ -26,7 +29,7 @@ powered_board = record {
     trace_bit = false;
     codes = record { n = false; z = false; v = false; c = false };
   };
-  console = record { done = false; enable = false; buffer = 0 };
+  console = record { done = false; enable = false; request = false; buffer = 0 };
   switches = 0;
 }
 
@@ -37,6 +40,14 @@ powered words lasts = record { board = powered_board; core = words; lasts = last
 abbrev pub with_board : BusWorld → Board → BusWorld
 with_board w board = record w { board = board }
 
+-- the bus with this program status
+abbrev pub with_status : BusWorld → Status → BusWorld
+with_status w status = with_board w (record w.board { status = status })
+
 -- the bus with these condition codes
 abbrev pub with_codes : BusWorld → Codes → BusWorld
-with_codes w codes = record w { board = record w.board { status = record w.board.status { codes = codes } } }
+with_codes w codes = with_status w (record w.board.status { codes = codes })
+
+-- RESET: the devices as their rows say; the program status and the switches stay
+unfoldable pub board_reset : Board → Board
+board_reset b = record b { console = kl_reset b.console }

@@ -1,3 +1,5 @@
+-- Bus cycles: PDP-11 Peripherals Handbook, Unibus (stamps, and that a timeout changes nothing, are this project's
+-- profile).
 use Rattle.std.specs.Prelude.{ℕ, ◌/◌, Option, Some, None, Result, Ok, Err, length, slice_index, slice_set, nat_lt, if◌then◌else◌}
 use Rattle.pdp_store.specs.declared.Agent.TheVariants.{Cpu}
 use Rattle.pdp_store.specs.declared.Stamp.{Stamp}

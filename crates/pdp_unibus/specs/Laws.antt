@@ -1,11 +1,12 @@
--- What the laws of the registers say: each name is the law's sentence.
+-- What the laws of the registers say: each name is the law's sentence (DEC PDP-11/40 Processor Handbook (1972),
+-- Processor status word; PDP-11 Peripherals Handbook, KL11).
 use Rattle.std.specs.Prelude.{◌≡◌, ℕ, ◌+◌, ◌*◌, ◌/◌, ◌%◌, ◌<◌, ◌≢◌, List, [], ◌∷◌}
 use Rattle.pdp_word.specs.Bits.{bit_of, field}
 use Rattle.pdp_console.specs.declared.kl.KlRegister.TheVariants.{KeyboardStatus, KeyboardBuffer}
 use Rattle.pdp_unibus.specs.BusWorld.{BusWorld}
 use Rattle.pdp_unibus.specs.Event.{bus_after}
 use Rattle.pdp_unibus.specs.Register.{after_read, after_write, value_in}
-use Rattle.pdp_unibus.specs.Status.{status_word, status_written}
+use Rattle.pdp_unibus.specs.Status.{status_of, status_word, status_written}
 use Rattle.pdp_unibus.specs.declared.board.Board.{Board}
 use Rattle.pdp_unibus.specs.declared.event.Event.TheVariants.{Key}
 use Rattle.pdp_unibus.specs.declared.register.Register.{Register}
@@ -15,6 +16,18 @@ use Rattle.pdp_unibus.specs.declared.status.Status.{Status}
 -- bits 15-12, 7-5 and 3-0 of a word: those of the program status word that can be written
 abbrev pub writable_part : ℕ → ℕ
 writable_part word = word / 0o10000 * 0o10000 + word % 0o400 / 0o40 * 0o40 + word % 0o20
+
+-- bits 15-12 and 7-0 of a word: those that the program status word has
+abbrev pub status_part : ℕ → ℕ
+status_part word = word / 0o10000 * 0o10000 + word % 0o400
+
+-- the program status that a whole word says has that word, without bits 11-8
+abbrev pub WholeStatusReadsBack : Type 0
+WholeStatusReadsBack = (word : ℕ) → word < 0o200000 → status_word (status_of word) ≡ status_part word
+
+-- the word of a program status says it: modes, priority, T and codes
+abbrev pub StatusIsItsWord : Type 0
+StatusIsItsWord = (s : Status) → status_of (status_word s) ≡ s
 
 -- the program status word reads back what was written to it, without bits 11-8 and with T as it was
 abbrev pub WrittenStatusReadsBack : Type 0

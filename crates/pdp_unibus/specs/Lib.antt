@@ -1,7 +1,9 @@
 pub mod Status
+pub mod Source
 pub mod BusWorld
 pub mod Register
 pub mod Cycle
 pub mod Event
 pub mod LastTurn
 pub mod Laws
+pub mod RequestLaws

@@ -1,5 +1,5 @@
 -- The program status word: DEC PDP-11/40 Processor Handbook (1972), Processor status word.
-use Rattle.std.specs.Prelude.{ℕ, ◌+◌, ◌*◌, ◌==◌, if◌then◌else◌}
+use Rattle.std.specs.Prelude.{ℕ, ◌+◌, ◌*◌, ◌==◌, Bool, nat_lt, if◌then◌else◌}
 use Rattle.pdp_kt11.specs.Mode.{mode_bits, mode_of}
 use Rattle.pdp_word.specs.Bits.{bit_of, field, has_bit}
 use Rattle.pdp_word.specs.declared.codes.Codes.{Codes}
@@ -17,6 +17,10 @@ priority_bits Level4 = 4
 priority_bits Level5 = 5
 priority_bits Level6 = 6
 priority_bits Level7 = 7
+
+-- whether the first level is above the second
+abbrev pub is_above : Priority → Priority → Bool
+is_above level other = nat_lt (priority_bits other) (priority_bits level)
 
 -- the program status word: 15-14 mode, 13-12 previous mode, 11-8 zero, 7-5 priority, 4 T, 3 N, 2 Z, 1 V, 0 C
 abbrev pub status_word : Status → ℕ
@@ -40,12 +44,16 @@ priority_of bits =
 abbrev pub status_codes : ℕ → Codes
 status_codes word = record { n = has_bit 3 word; z = has_bit 2 word; v = has_bit 1 word; c = has_bit 0 word }
 
--- the program status after its word was written: T and bits 11-8 can't be written
-unfoldable pub status_written : ℕ → Status → Status
-status_written word s = record {
+-- the program status that a whole word says: bits 11-8 count for nothing
+unfoldable pub status_of : ℕ → Status
+status_of word = record {
   mode = mode_of (field 14 2 word);
   previous = mode_of (field 12 2 word);
   priority = priority_of (field 5 3 word);
-  trace_bit = s.trace_bit;
+  trace_bit = has_bit 4 word;
   codes = status_codes word;
 }
+
+-- the program status after its word was written: T can't be written
+unfoldable pub status_written : ℕ → Status → Status
+status_written word s = record (status_of word) { trace_bit = s.trace_bit }

@@ -1,4 +1,5 @@
 ghost use Rattle.std.specs.Prelude.{◌≡◌};
+ghost use Rattle.pdp_unibus.specs.BusWorld.{board_reset};
 ghost use Rattle.pdp_unibus.specs.Register.{value_in, after_byte, after_read, after_write, word_with_byte};
 
 use crate::register::Register;
@@ -52,14 +53,22 @@ impl Board {
         }
     }
 
-    /// A write of a byte to the register, at an address in its word, in this turn: the other half is written as a read would
-    /// give it, without the effect of a read.
+    /// A write of a byte to the register, at an address in its word, in this turn: the other half is written as a read
+    /// would give it, without the effect of a read.
     #[tactic(auto, unfolding(crate::specs::Register::after_byte))]
     pub fn write_byte(&mut self, register: Register, address: u32, byte: u8, turn: u32)
         ensures { self.new ≡ after_byte register address byte turn self.old }
     {
         let word = with_byte(self.value(register), address, byte);
         self.write(register, word, turn);
+    }
+
+    /// RESET of all devices. The program status and the switches stay.
+    #[tactic(auto, unfolding(crate::specs::BusWorld::board_reset))]
+    pub(crate) fn reset(&mut self)
+        ensures { self.new ≡ board_reset self.old }
+    {
+        self.console.reset();
     }
 }
 

@@ -3,6 +3,9 @@ ghost use Rattle.pdp_unibus.specs.BusWorld.{BusWorld};
 ghost use Rattle.pdp_unibus.specs.Cycle.{Cycle, cycle};
 ghost use Rattle.pdp_unibus.specs.Laws.{KeysAreReadOnce, KeysWaitUntilRead};
 ghost use Rattle.pdp_unibus.specs.Laws.{ReadStatusWritesBack, WrittenRegisterReadsBack, WrittenStatusReadsBack};
+ghost use Rattle.pdp_unibus.specs.Laws.{StatusIsItsWord, WholeStatusReadsBack};
+ghost use Rattle.pdp_unibus.specs.RequestLaws.{NoneIsChosenWhereNoneIsAbove, RequestsAreTold, TheFirstIsChosen};
+ghost use Rattle.pdp_unibus.specs.RequestLaws.{OthersGoOnRequesting, ResetDropsRequests, ServedSourcesAreSilent};
 ghost use Rattle.pdp_unibus.specs.declared.bus.Timeout.{Timeout};
 
 /// A law of the bus: a cycle that times out leaves core, its stamps, the board and the turn as they were.
@@ -10,20 +13,43 @@ pub fn timeouts_change_nothing()
     ensures { (c : Cycle) (w : BusWorld) (t : Timeout) → (cycle c w).value ≡ Err t → (cycle c w).after ≡ w }
 {}
 
-/// A law of the program status word: a word that is written to it reads back without bits 11-8, and with T as it was. What
-/// was read from it changes nothing when it is written.
+/// A law of the program status word: a word that is written to it reads back without bits 11-8, and with T as it was.
+/// What was read from it changes nothing when it is written. A whole word, as a trap loads it, sets T too.
 ///
 /// DEC PDP-11/40 Processor Handbook (1972), Processor status word; bits 11-8 and T are this project's profile.
 pub fn status_reads_back()
     ensures word { WrittenStatusReadsBack }
     ensures register { WrittenRegisterReadsBack }
     ensures unchanged { ReadStatusWritesBack }
+    ensures whole { WholeStatusReadsBack }
+    ensures same { StatusIsItsWord }
 {}
 
 /// A law of the keyboard's registers: a key waits until the buffer is read, and is read once.
 ///
 /// PDP-11 Peripherals Handbook, KL11.
-pub fn keys_are_read_once()
+pub fn keys_wait_and_are_read_once()
     ensures waiting { KeysWaitUntilRead }
     ensures once { KeysAreReadOnce }
+{}
+
+/// A law of interrupts: whichever sources request, the one that is chosen requests with a level above the priority,
+/// and no other that does goes before it, by its level or at the same level by its place. None is chosen exactly where
+/// none does.
+///
+/// PDP-11 Peripherals Handbook, Unibus; the order at one level is this project's profile.
+pub fn the_first_request_is_chosen()
+    ensures first { TheFirstIsChosen }
+    ensures none { NoneIsChosenWhereNoneIsAbove }
+{}
+
+/// A law of requests: whether there is any is told, a source that was served doesn't request, the others go on as
+/// before, and after RESET none does.
+///
+/// PDP-11 Peripherals Handbook, Unibus; RESET is this project's profile.
+pub fn requests_go_one_by_one_or_by_reset()
+    ensures told { RequestsAreTold }
+    ensures served { ServedSourcesAreSilent }
+    ensures others { OthersGoOnRequesting }
+    ensures reset { ResetDropsRequests }
 {}

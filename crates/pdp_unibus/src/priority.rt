@@ -1,6 +1,6 @@
 ghost use Rattle.std.specs.Prelude.{◌≡◌, ◌<◌};
 
-/// The priority of the processor, as bits 7-5 of the program status word give it.
+/// The priority of the processor, as bits 7-5 of the program status word give it, or the level of a request.
 ///
 /// DEC PDP-11/40 Processor Handbook (1972), Processor status word.
 #[derive(Clone, Copy, Debug, PartialEq, Eq, Default)]
@@ -17,7 +17,7 @@ pub enum Priority {
 }
 
 impl Priority {
-    ghost use Rattle.pdp_unibus.specs.Status.{priority_bits, priority_of};
+    ghost use Rattle.pdp_unibus.specs.Status.{is_above, priority_bits, priority_of};
 
     /// The priority of three bits of the program status word, 0 to 7.
     #[tactic(auto, unfolding(crate::specs::Status::priority_of))]
@@ -53,5 +53,12 @@ impl Priority {
             Priority::Level6 => 6,
             Priority::Level7 => 7,
         }
+    }
+
+    /// Whether this level is above the other: a request at this level interrupts a processor of the other's priority.
+    pub fn is_above(self, other: Priority) -> bool
+        ensures { result ≡ is_above self other }
+    {
+        self.bits() > other.bits()
     }
 }

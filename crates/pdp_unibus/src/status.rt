@@ -17,7 +17,7 @@ pub struct Status {
 }
 
 impl Status {
-    ghost use Rattle.pdp_unibus.specs.Status.{status_word, status_written};
+    ghost use Rattle.pdp_unibus.specs.Status.{status_of, status_word, status_written};
 
     /// The program status word: bits 15-14 current mode, 13-12 previous mode, 7-5 priority, 4 T, 3 N, 2 Z, 1 V, 0 C.
     /// Bits 11-8 are 0 (this project's profile).
@@ -30,6 +30,25 @@ impl Status {
         modes + self.priority.bits() * 32 + bit_of(self.trace_bit) * 16 + codes
     }
 
+    /// What a whole program status word says, T with it. Bits 11-8 count for nothing (this project's profile).
+    #[tactic(auto, unfolding(crate::specs::Status::status_of))]
+    pub fn of_word(word: u16) -> Status
+        ensures { result ≡ status_of word }
+    {
+        Status {
+            mode: Mode::of_bits(field(14, 2, word)),
+            previous: Mode::of_bits(field(12, 2, word)),
+            priority: Priority::of_bits(field(5, 3, word)),
+            trace_bit: has_bit(4, word),
+            codes: Codes {
+                n: has_bit(3, word),
+                z: has_bit(2, word),
+                v: has_bit(1, word),
+                c: has_bit(0, word),
+            },
+        }
+    }
+
     /// The program status after its word was written: modes, priority and codes as the word has them. T stays, and bits
     /// 11-8 count for nothing (this project's profile).
     #[tactic(auto, unfolding(crate::specs::Status::status_written))]
@@ -37,16 +56,8 @@ impl Status {
         ensures { result ≡ status_written word self }
     {
         Status {
-            mode: Mode::of_bits(field(14, 2, word)),
-            previous: Mode::of_bits(field(12, 2, word)),
-            priority: Priority::of_bits(field(5, 3, word)),
             trace_bit: self.trace_bit,
-            codes: Codes {
-                n: has_bit(3, word),
-                z: has_bit(2, word),
-                v: has_bit(1, word),
-                c: has_bit(0, word),
-            },
+            ..Status::of_word(word)
         }
     }
 }

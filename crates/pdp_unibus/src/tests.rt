@@ -10,6 +10,8 @@ use pdp_store::{Agent, Flat, Stamp};
 use pdp_word::{Codes, NoMemory};
 use std::process::Abort;
 
+mod requests;
+
 // The word of core with this number, and its last stamp.
 fn word_and_last(rt: &impl Abort, bus: &Bus<Flat>, number: usize) -> (u16, Option<Stamp>) {
     assert!(rt; number < bus.words());
@@ -337,4 +339,30 @@ fn keeps_trace_in_writes_of_the_status_word(rt: HostRuntime) {
     assert_eq!(rt; board.read(Register::ProgramStatus), 0o170377);
     board.write(Register::ProgramStatus, 0, 1);
     assert_eq!(rt; board.read(Register::ProgramStatus), 0o000020);
+}
+
+#[test]
+fn takes_whole_words_of_status(rt: HostRuntime) -> Result<(), NoMemory> {
+    let status = Status {
+        mode: Mode::User,
+        previous: Mode::Kernel,
+        priority: Priority::Level7,
+        trace_bit: true,
+        codes: Codes {
+            n: true,
+            z: false,
+            v: false,
+            c: true,
+        },
+    };
+    assert_eq!(rt; Status::of_word(0o140371), status);
+    assert_eq!(rt; Status::of_word(0o147771), status);
+    assert_eq!(rt; Status::of_word(0o177777).word(), 0o170377);
+    assert_eq!(rt; Status::of_word(0o007757), Status::of_word(0o000357));
+
+    let mut bus = Bus::new(Flat::new(rt.alloc(), 1, false)?);
+    bus.set_status(status);
+    assert_eq!(rt; bus.status(), status);
+    assert_eq!(rt; bus.read(0o777776), Ok(0o140371));
+    Ok(())
 }

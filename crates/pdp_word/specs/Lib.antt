@@ -1,4 +1,5 @@
 pub mod Bits
 pub mod Number
+pub mod Request
 pub mod Size
 pub mod Word

@@ -1,4 +1,5 @@
--- A word is a whole number from 0 to 177777 octal, a byte from 0 to 377 octal.
+-- A word is a whole number from 0 to 177777 octal, a byte from 0 to 377 octal
+-- (DEC PDP-11/40 Processor Handbook (1972), Addressing modes and Instruction set).
 use Rattle.std.specs.Prelude.{ℕ, ℤ, pos, ◌+◌, ◌-◌, ◌*◌, ◌/◌, ◌%◌, ◌-ℤ◌, nat_lt, if◌then◌else◌}
 
 -- a word as a signed number: less 2 ^ 16 where its top bit is set

@@ -83,3 +83,17 @@ fn bits_have_the_numbers_of_the_handbook(rt: HostRuntime) {
     assert!(rt; has_bit(15, 0o100000));
     assert!(rt; !has_bit(0, 0o177776));
 }
+
+#[test]
+fn requests_appear_where_the_condition_rises(rt: HostRuntime) {
+    // The condition before and after, whether there was a request, and whether there is one then.
+    for (before, after, request, then) in [
+        (false, true, false, true),
+        (true, true, false, false),
+        (true, true, true, true),
+        (true, false, true, false),
+        (false, false, false, false),
+    ] {
+        assert_eq!(rt; request_after(before, after, request), then);
+    }
+}

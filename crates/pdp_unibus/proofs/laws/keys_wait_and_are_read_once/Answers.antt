@@ -1,5 +1,5 @@
 use Rattle.pdp_unibus.proofs.KeyLaws.{read_once, wait_until_read}
-use Rattle.pdp_unibus.proofs.laws.keys_are_read_once.Goals as goal
+use Rattle.pdp_unibus.proofs.laws.keys_wait_and_are_read_once.Goals as goal
 
 -- src/laws.rt
 pub returns-clause-waiting : goal.returns-clause-waiting

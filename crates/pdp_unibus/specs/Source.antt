@@ -1,0 +1,52 @@
+-- What can interrupt the processor: PDP-11 Peripherals Handbook, KL11, KW11-L, PC11 and RK11 (which of two at one level
+-- goes first is this project's profile).
+use Rattle.std.specs.Prelude.{ℕ, Bool, false, ◌&&◌, Option, List, [], ◌∷◌}
+use Rattle.std.specs.List.{find, list_any}
+use Rattle.pdp_console.specs.Kl.{kl_served}
+use Rattle.pdp_unibus.specs.Status.{is_above}
+use Rattle.pdp_unibus.specs.declared.board.Board.{Board}
+use Rattle.pdp_unibus.specs.declared.priority.Priority.{Priority}
+use Rattle.pdp_unibus.specs.declared.priority.Priority.TheVariants.{Level4, Level5, Level6}
+use Rattle.pdp_unibus.specs.declared.source.Source.{Source}
+use Rattle.pdp_unibus.specs.declared.source.Source.TheVariants.{Keyboard, Printer, Reader, Punch, Clock, Disk}
+
+-- the level at which a source requests
+abbrev pub level_of : Source → Priority
+level_of Clock = Level6
+level_of Disk = Level5
+level_of _ = Level4
+
+-- where its vector is
+abbrev pub vector_of : Source → ℕ
+vector_of Keyboard = 0o60
+vector_of Printer = 0o64
+vector_of Reader = 0o70
+vector_of Punch = 0o74
+vector_of Clock = 0o100
+vector_of Disk = 0o220
+
+-- the order in which they go: by levels, and then by the profile
+abbrev pub order : List Source
+order = Clock ∷ Disk ∷ Keyboard ∷ Printer ∷ Reader ∷ Punch ∷ []
+
+-- of those that request, the first with a level above the priority
+abbrev pub first_above : (Source → Bool) → Priority → Option Source
+first_above is_requesting priority = find (λ s. is_requesting s && is_above (level_of s) priority) order
+
+-- whether a source requests; devices to come don't
+abbrev pub requests : Board → Source → Bool
+requests b Keyboard = b.console.request
+requests b _ = false
+
+-- whether any does
+abbrev pub has_request : Board → Bool
+has_request b = list_any (requests b) order
+
+-- the source that interrupts a processor of this priority
+unfoldable pub chosen : Priority → Board → Option Source
+chosen priority b = first_above (requests b) priority
+
+-- the source's request is served: that request goes, and nothing else changes
+unfoldable pub served : Source → Board → Board
+served Keyboard b = record b { console = kl_served b.console }
+served _ b = b

@@ -1,0 +1,52 @@
+ghost use Rattle.std.specs.Prelude.{◌≡◌};
+
+use crate::priority::Priority;
+
+/// What can interrupt the processor.
+///
+/// PDP-11 Peripherals Handbook, KL11, KW11-L, PC11 and RK11.
+#[derive(Clone, Copy, Debug, PartialEq, Eq)]
+pub enum Source {
+    /// The console terminal's keyboard.
+    Keyboard,
+    /// The console terminal's printer.
+    Printer,
+    /// The paper tape reader.
+    Reader,
+    /// The paper tape punch.
+    Punch,
+    /// The line clock.
+    Clock,
+    /// The disk.
+    Disk,
+}
+
+impl Source {
+    ghost use Rattle.pdp_unibus.specs.Source.{level_of, vector_of};
+
+    /// The level at which the source requests: 6 the clock, 5 the disk, 4 the others.
+    pub fn level(self) -> Priority
+        ensures { result ≡ level_of self }
+    {
+        match self {
+            Source::Clock => Priority::Level6,
+            Source::Disk => Priority::Level5,
+            Source::Keyboard | Source::Printer | Source::Reader | Source::Punch => Priority::Level4,
+        }
+    }
+
+    /// The source's vector: the address in kernel space (bytes) of the new PC, with the new program status word after
+    /// it.
+    pub fn vector(self) -> u16
+        ensures { result ≡ vector_of self }
+    {
+        match self {
+            Source::Keyboard => 0o60,
+            Source::Printer => 0o64,
+            Source::Reader => 0o70,
+            Source::Punch => 0o74,
+            Source::Clock => 0o100,
+            Source::Disk => 0o220,
+        }
+    }
+}
