@@ -1,4 +1,5 @@
--- What the laws of MUL, DIV, ASH and ASHC say, for all operands that fit: each name is the law's sentence.
+-- What the laws of MUL, DIV, ASH and ASHC say, for all operands that fit: each name is the law's sentence
+-- (DEC PDP-11/40 Processor Handbook (1972), Instruction set; what it leaves open is this project's profile).
 use Rattle.std.specs.Prelude.{◌≡◌, ℕ, ℤ, pos, ◌-◌, ◌*◌, ◌%◌, ◌^◌, ◌<◌, ◌≤◌, ◌*ℤ◌, ◌⊎◌, true, false, int_div, int_rem, unsigned_abs, IsFalse}
 use Rattle.std.specs.Int.{int_div_euclid, int_rem_euclid}
 use Rattle.pdp_word.specs.Bits.{bit_of, field}

@@ -1,4 +1,5 @@
--- What the laws of the effects say, for all operands that fit: each name is the law's sentence.
+-- What the laws of the effects say, for all operands that fit: each name is the law's sentence
+-- (DEC PDP-11/40 Processor Handbook (1972), Instruction set; what it leaves open is this project's profile).
 use Rattle.std.specs.Prelude.{◌≡◌, ℕ, pos, ◌+◌, ◌*◌, ◌<◌, ◌==◌, ◌+ℤ◌, ◌-ℤ◌, ◌*ℤ◌, neg_ℤ, int_lt, nat_lt, Bool, false, not, ◌&&◌, ◌||◌, IsFalse}
 use Rattle.pdp_word.specs.Bits.{bit_of, has_bit}
 use Rattle.pdp_word.specs.declared.codes.Codes.{Codes}

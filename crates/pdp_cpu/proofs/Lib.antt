@@ -3,5 +3,7 @@ pub mod Endings
 pub mod Events
 pub mod PlanSizes
 pub mod TurnLaws
+pub mod Halted
+pub mod Dues
 pub mod StatusKept
 pub mod PlansKeepStatus

@@ -8,7 +8,8 @@ use Rattle.pdp_operand.specs.Phases.Plan.{Plan}
 use Rattle.pdp_operand.proofs.Bound.{size_of, size_of_find}
 use Rattle.pdp_cpu.specs.Handbook.Branch.{branch_plan, sob_plan}
 use Rattle.pdp_cpu.specs.Handbook.ChangeCodes.{clear_plan, set_plan}
-use Rattle.pdp_cpu.specs.Handbook.Control.{halt_plan, reserved_plan}
+use Rattle.pdp_cpu.specs.Handbook.Control.{halt_plan, wait_plan, reset_plan, raise_plan}
+use Rattle.pdp_cpu.specs.Handbook.ReturnFromTrap.{return_plan}
 use Rattle.pdp_cpu.specs.Handbook.TwoOperands.{compare_plan, combine_plan}
 use Rattle.pdp_cpu.specs.Handbook.Execute.{finish_plan}
 use Rattle.pdp_cpu.specs.Handbook.Extended.{mul_plan, div_plan, ash_plan, ashc_plan}
@@ -96,10 +97,18 @@ size_of_ashc : (register : ℕ) (source : Spec) → size_of (ashc_plan register 
 unfolding ashc_plan
 size_of_ashc register source = omega (arith, size_of_find Word source)
 
+size_of_return : size_of return_plan ≤ 12
+unfolding return_plan
+size_of_return = omega (arith, size_of_find Word pop)
+
 -- the plan of an action has at most twelve phases
 size_of_action : (a : Action) → size_of (plan_of_action a) ≤ 12
-unfolding halt_plan branch_plan sob_plan clear_plan set_plan reserved_plan
+unfolding halt_plan wait_plan reset_plan raise_plan branch_plan sob_plan clear_plan set_plan
 size_of_action action.Halt = omega arith
+size_of_action action.Wait = omega arith
+size_of_action action.Reset = omega arith
+size_of_action action.ReturnFromTrap = size_of_return
+size_of_action (action.Raise trap) = omega arith
 size_of_action (action.Jump destination) = size_of_jmp destination
 size_of_action (action.JumpToSubroutine register destination) = size_of_jsr register destination
 size_of_action (action.ReturnFromSubroutine register) = size_of_rts register
@@ -119,7 +128,6 @@ size_of_action (action.Multiply register source) = size_of_mul register source
 size_of_action (action.Divide register source) = size_of_div register source
 size_of_action (action.Shift register source) = size_of_ash register source
 size_of_action (action.ShiftPair register source) = size_of_ashc register source
-size_of_action action.Reserved = omega arith
 
 pub size_of_plan : (instr : Instr) → size_of (plan_of instr) ≤ 12
 size_of_plan instr = size_of_action (action_of instr)

@@ -11,7 +11,8 @@ use Rattle.pdp_operand.specs.declared.place.Fill.{Fill}
 use Rattle.pdp_cpu.specs.Handbook.Action.{action_of, plan_of_action, plan_of}
 use Rattle.pdp_cpu.specs.Handbook.Branch.{branch_plan, sob_plan}
 use Rattle.pdp_cpu.specs.Handbook.ChangeCodes.{clear_plan, set_plan}
-use Rattle.pdp_cpu.specs.Handbook.Control.{halt_plan, reserved_plan}
+use Rattle.pdp_cpu.specs.Handbook.Control.{halt_plan, wait_plan, reset_plan, raise_plan}
+use Rattle.pdp_cpu.specs.Handbook.ReturnFromTrap.{keep_counter, return_plan}
 use Rattle.pdp_cpu.specs.Handbook.TwoOperands.{compare_plan, combine_plan, execute_comparison, execute_combination}
 use Rattle.pdp_cpu.specs.Handbook.Execute.{finish_plan, store_codes}
 use Rattle.pdp_cpu.specs.Handbook.Extended.{mul_plan, div_plan, ash_plan, ashc_plan, multiply, divide, shift, shift_pair}
@@ -28,7 +29,7 @@ use Rattle.pdp_cpu.specs.declared.operation.Modification.{Modification}
 use Rattle.pdp_cpu.specs.declared.operation.Replacement.{Replacement}
 use Rattle.pdp_operand.specs.declared.place.Place.{Place}
 use Rattle.pdp_operand.specs.declared.place.Place.TheVariants.{Reg, Mem}
-use Rattle.pdp_cpu.proofs.StatusKept.{Stops, Safe, Steady, Sure, ReadsAtMost, steady_safe, steady_steady, safe_sure, steady_if, phase_safe, phase_steady, phase_sure, steady_find, steady_read}
+use Rattle.pdp_cpu.proofs.StatusKept.{Stops, Safe, Steady, Sure, ReadsAtMost, steady_safe, steady_steady, safe_sure, steady_if, phase_safe, phase_steady, phase_sure, steady_find, steady_read, steady_read_before_write}
 
 sure_codes : Sure (one store_codes)
 unfolding store_codes
@@ -68,13 +69,13 @@ safe_combine : (c : Combination) (source destination : Spec) → Safe (combine_p
 unfolding combine_plan execute_combination
 safe_combine c source destination =
     steady_safe _ _ (steady_operands _ source destination)
-    (steady_safe _ _ (steady_read _) (steady_safe _ _ (phase_steady _ (λ i. tt) (λ i value. refl)) (safe_finish _)))
+    (steady_safe _ _ (steady_read_before_write _) (steady_safe _ _ (phase_steady _ (λ i. tt) (λ i value. refl)) (safe_finish _)))
 
 safe_modify : (m : Modification) (destination : Spec) → Safe (modify_plan m destination)
 unfolding modify_plan execute_modification
 safe_modify m destination =
     steady_safe _ _ (steady_find _ destination)
-    (steady_safe _ _ (steady_read _) (steady_safe _ _ (phase_steady _ (λ i. tt) (λ i value. refl)) (safe_finish _)))
+    (steady_safe _ _ (steady_read_before_write _) (steady_safe _ _ (phase_steady _ (λ i. tt) (λ i value. refl)) (safe_finish _)))
 
 safe_replace : (r : Replacement) (destination : Spec) → Safe (replace_plan r destination)
 unfolding replace_plan execute_replacement
@@ -144,9 +145,21 @@ safe_ashc r source =
     steady_safe _ _ (steady_find Word source)
     (steady_safe _ _ (steady_read Word) (steady_safe _ _ (phase_steady _ (λ i. tt) (λ i value. refl)) (phase_safe _)))
 
+safe_return : Safe return_plan
+unfolding return_plan keep_counter
+safe_return =
+    steady_safe _ _ (steady_find Word _)
+    (steady_safe _ _ (steady_read Word)
+    (steady_safe _ _ (phase_steady _ (λ i. tt) (λ i value. refl))
+    (steady_safe _ _ (steady_find Word _) (steady_safe _ _ (steady_read Word) (phase_safe _)))))
+
 safe_action : (a : Action) → Safe (plan_of_action a)
-unfolding halt_plan branch_plan sob_plan clear_plan set_plan reserved_plan
+unfolding halt_plan wait_plan reset_plan raise_plan branch_plan sob_plan clear_plan set_plan
 safe_action action.Halt = phase_safe _
+safe_action action.Wait = phase_safe _
+safe_action action.Reset = phase_safe _
+safe_action action.ReturnFromTrap = safe_return
+safe_action (action.Raise trap) = phase_safe _
 safe_action (action.Jump destination) = safe_jmp destination
 safe_action (action.JumpToSubroutine register destination) = safe_jsr register destination
 safe_action (action.ReturnFromSubroutine register) = safe_rts register
@@ -166,7 +179,6 @@ safe_action (action.Multiply register source) = safe_mul register source
 safe_action (action.Divide register source) = safe_div register source
 safe_action (action.Shift register source) = safe_ash register source
 safe_action (action.ShiftPair register source) = safe_ashc register source
-safe_action action.Reserved = phase_safe _
 
 where_stopped : (status : Status) (r : Result State Stop) (stop : Stop) → r ≡ Err stop → Stops status r → stop.world.bus.board.status ≡ status
 where_stopped status r stop is stops = rw is at stops

@@ -14,7 +14,7 @@ use Rattle.pdp_word.specs.declared.size.Size.TheVariants.{Word, Byte}
 use Rattle.pdp_operand.specs.Handbook.Reference.{Kind, ReadWord, ReadByte, WriteWord, WriteByte, Reference, access_of, perform, physical_address}
 use Rattle.pdp_operand.specs.Phases.Phase.{Phase, Inner, State, Stop, Request, Nothing, Ask, Raise, run, step, and_then, by_request, after_reply, inner_of}
 use Rattle.pdp_operand.specs.Phases.Plan.{Plan, ◌▸◌, one, run_plan}
-use Rattle.pdp_operand.specs.Handbook.Operand.{find, lower, shrink, stack_limit, name_register, point, grow, index, indirect, read_operand, reference_at, reading, mode_now}
+use Rattle.pdp_operand.specs.Handbook.Operand.{find, lower, name_register, point, grow, index, indirect, read_before_write, read_operand, reference_at, reading, mode_now}
 use Rattle.pdp_operand.specs.declared.place.Place.{Place}
 use Rattle.pdp_operand.specs.declared.place.Place.TheVariants.{Reg, Mem}
 use Rattle.pdp_operand.specs.declared.trap.Trap.{Trap}
@@ -212,10 +212,9 @@ steady_grow : (r step : ℕ) → Steady (one (grow r step))
 unfolding grow
 steady_grow r step = phase_steady _ (λ i. tt) (λ i value. refl)
 
-steady_lower : (r step : ℕ) → Steady (lower mode_now r step)
-unfolding lower shrink stack_limit
-steady_lower r step =
-    steady_steady _ _ (phase_steady _ (λ i. tt) (λ i value. refl)) (phase_steady _ (λ i. limit_reads _ _) (λ i value. refl))
+steady_lower : (r step : ℕ) → Steady (one (lower mode_now r step))
+unfolding lower
+steady_lower r step = phase_steady _ (λ i. limit_reads _ _) (λ i value. refl)
 
 steady_name : (r : ℕ) → Steady (one (name_register r))
 unfolding name_register
@@ -239,3 +238,7 @@ steady_find size spec =
 pub steady_read : (size : Size) → Steady (one (read_operand size))
 unfolding read_operand
 steady_read size = phase_steady _ (λ i. reads_place size i.latch.place) (λ i value. refl)
+
+pub steady_read_before_write : (size : Size) → Steady (one (read_before_write size))
+unfolding read_before_write
+steady_read_before_write size = phase_steady _ (λ i. reads_place size i.latch.place) (λ i value. refl)

@@ -10,5 +10,7 @@ pub mod ChangeCodes
 pub mod Branch
 pub mod Jump
 pub mod Control
+pub mod TrapSequence
+pub mod ReturnFromTrap
 pub mod Action
 pub mod Instruction

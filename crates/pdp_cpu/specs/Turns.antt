@@ -1,4 +1,5 @@
 -- A turn of the machine, and the machine as a contract sees it.
+pub mod Due
 pub mod Turn
 pub mod MachineState
 pub mod Regs

@@ -1,8 +1,14 @@
-/// What a turn does after its events.
+/// The act that began a turn.
 #[derive(Clone, Copy, Debug, PartialEq, Eq)]
 pub enum Act {
-    /// One instruction.
+    /// One instruction, with its trap if it had one; also where its word could not be fetched.
     Instr,
+    /// The trace trap.
+    Trace,
+    /// The stack trap.
+    Stack,
+    /// The interrupt with this vector (octal).
+    Irq(u16),
     /// Nothing: the machine waits or is halted.
     Idle,
 }

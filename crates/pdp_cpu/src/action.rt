@@ -1,17 +1,21 @@
 //! Instructions by the phases that they have.
 ghost use Rattle.std.specs.Prelude.{◌≡◌};
-ghost use Rattle.pdp_cpu.specs.Handbook.Action.{action_of};
+ghost use Rattle.pdp_cpu.specs.Handbook.Action.{action_of, trap_of};
 ghost use Rattle.pdp_cpu.specs.declared.action.Action.TheVariants.{Branch, Compare, Combine, Modify, Replace};
 
 use crate::condition::Condition;
 use crate::operation::{Combination, Comparison, Modification, Replacement};
 use pdp_decode::{Instr, Spec};
+use pdp_operand::Trap;
 use pdp_word::{Codes, Size};
 
 /// What an instruction does, by the phases that it has.
 #[derive(Clone, Copy, Debug, PartialEq, Eq)]
 pub enum Action {
     Halt,
+    Wait,
+    Reset,
+    ReturnFromTrap,
     Jump {
         destination: Spec,
     },
@@ -85,7 +89,10 @@ pub enum Action {
         register: u8,
         source: Spec,
     },
-    Reserved,
+    /// Nothing but a trap.
+    Raise {
+        trap: Trap,
+    },
 }
 
 /// What an instruction does. One that is to come does what a reserved word does.
@@ -95,6 +102,9 @@ pub fn action_of(instr: Instr) -> Action
 {
     match instr {
         Instr::Halt => Action::Halt,
+        Instr::Wait => Action::Wait,
+        Instr::Reset => Action::Reset,
+        Instr::Rti | Instr::Rtt => Action::ReturnFromTrap,
         Instr::Jmp { destination } => Action::Jump { destination },
         Instr::Jsr {
             register,
@@ -224,17 +234,31 @@ pub fn action_of(instr: Instr) -> Action
             size: Size::Byte,
             destination,
         },
-        Instr::Wait
-        | Instr::Rti
-        | Instr::Bpt
+        Instr::Bpt
         | Instr::Iot
-        | Instr::Reset
-        | Instr::Rtt
         | Instr::Emt { .. }
         | Instr::Trap { .. }
         | Instr::Mfpi { .. }
         | Instr::Mtpi { .. }
-        | Instr::Reserved => Action::Reserved,
+        | Instr::Reserved => Action::Raise {
+            trap: trap_of(instr),
+        },
+    }
+}
+
+/// The trap that an instruction asks for which does nothing else; a word that is no instruction asks for that of a reserved
+/// word, and so do instructions that are to come.
+#[cold]
+#[inline(never)]
+fn trap_of(instr: Instr) -> Trap
+    ensures { result ≡ trap_of instr }
+{
+    match instr {
+        Instr::Bpt => Trap::Breakpoint,
+        Instr::Iot => Trap::InputOutput,
+        Instr::Emt { .. } => Trap::Emulator,
+        Instr::Trap { .. } => Trap::TrapInstruction,
+        _ => Trap::Reserved,
     }
 }
 

@@ -1,9 +1,8 @@
 ghost use Rattle.std.specs.Prelude.{◌≡◌};
 ghost use Rattle.pdp_unibus.specs.BusWorld.{BusWorld};
-ghost use Rattle.pdp_operand.specs.declared.processor.Processor.{Processor};
 ghost use Rattle.pdp_operand.specs.Contract.{GivesWhere, IsAt, in_value, Runs};
 ghost use Rattle.pdp_operand.specs.Phases.Plan.{one};
-ghost use Rattle.pdp_cpu.specs.Handbook.Jump.{aim as aim_phase, jmp_plan, jsr_plan, rts_plan, mark_plan, pop_register as pop_plan, linked, marked};
+ghost use Rattle.pdp_cpu.specs.Handbook.Jump.{aim as aim_phase, jmp_plan, jsr_plan, rts_plan, mark_plan, pop_register as pop_plan, linked, after_mark};
 
 use pdp_decode::Spec;
 use pdp_operand::{Fill, Place, Processor, Slot, Trap, address, fetch, store};
@@ -15,19 +14,24 @@ use pdp_word::Size;
 const PUSH: Spec = Spec { mode: 4, reg: 6 };
 
 // Where a word is popped: (SP)+.
-const POP: Spec = Spec { mode: 2, reg: 6 };
+pub const POP: Spec = Spec { mode: 2, reg: 6 };
 
-/// The address that a jump goes to, which is that of its operand.
+/// The address that a jump goes to, which is that of its operand. Near the end of the kernel's stack it leaves a stack trap
+/// pending.
 ///
 /// Err(JumpToRegister) where the operand is a register.
 #[inline(always)]
 #[tactic(auto, unfolding(crate::specs::Handbook::Jump::aim, pdp_operand::specs::Phases::Phase::run))]
-fn aim(place: Place) -> Result<u16, Trap>
-    ensures gives { (p : Processor) (b : BusWorld) → GivesWhere (IsAt place) in_value (one aim_phase) p b result p b }
+fn aim(processor: &mut Processor, place: Place) -> Result<u16, Trap>
+    ensures gives { (b : BusWorld) → GivesWhere (IsAt place) in_value (one aim_phase)
+        processor.old b result processor.new b }
 {
     match place {
         Place::Reg(_) => Err(Trap::JumpToRegister),
-        Place::Mem(cell) => Ok(cell.address),
+        Place::Mem(cell) => {
+            processor.mark(cell.near);
+            Ok(cell.address)
+        }
     }
 }
 
@@ -42,7 +46,7 @@ pub fn jump<S: Store>(
     ensures runs { Runs (jmp_plan destination) processor.old bus.old result processor.new bus.new }
 {
     let place = address(processor, bus, destination, Size::Word)?;
-    let target = aim(place)?;
+    let target = aim(processor, place)?;
     processor.set_register(Slot::ProgramCounter, target);
     Ok(())
 }
@@ -59,7 +63,7 @@ pub fn jump_to_subroutine<S: Store>(
     ensures runs { Runs (jsr_plan register destination) processor.old bus.old result processor.new bus.new }
 {
     let place = address(processor, bus, destination, Size::Word)?;
-    let target = aim(place)?;
+    let target = aim(processor, place)?;
     let top = address(processor, bus, PUSH, Size::Word)?;
     let word = processor.register(Slot::of(bus.status().mode, register));
     store(processor, bus, top, Fill::Whole, word)?;
@@ -121,7 +125,7 @@ pub fn mark<S: Store>(processor: &mut Processor, bus: &mut Bus<S>, words: u8) ->
 /// This stack pointer becomes PC plus twice the words, and PC becomes R5.
 #[inline(always)]
 fn take_mark(processor: &mut Processor, stack: Slot, words: u8)
-    ensures { processor.new ≡ marked stack words processor.old }
+    ensures { processor.new ≡ after_mark stack words processor.old }
 {
     let counter = processor.register(Slot::ProgramCounter);
     let frame = processor.register(Slot::R5);

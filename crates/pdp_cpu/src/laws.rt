@@ -12,7 +12,8 @@ ghost use Rattle.pdp_operand.specs.Laws.Page.{AlikeOutside};
 ghost use Rattle.pdp_operand.specs.Laws.Touched.{IsOfTurn};
 ghost use Rattle.pdp_operand.specs.Laws.Trace.{Avoids, last_write};
 ghost use Rattle.pdp_operand.specs.declared.processor.Processor.{Processor};
-ghost use Rattle.pdp_cpu.specs.Laws.TurnLaws.{LeavesStatus, Undisturbed, turn_phases};
+ghost use Rattle.pdp_operand.specs.declared.processor.RunState.TheVariants.{Halted};
+ghost use Rattle.pdp_cpu.specs.Laws.TurnLaws.{LeavesStatus, NoneContinues, Stays, Undisturbed, turn_phases, world_after};
 ghost use Rattle.pdp_cpu.specs.Turns.Turn.{one_turn, turn_trace};
 ghost use Rattle.pdp_operand.specs.Phases.World.{World, world};
 
@@ -62,4 +63,11 @@ pub fn what_cannot_go_on_leaves_the_codes()
     ensures fetch { (s : State) (stop : Stop) → run_plan (one fetch_instruction) s ≡ Err stop → LeavesStatus s stop }
     ensures plan { (instr : Instr) (s : State) (stop : Stop) →
         run_plan (plan_of instr) s ≡ Err stop → LeavesStatus s stop }
+{}
+
+/// A law of turns: a halted machine stays. Without `Continue` its processor and its core are the same after any number of
+/// turns, whatever other events come.
+pub fn halted_machines_stay()
+    ensures { (events : ℕ → List Event) (t n : ℕ) (w : World) → w.processor.run ≡ Halted →
+        ((k : ℕ) → NoneContinues (events k)) → Stays w (world_after events t n w) }
 {}

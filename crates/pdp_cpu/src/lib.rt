@@ -12,6 +12,7 @@ mod branch;
 mod change_codes;
 mod condition;
 mod control;
+mod due;
 mod execute;
 mod extended;
 mod instruction;
@@ -23,15 +24,20 @@ mod moves;
 mod one_operand;
 mod operands;
 mod operation;
+mod origin;
 mod pair;
 mod regs;
+mod return_from_trap;
+mod serving;
 #[cfg(test)]
 mod tests;
+mod trap_sequence;
 mod two_operands;
 
+pub use act::Act;
 pub use laws::{
-    stamps_are_last_writes, touches_are_of_their_turn, turns_end_within_32_phases,
-    turns_keep_the_size_of_core, turns_leave_what_they_never_touch,
+    halted_machines_stay, stamps_are_last_writes, touches_are_of_their_turn,
+    turns_end_within_32_phases, turns_keep_the_size_of_core, turns_leave_what_they_never_touch,
     what_cannot_go_on_leaves_the_codes,
 };
 pub use machine::Machine;

@@ -2,12 +2,14 @@ ghost use Rattle.std.specs.Prelude.{◌≡◌, ◌+◌, ◌-◌, ◌^◌, ◌<�
 ghost use Rattle.pdp_unibus.specs.BusWorld.{powered};
 ghost use Rattle.pdp_cpu.specs.Turns.MachineState.{IsReady, powered_machine, after_turn};
 ghost use Rattle.pdp_cpu.specs.Turns.Regs.{regs_of};
-ghost use Rattle.pdp_cpu.specs.Turns.Turn.{act_in};
+ghost use Rattle.pdp_cpu.specs.Turns.Turn.{turn_act};
 
 use crate::act::Act;
+use crate::due::nothing_is_pending;
 use crate::instruction::instruct;
 use crate::meter::Meter;
 use crate::regs::Regs;
+use crate::serving::take_what_is_due;
 use pdp_operand::{Processor, RunState, Slot};
 use pdp_store::{Stamp, Store};
 use pdp_unibus::{Bus, Event, LAST_TURN};
@@ -57,28 +59,36 @@ impl<S: Store> Machine<S> {
         Ok(())
     }
 
-    /// One whole turn, and one tick of the meter: the events of the turn in their order, and then one instruction, or nothing
-    /// where the machine waits or is halted. `Continue` ends a halt, and the act of that turn runs; a halted machine still gets
-    /// events. Once asked it always takes place. Where the instruction can't go on (odd address, timeout, reserved word, jump to a
-    /// register, kernel stack below 400 octal, an instruction that is to come) the turn ends there, with the registers as changed so
-    /// far and the codes as before, and the machine is halted (this project's profile, until traps come).
+    /// One whole turn, and one tick of the meter: the events of the turn in their order, and then one act, of which it tells
+    /// how it began: the trace trap or the stack trap that is pending, an interrupt, one instruction with its trap if it has
+    /// one, or nothing where the machine waits or is halted. `Continue` ends a halt, and the act of that turn is chosen after
+    /// it; a halted machine still gets events. Once asked it always takes place.
+    ///
+    /// DEC PDP-11/40 Processor Handbook (1972), Processor traps and Interrupts; that a turn is one act, and their order, are
+    /// this project's profile.
     #[inline(always)]
-    #[tactic(auto, unfolding(crate::specs::Turns::Turn::one_turn, pdp_operand::specs::Phases::Course::follow))]
-    pub fn turn(&mut self, meter: &mut Meter, events: &[Event])
+    #[tactic(auto, unfolding(crate::specs::Turns::Turn::one_turn, crate::specs::Turns::Turn::turn_act))]
+    pub fn turn(&mut self, meter: &mut Meter, events: &[Event]) -> Act
         requires ready { IsReady self.old }
         requires limit { self.old.turn < LAST_TURN }
+        ensures act { result ≡ turn_act self.old.turn events.now self.old.world }
         ensures turn { self.new ≡ after_turn events.now self.old }
         ensures counted { meter.new ≡ min (meter.old + 1) (2 ^ 64 - 1) }
         ensures grows { meter.old ≤ meter.new }
     {
         self.bus.begin(self.turn);
-        take_events(&mut self.processor, &mut self.bus, events);
-        match act_of_run(self.processor.run) {
-            Act::Instr => instruct(&mut self.processor, &mut self.bus),
-            Act::Idle => {}
+        if !events.is_empty() {
+            take_events(&mut self.processor, &mut self.bus, events);
         }
+        let act = if nothing_is_pending(&self.processor, &self.bus) {
+            instruct(&mut self.processor, &mut self.bus);
+            Act::Instr
+        } else {
+            take_what_is_due(&mut self.processor, &mut self.bus)
+        };
         self.turn += 1;
         meter.tick();
+        act
     }
 
     /// The registers now (DEC PDP-11/40 Processor Handbook (1972), General registers and Processor status word).
@@ -121,17 +131,6 @@ impl<S: Store> Machine<S> {
     }
 }
 
-/// What this turn does: an instruction, unless the machine waits or is halted.
-#[inline(always)]
-fn act_of_run(run: RunState) -> Act
-    ensures { result ≡ act_in run }
-{
-    match run {
-        RunState::Run => Act::Instr,
-        RunState::Wait | RunState::Halted => Act::Idle,
-    }
-}
-
 ghost use Rattle.pdp_cpu.specs.Turns.Turn.{after_event, after_events};
 ghost use Rattle.pdp_operand.specs.Phases.World.{world};
 
@@ -156,7 +155,7 @@ fn take_event<S: Store>(processor: &mut Processor, bus: &mut Bus<S>, event: Even
 }
 
 /// What events do to the machine, in their order.
-#[inline(always)]
+#[inline(never)]
 #[tactic(auto, using(crate::proofs::Events::after_more_events))]
 fn take_events<S: Store>(processor: &mut Processor, bus: &mut Bus<S>, events: &[Event])
     ensures { world processor.new bus.new ≡ after_events events.now (world processor.old bus.old) }

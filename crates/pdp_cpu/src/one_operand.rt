@@ -6,7 +6,7 @@ use crate::execute::finish;
 use crate::operation::{Modification, Replacement};
 use pdp_alu::tst;
 use pdp_decode::Spec;
-use pdp_operand::{Fill, Processor, Trap, address, fetch};
+use pdp_operand::{Fill, Processor, Trap, address, fetch, fetch_before_store};
 use pdp_store::Store;
 use pdp_unibus::Bus;
 use pdp_word::Size;
@@ -41,7 +41,7 @@ pub fn modify<S: Store>(
 {
     let size = modification.size();
     let place = address(processor, bus, destination, size)?;
-    let operand = fetch(processor, bus, place, size)?;
+    let operand = fetch_before_store(processor, bus, place, size)?;
     let effect = modification.effect(operand, bus.status().codes);
     finish(processor, bus, place, Fill::of(size), effect)
 }

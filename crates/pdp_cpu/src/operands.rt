@@ -54,7 +54,7 @@ fn read_registers<S: Store>(
     (cut(size, processor.register(from)), Place::Reg(to))
 }
 
-#[inline(always)]
+#[inline(never)]
 #[tactic(auto, using(crate::proofs::Steps::run_keep_source), unfolding(crate::specs::Handbook::Operands::source_first))]
 fn read_first<S: Store>(
     processor: &mut Processor,

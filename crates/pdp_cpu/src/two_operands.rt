@@ -6,13 +6,13 @@ use crate::execute::finish;
 use crate::operands::operands;
 use crate::operation::{Combination, Comparison};
 use pdp_decode::Spec;
-use pdp_operand::{Fill, Processor, Trap, fetch};
+use pdp_operand::{Fill, Processor, Trap, fetch, fetch_before_store};
 use pdp_store::Store;
 use pdp_unibus::Bus;
 
 /// CMP and BIT.
 #[inline(never)]
-#[tactic(auto, using(crate::proofs::Steps::run_execute_comparison, crate::proofs::Steps::run_store_codes), unfolding(crate::specs::Handbook::TwoOperands::compare_plan))]
+#[tactic(auto, using(crate::proofs::Steps::run_comparison), unfolding(crate::specs::Handbook::TwoOperands::compare_plan))]
 pub fn compare<S: Store>(
     processor: &mut Processor,
     bus: &mut Bus<S>,
@@ -46,7 +46,7 @@ pub fn combine<S: Store>(
 {
     let size = combination.size();
     let (value, place) = operands(processor, bus, source, destination, size)?;
-    let operand = fetch(processor, bus, place, size)?;
+    let operand = fetch_before_store(processor, bus, place, size)?;
     let effect = combination.effect(value, operand, bus.status().codes);
     finish(processor, bus, place, Fill::of(size), effect)
 }

@@ -1,4 +1,5 @@
--- What is said of an instruction: its mnemonic, and which fields it may have.
+-- What is said of an instruction: its mnemonic, and which fields it may have (DEC PDP-11/40 Processor Handbook (1972),
+-- Instruction set).
 use Rattle.std.specs.Prelude.{ℕ, List, codes, ◌<◌}
 use Rattle.pdp_decode.specs.Fields.{IsSpec}
 use Rattle.pdp_decode.specs.declared.instruction.Instr.{Instr}

@@ -6,7 +6,7 @@ use Rattle.pdp_operand.specs.Phases.Phase.{Phase, Inner, State, Stop, Latch, ste
 use Rattle.pdp_operand.specs.Phases.Plan.{Plan, Do, ◌▸◌, phases_of, run_plan}
 use Rattle.pdp_operand.specs.Phases.Course.{Course, End, Go, caught_in}
 use Rattle.pdp_operand.specs.Laws.Count.{run_length, counted_next, course_length, counted_on}
-use Rattle.pdp_operand.specs.Handbook.Operand.{find, lower}
+use Rattle.pdp_operand.specs.Handbook.Operand.{find}
 use Rattle.pdp_operand.specs.declared.trap.Trap.{Trap}
 
 -- how many phases a plan has
@@ -55,5 +55,5 @@ course_length_le (Go plan next caught) n s bound =
 
 -- finding an operand takes at most three phases
 pub size_of_find : (size : Size) (spec : Spec) → size_of (find size spec) ≤ 3
-unfolding find lower
+unfolding find
 size_of_find size spec = grind arith

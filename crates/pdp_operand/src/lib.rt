@@ -1,5 +1,5 @@
 //! Accesses and operands of the PDP-11/40, and the phases that define them: the processor's registers, a reference
-//! over the bus, the eight addressing modes, and what an operand reads and writes.
+//! over the bus, the eight addressing modes, the limit of the kernel's stack, and what an operand reads and writes.
 //!
 //! It stands on pdp_unibus, pdp_store, pdp_kt11, pdp_decode and pdp_word. The contract of a function says which
 //! reference it makes, or which plan of phases it is the run of: its answer, or its trap, and the registers and the
@@ -20,7 +20,7 @@ pub use laws::{
     courses_leave_what_they_never_touch, plan_is_its_phases, stamps_of_courses_are_last_writes,
     touches_of_courses_are_of_their_turn,
 };
-pub use operand::{address, fetch, is_status, store};
+pub use operand::{address, fetch, fetch_before_store, is_status, lower, store};
 pub use place::{Cell, Fill, Place};
 pub use processor::{Processor, RunState, Slot};
 pub use reference::{read_byte, read_word, write_byte, write_word};

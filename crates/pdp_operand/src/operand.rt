@@ -1,8 +1,9 @@
-ghost use Rattle.std.specs.Prelude.{◌≡◌, ◌<◌, Ok, IfOk};
+ghost use Rattle.std.specs.Prelude.{◌≡◌, ◌<◌, ◌%◌, Ok, IfOk};
 ghost use Rattle.pdp_word.specs.Size.{span};
-ghost use Rattle.pdp_operand.specs.Handbook.Operand.{cell_in, find, grow, index, indirect, is_status, lower, mode_now, point, read_operand, shrink, size_of_fill, stack_limit, step_of, write_operand};
-ghost use Rattle.pdp_operand.specs.Contract.{Gives, GivesWhere, IsAt, IsToWrite, in_cell, in_codes, in_place, in_value, nowhere};
+ghost use Rattle.pdp_operand.specs.Handbook.Operand.{cell_in, find, grow, index, indirect, is_status, lower as lower_phase, lowered, after_lowering, mode_now, point, read_before_write, read_operand, size_of_fill, step_of, write_operand};
+ghost use Rattle.pdp_operand.specs.Contract.{Gives, GivesWhere, IsAt, IsToWrite, in_cell, in_codes, in_place, in_value};
 ghost use Rattle.pdp_operand.specs.Phases.Plan.{one};
+ghost use Rattle.pdp_operand.specs.Handbook.Processor.{register_of};
 ghost use Rattle.pdp_operand.specs.Handbook.Slot.{slot_of};
 ghost use Rattle.pdp_operand.specs.declared.place.Place.TheVariants.{Mem};
 
@@ -57,53 +58,47 @@ fn grown<S: Store>(processor: &mut Processor, bus: &Bus<S>, register: u8, step: 
     cell
 }
 
+/// Lowers the register by the step (bytes), and answers the cell at the address in it then, in the space of the
+/// mode: -(R), and a push, which goes to R6 of the mode whose stack it is. Where that is the kernel's stack pointer,
+/// below 400 (octal) the cell is near the end of its stack.
+///
+/// DEC PDP-11/40 Processor Handbook (1972), Addressing modes and Stack limit; 340 and 400 (octal) are this project's
+/// profile.
+///
+/// Err(StackLimit) where the register is the kernel's stack pointer and the address is below 340 (octal); the
+/// processor is then as before.
+#[inline(always)]
+pub fn lower(processor: &mut Processor, mode: Mode, register: u8, step: u16) -> Result<Cell, Trap>
+    ensures cell { result ≡ lowered mode register step processor.old }
+    ensures after { processor.new ≡ after_lowering mode register step processor.old }
+{
+    let slot = Slot::of(mode, register);
+    let address = processor.register(slot).wrapping_sub(step);
+    let near = slot == Slot::KernelStack && address < 0o400;
+    if near && address < 0o340 {
+        return Err(Trap::StackLimit);
+    }
+    processor.set_register(slot, address);
+    Ok(Cell {
+        mode,
+        address,
+        near,
+    })
+}
+
 /// -(R)
 #[inline(always)]
-#[tactic(auto, unfolding(crate::specs::Phases::Phase::run, crate::specs::Handbook::Operand::shrink))]
-fn shrunk<S: Store>(processor: &mut Processor, bus: &Bus<S>, register: u8, step: u16) -> Cell
-    ensures gives { Gives in_cell (one (shrink mode_now register step))
-        processor.old bus.now (Ok result) processor.new bus.now }
-{
-    let slot = slot(bus, register);
-    let cell = cell_at(
-        bus.status().mode,
-        processor.register(slot).wrapping_sub(step),
-    );
-    processor.retreat(slot, step);
-    cell
-}
-
-/// A reference by this register, where it is the kernel's stack pointer, must not be below 400 (octal).
-///
-/// Err(StackLimit) where it is.
-#[inline(always)]
-#[tactic(auto, unfolding(crate::specs::Phases::Phase::run, crate::specs::Handbook::Operand::stack_limit))]
-fn check_limit<S: Store>(processor: &Processor, bus: &Bus<S>, register: u8) -> Result<(), Trap>
-    ensures gives { Gives nowhere (one (stack_limit mode_now register))
-        processor.now bus.now result processor.now bus.now }
-{
-    let slot = slot(bus, register);
-    if slot == Slot::KernelStack && processor.register(slot) < 0o400 {
-        Err(Trap::StackLimit)
-    } else {
-        Ok(())
-    }
-}
-
-/// -(R), within the limit of the kernel's stack.
-#[inline(always)]
-#[tactic(auto, unfolding(crate::specs::Handbook::Operand::lower))]
-fn lowered<S: Store>(
+#[tactic(auto, unfolding(crate::specs::Phases::Phase::run, crate::specs::Handbook::Operand::lower))]
+fn shrunk<S: Store>(
     processor: &mut Processor,
     bus: &Bus<S>,
     register: u8,
     step: u16,
 ) -> Result<Cell, Trap>
-    ensures gives { Gives in_cell (lower mode_now register step) processor.old bus.now result processor.new bus.now }
+    ensures gives { Gives in_cell (one (lower_phase mode_now register step))
+        processor.old bus.now result processor.new bus.now }
 {
-    let cell = shrunk(processor, bus, register, step);
-    check_limit(processor, bus, register)?;
-    Ok(cell)
+    lower(processor, bus.status().mode, register, step)
 }
 
 /// X(R)
@@ -126,10 +121,12 @@ fn indexed<S: Store>(
 /// The cell whose address is the word in this one.
 #[inline(always)]
 #[tactic(auto, unfolding(crate::specs::Phases::Phase::run, crate::specs::Handbook::Operand::indirect))]
-fn deferred<S: Store>(processor: &Processor, bus: &mut Bus<S>, cell: Cell) -> Result<Cell, Trap>
-    ensures gives { GivesWhere (IsAt (Mem cell)) in_cell (one indirect) processor.now bus.old result processor.now bus.new }
+fn deferred<S: Store>(processor: &mut Processor, bus: &mut Bus<S>, cell: Cell) -> Result<Cell, Trap>
+    ensures gives { GivesWhere (IsAt (Mem cell)) in_cell (one indirect)
+        processor.old bus.old result processor.new bus.new }
 {
     let address = read_word(bus, cell.mode, cell.address)?;
+    processor.mark(cell.near);
     Ok(cell_at(bus.status().mode, address))
 }
 
@@ -147,7 +144,11 @@ fn step(size: Size, register: u8) -> u16
 /// Finds the operand that a specifier names, with the changes of registers and the references that this makes.
 ///
 /// DEC PDP-11/40 Processor Handbook (1972), Addressing modes: a register changes before the access that it serves, and
-/// keeps its change where the access faults (this project's profile).
+/// keeps its change where the access faults (this project's profile). Once the pointer of @-(SP) was read near the end
+/// of the kernel's stack, a stack trap is pending.
+///
+/// Err where a reference to memory faults, or where -(SP) or @-(SP) is past the limit of the kernel's stack, as
+/// [`lower`] has it.
 #[inline(always)]
 #[tactic(auto, unfolding(crate::specs::Handbook::Operand::find), using(crate::proofs::Steps::run_name_register))]
 pub fn address<S: Store>(
@@ -164,8 +165,8 @@ pub fn address<S: Store>(
         1 => return Ok(Place::Mem(pointed(processor, bus, register))),
         2 => return Ok(Place::Mem(grown(processor, bus, register, step(size, register)))),
         3 => grown(processor, bus, register, 2),
-        4 => return Ok(Place::Mem(lowered(processor, bus, register, step(size, register))?)),
-        5 => lowered(processor, bus, register, 2)?,
+        4 => return Ok(Place::Mem(shrunk(processor, bus, register, step(size, register))?)),
+        5 => shrunk(processor, bus, register, 2)?,
         mode => {
             let cell = indexed(processor, bus, register)?;
             if mode == 6 {
@@ -178,37 +179,85 @@ pub fn address<S: Store>(
     Ok(Place::Mem(cell))
 }
 
-/// Reads the operand at a place: a word, or a byte as a number below 400 (octal).
+/// An operand in a register: its word, or its low byte.
+#[inline(always)]
+fn register_operand(processor: &Processor, slot: Slot, size: Size) -> u16
+    ensures { result ≡ register_of processor.now slot % span size }
+{
+    let word = processor.register(slot);
+    match size {
+        Size::Word => word,
+        Size::Byte => word % 256,
+    }
+}
+
+/// Reads the operand at a place that isn't written afterwards: a word, or a byte as a number below 400 (octal). Where
+/// the place is near the end of the kernel's stack, a stack trap is then pending.
 ///
-/// DEC PDP-11/40 Processor Handbook (1972), Addressing modes; a byte read reads its whole word on the bus (this project's profile).
+/// DEC PDP-11/40 Processor Handbook (1972), Addressing modes and Stack limit; a byte read reads its whole word on the
+/// bus (this project's profile).
 ///
-/// Err where the reference to memory faults.
+/// Err where the reference to memory faults; no stack trap is pending by it then.
 #[inline(always)]
 #[tactic(auto, unfolding(crate::specs::Phases::Phase::run, crate::specs::Handbook::Operand::read_operand))]
 pub fn fetch<S: Store>(
-    processor: &Processor,
+    processor: &mut Processor,
     bus: &mut Bus<S>,
     place: Place,
     size: Size,
 ) -> Result<u16, Trap>
     ensures gives { GivesWhere (IsAt place) in_value (one (read_operand size))
+        processor.old bus.old result processor.new bus.new }
+    ensures fits { IfOk result (λ value. value < span size) }
+{
+    match (place, size) {
+        (Place::Reg(slot), _) => Ok(register_operand(processor, slot, size)),
+        (Place::Mem(cell), Size::Word) => {
+            let word = read_word(bus, cell.mode, cell.address)?;
+            processor.mark(cell.near);
+            Ok(word)
+        }
+        (Place::Mem(cell), Size::Byte) => {
+            let byte = read_byte(bus, cell.mode, cell.address)?;
+            processor.mark(cell.near);
+            Ok(u16::from(byte))
+        }
+    }
+}
+
+/// Reads the operand at a place that is written afterwards: a word, or a byte as a number below 400 (octal).
+///
+/// DEC PDP-11/40 Processor Handbook (1972), Addressing modes; a byte read reads its whole word on the bus, and a stack
+/// trap is pending only once the write was made (this project's profile).
+///
+/// Err where the reference to memory faults.
+#[inline(always)]
+#[tactic(auto, unfolding(crate::specs::Phases::Phase::run, crate::specs::Handbook::Operand::read_before_write))]
+pub fn fetch_before_store<S: Store>(
+    processor: &Processor,
+    bus: &mut Bus<S>,
+    place: Place,
+    size: Size,
+) -> Result<u16, Trap>
+    ensures gives { GivesWhere (IsAt place) in_value (one (read_before_write size))
         processor.now bus.old result processor.now bus.new }
     ensures fits { IfOk result (λ value. value < span size) }
 {
     match (place, size) {
-        (Place::Reg(slot), Size::Word) => Ok(processor.register(slot)),
-        (Place::Reg(slot), Size::Byte) => Ok(processor.register(slot) % 256),
+        (Place::Reg(slot), _) => Ok(register_operand(processor, slot, size)),
         (Place::Mem(cell), Size::Word) => Ok(read_word(bus, cell.mode, cell.address)?),
         (Place::Mem(cell), Size::Byte) => Ok(u16::from(read_byte(bus, cell.mode, cell.address)?)),
     }
 }
 
 /// Writes a word, or a byte as a number below 400 (octal), to a place, and answers whether that was the program status
-/// word, which then wins over the codes of the instruction. `fill` says how a register is filled.
+/// word, which then wins over the codes of the instruction. `fill` says how a register is filled. Where the place is
+/// near the end of the kernel's stack, a stack trap is then pending.
 ///
-/// DEC PDP-11/40 Processor Handbook (1972), Addressing modes and MOV; that a written status wins is this project's profile.
+/// DEC PDP-11/40 Processor Handbook (1972), Addressing modes, MOV and Stack limit; that a written status wins is this
+/// project's profile.
 ///
-/// Err where the reference to memory faults; nothing is written then.
+/// Err where the reference to memory faults; nothing is written then, and no stack trap is pending by it.
 #[inline(always)]
 #[tactic(auto, unfolding(crate::specs::Phases::Phase::run, crate::specs::Handbook::Operand::write_operand))]
 pub fn store<S: Store>(
@@ -238,10 +287,12 @@ pub fn store<S: Store>(
         }
         (Place::Mem(cell), Fill::Whole) => {
             let physical = write_word(bus, cell.mode, cell.address, value)?;
+            processor.mark(cell.near);
             Ok(is_status(physical))
         }
         (Place::Mem(cell), Fill::LowByte | Fill::Extended) => {
             let physical = write_byte(bus, cell.mode, cell.address, value as u8)?;
+            processor.mark(cell.near);
             Ok(is_status(physical))
         }
     }

@@ -12,7 +12,7 @@ pub struct Cell {
     pub mode: Mode,
     /// The virtual byte address.
     pub address: u16,
-    /// Whether the reference was one to the kernel stack near its limit: never, until stack traps come.
+    /// Whether a reference to it makes a stack trap pending: the kernel's stack pointer shrank to it, below 400 octal.
     pub near: bool,
 }
 

@@ -1,4 +1,4 @@
-/// Why a phase could not go on.
+/// Why a phase could not go on, or which trap an instruction asks for.
 ///
 /// DEC PDP-11/40 Processor Handbook (1972), Traps.
 #[derive(Clone, Copy, Debug, PartialEq, Eq)]
@@ -7,10 +7,18 @@ pub enum Trap {
     OddAddress,
     /// Nothing on the bus has the address.
     BusTimeout,
-    /// The word is no instruction of the machine.
+    /// The word is no instruction of the machine, or HALT in user mode.
     Reserved,
     /// A jump to a register.
     JumpToRegister,
-    /// A reference to the kernel stack below 400 (octal).
+    /// A reference to the kernel stack below 340 (octal).
     StackLimit,
+    /// BPT.
+    Breakpoint,
+    /// IOT.
+    InputOutput,
+    /// EMT.
+    Emulator,
+    /// TRAP.
+    TrapInstruction,
 }

@@ -1,6 +1,7 @@
--- What the laws of turns speak of.
-use Rattle.std.specs.Prelude.{ℕ, ◌≡◌, List}
+-- What the laws of turns speak of. No rule of the handbook is here.
+use Rattle.std.specs.Prelude.{ℕ, zero, suc, ◌+◌, ◌≡◌, ◌≢◌, All, List}
 use Rattle.pdp_unibus.specs.declared.event.Event.{Event}
+use Rattle.pdp_unibus.specs.declared.event.Event.TheVariants.{Continue}
 use Rattle.pdp_unibus.specs.BusWorld.{BusWorld}
 use Rattle.pdp_operand.specs.Laws.Count.{course_length}
 use Rattle.pdp_operand.specs.Phases.Phase.{State, Stop}
@@ -25,3 +26,18 @@ pub record Undisturbed (page t : ℕ) (events : List Event) (p : Processor) (b c
 -- the program status word, codes and all, is as it was in the state before
 abbrev pub LeavesStatus : State → Stop → Type 0
 LeavesStatus s stop = stop.world.bus.board.status ≡ s.world.bus.board.status
+
+-- none of these events is Continue
+abbrev pub NoneContinues : List Event → Type 0
+NoneContinues events = All (λ event. event ≢ Continue) events
+
+-- the world after n turns from turn t on, each with its events
+abbrev pub world_after : (ℕ → List Event) → ℕ → ℕ → World → World
+world_after events t zero w = w
+world_after events t (suc n) w = one_turn (t + n) (events (t + n)) (world_after events t n w)
+
+-- the processor, the words of core and their stamps are those of the first world
+pub record Stays (v w : World) : Type 0 where
+  pub processor : w.processor ≡ v.processor
+  pub core : w.bus.core ≡ v.bus.core
+  pub lasts : w.bus.lasts ≡ v.bus.lasts

@@ -1,4 +1,4 @@
--- A machine as a contract sees it.
+-- A machine as a contract sees it; its state as of power-up is this project's profile.
 use Rattle.std.specs.Prelude.{ℕ, ◌+◌, List, Option}
 use Rattle.pdp_store.specs.declared.Stamp.{Stamp}
 use Rattle.pdp_unibus.specs.BusWorld.{powered}

@@ -1,5 +1,5 @@
-use super::{after, halted, running};
-use crate::Regs;
+use super::{KERNEL, after, ended, running, trapped};
+use crate::{Act, Regs};
 use pdp_word::NoMemory;
 use std::alloc::Global;
 
@@ -100,9 +100,10 @@ fn shifts_the_stack_pointer_of_the_mode(rt: HostRuntime) -> Result<(), NoMemory>
 fn keeps_registers_where_the_source_faults(rt: HostRuntime) -> Result<(), NoMemory> {
     for instruction in [0o070037, 0o071037, 0o072037, 0o073037] {
         let program = [0o012700, 5, 0o000277, instruction, 0o001001];
-        let machine = after(rt.alloc(), &program, 3)?;
-        let want = halted([5, 0, 0, 0, 0, 0], 0, 0o001012, 0o17);
-        assert_eq!(rt; machine.regs(), want, "{instruction:06o}");
+        let got = ended(rt.alloc(), KERNEL, &program, 3)?;
+        let regs = trapped([5, 0, 0, 0, 0, 0], 0o4);
+        let want = (Act::Instr, regs, [0o001012, 0o000017]);
+        assert_eq!(rt; got, want, "{instruction:06o}");
     }
     Ok(())
 }

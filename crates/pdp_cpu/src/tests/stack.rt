@@ -1,33 +1,7 @@
-use super::{after, halted, running};
+use super::{after, running};
 use crate::{Regs, RunState};
 use pdp_store::{Agent, Stamp};
 use pdp_word::NoMemory;
-
-// MOV #400,SP, all codes set, and one reference to 000376, which takes no place: the stack pointer has shrunk, and the
-// codes stay.
-#[test]
-fn halts_below_the_stack_limit(rt: HostRuntime) -> Result<(), NoMemory> {
-    for (instruction, pc) in [
-        // MOV R0,-(SP); MOVB R0,-(SP); MOV -(SP),R0; TST -(SP); CLR -(SP); INC @-(SP)
-        (0o010046, 0o001010),
-        (0o110046, 0o001010),
-        (0o014600, 0o001010),
-        (0o005746, 0o001010),
-        (0o005046, 0o001010),
-        (0o005256, 0o001010),
-        // JSR PC,@#1100; JMP -(SP); JSR R5,-(SP)
-        (0o004737, 0o001012),
-        (0o000146, 0o001010),
-        (0o004546, 0o001010),
-    ] {
-        let program = [0o012706, 0o000400, 0o000277, instruction, 0o001100];
-        let machine = after(rt.alloc(), &program, 3)?;
-        let want = halted([0; 6], 0o000376, pc, 0o000017);
-        assert_eq!(rt; machine.regs(), want, "{instruction:06o}");
-        assert_eq!(rt; machine.last(0o000376 / 2), None, "{instruction:06o}");
-    }
-    Ok(())
-}
 
 // MOV #402,SP, all codes set, and MOV R0,-(SP).
 #[test]

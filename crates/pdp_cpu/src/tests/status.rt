@@ -1,4 +1,5 @@
-use super::{after, halted, running};
+use super::{KERNEL, after, ended, running, trapped};
+use crate::Act;
 use pdp_word::NoMemory;
 
 // All codes set, and then one instruction that writes 777776: what it writes stands, and its codes are not stored. T
@@ -110,7 +111,10 @@ fn pushes_the_status(rt: HostRuntime) -> Result<(), NoMemory> {
 #[test]
 fn keeps_the_status_of_a_fault(rt: HostRuntime) -> Result<(), NoMemory> {
     let program = [0o000277, 0o012737, 0, 0o177777];
-    let machine = after(rt.alloc(), &program, 2)?;
-    assert_eq!(rt; machine.regs(), halted([0; 6], 0, 0o001010, 0o000017));
+    let got = ended(rt.alloc(), KERNEL, &program, 2)?;
+    assert_eq!(rt;
+        got,
+        (Act::Instr, trapped([0; 6], 0o4), [0o001010, 0o000017])
+    );
     Ok(())
 }

@@ -1,4 +1,4 @@
--- How many phases run. One that stops is counted too, and is the last of its plan.
+-- How many phases run. One that stops is counted too, and is the last of its plan. No rule of the handbook is here.
 use Rattle.std.specs.Prelude.{ℕ, ◌+◌, List, [], ◌∷◌, Result, Ok, Err}
 use Rattle.pdp_operand.specs.Phases.Phase.{Phase, State, Stop, Latch, step, inner_of}
 use Rattle.pdp_operand.specs.Phases.Plan.{phases_of, run_plan}

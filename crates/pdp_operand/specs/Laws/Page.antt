@@ -1,4 +1,5 @@
 -- Pages of 256 words of core, and what a course that never touches one has to do with it.
+-- No rule of the handbook is here.
 use Rattle.std.specs.Prelude.{ℕ, ◌≡◌, ◌≢◌, ◌/◌, length, slice_index}
 use Rattle.pdp_unibus.specs.BusWorld.{BusWorld}
 use Rattle.pdp_operand.specs.Phases.Phase.{State, state_of}

@@ -1,4 +1,4 @@
--- Whose the touches of a turn are.
+-- Whose the touches of a turn are. No rule of the handbook is here.
 use Rattle.std.specs.Prelude.{ℕ, ◌≡◌, ◌<◌}
 use Rattle.pdp_store.specs.declared.Agent.TheVariants.{Cpu}
 use Rattle.pdp_operand.specs.Laws.Trace.{Touch}

@@ -1,4 +1,4 @@
--- The trace: every access to a word of core, in order.
+-- The trace: every access to a word of core, in order. No rule of the handbook is here.
 use Rattle.std.specs.Prelude.{ℕ, ◌/◌, ◌≢◌, ◌==◌, ◌&&◌, Bool, true, false, List, [], ◌∷◌, ◌++◌, Option, Some, Result, Ok, Err, length, if◌then◌else◌}
 use Rattle.pdp_kt11.specs.declared.place.Access.{Access}
 use Rattle.pdp_kt11.specs.declared.place.Access.TheVariants.{Read, Write}

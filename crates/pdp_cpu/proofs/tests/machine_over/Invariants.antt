@@ -1,6 +1,0 @@
--- core keeps its size
-use Rattle.std.proofs.Common.{◌≡◌, length}
-use Rattle.pdp_cpu.proofs.tests.machine_over.Given as goal
-
-abbrev pub invariant-loop-number : goal.invariant-loop-number
-invariant-loop-number l = length l.core.words ≡ 512

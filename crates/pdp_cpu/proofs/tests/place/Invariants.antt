@@ -1,0 +1,6 @@
+-- core keeps its size
+use Rattle.std.proofs.Common.{◌≡◌, length}
+use Rattle.pdp_cpu.proofs.tests.place.Given as goal
+
+abbrev pub invariant-loop-number : goal.invariant-loop-number
+invariant-loop-number l = length l.core.words ≡ length l.initial.core.words

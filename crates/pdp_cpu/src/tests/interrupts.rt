@@ -1,0 +1,125 @@
+ghost use Rattle.std.specs.Prelude.{◌≤◌, length};
+
+use super::{KERNEL, START_TURNS, Start, machine_at, run_turns, trapped};
+use crate::{Act, Meter, Regs, RunState};
+use pdp_unibus::Event;
+use pdp_word::NoMemory;
+use std::alloc::Global;
+
+// A key's interrupt goes to 001460, in kernel mode at priority 7.
+const CONSOLE: Start = Start {
+    ps: 0,
+    words: (0o000060, [0o001460, 0o000340]),
+    ..KERNEL
+};
+
+// How so many turns of this program, a turn in which a key comes, and so many more end: the act of the last, and the
+// registers.
+fn struck(
+    alloc: Global,
+    start: Start,
+    program: &[u16],
+    before: u8,
+    after: u8,
+) -> Result<(Act, Regs), NoMemory>
+    requires { length program.now ≤ 256 }
+{
+    let mut machine = machine_at(alloc, start, program)?;
+    let mut meter = Meter::new();
+    run_turns(&mut machine, &mut meter, START_TURNS + u16::from(before))?;
+    machine.ready()?;
+    let act = machine.turn(&mut meter, &[Event::Key(0o101)]);
+    if after == 0 {
+        return Ok((act, machine.regs()));
+    }
+    let act = run_turns(&mut machine, &mut meter, u16::from(after))?;
+    Ok((act, machine.regs()))
+}
+
+// The keyboard is enabled, and then BR to itself: its level is 4, so it interrupts below priority 4 alone.
+#[test]
+fn interrupts_below_its_level(rt: HostRuntime) -> Result<(), NoMemory> {
+    let program = [0o012737, 0o000100, 0o177560, 0o000777];
+    for (ps, irq) in [
+        (0, true),
+        (0o000140, true),
+        (0o000200, false),
+        (0o000340, false),
+    ] {
+        let start = Start { ps, ..CONSOLE };
+        let (act, regs) = struck(rt.alloc(), start, &program, 1, 0)?;
+        let got = (act, regs.ksp, regs.pc, regs.ps);
+        let want = if irq {
+            (Act::Irq(0o60), 0o000674, 0o001460, 0o000340)
+        } else {
+            (Act::Instr, 0o000700, 0o001006, ps)
+        };
+        assert_eq!(rt; got, want, "PS {ps:06o}");
+    }
+    Ok(())
+}
+
+// The keyboard is enabled, and then WAIT: the interrupt ends it.
+#[test]
+fn ends_waiting(rt: HostRuntime) -> Result<(), NoMemory> {
+    let program = [0o012737, 0o000100, 0o177560, 0o000001];
+    let got = struck(rt.alloc(), CONSOLE, &program, 3, 0)?;
+    assert_eq!(rt; got, (Act::Irq(0o60), trapped([0; 6], 0o60)));
+    Ok(())
+}
+
+// The keyboard is enabled, and then HALT: the request stays while the machine is halted, and is served once it goes on.
+#[test]
+fn stays_while_halted(rt: HostRuntime) -> Result<(), NoMemory> {
+    let program = [0o012737, 0o000100, 0o177560, 0];
+    let mut machine = machine_at(rt.alloc(), CONSOLE, &program)?;
+    let mut meter = Meter::new();
+    run_turns(&mut machine, &mut meter, START_TURNS + 2)?;
+    machine.ready()?;
+    let act = machine.turn(&mut meter, &[Event::Key(0o101)]);
+    assert_eq!(rt; (act, machine.regs().state), (Act::Idle, RunState::Halted));
+    machine.ready()?;
+    let act = machine.turn(&mut meter, &[Event::Continue]);
+    assert_eq!(rt;
+        (act, machine.regs().state),
+        (Act::Irq(0o60), RunState::Run)
+    );
+    Ok(())
+}
+
+// At priority 7 the keyboard is enabled, a key comes before RESET, and MOV @#177560,R0 shows what RESET left: nothing, but in
+// user mode all.
+#[test]
+fn resets_the_keyboard_but_in_user_mode(rt: HostRuntime) -> Result<(), NoMemory> {
+    let program = [
+        0o012737, 0o000100, 0o177560, 0o000005, 0o013700, 0o177560, 0o000777,
+    ];
+    for (ps, status) in [
+        (0o000340, 0),
+        (0o040340, 0),
+        (0o100340, 0),
+        (0o140340, 0o000300),
+    ] {
+        let start = Start { ps, ..CONSOLE };
+        let (act, regs) = struck(rt.alloc(), start, &program, 1, 1)?;
+        assert_eq!(rt; (act, regs.r[0]), (Act::Instr, status), "PS {ps:06o}");
+    }
+    Ok(())
+}
+
+// The interrupt's pushes at 342 and 340 leave a stack trap pending, whose own push at 336 is red; with SP 342 the second push
+// of the interrupt is red at once.
+#[test]
+fn pushes_near_the_end_of_the_stack(rt: HostRuntime) -> Result<(), NoMemory> {
+    let program = [0o012737, 0o000100, 0o177560, 0o000777];
+    for (ksp, after, act, left) in [
+        (0o000344, 0, Act::Irq(0o60), (0o000340, 0o001460)),
+        (0o000344, 1, Act::Stack, (0, 0o001404)),
+        (0o000342, 0, Act::Irq(0o60), (0, 0o001404)),
+    ] {
+        let start = Start { ksp, ..CONSOLE };
+        let (got, regs) = struck(rt.alloc(), start, &program, 1, after)?;
+        assert_eq!(rt; (got, (regs.ksp, regs.pc)), (act, left), "SP {ksp:06o}");
+    }
+    Ok(())
+}
