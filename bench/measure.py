@@ -7,9 +7,9 @@ HERE = os.path.dirname(os.path.abspath(__file__))
 PROGRAM = os.path.join(HERE, "..", "crates", "pdp11", "out", "pdp11")
 
 
-def programs():
-    """Each program's name and its lines."""
-    folder = os.path.join(HERE, "programs")
+def programs(kind="programs"):
+    """The name and the lines of each program in a folder: those that run on, or those that idle."""
+    folder = os.path.join(HERE, kind)
     for name in sorted(os.listdir(folder)):
         with open(os.path.join(folder, name), encoding="ascii") as file:
             yield name.removesuffix(".session"), file.read()
@@ -27,10 +27,10 @@ def run(command, text):
     return time.perf_counter() - start, done.stdout.decode()
 
 
-def rate(lines, turns):
-    """Turns in a second, less the time of a run that takes none."""
+def rate(lines, turns, states=("run",)):
+    """Turns in a second, less the time of a run that takes none. The program must be in one of these states then."""
     none, _ = run([PROGRAM], lines + "regs 0\n")
     some, out = run([PROGRAM], lines + f"regs {turns}\n")
-    if not out.endswith(" run\n"):
-        raise SystemExit(f"the program doesn't run on:\n{out}")
+    if out.split()[-1] not in states:
+        raise SystemExit(f"the program isn't in the state {' or '.join(states)}:\n{out}")
     return turns / max(some - none, 1e-9)
