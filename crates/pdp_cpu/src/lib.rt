@@ -1,8 +1,10 @@
 //! The processor of the PDP-11/40: one whole turn of the machine, by phases.
 //!
 //! It stands on pdp_operand, pdp_unibus, pdp_alu, pdp_decode and what is below these. The contract of
-//! `Machine::turn` says that a turn takes the machine to its definition's next state, for every store of core, and
-//! that the meter counts it. The laws say how many phases a turn has at most, what it stamps and what it leaves.
+//! `Machine::turn` says that a turn takes the machine to its definition's next state, for every store of core, with
+//! which act it began, and that the meter counts it: what is due (`Due`), an instruction's plan, and what follows a
+//! trap are all phases. The laws say how many phases a turn has at most, what it stamps and what it leaves, and that a
+//! halted machine stays.
 //! Which events a turn has, and how many turns are run, it leaves to pdp_replay.
 #![tactic(auto)]
 
