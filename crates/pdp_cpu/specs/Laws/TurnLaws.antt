@@ -14,8 +14,8 @@ use Rattle.pdp_cpu.specs.Turns.Turn.{course_at, at_turn, one_turn, turn_trace}
 unfoldable pub turn_phases : ℕ → List Event → World → ℕ
 turn_phases t events w = course_length (course_at (at_turn t events w)) (at_turn t events w)
 
--- turn t with these events, of the processor p on bus b, and on bus c: it ends in the same way on both, with the same trace, and leaves each
--- its own words of the page
+-- turn t with these events, of the processor p on bus b, and on bus c: it ends in the same way on both, with the same
+-- trace, and leaves each its own words of the page
 pub record Undisturbed (page t : ℕ) (events : List Event) (p : Processor) (b c : BusWorld) : Type 0 where
   pub processor : (one_turn t events (world p b)).processor ≡ (one_turn t events (world p c)).processor
   pub bus : AlikeOutside page (one_turn t events (world p b)).bus (one_turn t events (world p c)).bus
@@ -36,8 +36,9 @@ abbrev pub world_after : (ℕ → List Event) → ℕ → ℕ → World → Worl
 world_after events t zero w = w
 world_after events t (suc n) w = one_turn (t + n) (events (t + n)) (world_after events t n w)
 
--- the processor, the words of core and their stamps are those of the first world
+-- the processor, its status, the words of core and their stamps are those of the first world
 pub record Stays (v w : World) : Type 0 where
   pub processor : w.processor ≡ v.processor
+  pub status : w.bus.board.status ≡ v.bus.board.status
   pub core : w.bus.core ≡ v.bus.core
   pub lasts : w.bus.lasts ≡ v.bus.lasts

@@ -59,6 +59,22 @@ fn interrupts_below_its_level(rt: HostRuntime) -> Result<(), NoMemory> {
     Ok(())
 }
 
+// In user mode the interrupt goes to the kernel's stack, and the previous mode is the user's.
+#[test]
+fn interrupts_user_mode(rt: HostRuntime) -> Result<(), NoMemory> {
+    let start = Start {
+        ps: 0o140000,
+        ..CONSOLE
+    };
+    let regs = Regs {
+        ps: 0o030340,
+        ..trapped([0; 6], 0o60)
+    };
+    let got = struck(rt.alloc(), start, &[0o012737, 0o000100, 0o177560, 0o000777], 1, 0)?;
+    assert_eq!(rt; got, (Act::Irq(0o60), regs));
+    Ok(())
+}
+
 // The keyboard is enabled, and then WAIT: the interrupt ends it.
 #[test]
 fn ends_waiting(rt: HostRuntime) -> Result<(), NoMemory> {
@@ -87,8 +103,8 @@ fn stays_while_halted(rt: HostRuntime) -> Result<(), NoMemory> {
     Ok(())
 }
 
-// At priority 7 the keyboard is enabled, a key comes before RESET, and MOV @#177560,R0 shows what RESET left: nothing, but in
-// user mode all.
+// At priority 7 the keyboard is enabled, a key comes before RESET, and MOV @#177560,R0 shows what RESET left: nothing,
+// but in user mode all.
 #[test]
 fn resets_the_keyboard_but_in_user_mode(rt: HostRuntime) -> Result<(), NoMemory> {
     let program = [
@@ -107,8 +123,8 @@ fn resets_the_keyboard_but_in_user_mode(rt: HostRuntime) -> Result<(), NoMemory>
     Ok(())
 }
 
-// The interrupt's pushes at 342 and 340 leave a stack trap pending, whose own push at 336 is red; with SP 342 the second push
-// of the interrupt is red at once.
+// The interrupt's pushes at 342 and 340 leave a stack trap pending, whose own push at 336 is red; with SP 342 the
+// second push of the interrupt is red at once.
 #[test]
 fn pushes_near_the_end_of_the_stack(rt: HostRuntime) -> Result<(), NoMemory> {
     let program = [0o012737, 0o000100, 0o177560, 0o000777];

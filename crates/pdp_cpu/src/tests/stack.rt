@@ -57,7 +57,8 @@ fn has_a_stack_pointer_of_the_user(rt: HostRuntime) -> Result<(), NoMemory> {
     Ok(())
 }
 
-// MOV #700,SP in kernel mode, MOV #600,SP in user mode, JSR R4,@#1030 there and RTS R4 back: the user's stack alone moves.
+// MOV #700,SP in kernel mode, MOV #600,SP in user mode, JSR R4,@#1030 there and RTS R4 back: the user's stack alone
+// moves.
 #[test]
 fn calls_on_the_stack_of_the_user(rt: HostRuntime) -> Result<(), NoMemory> {
     let program = [

@@ -69,6 +69,37 @@ fn leaves_a_stack_trap(rt: HostRuntime) -> Result<(), NoMemory> {
     Ok(())
 }
 
+// One that refers to 000400 leaves none: the next act is an instruction.
+#[test]
+fn leaves_no_stack_trap_at_400(rt: HostRuntime) -> Result<(), NoMemory> {
+    for (program, _, _) in REFERENCES {
+        let start = Start {
+            ksp: 0o000402,
+            ..KERNEL
+        };
+        let (act, regs, _) = ended(rt.alloc(), start, &program, 2)?;
+        assert_eq!(rt; (act, regs.ksp), (Act::Instr, 0o000400), "{program:?}");
+    }
+    Ok(())
+}
+
+// JSR R5,-(SP) with SP 000342 takes its address at 000340, and its push would be below: it goes red, and what was
+// pending by the address isn't any more.
+#[test]
+fn red_leaves_nothing_pending(rt: HostRuntime) -> Result<(), NoMemory> {
+    for (turns, pc) in [(1, 0o001404), (2, 0o001406)] {
+        let start = Start {
+            ksp: 0o000342,
+            ..KERNEL
+        };
+        let (act, regs, words) = ended(rt.alloc(), start, &[0o004546, 0], turns)?;
+        let got = (act, regs.ksp, regs.pc, words);
+        let want = (Act::Instr, 0, pc, [0o001002, 0o000017]);
+        assert_eq!(rt; got, want, "after {turns} turns");
+    }
+    Ok(())
+}
+
 // One that would refer to an address below 000340, also to an odd one, goes red in its own turn: kernel R6 is 0, the
 // old PS is at 2 and the old PC at 0.
 #[test]

@@ -1,5 +1,5 @@
-use super::{KERNEL, START_TURNS, Start, ended, machine_at, run_turns, trapped};
-use crate::{Act, Meter};
+use super::{KERNEL, START_TURNS, Start, USER, ended, machine_at, run_turns, trapped};
+use crate::{Act, Meter, Regs};
 use pdp_unibus::Event;
 use pdp_word::NoMemory;
 
@@ -112,5 +112,24 @@ fn traces_after_continue(rt: HostRuntime) -> Result<(), NoMemory> {
     machine.ready()?;
     let act = machine.turn(&mut meter, &[Event::Continue]);
     assert_eq!(rt; (act, machine.regs().pc), (Act::Trace, 0o001414));
+    Ok(())
+}
+
+// RTT to user mode with T set, and NOP: the trace trap pushes on the kernel's stack, and the previous mode is the
+// user's.
+#[test]
+fn traces_in_user_mode(rt: HostRuntime) -> Result<(), NoMemory> {
+    let start = Start {
+        usp: 0o000570,
+        words: (0o000570, [0o001002, 0o000020]),
+        ..USER
+    };
+    let regs = Regs {
+        usp: 0o000574,
+        ps: 0o030340,
+        ..trapped([0; 6], 0o14)
+    };
+    let got = ended(rt.alloc(), start, &[0o000006, 0o000240], 3)?;
+    assert_eq!(rt; got, (Act::Trace, regs, [0o001004, 0o140020]));
     Ok(())
 }

@@ -1,7 +1,8 @@
 use super::{WORDS, halted, machine_over, run_turns, running};
 use crate::{
-    Meter, stamps_are_last_writes, touches_are_of_their_turn, turns_end_within_32_phases,
-    turns_leave_what_they_never_touch,
+    Meter, halted_machines_stay, stamps_are_last_writes, touches_are_of_their_turn,
+    turns_end_within_32_phases, turns_leave_what_they_never_touch,
+    what_cannot_go_on_leaves_the_codes,
 };
 use pdp_unibus::Event;
 use pdp_word::NoMemory;
@@ -82,4 +83,6 @@ fn states_its_laws() {
     stamps_are_last_writes();
     touches_are_of_their_turn();
     turns_leave_what_they_never_touch();
+    what_cannot_go_on_leaves_the_codes();
+    halted_machines_stay();
 }
