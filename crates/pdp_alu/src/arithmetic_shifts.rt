@@ -13,9 +13,9 @@ const WORD_SIGN: u32 = 1 << 15;
 const LONG_SIGN: u32 = 1 << 31;
 
 /// ASH: a word shifted arithmetically by the signed low six bits of the source, to the left, or to the right where they
-/// are negative. N and Z are of the result. C is the last bit that was moved out, and V is set where the sign changed at
-/// any single shift; both are clear where the count is 0
-/// (DEC PDP-11/40 Processor Handbook (1972), Extended instruction set, ASH; V and C are this project's profile).
+/// are negative. N and Z are of the result. C is the last bit that was moved out, and V is set where the sign changed
+/// at any single shift; both are clear where the count is 0 (DEC PDP-11/40 Processor Handbook (1972), Extended
+/// instruction set, ASH; V and C are this project's profile).
 #[inline]
 #[tactic(auto, unfolding(crate::specs::ArithmeticShifts::ash_effect))]
 pub fn ash(word: u16, source: u16) -> Effect

@@ -9,11 +9,10 @@ use crate::operand::{is_negative, overflows};
 use crate::quotient::Div;
 use pdp_word::{Codes, Size, signed};
 
-/// DIV: a signed number of 32 bits divided by a signed word, the quotient rounded towards 0, so that a remainder has the
-/// dividend's sign. N and Z are of the quotient, V and C are cleared. Nothing is divided where the divisor is 0, with the
-/// codes NZVC 0111, or where the quotient is no signed word, with the codes 0010
-/// (DEC PDP-11/40 Processor Handbook (1972), Extended instruction set, DIV; the codes where nothing is divided are this
-/// project's profile).
+/// DIV: a signed number of 32 bits divided by a signed word, the quotient rounded towards 0, so that a remainder has
+/// the dividend's sign. N and Z are of the quotient, V and C are cleared. Nothing is divided where the divisor is 0,
+/// with the codes NZVC 0111, or where the quotient is no signed word, with the codes 0010 (DEC PDP-11/40 Processor
+/// Handbook (1972), Extended instruction set, DIV; the codes where nothing is divided are this project's profile).
 #[inline]
 #[tactic(auto, unfolding(crate::specs::Division::div_effect))]
 pub fn div(dividend: u32, divisor: u16) -> Div

@@ -6,8 +6,8 @@ ghost use Rattle.pdp_alu.specs.ExtendedLaws.{CarryIsBitAboveWord, CarryIsBitAbov
 ghost use Rattle.pdp_alu.specs.ExtendedLaws.{WordShiftsDivide, LongShiftsDivide, CarryIsBitBelowWord, CarryIsBitBelowLong, RightShiftsNeverOverflow};
 ghost use Rattle.pdp_alu.specs.ExtendedLaws.{ProductsAreExact, LowProductsAreExact, CarryMarksLongProducts};
 
-/// A law and no code: each dividend and each divisor but 0 have one quotient and one remainder. They are those of `int_div`
-/// and `int_rem`, by which DIV is defined.
+/// A law and no code: each dividend and each divisor but 0 have one quotient and one remainder. They are those of
+/// `int_div` and `int_rem`, by which DIV is defined.
 ///
 /// Source: DEC PDP-11/40 Processor Handbook (1972), Extended instruction set, DIV.
 #[tactic(auto, using(crate::proofs::Divisions::division_exists))]
@@ -26,8 +26,8 @@ pub fn divisions_are_exact()
 {}
 
 /// A law and no code: where V is clear, ASH and ASHC to the left multiply the signed number by 2 to the count. V is set
-/// exactly where that product does not fit, so where the sign changes at any single shift. C is the last bit that was moved
-/// out. The count is the low six bits of the source, and 0 moves nothing.
+/// exactly where that product does not fit, so where the sign changes at any single shift. C is the last bit that was
+/// moved out. The count is the low six bits of the source, and 0 moves nothing.
 ///
 /// Source: DEC PDP-11/40 Processor Handbook (1972), Extended instruction set, ASH and ASHC.
 #[tactic(auto, using(crate::proofs::ShiftLaws::word_to_the_left, crate::proofs::ShiftLaws::long_to_the_left, crate::proofs::ShiftCodes::word_overflow, crate::proofs::ShiftCodes::long_overflow, crate::proofs::ShiftCodes::word_carry, crate::proofs::ShiftCodes::long_carry), unfolding(crate::specs::ArithmeticShifts::ash_effect, crate::specs::ArithmeticShifts::ashc_effect))]
@@ -42,8 +42,8 @@ pub fn shifts_to_the_left_multiply()
     ensures count { CountsHaveSixBits }
 {}
 
-/// A law and no code: ASH and ASHC to the right divide the signed number by 2 to the count, rounded down. C is the last bit
-/// that was moved out, and V is clear.
+/// A law and no code: ASH and ASHC to the right divide the signed number by 2 to the count, rounded down. C is the last
+/// bit that was moved out, and V is clear.
 ///
 /// Source: DEC PDP-11/40 Processor Handbook (1972), Extended instruction set, ASH and ASHC.
 #[tactic(auto, using(crate::proofs::ShiftLaws::word_to_the_right, crate::proofs::ShiftLaws::long_to_the_right, crate::proofs::ShiftCodes::word_right_carry, crate::proofs::ShiftCodes::long_right_carry))]
@@ -55,8 +55,8 @@ pub fn shifts_to_the_right_divide()
     ensures overflow { RightShiftsNeverOverflow }
 {}
 
-/// A law and no code: the product of MUL is that of the signed words, and where C is clear its low word alone is. C is set
-/// exactly where the product is no signed word, and V is clear.
+/// A law and no code: the product of MUL is that of the signed words, and where C is clear its low word alone is. C is
+/// set exactly where the product is no signed word, and V is clear.
 ///
 /// Source: DEC PDP-11/40 Processor Handbook (1972), Extended instruction set, MUL.
 #[tactic(auto, using(crate::proofs::Products::signed_product, crate::proofs::Products::signed_low_product), unfolding(crate::specs::Multiplication::mul_effect))]

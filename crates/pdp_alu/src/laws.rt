@@ -22,8 +22,9 @@ pub fn sums_are_exact()
     ensures overflow { OverflowMarksSums }
 {}
 
-/// A law and no code: with C as a borrow from the bit above the word, the difference of SUB is that of the operands. Where
-/// V is clear the signed difference is that of the signed operands, and V is set exactly where that is no signed word.
+/// A law and no code: with C as a borrow from the bit above the word, the difference of SUB is that of the operands.
+/// Where V is clear the signed difference is that of the signed operands, and V is set exactly where that is no signed
+/// word.
 ///
 /// Source: DEC PDP-11/40 Processor Handbook (1972), Instruction set, SUB.
 #[tactic(auto, unfolding(crate::specs::Arithmetic::sub_effect))]
@@ -34,8 +35,8 @@ pub fn differences_are_exact()
 {}
 
 /// A law and no code: after CMP, Z tells whether source equals destination, C whether it is below it, and N exclusive
-/// or V whether it is below it as a signed number, as the branches take them. V is set exactly where the signed difference
-/// does not fit.
+/// or V whether it is below it as a signed number, as the branches take them. V is set exactly where the signed
+/// difference does not fit.
 ///
 /// Source: DEC PDP-11/40 Processor Handbook (1972), Instruction set, CMP.
 #[tactic(auto, using(crate::proofs::EffectLaws::less_after_cmp), unfolding(crate::specs::Arithmetic::cmp_effect))]
@@ -56,8 +57,8 @@ pub fn complements_and_negatives_undo_themselves()
     ensures complement_plus_one { NegativesAreComplementsPlusOne }
 {}
 
-/// A law and no code: where V is clear, INC, DEC and NEG have the signed result that their names say, and V is set exactly
-/// where that result does not fit.
+/// A law and no code: where V is clear, INC, DEC and NEG have the signed result that their names say, and V is set
+/// exactly where that result does not fit.
 ///
 /// Source: DEC PDP-11/40 Processor Handbook (1972), Instruction set, INC, DEC and NEG.
 #[tactic(auto, unfolding(crate::specs::SingleOperand::inc_effect, crate::specs::SingleOperand::dec_effect, crate::specs::SingleOperand::neg_effect))]
@@ -70,9 +71,9 @@ pub fn overflow_marks_wrong_signed_results()
     ensures negative_overflow { OverflowMarksNegatives }
 {}
 
-/// A law and no code: with the new C as the bit above the operand, ADC adds the old C to it and SBC takes the old C from
-/// it, so that sums and differences of many words can be formed word by word. V is set exactly where the signed result does
-/// not fit.
+/// A law and no code: with the new C as the bit above the operand, ADC adds the old C to it and SBC takes the old C
+/// from it, so that sums and differences of many words can be formed word by word. V is set exactly where the signed
+/// result does not fit.
 ///
 /// Source: DEC PDP-11/40 Processor Handbook (1972), Instruction set, ADC and SBC.
 #[tactic(auto, unfolding(crate::specs::SingleOperand::adc_effect, crate::specs::SingleOperand::sbc_effect))]
@@ -104,7 +105,8 @@ pub fn shifts_halve_and_double()
 {}
 
 /// A law and no code: BIT, BIC, BIS and XOR go bit by bit, of which BIT takes those of both operands, BIC those of the
-/// destination alone, BIS those of either, and XOR those of one alone. N and Z tell of the value, V is clear, C is kept.
+/// destination alone, BIS those of either, and XOR those of one alone. N and Z tell of the value, V is clear, C is
+/// kept.
 ///
 /// Source: DEC PDP-11/40 Processor Handbook (1972), Instruction set, BIT, BIC, BIS and XOR.
 #[tactic(auto, using(crate::proofs::BitLaws::tested_bits, crate::proofs::BitLaws::cleared_bits, crate::proofs::BitLaws::set_bits, crate::proofs::BitLaws::flipped_bits))]
@@ -128,8 +130,8 @@ pub fn codes_tell_of_the_value()
     ensures extended { ExtensionsSpreadTheSign }
 {}
 
-/// A law and no code: SWAB exchanges the bytes, with N and Z of the low byte of the result and V and C clear, and undoes
-/// itself.
+/// A law and no code: SWAB exchanges the bytes, with N and Z of the low byte of the result and V and C clear, and
+/// undoes itself.
 ///
 /// Source: DEC PDP-11/40 Processor Handbook (1972), Instruction set, SWAB.
 #[tactic(auto, unfolding(crate::specs::Bytes::swab_effect))]

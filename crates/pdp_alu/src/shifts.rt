@@ -30,9 +30,9 @@ pub fn rol(size: Size, value: u16, codes: Codes) -> Effect
     move_left(size, value, codes.c)
 }
 
-/// ASR and ASRB: the bits of the value one place to the right, of a word those of the low byte where the size is a byte:
-/// the top bit stays, the lowest bit goes into C. N and Z are of the result, V is N exclusive or the new C
-/// (DEC PDP-11/40 Processor Handbook (1972), Instruction set, ASR).
+/// ASR and ASRB: the bits of the value one place to the right, of a word those of the low byte where the size is a
+/// byte: the top bit stays, the lowest bit goes into C. N and Z are of the result, V is N exclusive or the new C (DEC
+/// PDP-11/40 Processor Handbook (1972), Instruction set, ASR).
 #[inline]
 #[tactic(auto, unfolding(crate::specs::Shifts::asr_effect))]
 pub fn asr(size: Size, value: u16) -> Effect

@@ -41,8 +41,9 @@ pub fn inc(size: Size, value: u16, codes: Codes) -> Effect
     Effect::new(size, value.wrapping_add(1), overflow, codes.c)
 }
 
-/// DEC and DECB: the value minus 1, of a word the low byte where the size is a byte. N and Z are of the result, V is set
-/// where the value was 100000 (a byte: 200), C is kept (DEC PDP-11/40 Processor Handbook (1972), Instruction set, DEC).
+/// DEC and DECB: the value minus 1, of a word the low byte where the size is a byte. N and Z are of the result, V is
+/// set where the value was 100000 (a byte: 200), C is kept (DEC PDP-11/40 Processor Handbook (1972), Instruction set,
+/// DEC).
 #[inline]
 #[tactic(auto, unfolding(crate::specs::SingleOperand::dec_effect))]
 pub fn dec(size: Size, value: u16, codes: Codes) -> Effect
@@ -53,8 +54,8 @@ pub fn dec(size: Size, value: u16, codes: Codes) -> Effect
     Effect::new(size, value.wrapping_sub(1), overflow, codes.c)
 }
 
-/// NEG and NEGB: 0 minus the value, of a word the low byte where the size is a byte. N and Z are of the result, V is set
-/// where the result is 100000 (a byte: 200), C unless it is 0 (DEC PDP-11/40 Processor Handbook (1972), Instruction
+/// NEG and NEGB: 0 minus the value, of a word the low byte where the size is a byte. N and Z are of the result, V is
+/// set where the result is 100000 (a byte: 200), C unless it is 0 (DEC PDP-11/40 Processor Handbook (1972), Instruction
 /// set, NEG).
 #[inline]
 #[tactic(auto, unfolding(crate::specs::SingleOperand::neg_effect))]

@@ -2,9 +2,9 @@
 //!
 //! It stands on pdp_word. `Kl` owns the registers: its contracts give, for each of them, what a read shows
 //! and leaves and what a write leaves, what a key and RESET do, and when the keyboard's request for an interrupt
-//! appears and goes. Laws say that keys wait until they are read, and that a request that was served stays away. The
-//! address at which the registers begin, how a byte is written to one, and which request is served it leaves to
-//! pdp_unibus. The printer is to come.
+//! appears and goes. Laws say that keys wait until they are read, and that a request that was served stays away while
+//! done and enable are both set. The address at which the registers begin, how a byte is written to one, and which
+//! request is served it leaves to pdp_unibus. The printer is to come.
 #![tactic(auto)]
 
 mod kl;

@@ -137,7 +137,8 @@ read_keeps : (r : Reference) (b : BusWorld) → access_of r.kind ≡ Read → (p
 unfolding shape_of
 read_keeps r b reads = rw (perform_is r b) (read_by r.kind b (physical_address r) reads)
 
--- one phase: each is safe; it is steady where it reads at most and leaves the word itself; it is sure where it asks for nothing
+-- one phase: each is safe; it is steady where it reads at most and leaves the word itself; it is sure where it asks for
+-- nothing
 replied_stops : (p : Phase) (s : State) (value : Result ℕ Trap) (after : BusWorld) → Unanswered s.world.bus.board value after.board
     → Stops (status_in s) (and_then (after_reply p s (record { value = value; after = after })) (λ t. run [] t))
 unfolding run

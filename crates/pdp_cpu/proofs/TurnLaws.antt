@@ -119,8 +119,8 @@ unfolding one_turn
 turn_keeps_lasts t events w =
     (course_keeps_stamps (course_at (at_turn t events w)) (at_turn t events w)).size ∙ ap length (kept t events w).lasts
 
--- the act of a turn in world v, and a course on the same processor and bus c: they end in the same way, with the same trace, and
--- leave each its own words of the page
+-- the act of a turn in world v, and a course on the same processor and bus c: they end in the same way, with the same
+-- trace, and leave each its own words of the page
 record UndisturbedAct (page : ℕ) (v w : World) (course : Course) : Type 0 where
   processor : (act_end v).processor ≡ (follow course (started w)).world.processor
   bus : AlikeOutside page (act_end v).bus (follow course (started w)).world.bus

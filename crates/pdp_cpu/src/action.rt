@@ -246,8 +246,8 @@ pub fn action_of(instr: Instr) -> Action
     }
 }
 
-/// The trap that an instruction asks for which does nothing else; a word that is no instruction asks for that of a reserved
-/// word, and so do instructions that are to come.
+/// The trap that an instruction asks for which does nothing else; a word that is no instruction asks for that of a
+/// reserved word, and so do instructions that are to come.
 #[cold]
 #[inline(never)]
 fn trap_of(instr: Instr) -> Trap

@@ -58,9 +58,9 @@ impl Due {
     }
 }
 
-/// Whether an instruction is due because the machine neither waits nor is halted, and nothing is pending or requested. Else
-/// one may be due all the same, where what is requested has no level above the priority. Each turn asks this, so its tests
-/// are joined without a jump for each.
+/// Whether an instruction is due because the machine neither waits nor is halted, and nothing is pending or requested.
+/// Else one may be due all the same, where what is requested has no level above the priority. Each turn asks this, so
+/// its tests are joined without a jump for each.
 #[inline(always)]
 #[tactic(auto, using(crate::proofs::Dues::instruction_is_due))]
 pub fn nothing_is_pending<S: Store>(processor: &Processor, bus: &Bus<S>) -> bool

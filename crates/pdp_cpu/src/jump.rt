@@ -16,8 +16,8 @@ const PUSH: Spec = Spec { mode: 4, reg: 6 };
 // Where a word is popped: (SP)+.
 pub const POP: Spec = Spec { mode: 2, reg: 6 };
 
-/// The address that a jump goes to, which is that of its operand. Near the end of the kernel's stack it leaves a stack trap
-/// pending.
+/// The address that a jump goes to, which is that of its operand. Near the end of the kernel's stack it leaves a stack
+/// trap pending.
 ///
 /// Err(JumpToRegister) where the operand is a register.
 #[inline(always)]

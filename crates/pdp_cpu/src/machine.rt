@@ -59,13 +59,13 @@ impl<S: Store> Machine<S> {
         Ok(())
     }
 
-    /// One whole turn, and one tick of the meter: the events of the turn in their order, and then one act, of which it tells
-    /// how it began: the trace trap or the stack trap that is pending, an interrupt, one instruction with its trap if it has
-    /// one, or nothing where the machine waits or is halted. `Continue` ends a halt, and the act of that turn is chosen after
-    /// it; a halted machine still gets events. Once asked it always takes place.
+    /// One whole turn, and one tick of the meter: the events of the turn in their order, and then one act, of which it
+    /// tells how it began: the trace trap or the stack trap that is pending, an interrupt, one instruction with its
+    /// trap if it has one, or nothing where the machine waits or is halted. `Continue` ends a halt, and the act of that
+    /// turn is chosen after it; a halted machine still gets events. Once asked it always takes place.
     ///
-    /// DEC PDP-11/40 Processor Handbook (1972), Processor traps and Interrupts; that a turn is one act, and their order, are
-    /// this project's profile.
+    /// DEC PDP-11/40 Processor Handbook (1972), Processor traps and Interrupts; that a turn is one act, and their
+    /// order, are this project's profile.
     #[inline(always)]
     #[tactic(auto, unfolding(crate::specs::Turns::Turn::one_turn, crate::specs::Turns::Turn::turn_act))]
     pub fn turn(&mut self, meter: &mut Meter, events: &[Event]) -> Act
@@ -121,8 +121,8 @@ impl<S: Store> Machine<S> {
         self.bus.word(number)
     }
 
-    /// The turn and the agent of the last write to the core word of this number (half its byte address); None where there was
-    /// none since power-up. A byte write counts for its word (this project's profile).
+    /// The turn and the agent of the last write to the core word of this number (half its byte address); None where
+    /// there was none since power-up. A byte write counts for its word (this project's profile).
     pub fn last(&self, number: usize) -> Option<Stamp>
         requires { number < length self.now.world.bus.core }
         ensures { result ≡ slice_index_or self.now.world.bus.lasts number None }

@@ -175,8 +175,8 @@ fn red<S: Store>(processor: &mut Processor, bus: &mut Bus<S>, origin: Origin)
     }
 }
 
-/// The sequence of the trap or interrupt with this vector (octal); where it can't go on the red sequence. `marks` says whether
-/// its pushes may leave a stack trap pending.
+/// The sequence of the trap or interrupt with this vector (octal); where it can't go on the red sequence. `marks` says
+/// whether its pushes may leave a stack trap pending.
 #[inline(never)]
 #[tactic(auto, using(crate::proofs::Endings::after_done, crate::proofs::Endings::after_caught), unfolding(crate::specs::Handbook::TrapSequence::sequence, pdp_operand::specs::Phases::Course::follow))]
 pub fn begin_sequence<S: Store>(

@@ -85,8 +85,8 @@ mnemonic (Mfpi _) = codes "MFPI"
 mnemonic (Mtpi _) = codes "MTPI"
 mnemonic Reserved = codes "Reserved"
 
--- the fields of an instruction fit their bits: modes and registers are below 8, and a count of words below 100; what has
--- no such field fits always
+-- the fields of an instruction fit their bits: modes and registers are below 8, and a count of words below 100; what
+-- has no such field fits always
 abbrev pub FieldsFit : Instr → Type 0
 FieldsFit (Jmp destination) = IsSpec destination
 FieldsFit (Rts register) = register < 8

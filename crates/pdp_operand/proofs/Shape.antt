@@ -11,8 +11,8 @@ use Rattle.pdp_operand.specs.Laws.Trace.{Touch, touch_at, touched, touches}
 use Rattle.pdp_operand.specs.declared.trap.Trap.{Trap}
 use Rattle.pdp_operand.specs.declared.trap.Trap.TheVariants.{BusTimeout}
 
--- what a reference does, besides the board that it leaves: no word of core answers; or a word is read, and told through a
--- function; or a word is written, from what it was
+-- what a reference does, besides the board that it leaves: no word of core answers; or a word is read, and told through
+-- a function; or a word is written, from what it was
 pub data Shape : Type 0 where
   Apart : Board → Result ℕ Trap → Shape
   Looked : Board → (ℕ → ℕ) → ℕ → Shape

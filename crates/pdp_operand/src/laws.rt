@@ -13,7 +13,8 @@ pub fn plan_is_its_phases()
     ensures { (plan : Plan) (s : State) → run (phases_of plan) s ≡ run_plan plan s }
 {}
 
-/// A law of courses: every access to a word of core is by the processor, in the turn of the bus, to a word that core has.
+/// A law of courses: every access to a word of core is by the processor, in the turn of the bus, to a word that core
+/// has.
 #[tactic(auto, using(crate::proofs::Kept::course_touches))]
 pub fn touches_of_courses_are_of_their_turn()
     ensures { (course : Course) (s : State) →
@@ -29,7 +30,8 @@ pub fn stamps_of_courses_are_last_writes()
         ≡ last_write (trace_of course s) k (slice_index_or s.world.bus.lasts k None) }
 {}
 
-/// A law of courses: one that never touches a page of 256 words leaves it, and goes on in the same way whatever is in it.
+/// A law of courses: one that never touches a page of 256 words leaves it, and goes on in the same way whatever is in
+/// it.
 pub fn courses_leave_what_they_never_touch()
     ensures { (page : ℕ) (course : Course) (s : State) (c : BusWorld) → AlikeOutside page s.world.bus c →
         Avoids page (trace_of course s) → UndisturbedCourse page course s c }

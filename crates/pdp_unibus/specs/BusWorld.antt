@@ -10,7 +10,7 @@ use Rattle.pdp_unibus.specs.declared.status.Status.{Status}
 
 -- the bus and all that is on it, as a contract sees it
 pub record BusWorld : Type 0 where
-  -- the program status word and the devices
+  -- the program status word, the devices and the switches
   pub board : Board
   -- the words of core
   pub core : List ℕ
@@ -48,6 +48,6 @@ with_status w status = with_board w (record w.board { status = status })
 abbrev pub with_codes : BusWorld → Codes → BusWorld
 with_codes w codes = with_status w (record w.board.status { codes = codes })
 
--- RESET: the devices as their rows say; the program status and the switches stay
+-- RESET: each device is initialised; the program status and the switches stay
 unfoldable pub board_reset : Board → Board
 board_reset b = record b { console = kl_reset b.console }

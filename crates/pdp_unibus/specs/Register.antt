@@ -1,4 +1,5 @@
--- Registers on the bus, and who owns them: PDP-11 Peripherals Handbook, KL11; DEC PDP-11/40 Processor Handbook (1972), Switch register and Processor status word.
+-- Registers on the bus, and who owns them: PDP-11 Peripherals Handbook, KL11; DEC PDP-11/40 Processor Handbook (1972),
+-- Switch register and Processor status word.
 use Rattle.std.specs.Prelude.{ℕ, ◌+◌, ◌-◌, ◌*◌, ◌%◌, ◌==◌, ◌&&◌, nat_le, Option, Some, None, option_map, if◌then◌else◌}
 use Rattle.pdp_console.specs.Kl.{kl_read, kl_register_at, kl_value, kl_written}
 use Rattle.pdp_unibus.specs.Status.{status_word, status_written}

@@ -6,7 +6,7 @@ use crate::register::Register;
 use crate::status::Status;
 use pdp_console::Kl;
 
-/// What the bus holds besides the lists of words: the program status word, and the devices.
+/// What the bus holds besides the lists of words and the turn: the program status word, the devices and the switches.
 #[derive(Clone, Copy, Debug, Default)]
 pub struct Board {
     pub status: Status,

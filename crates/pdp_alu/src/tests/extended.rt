@@ -164,8 +164,8 @@ fn long_shifts_agree(long: u32) -> bool {
     true
 }
 
-// Quotient and remainder as bits where both are given, and the codes: the quotient of the sizes, negative where the signs
-// differ, and what is then left of the dividend.
+// Quotient and remainder as bits where both are given, and the codes: the quotient of the sizes, negative where the
+// signs differ, and what is then left of the dividend.
 fn quotient_by_rule(dividend: i64, divisor: i64) -> (Option<(i64, i64)>, Codes) {
     let Some(size) = dividend.unsigned_abs().checked_div(divisor.unsigned_abs()) else {
         return (None, codes(b"0111"));

@@ -1,4 +1,5 @@
--- The registers as a person reads them: DEC PDP-11/40 Processor Handbook (1972), General registers and Processor status word.
+-- The registers as a person reads them: DEC PDP-11/40 Processor Handbook (1972), General registers and Processor status
+-- word.
 use Rattle.std.specs.Prelude.{[], ◌∷◌}
 use Rattle.pdp_unibus.specs.Status.{status_word}
 use Rattle.pdp_operand.specs.Handbook.Processor.{register_of}

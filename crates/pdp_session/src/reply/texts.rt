@@ -6,8 +6,9 @@ use itoa::Buffer;
 use pdp_replay::{Fault, Patch, Regs, RunState};
 use pdp_word::write_octal6;
 
-// The most bytes that a text has: a line of `pages` with its LF. That is 34 words, each of six digits after a space,
-// and the names pages, SR0, SR2, KPDR, KPAR, UPDR and UPAR, a space before each but the first.
+// The most bytes that a text has: a line of the question `pages`, which is to come, with its LF. That is 34 words, each
+// of six digits after a space, and the names pages, SR0, SR2, KPDR, KPAR, UPDR and UPAR, a space before each but the
+// first.
 const LONGEST_TEXT: usize = 272;
 
 // A line of a reply, with its LF, or a piece of one. It takes no memory.
