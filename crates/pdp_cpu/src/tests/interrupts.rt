@@ -70,7 +70,13 @@ fn interrupts_user_mode(rt: HostRuntime) -> Result<(), NoMemory> {
         ps: 0o030340,
         ..trapped([0; 6], 0o60)
     };
-    let got = struck(rt.alloc(), start, &[0o012737, 0o000100, 0o177560, 0o000777], 1, 0)?;
+    let got = struck(
+        rt.alloc(),
+        start,
+        &[0o012737, 0o000100, 0o177560, 0o000777],
+        1,
+        0,
+    )?;
     assert_eq!(rt; got, (Act::Irq(0o60), regs));
     Ok(())
 }
