@@ -1,5 +1,5 @@
 -- What the words of the command line ask for (this project's profile).
-use Rattle.std.specs.Prelude.{◌≡◌, ◌≢◌, List, [], Option, Some, None, Result, Ok, Err, ◌⊎◌, codes}
+use Rattle.std.specs.Prelude.{◌≡◌, ◌≢◌, List, [], Option, Some, None, Result, Ok, Err, ◌⊎◌, codes, option_map, string_bytes}
 use Rattle.clap.specs.Words.{App, Kinds, IsAmong, Rule, Text, first_of, matches_of, new_app, new_rule, with_rule}
 use Rattle.clap.specs.declared.builder.action.ArgAction.TheVariants.{Set}
 use Rattle.clap.specs.declared.error.kind.ErrorKind.{ErrorKind}
@@ -17,13 +17,19 @@ option_rule name = record (new_rule name) { long = Some name; action = Some Set;
 
 -- the program's options, beside which clap knows -h and --help
 abbrev pub command_line : App
-command_line = with_rule (with_rule (with_rule (new_app (codes "pdp11")) (option_rule (codes "units"))) (option_rule (codes "start"))) (option_rule (codes "stride"))
+command_line =
+    with_rule (with_rule (with_rule (with_rule (new_app (codes "pdp11"))
+    (option_rule (codes "tape"))) (option_rule (codes "units"))) (option_rule (codes "start"))) (option_rule (codes "stride"))
 
 -- the options that these words give, by clap's rules, where it refuses nothing
 abbrev pub options_in : List Text → Option Options
 options_in words =
     let rows = matches_of command_line words in
     options_given (first_of (codes "units") rows) (first_of (codes "start") rows) (first_of (codes "stride") rows)
+
+-- the name of the tape's file that these words give, if they give one
+abbrev pub tape_in : List Text → Option Text
+tape_in words = first_of (codes "tape") (matches_of command_line words)
 
 -- a fault that is not asking for help
 abbrev pub IsRefused : Kinds → Type 0
@@ -33,7 +39,8 @@ IsRefused faults = (kind : ErrorKind) × (kind ≢ DisplayHelp) × IsAmong kind 
 -- number that can't be read, which is looked at where there is no fault.
 abbrev pub Asks : Kinds → List Text → Result Request Exit → Type 0
 Asks faults words (Ok (Help text)) = IsAmong DisplayHelp faults
-Asks faults words (Ok (Session options)) = (faults ≡ []) × (options_in words ≡ Some options)
+Asks faults words (Ok (Session options tape)) =
+    (faults ≡ []) × (options_in words ≡ Some options) × (option_map string_bytes tape ≡ tape_in words)
 Asks faults words (Err BadArguments) = IsRefused faults ⊎ ((faults ≡ []) × (options_in words ≡ None))
 Asks faults words (Err NoMemory) = Unit {0}
 Asks faults words (Err _) = ⊥

@@ -1,4 +1,4 @@
-ghost use Rattle.std.specs.Prelude.{◌≡◌, false, map, IfOk};
+ghost use Rattle.std.specs.Prelude.{◌≡◌, false, map, option_map, string_bytes, IfOk};
 ghost use Rattle.clap.specs.Words.{FailsBy, app_of, fault_of, found_of, matches_of, rows_of, rule_of};
 ghost use Rattle.pdp11.specs.CommandLine.{Asks, command_line, option_rule};
 
@@ -14,8 +14,11 @@ use std::convert::AsStr;
 pub enum Request {
     /// This text of help.
     Help(String),
-    /// A session with these options.
-    Session(Options),
+    /// A session with these options, and with the tape that the file of this name holds, where one is named.
+    Session {
+        options: Options,
+        tape: Option<String>,
+    },
 }
 
 /// What these words ask for, the program's name first. `BadArguments`: an option is unknown, is given twice or
@@ -30,7 +33,10 @@ pub fn read_words<S: AsStr>(alloc: Global, words: &[S]) -> Result<Request, Exit>
             let start = matches.get_str("start");
             let stride = matches.get_str("stride");
             match read_options(units, start, stride) {
-                Some(options) => Ok(Request::Session(options)),
+                Some(options) => {
+                    let tape = owned_name(alloc, matches.get_str("tape"))?;
+                    Ok(Request::Session { options, tape })
+                }
                 None => Err(Exit::BadArguments),
             }
         }
@@ -39,6 +45,15 @@ pub fn read_words<S: AsStr>(alloc: Global, words: &[S]) -> Result<Request, Exit>
             ErrorKind::OutOfMemory => Err(Exit::NoMemory),
             _ => Err(Exit::BadArguments),
         },
+    }
+}
+
+fn owned_name(alloc: Global, name: Option<&str>) -> Result<Option<String>, AllocError>
+    ensures { IfOk result (λ owned. option_map string_bytes owned ≡ option_map (λ text. text.now) name.entry) }
+{
+    match name {
+        Some(name) => Ok(Some(String::from_str(alloc, name)?)),
+        None => Ok(None),
     }
 }
 
@@ -54,6 +69,12 @@ fn matches_of<'a, S: AsStr>(alloc: Global, words: &'a [S]) -> Result<ArgMatches<
 fn command<'a>(alloc: Global) -> Result<Command<'a>, AllocError>
     ensures { IfOk result (λ command. app_of command ≡ command_line) }
 {
+    let tape = option(
+        alloc,
+        "tape",
+        "FILE",
+        "Paper tape, a file of plain bytes [default: an empty tape]",
+    );
     let units = option(
         alloc,
         "units",
@@ -76,6 +97,7 @@ fn command<'a>(alloc: Global) -> Result<Command<'a>, AllocError>
         .about(
             "A PDP-11/40 whose past can be edited: it reads the lines of a session and writes their replies",
         )
+        .arg(tape)?
         .arg(units)?
         .arg(start)?
         .arg(stride)

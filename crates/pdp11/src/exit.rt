@@ -16,7 +16,7 @@ pub enum Exit {
     InputOrOutput,
     /// There was no memory before the first line.
     NoMemory,
-    /// An image has an odd number of bytes, or is too long.
+    /// An image has an odd number of bytes, or it or the tape is too long.
     BadImage,
     /// The units, the start address or the stride is out of range.
     BadSetup,

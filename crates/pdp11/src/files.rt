@@ -1,4 +1,4 @@
-ghost use Rattle.std.specs.Prelude.{◌≡◌, ◌||◌, Bool, false};
+ghost use Rattle.std.specs.Prelude.{◌≡◌, ◌||◌, Bool, false, ℕ, List, Option, None, IfOk, IfSome};
 ghost use Rattle.pdp11.specs.Files.{is_unreadable};
 
 use std::alloc::Global;
@@ -18,8 +18,12 @@ pub trait Files {
     // whether a file couldn't be read since these were made
     ghost has_failed: { Self → Bool };
 
+    // the bytes of the file of this name, where they are known
+    ghost contents: { Self → List ℕ → Option (List ℕ) };
+
     /// All bytes of the file of this name, or why there are none.
     fn bytes(&mut self, alloc: Global, name: &str) -> Result<Vec<u8>, FileFailure>
+        ensures whole { IfOk result (λ bytes. IfSome (contents self.old name.now) (λ known. bytes.items ≡ known)) }
         ensures fails { has_failed self.new ≡ (has_failed self.old || is_unreadable result) };
 
     /// Whether a file couldn't be read since these were made.
@@ -45,6 +49,8 @@ impl<'a> HostFiles<'a> {
 
 impl Files for HostFiles<'_> {
     ghost has_failed = { λ s. s.failed };
+
+    ghost contents = { λ s name. None };
 
     fn bytes(&mut self, _alloc: Global, name: &str) -> Result<Vec<u8>, FileFailure> {
         match fs::read(self.rt, name) {

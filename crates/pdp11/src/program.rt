@@ -1,11 +1,12 @@
-ghost use Rattle.std.specs.Prelude.{◌≡◌, ◌≢◌, ◌⊎◌, true, false, map};
+ghost use Rattle.std.specs.Prelude.{◌≡◌, ◌≢◌, ◌⊎◌, true, false, map, option_map, string_bytes, Err};
+ghost use Rattle.pdp_script.specs.Refusal.{result_map};
 ghost use Rattle.pdp11.specs.Exit.{IsListed};
-ghost use Rattle.pdp11.specs.ProgramRun.{RunsSession, Shows, Tells, setup_with};
+ghost use Rattle.pdp11.specs.ProgramRun.{IsTapeOf, RunsSession, Shows, Starts, Tells, setup_with};
 ghost use Rattle.pdp_replay.specs.Setup.{given};
 
 use crate::command_line::{Request, read_words};
 use crate::exit::Exit;
-use crate::files::Files;
+use crate::files::{FileFailure, Files};
 use crate::options::Options;
 use pdp_session::{Drain, Feed, Setup, run};
 use std::alloc::Global;
@@ -33,14 +34,16 @@ pub fn outcome<R: Feed, W: Drain, F: Files, S: AsStr>(
     requires reads { R.has_failed reader.old ≡ false }
     requires drains { W.has_failed writer.old ≡ false }
     ensures listed { IsListed result.0 result.1.now }
-    ensures failed { result.0 ≡ 3 → (R.has_failed reader.new ≡ true) ⊎ (W.has_failed writer.new ≡ true) }
-    ensures tells { Tells (map S.text words.now) (R.remaining reader.old) (R.remaining reader.new)
+    ensures failed { result.0 ≡ 3 →
+        (R.has_failed reader.new ≡ true) ⊎ ((W.has_failed writer.new ≡ true) ⊎ (F.has_failed files.new ≡ true)) }
+    ensures tells { Tells (map S.text words.now) (F.contents files.old) (R.remaining reader.old) (R.remaining reader.new)
         (R.pulls reader.old) (R.pulls reader.new) (W.written writer.old) (W.written writer.new) result.0 result.1.now }
 {
-    let _ = files;
     let exit = match read_words(alloc, words) {
         Ok(Request::Help(text)) => show(text.as_bytes(), writer),
-        Ok(Request::Session(options)) => answer_lines(alloc, options, reader, writer),
+        Ok(Request::Session { options, tape }) => start_session(
+            alloc, options, tape, files, reader, writer,
+        ),
         Err(exit) => exit,
     };
     (exit.status(), exit.line())
@@ -62,10 +65,48 @@ fn show<W: Drain>(text: &[u8], writer: &mut W) -> Exit
     Exit::Done
 }
 
+// Reads the tape's file, and then answers the reader's lines on the writer.
+fn start_session<R: Feed, W: Drain, F: Files>(
+    alloc: Global,
+    options: Options,
+    tape: Option<String>,
+    files: &mut F,
+    reader: &mut R,
+    writer: &mut W,
+) -> Exit
+    requires reads { R.has_failed reader.old ≡ false }
+    requires drains { W.has_failed writer.old ≡ false }
+    ensures failed { result ≡ Exit.InputOrOutput →
+        (R.has_failed reader.new ≡ true) ⊎ ((W.has_failed writer.new ≡ true) ⊎ (F.has_failed files.new ≡ true)) }
+    ensures starts { Starts (F.contents files.old) options (option_map string_bytes tape) (R.remaining reader.old) (R.remaining reader.new)
+        (R.pulls reader.old) (R.pulls reader.new) (W.written writer.old) (W.written writer.new) result }
+{
+    match read_tape(alloc, tape, files) {
+        Ok(tape) => answer_lines(alloc, options, tape, reader, writer),
+        Err(cause) => cause,
+    }
+}
+
+// The bytes of the tape's file, or no bytes where no file is named.
+fn read_tape<F: Files>(alloc: Global, name: Option<String>, files: &mut F) -> Result<Vec<u8>, Exit>
+    ensures tape { IsTapeOf (F.contents files.old) (option_map string_bytes name) (result_map (λ tape. tape.items) result) }
+    ensures failed { result ≡ Err Exit.InputOrOutput → F.has_failed files.new ≡ true }
+{
+    let Some(name) = name else {
+        return Ok(Vec::new(alloc))
+    };
+    match files.bytes(alloc, name.as_str()) {
+        Ok(bytes) => Ok(bytes),
+        Err(FileFailure::NoMemory) => Err(Exit::NoMemory),
+        Err(FileFailure::Unreadable) => Err(Exit::InputOrOutput),
+    }
+}
+
 // Answers the reader's lines on the writer.
 fn answer_lines<R: Feed, W: Drain>(
     alloc: Global,
     options: Options,
+    tape: Vec<u8>,
     reader: &mut R,
     writer: &mut W,
 ) -> Exit
@@ -73,23 +114,23 @@ fn answer_lines<R: Feed, W: Drain>(
     requires drains { W.has_failed writer.old ≡ false }
     ensures failed { result ≡ Exit.InputOrOutput →
         (R.has_failed reader.new ≡ true) ⊎ (W.has_failed writer.new ≡ true) }
-    ensures answers { RunsSession options (R.remaining reader.old) (R.remaining reader.new)
+    ensures answers { RunsSession options tape.items (R.remaining reader.old) (R.remaining reader.new)
         (R.pulls reader.old) (R.pulls reader.new) (W.written writer.old) (W.written writer.new) result }
 {
-    let setup = setup_of(alloc, options);
+    let setup = setup_of(alloc, options, tape);
     Exit::of_session(run(alloc, setup, reader, writer))
 }
 
-// The setup of these options, without images and tape.
-fn setup_of(alloc: Global, options: Options) -> Setup
-    ensures { given result ≡ setup_with options }
+// The setup of these options and this tape, without images.
+fn setup_of(alloc: Global, options: Options, tape: Vec<u8>) -> Setup
+    ensures { given result ≡ setup_with options tape.items }
 {
     Setup {
         units: options.units,
         start: options.start,
         core: Vec::new(alloc),
         disk: Vec::new(alloc),
-        tape: Vec::new(alloc),
+        tape,
         stride: options.stride,
     }
 }

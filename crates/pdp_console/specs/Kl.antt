@@ -1,59 +1,68 @@
--- The console terminal: PDP-11 Peripherals Handbook, KL11 (when its request appears and goes is this project's
--- profile).
-use Rattle.std.specs.Prelude.{ℕ, ◌+◌, ◌*◌, ◌==◌, Bool, true, false, ◌&&◌, Option, Some, None, if◌then◌else◌}
-use Rattle.pdp_word.specs.Bits.{bit_of, has_bit}
-use Rattle.pdp_word.specs.Request.{request_after}
+-- The console terminal: PDP-11 Peripherals Handbook, KL11 (when requests appear and go, and what a write of the
+-- keyboard's buffer does, are this project's profile).
+use Rattle.std.specs.Prelude.{ℕ, ◌==◌, Option, Some, None, if◌then◌else◌}
+use Rattle.pdp_device.specs.Channel.{channel_served, channel_status, enable_written}
+use Rattle.pdp_device.specs.Outlet.{byte_out, outlet_completed, outlet_read, outlet_reset, outlet_served, outlet_value, outlet_written, quiet_outlet}
+use Rattle.pdp_device.specs.declared.outlet.OutletRegister.TheVariants.{Status, Buffer}
+use Rattle.pdp_console.specs.Keyboard.{key_struck, key_taken, keyboard_reset, quiet_keyboard}
 use Rattle.pdp_console.specs.declared.kl.Kl.{Kl}
 use Rattle.pdp_console.specs.declared.kl.KlRegister.{KlRegister}
-use Rattle.pdp_console.specs.declared.kl.KlRegister.TheVariants.{KeyboardStatus, KeyboardBuffer}
-use Rattle.pdp_console.specs.declared.kl.KlRow.{KlRow}
-
--- the condition under which the keyboard requests an interrupt: done and enable
-abbrev pub keyboard_condition : Kl → Bool
-keyboard_condition k = k.done && k.enable
-
--- one change, from the first to the second: the request goes by the condition before it and after it
-abbrev pub changed : Kl → Kl → Kl
-changed before after =
-    record after { request = request_after (keyboard_condition before) (keyboard_condition after) before.request }
-
--- a key sets done, and replaces the byte
-abbrev pub struck : Kl → ℕ → Kl
-struck k key = changed k (record k { done = true; buffer = key })
-
--- 7 done, 6 enable
-abbrev pub keyboard_status : Kl → ℕ
-keyboard_status k = bit_of k.done * 0o200 + bit_of k.enable * 0o100
+use Rattle.pdp_console.specs.declared.kl.KlRegister.TheVariants.{KeyboardStatus, KeyboardBuffer, PrinterStatus, PrinterBuffer}
 
 -- the registers by the bytes from the first one
 abbrev pub kl_register_at : ℕ → Option KlRegister
 kl_register_at offset = (
     if offset == 0 then Some KeyboardStatus else
-    if offset == 2 then Some KeyboardBuffer else None)
+    if offset == 2 then Some KeyboardBuffer else
+    if offset == 4 then Some PrinterStatus else
+    if offset == 6 then Some PrinterBuffer else None)
 
--- a row for each register: what it shows, and what a read and a write of this word in this turn leave; the request goes
--- by the condition, and no row names it
-abbrev pub kl_row : KlRegister → ℕ → ℕ → Kl → KlRow
-kl_row KeyboardStatus word turn k =
-    record { value = keyboard_status k; read = k; written = record k { enable = has_bit 6 word } }
-kl_row KeyboardBuffer word turn k = record { value = k.buffer; read = record k { done = false }; written = k }
+-- at power-up
+abbrev pub quiet_kl : Kl
+quiet_kl = record { keyboard = quiet_keyboard; printer = quiet_outlet }
+
+-- a key sets done, and replaces the byte
+abbrev pub struck : Kl → ℕ → Kl
+struck k key = record k { keyboard = key_struck key k.keyboard }
 
 -- what a read gives
 abbrev pub kl_value : KlRegister → Kl → ℕ
-kl_value register k = (kl_row register 0 0 k).value
+kl_value KeyboardStatus k = channel_status k.keyboard.channel
+kl_value KeyboardBuffer k = k.keyboard.key
+kl_value PrinterStatus k = outlet_value Status k.printer
+kl_value PrinterBuffer k = outlet_value Buffer k.printer
 
--- what a read does, as one change
+-- what a read does: one of the keyboard's buffer takes the key
 abbrev pub kl_read : KlRegister → Kl → Kl
-kl_read register k = changed k (kl_row register 0 0 k).read
+kl_read KeyboardStatus k = k
+kl_read KeyboardBuffer k = record k { keyboard = key_taken k.keyboard }
+kl_read PrinterStatus k = record k { printer = outlet_read Status k.printer }
+kl_read PrinterBuffer k = record k { printer = outlet_read Buffer k.printer }
 
--- what a write of a word does in a turn, as one change
-abbrev pub kl_written : KlRegister → ℕ → ℕ → Kl → Kl
-kl_written register word turn k = changed k (kl_row register word turn k).written
+-- what a write of a word does in a turn, with the printer's delay
+abbrev pub kl_written : KlRegister → ℕ → ℕ → ℕ → Kl → Kl
+kl_written KeyboardStatus word turn delay k =
+    record k { keyboard = record k.keyboard { channel = enable_written word k.keyboard.channel } }
+kl_written KeyboardBuffer word turn delay k = k
+kl_written PrinterStatus word turn delay k = record k { printer = outlet_written Status word turn delay k.printer }
+kl_written PrinterBuffer word turn delay k = record k { printer = outlet_written Buffer word turn delay k.printer }
 
--- the request is served: it goes, and the condition stays
-abbrev pub kl_served : Kl → Kl
-kl_served k = record k { request = false }
+-- the byte that a completion of the printer prints
+abbrev pub kl_printed : Kl → Option ℕ
+kl_printed k = byte_out k.printer
 
--- RESET: status and request are cleared, and the buffer stays
+-- a completion of the printer
+abbrev pub kl_completed : Kl → Kl
+kl_completed k = record k { printer = outlet_completed k.printer }
+
+-- the keyboard's request is served: it goes, and the condition stays
+abbrev pub keyboard_served : Kl → Kl
+keyboard_served k = record k { keyboard = record k.keyboard { channel = channel_served k.keyboard.channel } }
+
+-- the printer's request is served
+abbrev pub printer_served : Kl → Kl
+printer_served k = record k { printer = outlet_served k.printer }
+
+-- RESET: the buffers stay
 abbrev pub kl_reset : Kl → Kl
-kl_reset k = record k { done = false; enable = false; request = false }
+kl_reset k = record { keyboard = keyboard_reset k.keyboard; printer = outlet_reset k.printer }

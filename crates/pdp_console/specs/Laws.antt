@@ -1,11 +1,13 @@
--- What the laws of the keyboard say: each name is the law's sentence (PDP-11 Peripherals Handbook, KL11; when requests
--- appear and go is this project's profile).
-use Rattle.std.specs.Prelude.{◌≡◌, ◌≢◌, ◌↔◌, ℕ, true, false, List, [], ◌∷◌}
-use Rattle.pdp_word.specs.Bits.{field}
-use Rattle.pdp_console.specs.Kl.{keyboard_condition, kl_read, kl_served, kl_value, kl_written, struck}
+-- What the laws of the keyboard and of the line clock say: each name is the law's sentence (PDP-11 Peripherals
+-- Handbook, KL11 and KW11-L; what writes do to the clock's request is this project's profile).
+use Rattle.std.specs.Prelude.{◌≡◌, ◌≢◌, ◌↔◌, ℕ, true, false}
+use Rattle.pdp_word.specs.Bits.{field, has_bit}
+use Rattle.pdp_console.specs.Kl.{kl_read, kl_value, kl_written, struck}
+use Rattle.pdp_console.specs.Kw.{kw_value, kw_written, ticked}
 use Rattle.pdp_console.specs.declared.kl.Kl.{Kl}
 use Rattle.pdp_console.specs.declared.kl.KlRegister.{KlRegister}
 use Rattle.pdp_console.specs.declared.kl.KlRegister.TheVariants.{KeyboardStatus, KeyboardBuffer}
+use Rattle.pdp_console.specs.declared.kw.Kw.{Kw}
 
 -- done, bit 7 of the keyboard's status
 abbrev pub done_bit : Kl → ℕ
@@ -28,54 +30,42 @@ ReadsClearDone = (k : Kl)
 
 -- a write of the status sets enable as in the word, and leaves done and the key
 abbrev pub WritesSetEnable : Type 0
-WritesSetEnable = (k : Kl) (word turn : ℕ)
-    → (enable_bit (kl_written KeyboardStatus word turn k) ≡ field 6 1 word)
-    × (done_bit (kl_written KeyboardStatus word turn k) ≡ done_bit k)
-    × (kl_value KeyboardBuffer (kl_written KeyboardStatus word turn k) ≡ kl_value KeyboardBuffer k)
+WritesSetEnable = (k : Kl) (word turn delay : ℕ)
+    → (enable_bit (kl_written KeyboardStatus word turn delay k) ≡ field 6 1 word)
+    × (done_bit (kl_written KeyboardStatus word turn delay k) ≡ done_bit k)
+    × (kl_value KeyboardBuffer (kl_written KeyboardStatus word turn delay k) ≡ kl_value KeyboardBuffer k)
 
 -- a write of any register, and a read of any but the buffer, leave done and the key
 abbrev pub OtherUsesLeaveTheKey : Type 0
-OtherUsesLeaveTheKey = (register : KlRegister) (k : Kl) (word turn : ℕ)
-    → ((kl_written register word turn k).done ≡ k.done)
-    × ((kl_written register word turn k).buffer ≡ k.buffer)
-    × (register ≢ KeyboardBuffer → ((kl_read register k).done ≡ k.done) × ((kl_read register k).buffer ≡ k.buffer))
+OtherUsesLeaveTheKey = (register : KlRegister) (k : Kl) (word turn delay : ℕ)
+    → ((kl_written register word turn delay k).keyboard.channel.ready ≡ k.keyboard.channel.ready)
+    × ((kl_written register word turn delay k).keyboard.key ≡ k.keyboard.key)
+    × (register ≢ KeyboardBuffer
+    → ((kl_read register k).keyboard.channel.ready ≡ k.keyboard.channel.ready)
+    × ((kl_read register k).keyboard.key ≡ k.keyboard.key))
 
--- what happens to the keyboard: a key, or a register that is read, or written with a word in a turn
-pub data Change : Type 0 where
-  Striking : ℕ → Change
-  Reading : KlRegister → Change
-  Writing : KlRegister → ℕ → ℕ → Change
+-- where there is no request, a tick makes one exactly where enable is set; where there is one, a tick keeps it
+abbrev pub TicksRequest : Type 0
+TicksRequest = (c : Kw)
+    → (c.request ≡ false → ((ticked c).request ≡ true) ↔ (c.enable ≡ true))
+    × (c.request ≡ true → (ticked c).request ≡ true)
 
-abbrev pub after_change : Change → Kl → Kl
-after_change (Striking key) k = struck k key
-after_change (Reading register) k = kl_read register k
-after_change (Writing register word turn) k = kl_written register word turn k
+-- a write makes no request, and keeps one exactly where its bit 6 is set, which is enable from then on
+abbrev pub WritesMakeNoRequest : Type 0
+WritesMakeNoRequest = (word : ℕ) (c : Kw)
+    → (c.request ≡ false → (kw_written word c).request ≡ false)
+    × (c.request ≡ true → (kw_written word c).request ≡ has_bit 6 word)
+    × ((kw_written word c).enable ≡ has_bit 6 word)
 
-abbrev pub after_changes : List Change → Kl → Kl
-after_changes [] k = k
-after_changes (c ∷ cs) k = after_changes cs (after_change c k)
+-- monitor, bit 7 of the clock's register
+abbrev pub monitor_bit : Kw → ℕ
+monitor_bit c = field 7 1 (kw_value c)
 
--- the condition is what the status shows: done and enable
-abbrev pub TheConditionIsShown : Type 0
-TheConditionIsShown = (k : Kl) → (keyboard_condition k ≡ true) ↔ ((done_bit k ≡ 1) × (enable_bit k ≡ 1))
+abbrev pub TicksSetMonitor : Type 0
+TicksSetMonitor = (c : Kw) → monitor_bit (ticked c) ≡ 1
 
--- where there is no request, a change makes one exactly where the condition goes from false to true
-abbrev pub RequestsAppearOnARise : Type 0
-RequestsAppearOnARise = (c : Change) (k : Kl) → k.request ≡ false
-    → ((after_change c k).request ≡ true)
-    ↔ ((keyboard_condition k ≡ false) × (keyboard_condition (after_change c k) ≡ true))
-
--- where there is one, a change leaves it exactly where the condition holds after it
-abbrev pub RequestsGoWithTheCondition : Type 0
-RequestsGoWithTheCondition = (c : Change) (k : Kl) → k.request ≡ true
-    → (after_change c k).request ≡ keyboard_condition (after_change c k)
-
--- the condition holds, and still does after each of the changes
-abbrev pub HoldsThroughout : List Change → Kl → Type 0
-HoldsThroughout [] k = keyboard_condition k ≡ true
-HoldsThroughout (c ∷ cs) k = (keyboard_condition k ≡ true) × HoldsThroughout cs (after_change c k)
-
--- a request that was served stays away while the condition holds
-abbrev pub ServedRequestsStayAway : Type 0
-ServedRequestsStayAway = (k : Kl) (cs : List Change) → HoldsThroughout cs (kl_served k)
-    → (after_changes cs (kl_served k)).request ≡ false
+-- monitor, where it is set, is clear after a write exactly where bit 7 of the word is clear; no write sets it
+abbrev pub MonitorStaysUntilCleared : Type 0
+MonitorStaysUntilCleared = (word : ℕ) (c : Kw)
+    → (monitor_bit c ≡ 1 → monitor_bit (kw_written word c) ≡ field 7 1 word)
+    × (monitor_bit c ≡ 0 → monitor_bit (kw_written word c) ≡ 0)

@@ -1,2 +1,4 @@
+pub mod Keyboard
 pub mod Kl
+pub mod Kw
 pub mod Laws

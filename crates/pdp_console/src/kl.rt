@@ -1,16 +1,21 @@
 ghost use Rattle.std.specs.Prelude.{◌≡◌};
 
-use pdp_word::{bit_of, has_bit, request_after};
+use super::Keyboard;
+use pdp_device::{Outlet, OutletRegister};
 
-/// A register of the console terminal, of its keyboard.
+/// A register of the console terminal.
 ///
 /// PDP-11 Peripherals Handbook, KL11.
 #[derive(Clone, Copy, Debug, PartialEq, Eq)]
 pub enum KlRegister {
-    /// Bit 7 done, bit 6 enable, which alone is written.
+    /// TKS: bit 7 done, bit 6 enable, which alone is written.
     KeyboardStatus,
-    /// The last key. A read clears done; a write does nothing.
+    /// TKB: the last key. A read clears done; a write does nothing (this project's profile).
     KeyboardBuffer,
+    /// TPS: bit 7 ready, bit 6 enable, which alone is written.
+    PrinterStatus,
+    /// TPB: a write clears ready and begins to print its low byte. Reads 0 (this project's profile).
+    PrinterBuffer,
 }
 
 impl KlRegister {
@@ -23,57 +28,56 @@ impl KlRegister {
         match offset {
             0 => Some(KlRegister::KeyboardStatus),
             2 => Some(KlRegister::KeyboardBuffer),
+            4 => Some(KlRegister::PrinterStatus),
+            6 => Some(KlRegister::PrinterBuffer),
             _ => None,
         }
     }
 }
 
-/// The console terminal: its keyboard.
+/// The console terminal: its keyboard and its printer.
 ///
 /// PDP-11 Peripherals Handbook, KL11.
-#[derive(Clone, Copy, Debug, PartialEq, Eq, Default)]
+#[derive(Clone, Copy, Debug, PartialEq, Eq)]
 pub struct Kl {
-    /// A key has come since the buffer was last read.
-    pub done: bool,
-    /// Interrupts of the keyboard are enabled.
-    pub enable: bool,
-    /// The keyboard requests an interrupt. A request appears where done and enable are both set and were not before,
-    /// and goes when it is served or where they are not both set any more (this project's profile).
-    pub request: bool,
-    /// The last key.
-    pub buffer: u8,
-}
-
-// A register's row: what it shows, what a read leaves, and what a write leaves. The request goes by the condition, and
-// no row names it.
-#[derive(Clone, Copy)]
-struct KlRow {
-    value: u16,
-    read: Kl,
-    written: Kl,
+    /// What is typed.
+    pub keyboard: Keyboard,
+    /// What is printed.
+    pub printer: Outlet,
 }
 
 impl Kl {
-    ghost use Rattle.pdp_console.specs.Kl.{changed, keyboard_condition, keyboard_status, kl_reset, kl_served, struck};
-    ghost use Rattle.pdp_console.specs.Kl.{kl_read, kl_row, kl_value, kl_written};
+    ghost use Rattle.pdp_console.specs.Kl.{keyboard_served, kl_completed, kl_printed, kl_read, kl_reset, kl_value};
+    ghost use Rattle.pdp_console.specs.Kl.{kl_written, printer_served, quiet_kl, struck};
+
+    /// A console terminal at power-up: as after RESET, with both buffers 0 (this project's profile).
+    pub fn quiet() -> Kl
+        ensures { result ≡ quiet_kl }
+    {
+        Kl {
+            keyboard: Keyboard::quiet(),
+            printer: Outlet::quiet(),
+        }
+    }
 
     /// A key is struck: its byte is in the buffer, and done is set. A key that comes while done is set replaces the
     /// byte (this project's profile).
     pub fn key(&mut self, key: u8)
         ensures { self.new ≡ struck self.old key }
     {
-        self.change(Kl {
-            done: true,
-            buffer: key,
-            ..*self
-        });
+        self.keyboard.strike(key);
     }
 
     /// What a read of the register gives, without the effect of a read.
     pub fn value(&self, register: KlRegister) -> u16
         ensures { result ≡ kl_value register self.now }
     {
-        self.row(register, 0, 0).value
+        match register {
+            KlRegister::KeyboardStatus => self.keyboard.channel.status(),
+            KlRegister::KeyboardBuffer => u16::from(self.keyboard.key),
+            KlRegister::PrinterStatus => self.printer.value(OutletRegister::Status),
+            KlRegister::PrinterBuffer => self.printer.value(OutletRegister::Buffer),
+        }
     }
 
     /// A read of the register.
@@ -81,85 +85,60 @@ impl Kl {
         ensures value { result ≡ kl_value register self.old }
         ensures after { self.new ≡ kl_read register self.old }
     {
-        let row = self.row(register, 0, 0);
-        self.change(row.read);
-        row.value
+        match register {
+            KlRegister::KeyboardBuffer => u16::from(self.keyboard.take()),
+            _ => self.value(register),
+        }
     }
 
-    /// A write of a word to the register, in this turn.
-    pub fn write_reg(&mut self, register: KlRegister, word: u16, turn: u32)
-        ensures { self.new ≡ kl_written register word turn self.old }
+    /// A write of a word to the register in this turn; printing a byte takes so many turns, with 0 until its event
+    /// (this project's profile).
+    pub fn write_reg(&mut self, register: KlRegister, word: u16, turn: u32, printer_delay: u32)
+        ensures { self.new ≡ kl_written register word turn printer_delay self.old }
     {
-        self.change(self.row(register, word, turn).written);
+        match register {
+            KlRegister::KeyboardStatus => self.keyboard.channel.write_enable(word),
+            KlRegister::KeyboardBuffer => {}
+            KlRegister::PrinterStatus => self
+                .printer
+                .write_reg(OutletRegister::Status, word, turn, printer_delay),
+            KlRegister::PrinterBuffer => self
+                .printer
+                .write_reg(OutletRegister::Buffer, word, turn, printer_delay),
+        }
+    }
+
+    /// The byte that is being printed is out, and the printer is ready again. Gives the byte; where none is being
+    /// printed, nothing happens (this project's profile).
+    pub fn complete(&mut self) -> Option<u8>
+        ensures byte { result ≡ kl_printed self.old }
+        ensures after { self.new ≡ kl_completed self.old }
+    {
+        self.printer.complete()
     }
 
     /// The keyboard's request is served: it goes, and nothing else changes. The next one appears where done or enable
     /// was cleared and both are set again (this project's profile).
-    pub fn serve(&mut self)
-        ensures { self.new ≡ kl_served self.old }
+    pub fn serve_keyboard(&mut self)
+        ensures { self.new ≡ keyboard_served self.old }
     {
-        self.request = false;
+        self.keyboard.channel.serve();
     }
 
-    /// RESET: done and enable are cleared and a request is dropped; the buffer stays (this project's profile).
+    /// The printer's request is served: it goes, and nothing else changes. The next one appears where ready or enable
+    /// was cleared and both are set again (this project's profile).
+    pub fn serve_printer(&mut self)
+        ensures { self.new ≡ printer_served self.old }
+    {
+        self.printer.serve();
+    }
+
+    /// RESET: the keyboard is not done, the printer is ready, neither is enabled or requests, and a byte that is being
+    /// printed is dropped. The buffers stay (this project's profile).
     pub fn reset(&mut self)
         ensures { self.new ≡ kl_reset self.old }
     {
-        *self = Kl {
-            done: false,
-            enable: false,
-            request: false,
-            ..*self
-        };
-    }
-
-    // One change to what is given; the request goes by the condition before and after.
-    fn change(&mut self, after: Kl)
-        ensures { self.new ≡ changed self.old after }
-    {
-        let request = request_after(
-            self.keyboard_condition(),
-            after.keyboard_condition(),
-            self.request,
-        );
-        *self = Kl { request, ..after };
-    }
-
-    // The register's row, for a write of this word in this turn.
-    fn row(self, register: KlRegister, word: u16, _turn: u32) -> KlRow
-        ensures { result ≡ kl_row register word _turn self }
-    {
-        match register {
-            KlRegister::KeyboardStatus => KlRow {
-                value: self.keyboard_status(),
-                read: self,
-                written: Kl {
-                    enable: has_bit(6, word),
-                    ..self
-                },
-            },
-            KlRegister::KeyboardBuffer => KlRow {
-                value: u16::from(self.buffer),
-                read: Kl {
-                    done: false,
-                    ..self
-                },
-                written: self,
-            },
-        }
-    }
-
-    // The condition under which the keyboard requests an interrupt: done and enable.
-    fn keyboard_condition(self) -> bool
-        ensures { result ≡ keyboard_condition self }
-    {
-        self.done && self.enable
-    }
-
-    // The status of the keyboard: bit 7 done, bit 6 enable.
-    fn keyboard_status(self) -> u16
-        ensures { result ≡ keyboard_status self }
-    {
-        bit_of(self.done) * 0o200 + bit_of(self.enable) * 0o100
+        self.keyboard.reset();
+        self.printer.reset();
     }
 }

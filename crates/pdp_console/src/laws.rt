@@ -1,8 +1,8 @@
 ghost use Rattle.pdp_console.specs.Laws.{KeysWait, OtherUsesLeaveTheKey, ReadsClearDone, WritesSetEnable};
-ghost use Rattle.pdp_console.specs.Laws.{RequestsAppearOnARise, RequestsGoWithTheCondition, ServedRequestsStayAway, TheConditionIsShown};
+ghost use Rattle.pdp_console.specs.Laws.{MonitorStaysUntilCleared, TicksRequest, TicksSetMonitor, WritesMakeNoRequest};
 
 /// A law and no code: a key sets done and is in the buffer, a read of the buffer clears done, and a write of the status
-/// register changes enable alone. Whatever else is done to a register leaves done and the key.
+/// register changes enable and what follows from it, the request. Whatever else is done to a register leaves done and the key.
 ///
 /// Source: PDP-11 Peripherals Handbook, KL11.
 pub fn keys_set_done_and_reads_clear_it()
@@ -12,14 +12,13 @@ pub fn keys_set_done_and_reads_clear_it()
     ensures others { OtherUsesLeaveTheKey }
 {}
 
-/// A law and no code: whatever is done to the keyboard, a request appears exactly where its condition, done and enable,
-/// goes from false to true, and one that is there goes exactly where the condition does. One that was served stays away
-/// while the condition holds.
+/// A law and no code: a tick of the clock makes a request exactly where enable is set, and a write makes none; it keeps
+/// one exactly where its bit 6 is set. A tick sets monitor, which stays until a write has bit 7 clear.
 ///
-/// Source: this project's profile.
-pub fn requests_appear_on_a_rise()
-    ensures condition { TheConditionIsShown }
-    ensures appear { RequestsAppearOnARise }
-    ensures go { RequestsGoWithTheCondition }
-    ensures served { ServedRequestsStayAway }
+/// Source: PDP-11 Peripherals Handbook, KW11-L; that a write makes no request and drops one, this project's profile.
+pub fn ticks_request_where_enabled()
+    ensures ticks { TicksRequest }
+    ensures writes { WritesMakeNoRequest }
+    ensures monitor { TicksSetMonitor }
+    ensures cleared { MonitorStaysUntilCleared }
 {}

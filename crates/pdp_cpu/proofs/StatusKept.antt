@@ -114,6 +114,8 @@ unanswered r b = rw (perform_is r b) (unanswered_by r.kind b (physical_address r
 read_leaves : (r : Register) (board : Board) → (after_read r board).status ≡ board.status
 unfolding after_read
 read_leaves (register.Console r) board = refl
+read_leaves register.Clock board = refl
+read_leaves (register.PaperTape r) board = refl
 read_leaves register.Switches board = refl
 read_leaves register.ProgramStatus board = refl
 

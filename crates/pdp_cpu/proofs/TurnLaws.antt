@@ -1,7 +1,8 @@
 -- The laws of turns, as instances of those of courses.
 use Rattle.std.proofs.Common.{◌≡◌, ◌∙◌, ℕ, ◌<◌, ◌≤◌, None, All, List, ap, refl, subst, sym, Bool, true, false, arith, length, slice_index, slice_index_or}
 use Rattle.pdp_unibus.specs.BusWorld.{BusWorld}
-use Rattle.pdp_unibus.specs.Event.{in_turn}
+use Rattle.pdp_unibus.proofs.Beginnings.{Keeps, begun_keeps}
+use Rattle.pdp_unibus.specs.Beginning.{begun}
 use Rattle.pdp_unibus.specs.declared.event.Event.{Event}
 use Rattle.pdp_operand.specs.Laws.Page.{AlikeOutside, SamePage}
 use Rattle.pdp_operand.specs.Laws.Touched.{IsOfTurn}
@@ -17,8 +18,8 @@ use Rattle.pdp_cpu.specs.Handbook.Instruction.{executed, instruction, noted}
 use Rattle.pdp_cpu.specs.Handbook.TrapSequence.{handled, origin_of, push_plan, red, red_plan, sequence, trap_plan}
 use Rattle.pdp_cpu.specs.Turns.Due.{course_of, due_of, serve, serving, take_stack, take_trace}
 use Rattle.pdp_operand.specs.Phases.World.{World, world}
-use Rattle.pdp_cpu.specs.Turns.Turn.{beginning, clear_latch, course_at, started, act_end, at_turn, one_turn, turn_trace}
-use Rattle.pdp_cpu.proofs.Events.{KeepsCore, AlikeWorlds, events_keep, events_alike}
+use Rattle.pdp_cpu.specs.Turns.Turn.{beginning, clear_latch, course_at, started, act_end, at_turn, one_turn, printed_in, punched_in, turn_trace}
+use Rattle.pdp_cpu.proofs.Events.{AlikeWorlds, begun_alike}
 use Rattle.pdp_cpu.specs.Laws.TurnLaws.{turn_phases, Undisturbed}
 use Rattle.pdp_cpu.specs.declared.due.Due.{Due}
 use Rattle.pdp_cpu.specs.declared.due.Due.TheVariants as due
@@ -87,8 +88,8 @@ pub turn_at_most_32 : (t : ℕ) (events : List Event) (w : World) → turn_phase
 unfolding turn_phases
 turn_at_most_32 t events w = course_length_le (course_at (at_turn t events w)) 32 (at_turn t events w) (course_at_most (due_of (inner_of (at_turn t events w))))
 
-abbrev kept : (t : ℕ) (events : List Event) (w : World) → KeepsCore (in_turn t w.bus) (beginning t events w).bus
-kept t events w = events_keep events (record w { bus = in_turn t w.bus })
+abbrev kept : (t : ℕ) (events : List Event) (w : World) → Keeps t w.bus (begun t events w.bus).bus
+kept t events w = begun_keeps t events w.bus
 
 abbrev act_trace : ℕ → List Event → World → List Touch
 act_trace t events w = trace_of (course_at (at_turn t events w)) (at_turn t events w)
@@ -155,16 +156,19 @@ same_page_from page b c d is same = λ k within. subst (λ core. slice_index cor
 
 pub turn_undisturbed : (page t : ℕ) (events : List Event) (p : Processor) (b c : BusWorld) → AlikeOutside page b c
     → Avoids page (turn_trace t events (world p b)) → Undisturbed page t events p b c
-unfolding one_turn turn_trace
+unfolding one_turn turn_trace printed_in punched_in
 turn_undisturbed page t events p b c alike avoids =
-    let begun : AlikeOutside page (in_turn t b) (in_turn t c) =
-    record { board = alike.board; turn = refl; lasts = alike.lasts; size = alike.size; words = alike.words } in
-    let both = events_alike page events (world p (in_turn t b)) (world p (in_turn t c)) (record { processor = refl; bus = begun }) in
-    let so = undisturbed_act page (beginning t events (world p b)) (beginning t events (world p c)) both avoids in
+    let both = begun_alike page t events b c alike in
+    let so =
+    undisturbed_act page (beginning t events (world p b)) (beginning t events (world p c))
+    (record { processor = refl; bus = both.bus }) avoids
+    in
     record {
       processor = so.processor;
       bus = so.bus;
       trace = so.trace;
+      printed = both.printed;
+      punched = both.punched;
       page_of_one = same_page_from page b (beginning t events (world p b)).bus (act_end (beginning t events (world p b))).bus
           (kept t events (world p b)).core so.page_of_one;
       page_of_other = same_page_from page c (beginning t events (world p c)).bus (act_end (beginning t events (world p c))).bus

@@ -7,7 +7,7 @@ use pdp_operand::{Processor, RunState};
 use pdp_store::Store;
 use pdp_unibus::{Bus, Source};
 
-/// What is due in a turn, after its events.
+/// What is due in a turn that has begun.
 #[derive(Clone, Copy, Debug, PartialEq, Eq)]
 pub enum Due {
     /// An instruction.
@@ -66,6 +66,6 @@ impl Due {
 pub fn nothing_is_pending<S: Store>(processor: &Processor, bus: &Bus<S>) -> bool
     ensures { result ≡ true → due_now processor.now bus.now.board ≡ Instruction }
 {
-    let pending = processor.trace_trap | processor.stack_trap | bus.has_request();
+    let pending = processor.trace_trap | processor.stack_trap | bus.may_request();
     !((processor.run != RunState::Run) | pending)
 }

@@ -13,7 +13,7 @@ use pdp_word::{Codes, Size};
 
 /// MUL.
 #[inline(never)]
-#[tactic(auto, using(crate::proofs::Steps::run_multiply, crate::proofs::Steps::run_store_codes), unfolding(crate::specs::Handbook::Extended::mul_plan))]
+#[tactic(auto, using(crate::proofs::Steps::run_multiplication), unfolding(crate::specs::Handbook::Extended::mul_plan))]
 pub fn multiply<S: Store>(
     processor: &mut Processor,
     bus: &mut Bus<S>,
@@ -33,7 +33,7 @@ pub fn multiply<S: Store>(
 
 /// DIV.
 #[inline(never)]
-#[tactic(auto, using(crate::proofs::Steps::run_divide, crate::proofs::Steps::run_store_codes), unfolding(crate::specs::Handbook::Extended::div_plan))]
+#[tactic(auto, using(crate::proofs::Steps::run_division), unfolding(crate::specs::Handbook::Extended::div_plan))]
 pub fn divide<S: Store>(
     processor: &mut Processor,
     bus: &mut Bus<S>,
@@ -67,7 +67,7 @@ fn set_quotient(processor: &mut Processor, pair: Pair, effect: Div) -> Codes
 
 /// ASH.
 #[inline(never)]
-#[tactic(auto, using(crate::proofs::Steps::run_shift, crate::proofs::Steps::run_store_codes), unfolding(crate::specs::Handbook::Extended::ash_plan))]
+#[tactic(auto, using(crate::proofs::Steps::run_shift), unfolding(crate::specs::Handbook::Extended::ash_plan))]
 pub fn shift<S: Store>(
     processor: &mut Processor,
     bus: &mut Bus<S>,
@@ -87,7 +87,7 @@ pub fn shift<S: Store>(
 
 /// ASHC.
 #[inline(never)]
-#[tactic(auto, using(crate::proofs::Steps::run_shift_pair, crate::proofs::Steps::run_store_codes), unfolding(crate::specs::Handbook::Extended::ashc_plan))]
+#[tactic(auto, using(crate::proofs::Steps::run_pair_shift), unfolding(crate::specs::Handbook::Extended::ashc_plan))]
 pub fn shift_pair<S: Store>(
     processor: &mut Processor,
     bus: &mut Bus<S>,

@@ -1,11 +1,11 @@
 //! The processor of the PDP-11/40: one whole turn of the machine, by phases.
 //!
-//! It stands on pdp_operand, pdp_unibus, pdp_alu, pdp_decode and what is below these. The contract of
-//! `Machine::turn` says that a turn takes the machine to its definition's next state, for every store of core, with
-//! which act it began, and that the meter counts it: what is due (`Due`), an instruction's plan, and what follows a
-//! trap are all phases. The laws say how many phases a turn has at most, what it stamps and what it leaves, and that a
-//! halted machine stays.
-//! Which events a turn has, and how many turns are run, it leaves to pdp_replay.
+//! It stands on pdp_operand, pdp_unibus, pdp_alu, pdp_decode and what is below these. The contract of `Machine::turn`
+//! says that a turn takes the machine to its definition's next state, what was printed and punched with it, for every
+//! store of core, with which act it began, and that the meter counts it: what is due (`Due`), an instruction's plan,
+//! and what follows a trap are all phases. The laws say how many phases a turn has at most, what it stamps and what
+//! it leaves, and that a halted machine stays. Which events a turn has, and how many turns are run, it leaves to
+//! pdp_replay.
 #![tactic(auto)]
 
 mod act;
@@ -14,6 +14,7 @@ mod branch;
 mod change_codes;
 mod condition;
 mod control;
+mod devices;
 mod due;
 mod execute;
 mod extended;
@@ -37,6 +38,7 @@ mod trap_sequence;
 mod two_operands;
 
 pub use act::Act;
+pub use devices::DeviceRegisters;
 pub use laws::{
     halted_machines_stay, stamps_are_last_writes, touches_are_of_their_turn,
     turns_end_within_32_phases, turns_keep_the_size_of_core, turns_leave_what_they_never_touch,

@@ -1,84 +1,117 @@
-ghost use Rattle.std.specs.Prelude.{◌≡◌, ◌+◌, ◌-◌, ◌^◌, ◌<◌, ◌≤◌, length, min, slice_index, slice_index_or, None, Ok};
+ghost use Rattle.std.specs.Prelude.{◌≡◌, ◌+◌, ◌-◌, ◌^◌, ◌<◌, ◌≤◌, length, min, slice_index, slice_index_or, None, Ok, OnOk};
 ghost use Rattle.pdp_unibus.specs.BusWorld.{powered};
+ghost use Rattle.pdp_cpu.specs.Turns.Devices.{devices_of};
 ghost use Rattle.pdp_cpu.specs.Turns.MachineState.{IsReady, powered_machine, after_turn};
 ghost use Rattle.pdp_cpu.specs.Turns.Regs.{regs_of};
 ghost use Rattle.pdp_cpu.specs.Turns.Turn.{turn_act};
 
 use crate::act::Act;
+use crate::devices::DeviceRegisters;
 use crate::due::nothing_is_pending;
 use crate::instruction::instruct;
 use crate::meter::Meter;
 use crate::regs::Regs;
 use crate::serving::take_what_is_due;
+use pdp_console::KlRegister;
 use pdp_operand::{Processor, RunState, Slot};
 use pdp_store::{Stamp, Store};
-use pdp_unibus::{Bus, Event, LAST_TURN};
+use pdp_tape::PcRegister;
+use pdp_unibus::{Bus, Delays, Event, LAST_TURN, Register};
 use pdp_word::NoMemory;
 use std::alloc::Global;
 use std::marker::Model;
 
 /// The machine: processor, bus and core, for any store of core.
 ///
-/// A contract sees it as a `MachineState`: the number of turns that it has run, and its world.
+/// A contract sees it as a `MachineWithRoom`: the turns that it has run, its world, what was printed and punched, and
+/// for how many more bytes there is room.
 #[derive(Drop)]
 pub struct Machine<S: Store> {
     processor: Processor,
     bus: Bus<S>,
     turn: u32,
+    text: Vec<u8>,
+    punched: Vec<u8>,
 }
 
 impl<S: Store> Model for Machine<S> {
-    ghost use Rattle.pdp_cpu.specs.Turns.MachineState.{MachineState};
+    ghost use Rattle.std.specs.Prelude.{◌-◌};
+    ghost use Rattle.std.specs.Vec.{vec_capacity, vec_len};
+    ghost use Rattle.pdp_cpu.specs.Turns.MachineState.{MachineWithRoom};
     ghost use Rattle.pdp_operand.specs.Phases.World.{world};
 
-    ghost Value = { MachineState };
+    ghost Value = { MachineWithRoom };
 
-    ghost view = { λ m. record { turn = m.turn; world = world m.processor m.bus } };
+    ghost view = { λ m. record {
+      state = record { turn = m.turn; world = world m.processor m.bus; text = m.text.items; punched = m.punched.items };
+      text_room = vec_capacity m.text - vec_len m.text;
+      punched_room = vec_capacity m.punched - vec_len m.punched;
+    } };
 }
 
 impl<S: Store> Machine<S> {
-    /// The machine as of power-up over this core: PC is the start address (octal, bytes), every other register and the
-    /// program status word 0 (this project's profile). It has run no turn. Takes no memory.
-    pub fn power(_alloc: Global, start: u16, words: S) -> Self
-        ensures { result ≡ powered_machine start (S.words words) (S.lasts words) }
+    /// The machine as of power-up over this core, with this paper tape in the reader and these delays (turns): PC is
+    /// the start address (octal, bytes), every other register and the program status word 0, the devices as after RESET
+    /// (this project's profile). It has run no turn, and printed and punched nothing. Takes no memory.
+    pub fn power(alloc: Global, start: u16, words: S, tape: Vec<u8>, delays: Delays) -> Self
+        ensures { result.state ≡ powered_machine start (S.words words) (S.lasts words) tape.items delays }
     {
         Machine {
             processor: Processor::power(start),
-            bus: Bus::new(words),
+            bus: Bus::new(words, tape, delays),
             turn: 0,
+            text: Vec::new(alloc),
+            punched: Vec::new(alloc),
         }
     }
 
-    /// Makes the room that one turn may need. There is nothing yet that grows, so it always answers Ok.
-    #[tactic(auto, unfolding(crate::specs::Turns::MachineState::IsReady))]
+    /// Makes the room that one turn may need: for one byte printed on the console and one punched.
+    ///
+    /// Err(NoMemory) where a growth was refused, so never where there was room; all but the room is then as before too.
+    #[inline(always)]
     pub fn ready(&mut self) -> Result<(), NoMemory>
-        ensures ok { result ≡ Ok tt }
-        ensures ready { IsReady self.new }
-        ensures same { self.new ≡ self.old }
+        ensures ready { OnOk result (IsReady self.new) }
+        ensures had_room { IsReady self.old → result ≡ Ok tt }
+        ensures same { self.new.state ≡ self.old.state }
     {
+        if self.text.len() < self.text.capacity() && self.punched.len() < self.punched.capacity() {
+            return Ok(());
+        }
+        self.make_room()
+    }
+
+    // Makes room for one printed and one punched byte.
+    #[cold]
+    #[inline(never)]
+    fn make_room(&mut self) -> Result<(), NoMemory>
+        ensures ready { OnOk result (IsReady self.new) }
+        ensures same { self.new.state ≡ self.old.state }
+    {
+        self.text.reserve(1)?;
+        self.punched.reserve(1)?;
         Ok(())
     }
 
-    /// One whole turn, and one tick of the meter: the events of the turn in their order, and then one act, of which it
-    /// tells how it began: the trace trap or the stack trap that is pending, an interrupt, one instruction with its
-    /// trap if it has one, or nothing where the machine waits or is halted. `Continue` ends a halt, and the act of that
-    /// turn is chosen after it; a halted machine still gets events. Once asked it always takes place.
+    /// One whole turn, which the meter counts: the events of the turn in their order, a tick of the clock and the
+    /// completions that are due, and then one act, of which it tells how it began: the trace trap or the stack trap
+    /// that is pending, an interrupt, one instruction with its trap if it has one, or nothing where the machine waits
+    /// or is halted. `Continue` ends a halt, and the act of that turn is chosen after it; the turns of a halted machine
+    /// begin like others. The bytes that come out are kept. Once asked it always takes place.
     ///
     /// DEC PDP-11/40 Processor Handbook (1972), Processor traps and Interrupts; that a turn is one act, and their
     /// order, are this project's profile.
     #[inline(always)]
-    #[tactic(auto, unfolding(crate::specs::Turns::Turn::one_turn, crate::specs::Turns::Turn::turn_act))]
+    #[tactic(auto, unfolding(crate::specs::Turns::Turn::one_turn, crate::specs::Turns::Turn::turn_act, crate::specs::Turns::Turn::printed_in, crate::specs::Turns::Turn::punched_in))]
     pub fn turn(&mut self, meter: &mut Meter, events: &[Event]) -> Act
         requires ready { IsReady self.old }
-        requires limit { self.old.turn < LAST_TURN }
-        ensures act { result ≡ turn_act self.old.turn events.now self.old.world }
-        ensures turn { self.new ≡ after_turn events.now self.old }
+        requires limit { self.old.state.turn < LAST_TURN }
+        ensures act { result ≡ turn_act self.old.state.turn events.now self.old.state.world }
+        ensures turn { self.new.state ≡ after_turn events.now self.old.state }
         ensures counted { meter.new ≡ min (meter.old + 1) (2 ^ 64 - 1) }
         ensures grows { meter.old ≤ meter.new }
     {
-        self.bus.begin(self.turn);
-        if !events.is_empty() {
-            take_events(&mut self.processor, &mut self.bus, events);
+        if !events.is_empty() || !self.bus.begin_quietly(self.turn) {
+            self.begin(events);
         }
         let act = if nothing_is_pending(&self.processor, &self.bus) {
             instruct(&mut self.processor, &mut self.bus);
@@ -93,7 +126,7 @@ impl<S: Store> Machine<S> {
 
     /// The registers now (DEC PDP-11/40 Processor Handbook (1972), General registers and Processor status word).
     pub fn regs(&self) -> Regs
-        ensures { result ≡ regs_of self.now.world }
+        ensures { result ≡ regs_of self.now.state.world }
     {
         let p = &self.processor;
         Regs {
@@ -115,8 +148,8 @@ impl<S: Store> Machine<S> {
 
     /// The core word of this number (half its byte address), without a bus cycle.
     pub fn word(&self, number: usize) -> u16
-        requires { number < length self.now.world.bus.core }
-        ensures { result ≡ slice_index self.now.world.bus.core number }
+        requires { number < length self.now.state.world.bus.core }
+        ensures { result ≡ slice_index self.now.state.world.bus.core number }
     {
         self.bus.word(number)
     }
@@ -124,19 +157,84 @@ impl<S: Store> Machine<S> {
     /// The turn and the agent of the last write to the core word of this number (half its byte address); None where
     /// there was none since power-up. A byte write counts for its word (this project's profile).
     pub fn last(&self, number: usize) -> Option<Stamp>
-        requires { number < length self.now.world.bus.core }
-        ensures { result ≡ slice_index_or self.now.world.bus.lasts number None }
+        requires { number < length self.now.state.world.bus.core }
+        ensures { result ≡ slice_index_or self.now.state.world.bus.lasts number None }
     {
         self.bus.last(number)
     }
+
+    /// The bytes that were printed on the console since power-up, in their order (PDP-11 Peripherals Handbook, KL11).
+    pub fn text(&self) -> &[u8]
+        ensures { result.now ≡ self.now.state.text }
+    {
+        &self.text
+    }
+
+    /// The bytes that were punched since power-up, in their order (PDP-11 Peripherals Handbook, PC11).
+    pub fn punched(&self) -> &[u8]
+        ensures { result.now ≡ self.now.state.punched }
+    {
+        &self.punched
+    }
+
+    /// The registers of the devices as reads would give them, without the effect of a read.
+    #[tactic(auto, unfolding(crate::specs::Turns::Devices::devices_of))]
+    pub fn devices(&self) -> DeviceRegisters
+        ensures { result ≡ devices_of self.now.state.world }
+    {
+        DeviceRegisters {
+            keyboard_status: self
+                .bus
+                .value(Register::Console(KlRegister::KeyboardStatus)),
+            keyboard_buffer: self
+                .bus
+                .value(Register::Console(KlRegister::KeyboardBuffer)),
+            printer_status: self.bus.value(Register::Console(KlRegister::PrinterStatus)),
+            clock_status: self.bus.value(Register::Clock),
+            reader_status: self
+                .bus
+                .value(Register::PaperTape(PcRegister::ReaderStatus)),
+            reader_buffer: self
+                .bus
+                .value(Register::PaperTape(PcRegister::ReaderBuffer)),
+            punch_status: self.bus.value(Register::PaperTape(PcRegister::PunchStatus)),
+            switches: self.bus.value(Register::Switches),
+        }
+    }
+
+    // A turn begins that has events, or in which something comes of the devices.
+    #[cold]
+    #[inline(never)]
+    #[tactic(auto, unfolding(crate::specs::Turns::Turn::printed_in, crate::specs::Turns::Turn::punched_in))]
+    fn begin(&mut self, events: &[Event])
+        requires ready { IsReady self.old }
+        ensures { self.new.state ≡ with_begun events.now self.old.state }
+    {
+        take_events(&mut self.processor, events);
+        let output = self.bus.events(self.turn, events);
+        keep(&mut self.text, output.printed);
+        keep(&mut self.punched, output.punched);
+    }
 }
 
-ghost use Rattle.pdp_cpu.specs.Turns.Turn.{after_event, after_events};
-ghost use Rattle.pdp_operand.specs.Phases.World.{world};
+ghost use Rattle.pdp_cpu.specs.Turns.MachineState.{with_begun};
+ghost use Rattle.pdp_cpu.specs.Turns.Turn.{processor_after, processor_after_events};
+ghost use Rattle.std.specs.Prelude.{◌++◌, option_to_list};
+ghost use Rattle.std.specs.Vec.{vec_capacity, vec_len};
 
-/// What an event does to the machine: `Continue` ends a halt, every other event goes to the bus.
-fn take_event<S: Store>(processor: &mut Processor, bus: &mut Bus<S>, event: Event)
-    ensures { world processor.new bus.new ≡ after_event event (world processor.old bus.old) }
+/// What events do to the processor, in their order.
+#[tactic(auto, using(crate::proofs::Events::after_more_events))]
+fn take_events(processor: &mut Processor, events: &[Event])
+    ensures { processor.new ≡ processor_after_events events.now processor.old }
+{
+    for event in events {
+        take_event(processor, *event);
+    }
+}
+
+/// What an event does to the processor: `Continue` ends a halt.
+fn take_event(processor: &mut Processor, event: Event)
+    ensures { processor.new ≡ processor_after event processor.old }
 {
     match event {
         Event::Continue => {
@@ -144,23 +242,16 @@ fn take_event<S: Store>(processor: &mut Processor, bus: &mut Bus<S>, event: Even
                 processor.set_run(RunState::Run);
             }
         }
-        Event::Key(_)
-        | Event::Switches(_)
-        | Event::Tick
-        | Event::PrinterDone
-        | Event::ReaderDone
-        | Event::PunchDone
-        | Event::DiskDone => bus.event(event),
+        _ => {}
     }
 }
 
-/// What events do to the machine, in their order.
-#[inline(never)]
-#[tactic(auto, using(crate::proofs::Events::after_more_events))]
-fn take_events<S: Store>(processor: &mut Processor, bus: &mut Bus<S>, events: &[Event])
-    ensures { world processor.new bus.new ≡ after_events events.now (world processor.old bus.old) }
+/// Keeps the byte that came out, if any, where there is room for one.
+fn keep(bytes: &mut Vec<u8>, byte: Option<u8>)
+    requires room { vec_len bytes.old < vec_capacity bytes.old }
+    ensures { bytes.new.items ≡ bytes.old.items ++ option_to_list byte }
 {
-    for event in events {
-        take_event(processor, bus, *event);
+    if let Some(byte) = byte {
+        let _ = bytes.push(byte);
     }
 }

@@ -4,18 +4,20 @@ ghost use Rattle.std.specs.Prelude.{◌≡◌, ◌+◌, ◌≤◌, IfOk, OnOk, l
 
 use crate::{Act, Machine, Meter, Regs, RunState, turns_keep_the_size_of_core};
 use pdp_store::{Flat, Store};
-use pdp_unibus::LAST_TURN;
+use pdp_unibus::{Delays, Event, LAST_TURN, Line};
 use pdp_word::NoMemory;
 use std::alloc::Global;
 
 mod branches;
 mod control;
+mod devices;
 mod double_operand;
 mod extended;
 mod faults;
 mod interrupts;
 mod jumps;
 mod operands;
+mod output;
 mod red;
 mod returns;
 mod single_operand;
@@ -46,19 +48,19 @@ fn place(core: &mut Flat, address: u16, words: &[u16])
 // A machine that starts at this address, over core with this program at 001000.
 fn machine_over(alloc: Global, start: u16, program: &[u16]) -> Result<Machine<Flat>, NoMemory>
     requires { length program.now ≤ 256 }
-    ensures new { IfOk result (λ m. m.turn ≡ 0) }
-    ensures words { IfOk result (λ m. length m.world.bus.core ≡ WORDS) }
+    ensures new { IfOk result (λ m. m.state.turn ≡ 0) }
+    ensures words { IfOk result (λ m. length m.state.world.bus.core ≡ WORDS) }
 {
     let mut core = Flat::new(alloc, WORDS, true)?;
     place(&mut core, 0o001000, program);
-    Ok(Machine::power(alloc, start, core))
+    Ok(Machine::power(alloc, start, core, Vec::new(alloc), Delays::standard()))
 }
 
 // Runs so many turns, and answers the act of the last.
 fn run_turns(machine: &mut Machine<Flat>, meter: &mut Meter, turns: u16) -> Result<Act, NoMemory>
-    requires { machine.old.turn + turns ≤ LAST_TURN }
-    ensures turns { OnOk result (machine.new.turn ≡ machine.old.turn + turns) }
-    ensures words { OnOk result (length machine.new.world.bus.core ≡ length machine.old.world.bus.core) }
+    requires { machine.old.state.turn + turns ≤ LAST_TURN }
+    ensures turns { OnOk result (machine.new.state.turn ≡ machine.old.state.turn + turns) }
+    ensures words { OnOk result (length machine.new.state.world.bus.core ≡ length machine.old.state.world.bus.core) }
 {
     let mut act = Act::Idle;
     for _done in 0..turns {
@@ -72,10 +74,55 @@ fn run_turns(machine: &mut Machine<Flat>, meter: &mut Meter, turns: u16) -> Resu
 // The machine after so many turns of this program.
 fn after(alloc: Global, program: &[u16], turns: u16) -> Result<Machine<Flat>, NoMemory>
     requires { length program.now ≤ 256 }
-    ensures { IfOk result (λ m. length m.world.bus.core ≡ WORDS) }
+    ensures { IfOk result (λ m. length m.state.world.bus.core ≡ WORDS) }
 {
     let mut machine = machine_over(alloc, 0o001000, program)?;
     run_turns(&mut machine, &mut Meter::new(), turns)?;
+    Ok(machine)
+}
+
+// What a program has outside: the tape in the reader, the delay of a line, and an event in a turn.
+#[derive(Clone, Copy)]
+struct Outside<'a> {
+    tape: &'a [u8],
+    delay: (Line, u32),
+    event: Option<(u16, Event)>,
+}
+
+// The standard delays, and nothing else.
+const STANDARD: Outside<'static> = Outside {
+    tape: &[],
+    delay: (Line::Clock, 0),
+    event: None,
+};
+
+// The machine after so many turns of this program at 001000, with this outside.
+fn operated(
+    alloc: Global,
+    program: &[u16],
+    outside: Outside,
+    turns: u16,
+) -> Result<Machine<Flat>, NoMemory>
+    requires { length program.now ≤ 256 }
+{
+    let mut core = Flat::new(alloc, WORDS, true)?;
+    place(&mut core, 0o001000, program);
+    let (line, delay) = outside.delay;
+    let delays = Delays::standard().with(line, delay);
+    let tape = outside.tape.to_vec(alloc)?;
+    let mut machine = Machine::power(alloc, 0o001000, core, tape, delays);
+    let mut meter = Meter::new();
+    match outside.event {
+        Some((turn, event)) if turn < turns => {
+            run_turns(&mut machine, &mut meter, turn)?;
+            machine.ready()?;
+            machine.turn(&mut meter, &[event]);
+            run_turns(&mut machine, &mut meter, turns - turn - 1)?;
+        }
+        _ => {
+            run_turns(&mut machine, &mut meter, turns)?;
+        }
+    }
     Ok(machine)
 }
 
@@ -138,8 +185,8 @@ const VECTORS: [u16; 14] = [
 // A machine over core with the vectors and with this program at 001000, where it is after its first four turns.
 fn machine_at(alloc: Global, start: Start, program: &[u16]) -> Result<Machine<Flat>, NoMemory>
     requires { length program.now ≤ 256 }
-    ensures new { IfOk result (λ m. m.turn ≡ 0) }
-    ensures words { IfOk result (λ m. length m.world.bus.core ≡ WORDS) }
+    ensures new { IfOk result (λ m. m.state.turn ≡ 0) }
+    ensures words { IfOk result (λ m. length m.state.world.bus.core ≡ WORDS) }
 {
     let before = [
         // MOV #..,SP; MOV #140000,@#177776; MOV #..,SP; MOV #..,@#177776
@@ -152,7 +199,7 @@ fn machine_at(alloc: Global, start: Start, program: &[u16]) -> Result<Machine<Fl
     place(&mut core, 0o001000, program);
     let (address, words) = start.words;
     place(&mut core, address, &words);
-    Ok(Machine::power(alloc, 0o000754, core))
+    Ok(Machine::power(alloc, 0o000754, core, Vec::new(alloc), Delays::standard()))
 }
 
 // How so many turns of this program end: the act of the last, the registers, and the two words at the top of the
@@ -176,6 +223,30 @@ fn ended(
     };
     let top = usize::from(stack / 2) % (WORDS - 1);
     Ok((act, regs, [machine.word(top), machine.word(top + 1)]))
+}
+
+// How so many turns of this program, a turn with these events, and so many more end: the act of the last, and the
+// registers.
+fn ended_with(
+    alloc: Global,
+    start: Start,
+    program: &[u16],
+    before: u8,
+    events: &[Event],
+    after: u8,
+) -> Result<(Act, Regs), NoMemory>
+    requires { length program.now ≤ 256 }
+{
+    let mut machine = machine_at(alloc, start, program)?;
+    let mut meter = Meter::new();
+    run_turns(&mut machine, &mut meter, START_TURNS + u16::from(before))?;
+    machine.ready()?;
+    let act = machine.turn(&mut meter, events);
+    if after == 0 {
+        return Ok((act, machine.regs()));
+    }
+    let act = run_turns(&mut machine, &mut meter, u16::from(after))?;
+    Ok((act, machine.regs()))
 }
 
 // The registers after a trap from kernel mode, with the vectors and the stacks that the machine began with.

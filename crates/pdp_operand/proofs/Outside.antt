@@ -11,6 +11,7 @@ use Rattle.pdp_operand.proofs.Pairs.{AlikeCore, with_core, over, paired_course}
 outside_of_core : (page : ℕ) (b : BusWorld) (ys : List ℕ) → AlikeCore page b.core ys → AlikeOutside page b (with_core b ys)
 outside_of_core page b ys alike = record {
   board = refl;
+  tape = refl;
   turn = refl;
   lasts = refl;
   size = sym alike.size;
@@ -21,9 +22,9 @@ core_of_outside : (page : ℕ) (b c : BusWorld) → AlikeOutside page b c → Al
 core_of_outside page b c alike = record { size = sym alike.size; words = λ k outside. sym (alike.words k outside) }
 
 -- a bus that is alike is the one bus with the core of the other
-bus_of_outside : (page : ℕ) (b c : BusWorld) → AlikeOutside page b c → with_core b c.core ≡ c
+pub bus_of_outside : (page : ℕ) (b c : BusWorld) → AlikeOutside page b c → with_core b c.core ≡ c
 bus_of_outside page b c alike =
-    λ i. record { board = alike.board i; core = c.core; lasts = alike.lasts i; turn = alike.turn i }
+    λ i. record { board = alike.board i; core = c.core; lasts = alike.lasts i; tape = alike.tape i; turn = alike.turn i }
 
 undisturbed_core : (page : ℕ) (course : Course) (s : State) (ys : List ℕ) → AlikeCore page s.world.bus.core ys
     → Avoids page (trace_of course s) → UndisturbedCourse page course s (with_core s.world.bus ys)

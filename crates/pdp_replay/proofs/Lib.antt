@@ -5,3 +5,4 @@ pub mod CoreWords
 pub mod Patches
 pub mod Setups
 pub mod States
+pub mod Texts

@@ -1,5 +1,5 @@
 -- Edits that are never refused as out of memory.
-use Rattle.std.proofs.Common.{◌≡◌, ℕ, Bool, true, false, cond, refl, ◌∙◌, Option, None, Some, Result, Ok, Err, List, nat_lt}
+use Rattle.std.proofs.Common.{◌≡◌, ℕ, Bool, true, false, cond, refl, ◌∙◌, Option, None, Some, Result, Ok, Err, List, length, nat_le, nat_lt}
 use Rattle.pdp_script.specs.Entries.{Entry, entry_of, altered, without}
 use Rattle.pdp_script.specs.Refusal.{for_memory, result_map}
 use Rattle.pdp_script.specs.Script.{ScriptData, of_entry}
@@ -7,8 +7,10 @@ use Rattle.pdp_unibus.specs.LastTurn.{last_turn}
 use Rattle.pdp_script.specs.declared.faults.Fault.{Fault}
 use Rattle.pdp_script.specs.declared.faults.Fault.TheVariants.{NoMemory, OutsideCore, OddAddress, OutsideDisk, NoSuchEvent, ScriptFull, TurnTooLarge, CountOutOfRange, NoSuchPatch, BadLine, LineTooLong, Input, Output, BadImage, BadSetup}
 use Rattle.pdp_unibus.specs.declared.event.Event.{Event}
-use Rattle.pdp_replay.specs.Edit.{event_alteration, event_drop}
+use Rattle.pdp_unibus.specs.declared.delays.Line.{Line}
+use Rattle.pdp_replay.specs.Edit.{event_alteration, event_drop, tape_edit, delay_edit}
 use Rattle.pdp_replay.specs.Past.{Past}
+use Rattle.pdp_replay.specs.Setup.{SetupData, tape_bytes}
 
 mapped : {X Y : Type 0} (f : X → Y) (r : Result X Fault) → for_memory (result_map f r) ≡ for_memory r
 mapped f (Ok x) = refl
@@ -46,3 +48,19 @@ alteration_needs_none number turn event p =
 pub drop_needs_none : (number : ℕ) (p : Past) → for_memory (event_drop number p) ≡ false
 unfolding event_drop
 drop_needs_none number p = mapped _ _ ∙ entry_edit (entry_of p.script.entries number) (λ _. without p.script.entries number) p.script
+
+short_or_bad : (short : Bool) (s : SetupData) → for_memory (cond short (Ok s) (Err BadImage)) ≡ false
+short_or_bad true s = refl
+short_or_bad false s = refl
+
+pub tape_needs_none : (tape : List ℕ) (p : Past) → for_memory (tape_edit tape p) ≡ false
+unfolding tape_edit
+tape_needs_none tape p = mapped _ _ ∙ short_or_bad (nat_le (length tape) tape_bytes) _
+
+early_or_large : (early : Bool) (s : SetupData) → for_memory (cond early (Ok s) (Err TurnTooLarge)) ≡ false
+early_or_large true s = refl
+early_or_large false s = refl
+
+pub delay_needs_none : (line : Line) (delay : ℕ) (p : Past) → for_memory (delay_edit line delay p) ≡ false
+unfolding delay_edit
+delay_needs_none line delay p = mapped _ _ ∙ early_or_large (nat_le delay last_turn) _

@@ -1,19 +1,18 @@
 -- States some turns on.
 use Rattle.std.proofs.Common.{◌≡◌, ℕ, zero, suc, ◌+◌, ◌<◌, ◌≤◌, refl, ap, ◌∙◌, add-one, add-zero, arith, []}
 use Rattle.pdp_cpu.specs.Turns.MachineState.{MachineState, after_turn}
-use Rattle.pdp_cpu.specs.Turns.Turn.{one_turn}
 use Rattle.pdp_script.specs.Entries.{events_at}
 use Rattle.pdp_replay.specs.Past.{Past}
 use Rattle.pdp_replay.specs.Quiet.{quiet_turns}
-use Rattle.pdp_replay.specs.States.{power, state_at, at}
+use Rattle.pdp_replay.specs.States.{state_at, text_at, punched_at, at, powered_up}
 
-pub state_first : (p : Past) → state_at p 0 ≡ power p.setup
-unfolding state_at
-state_first p = refl
+pub at_first : (p : Past) → at p 0 ≡ powered_up p.setup
+unfolding state_at text_at punched_at
+at_first p = refl
 
-pub state_next : (p : Past) (n : ℕ) → state_at p (n + 1) ≡ one_turn n (events_at p.script.entries n) (state_at p n)
-unfolding state_at
-state_next p n = rw add-one refl
+pub at_next : (p : Past) (n : ℕ) → at p (n + 1) ≡ after_turn (events_at p.script.entries n) (at p n)
+unfolding state_at text_at punched_at
+at_next p n = rw add-one refl
 
 pub quiet_none : (m : MachineState) → quiet_turns 0 m ≡ m
 unfolding quiet_turns
@@ -24,7 +23,7 @@ unfolding quiet_turns
 quiet_next n m = rw add-one refl
 
 one_more : (p : Past) (t : ℕ) → events_at p.script.entries t ≡ [] → after_turn [] (at p t) ≡ at p (suc t)
-unfolding state_at
+unfolding state_at text_at punched_at
 one_more p t none = rw (none, add-one) refl
 
 -- turns without events are quiet

@@ -1,14 +1,15 @@
 -- What a question must be answered, from the run from power-up alone (this project's profile).
 use Rattle.std.specs.Prelude.{ℕ, ◌≡◌, ◌+◌, ◌/◌, ◌%◌, ◌==◌, ◌≤◌, ◌&&◌, List, take, drop, Result, Ok, Err, nat_le, if◌then◌else◌}
+use Rattle.pdp_cpu.specs.Turns.Devices.{devices_of}
+use Rattle.pdp_cpu.specs.Turns.MachineState.{MachineState}
 use Rattle.pdp_cpu.specs.Turns.Regs.{regs_of}
-use Rattle.pdp_operand.specs.Phases.World.{World}
 use Rattle.pdp_script.specs.Refusal.{result_map}
 use Rattle.pdp_unibus.specs.LastTurn.{last_turn}
 use Rattle.pdp_script.specs.declared.faults.Fault.{Fault}
 use Rattle.pdp_script.specs.declared.faults.Fault.TheVariants.{OutsideCore, OddAddress, TurnTooLarge, CountOutOfRange}
 use Rattle.pdp_replay.specs.Past.{Past}
 use Rattle.pdp_replay.specs.Setup.{SetupData, core_size}
-use Rattle.pdp_replay.specs.States.{state_at}
+use Rattle.pdp_replay.specs.States.{at, punched_at, state_at, text_at}
 use Rattle.pdp_replay.specs.declared.question.Answer.{Answer}
 use Rattle.pdp_replay.specs.declared.question.Question.{Question}
 use Rattle.pdp_replay.specs.declared.question.Question.TheVariants as question
@@ -19,6 +20,9 @@ use Rattle.pdp_replay.specs.declared.question.Value.TheVariants as value
 abbrev pub turn_asked : Question → ℕ
 turn_asked (question.Regs turn) = turn
 turn_asked (question.Core turn address count) = turn
+turn_asked (question.Text turn) = turn
+turn_asked (question.Punched turn) = turn
+turn_asked (question.Devices turn) = turn
 
 -- the first turn whose state the answer needs: that of every question so far
 abbrev pub first_turn_needed : Question → ℕ
@@ -32,6 +36,9 @@ words_from first count core = take count (drop first core)
 unfoldable pub answer : Question → Past → Value
 answer (question.Regs turn) p = value.Regs (regs_of (state_at p turn))
 answer (question.Core turn address count) p = value.Core (words_from (address / 2) count (state_at p turn).bus.core)
+answer (question.Text turn) p = value.Text (text_at p turn)
+answer (question.Punched turn) p = value.Punched (punched_at p turn)
+answer (question.Devices turn) p = value.Devices (devices_of (state_at p turn))
 
 -- the most words that a question asks for
 abbrev pub most_words : ℕ
@@ -65,9 +72,9 @@ abbrev pub IsWithin : Question → ℕ → Type 0
 IsWithin (question.Core turn address count) size = address / 2 + count ≤ size
 IsWithin _ size = Unit {0}
 
--- the answer, of every past whose state before the turn asked about is this world
-abbrev pub IsAnswerIn : World → Question → Value → Type 0
-IsAnswerIn world q value = (p : Past) → world ≡ state_at p (turn_asked q) → value ≡ answer q p
+-- the answer, of every past whose machine before the turn asked about is this one
+abbrev pub IsAnswerIn : MachineState → Question → Value → Type 0
+IsAnswerIn machine q value = (p : Past) → machine ≡ at p (turn_asked q) → value ≡ answer q p
 
 -- the value of an answer
 abbrev pub value_answered : Result Answer Fault → Result Value Fault

@@ -1,15 +1,18 @@
 -- What a command makes of the past (this project's profile).
-use Rattle.std.specs.Prelude.{ℕ, ◌≡◌, ◌+◌, Bool, false, ◌/◌, ◌%◌, ◌*◌, ◌==◌, Option, Some, None, Result, Ok, Err, length, min, nat_lt, is_some, slice_get, if◌then◌else◌}
+use Rattle.std.specs.Prelude.{ℕ, ◌≡◌, ◌+◌, Bool, false, ◌/◌, ◌%◌, ◌*◌, ◌==◌, List, Option, Some, None, Result, Ok, Err, length, min, nat_le, nat_lt, is_some, slice_get, if◌then◌else◌}
 use Rattle.std.specs.Option.{option_map}
 use Rattle.indexmap.specs.IndexMap.{insert_entry, shift_remove_entry}
 use Rattle.pdp_script.specs.Entries.{entry_of}
 use Rattle.pdp_script.specs.Refusal.{edit_answer, for_memory}
 use Rattle.pdp_script.specs.Script.{insert_edit, alter_edit, drop_edit}
 use Rattle.pdp_script.specs.declared.faults.Fault.{Fault}
-use Rattle.pdp_script.specs.declared.faults.Fault.TheVariants.{OutsideCore, OddAddress, NoSuchPatch}
+use Rattle.pdp_script.specs.declared.faults.Fault.TheVariants.{BadImage, OutsideCore, OddAddress, NoSuchPatch, TurnTooLarge}
+use Rattle.pdp_unibus.specs.Delays.{with_delay}
+use Rattle.pdp_unibus.specs.LastTurn.{last_turn}
+use Rattle.pdp_unibus.specs.declared.delays.Line.{Line}
 use Rattle.pdp_unibus.specs.declared.event.Event.{Event}
 use Rattle.pdp_replay.specs.PatchedWords.{core_key, core_number, is_same_word, patch_of}
-use Rattle.pdp_replay.specs.Setup.{SetupData, core_size}
+use Rattle.pdp_replay.specs.Setup.{SetupData, core_size, tape_bytes}
 use Rattle.pdp_replay.specs.Past.{Past, of_setup, of_script}
 use Rattle.pdp_replay.specs.declared.patch.Patch.{Patch}
 use Rattle.pdp_replay.specs.declared.patch.Patch.TheVariants.{Core}
@@ -44,6 +47,22 @@ without_patch s key = (
 unfoldable pub revert_edit : ℕ → Past → Result Past Fault
 revert_edit address p = of_setup p (edited_at (core_word_at address p.setup) (without_patch p.setup))
 
+-- another paper tape is put into the reader, which is there from power-up on
+abbrev pub with_tape : List ℕ → SetupData → Result SetupData Fault
+with_tape tape s = (if nat_le (length tape) tape_bytes then Ok (record s { tape = tape }) else Err BadImage)
+
+unfoldable pub tape_edit : List ℕ → Past → Result Past Fault
+tape_edit tape p = of_setup p (with_tape tape p.setup)
+
+-- the delay of a line is set from power-up on, at most as long as a run can be
+abbrev pub with_line_delay : Line → ℕ → SetupData → Result SetupData Fault
+with_line_delay line delay s = (
+    if nat_le delay last_turn then Ok (record s { delays = with_delay line delay s.delays })
+    else Err TurnTooLarge)
+
+unfoldable pub delay_edit : Line → ℕ → Past → Result Past Fault
+delay_edit line delay p = of_setup p (with_line_delay line delay p.setup)
+
 -- an event is put into the script, altered, or taken out
 unfoldable pub event_insertion : ℕ → Event → Past → Result Past Fault
 event_insertion turn event p = of_script p (insert_edit turn event p.script)
@@ -54,12 +73,18 @@ event_alteration number turn event p = of_script p (alter_edit number turn event
 unfoldable pub event_drop : ℕ → Past → Result Past Fault
 event_drop number p = of_script p (drop_edit number p.script)
 
--- no alteration and no drop of an event is refused as out of memory
+-- no alteration and no drop of an event is refused as out of memory, and no edit of the tape or of a delay
 abbrev pub AlterationNeedsNoMemory : Type 0
 AlterationNeedsNoMemory = (number turn : ℕ) (event : Event) (p : Past) → for_memory (event_alteration number turn event p) ≡ false
 
 abbrev pub DropNeedsNoMemory : Type 0
 DropNeedsNoMemory = (number : ℕ) (p : Past) → for_memory (event_drop number p) ≡ false
+
+abbrev pub TapeNeedsNoMemory : Type 0
+TapeNeedsNoMemory = (tape : List ℕ) (p : Past) → for_memory (tape_edit tape p) ≡ false
+
+abbrev pub DelayNeedsNoMemory : Type 0
+DelayNeedsNoMemory = (line : Line) (delay : ℕ) (p : Past) → for_memory (delay_edit line delay p) ≡ false
 
 -- what an insertion answers: one more than the last number that was given, or its refusal
 abbrev pub insertion_answer : ℕ → Event → Bool → Past → Result ℕ Fault

@@ -5,11 +5,13 @@ use Rattle.std.specs.declared.hash.BuildHasherDefault.{BuildHasherDefault}
 use Rattle.std.specs.declared.hash.FoldHasher.{FoldHasher}
 use Rattle.pdp_script.specs.declared.faults.Fault.{Fault}
 use Rattle.pdp_script.specs.declared.faults.Fault.TheVariants.{BadImage, BadSetup}
+use Rattle.pdp_unibus.specs.Delays.{standard_delays}
+use Rattle.pdp_unibus.specs.declared.delays.Delays.{Delays}
 use Rattle.pdp_replay.specs.PatchedWords.{Patches}
 use Rattle.pdp_replay.specs.declared.patch.PatchKey.{PatchKey}
 use Rattle.pdp_replay.specs.declared.setup.Setup.{Setup}
 
--- the size of core in units of 4,096 words, the start address, the images, the tape, the starting stride,
+-- the size of core in units of 4,096 words, the start address, the images, the tape, the starting stride, the delays,
 -- and the patches: each patched word and its new value, in the order in which they were first given
 pub record SetupData : Type 0 where
   pub units : ℕ
@@ -18,6 +20,7 @@ pub record SetupData : Type 0 where
   pub disk : List ℕ
   pub tape : List ℕ
   pub stride : ℕ
+  pub delays : Delays
   pub patches : Patches
 
 -- the limits of a setup: the units of core and the words of one, the words of a drive (203
@@ -41,24 +44,25 @@ only_stride = 2000000000
 abbrev pub core_size : SetupData → ℕ
 core_size s = s.units * unit_words
 
-abbrev pub with_patches : Setup → Patches → SetupData
-with_patches setup patches = record {
+abbrev pub with_patches : Setup → Delays → Patches → SetupData
+with_patches setup delays patches = record {
   units = setup.units;
   start = setup.start;
   core = setup.core.items;
   disk = setup.disk.items;
   tape = setup.tape.items;
   stride = setup.stride;
+  delays = delays;
   patches = patches;
 }
 
--- a setup with the patches of an engine
-abbrev pub setup_from : Setup → IndexMap PatchKey ℕ (BuildHasherDefault FoldHasher) → SetupData
-setup_from setup patches = with_patches setup patches.entries
+-- a setup with the delays and the patches of an engine
+abbrev pub setup_from : Setup → Delays → IndexMap PatchKey ℕ (BuildHasherDefault FoldHasher) → SetupData
+setup_from setup delays patches = with_patches setup delays patches.entries
 
--- a setup without patches
+-- a setup with the standard delays, and without patches
 abbrev pub given : Setup → SetupData
-given setup = with_patches setup []
+given setup = with_patches setup standard_delays []
 
 -- units within their limits, an even start, and the one stride
 abbrev pub has_good_numbers : SetupData → Bool

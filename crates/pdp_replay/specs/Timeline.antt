@@ -1,10 +1,11 @@
 -- An engine as a contract sees it (this project's profile).
-use Rattle.std.specs.Prelude.{ℕ, ◌≡◌, ◌≤◌, Bool, true, false, min, unwrap_or, Result, Ok, Err}
+use Rattle.std.specs.Prelude.{ℕ, ◌≡◌, ◌≤◌, Bool, true, false, List, min, unwrap_or, Result, Ok, Err}
 use Rattle.pdp_script.specs.Refusal.{past_left}
 use Rattle.pdp_unibus.specs.LastTurn.{last_turn}
 use Rattle.pdp_script.specs.declared.faults.Fault.{Fault}
+use Rattle.pdp_unibus.specs.declared.delays.Line.{Line}
 use Rattle.pdp_unibus.specs.declared.event.Event.{Event}
-use Rattle.pdp_replay.specs.Edit.{core_edit, revert_edit, event_insertion, event_alteration, event_drop, turn_of_event, lesser_turn}
+use Rattle.pdp_replay.specs.Edit.{core_edit, revert_edit, tape_edit, delay_edit, event_insertion, event_alteration, event_drop, turn_of_event, lesser_turn}
 use Rattle.pdp_replay.specs.Past.{Past, unscripted}
 use Rattle.pdp_replay.specs.Setup.{SetupData, IsGood, core_size}
 use Rattle.pdp_replay.specs.Core.{AllBelow}
@@ -40,6 +41,12 @@ core_edited address word refused t = after_edit 0 (core_edit address word t.past
 
 abbrev pub core_reverted : ℕ → Bool → Timeline → Timeline
 core_reverted address refused t = after_edit 0 (revert_edit address t.past) refused t
+
+abbrev pub tape_replaced : List ℕ → Timeline → Timeline
+tape_replaced tape t = after_edit 0 (tape_edit tape t.past) false t
+
+abbrev pub delay_set : Line → ℕ → Timeline → Timeline
+delay_set line delay t = after_edit 0 (delay_edit line delay t.past) false t
 
 abbrev pub event_inserted : ℕ → Event → Bool → Timeline → Timeline
 event_inserted turn event refused t = after_edit turn (event_insertion turn event t.past) refused t

@@ -40,8 +40,8 @@ impl Words {
         first: u32,
         count: u32,
     ) -> Result<Words, NoMemory>
-        requires { first + count ≤ length machine.now.world.bus.core }
-        ensures { IfOk result (λ words. words ≡ words_from first count machine.now.world.bus.core) }
+        requires { first + count ≤ length machine.now.state.world.bus.core }
+        ensures { IfOk result (λ words. words ≡ words_from first count machine.now.state.world.bus.core) }
     {
         let first = first as usize;
         let count = count as usize;

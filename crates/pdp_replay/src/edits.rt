@@ -118,7 +118,7 @@ impl Engine {
 }
 
 /// Forgets what is known past this turn.
-fn lower_known(known: &mut u32, turn: u32)
+pub(crate) fn lower_known(known: &mut u32, turn: u32)
     ensures { known.new ≡ min known.old turn }
 {
     *known = (*known).min(turn);

@@ -12,15 +12,17 @@ use crate::travel::machine_at;
 use indexmap::IndexMap;
 use pdp_cpu::Meter;
 use pdp_script::{Fault, Script};
+use pdp_unibus::Delays;
 use std::alloc::Global;
 use std::marker::Model;
 
-/// A setup with its patches, a script, and all that can be asked of the run that they determine.
+/// A setup with its delays and patches, a script, and all that can be asked of the run that they determine.
 ///
 /// A contract sees it as a `Timeline`. Answers are always those of the run from power-up of the past as it is now.
 #[derive(Drop)]
 pub struct Engine {
     pub(crate) setup: Setup,
+    pub(crate) delays: Delays,
     pub(crate) patches: IndexMap<PatchKey, u16>,
     pub(crate) script: Script,
     pub(crate) meter: Meter,
@@ -36,13 +38,13 @@ impl Model for Engine {
 
     ghost Value = { Timeline };
 
-    ghost view = { λ e. record { past = past_from e.setup e.patches e.script; known = e.known; highest = e.highest; stride = e.stride; turns = e.meter } };
+    ghost view = { λ e. record { past = past_from e.setup e.delays e.patches e.script; known = e.known; highest = e.highest; stride = e.stride; turns = e.meter } };
 
-    ghost invariant = { λ e. IsTimeline (setup_from e.setup e.patches) e.known e.highest e.stride };
+    ghost invariant = { λ e. IsTimeline (setup_from e.setup e.delays e.patches) e.known e.highest e.stride };
 }
 
 impl Engine {
-    /// An engine over this setup, without patches or events; nothing is known yet.
+    /// An engine over this setup with the standard delays, without patches or events; nothing is known yet.
     ///
     /// Err(BadSetup) where units, start or stride is out of range; else Err(BadImage) where an image or the tape is too
     /// long; else Err(NoMemory) where a growth was refused. (This project's profile.)
@@ -54,6 +56,7 @@ impl Engine {
         let stride = setup.stride;
         Ok(Engine {
             setup,
+            delays: Delays::standard(),
             patches: IndexMap::new(alloc),
             script: Script::new(alloc),
             meter: Meter::new(),
@@ -99,6 +102,7 @@ impl Engine {
         let machine = machine_at(
             alloc,
             &self.setup,
+            self.delays,
             &self.patches,
             &self.script,
             &mut self.meter,

@@ -1,5 +1,6 @@
 ghost use Rattle.pdp_replay.specs.Core.{CoreHasItsSize, CoreWordsAreFirstWords};
-ghost use Rattle.pdp_replay.specs.Edit.{AlterationNeedsNoMemory, DropNeedsNoMemory};
+ghost use Rattle.pdp_replay.specs.Edit.{AlterationNeedsNoMemory, DropNeedsNoMemory, TapeNeedsNoMemory, DelayNeedsNoMemory};
+ghost use Rattle.pdp_replay.specs.States.{TextOnlyGrows, PunchedOnlyGrows};
 
 /// A law of setups: core as of power-up has the words of its units, each of which is its patch, else its image's word,
 /// else 0.
@@ -9,9 +10,20 @@ pub fn core_words_are_first_words()
     ensures words { CoreWordsAreFirstWords }
 {}
 
-/// A law of edits: no alteration and no drop of an event is refused as out of memory.
-#[tactic(auto, using(crate::proofs::Memory::alteration_needs_none, crate::proofs::Memory::drop_needs_none))]
+/// A law of edits: no alteration and no drop of an event is refused as out of memory, and no edit of the tape or of a
+/// delay.
+#[tactic(auto, using(crate::proofs::Memory::alteration_needs_none, crate::proofs::Memory::drop_needs_none, crate::proofs::Memory::tape_needs_none, crate::proofs::Memory::delay_needs_none))]
 pub fn some_edits_need_no_memory()
     ensures alteration { AlterationNeedsNoMemory }
     ensures drop { DropNeedsNoMemory }
+    ensures tape { TapeNeedsNoMemory }
+    ensures delay { DelayNeedsNoMemory }
+{}
+
+/// A law of runs: what was printed on the console before a turn begins what was printed before each later turn, and
+/// what was punched likewise.
+#[tactic(auto, using(crate::proofs::Texts::text_grows, crate::proofs::Texts::punched_grows))]
+pub fn texts_only_grow()
+    ensures text { TextOnlyGrows }
+    ensures punched { PunchedOnlyGrows }
 {}

@@ -1,11 +1,12 @@
-//! Edits and questions: a setup that can be patched, a script of events that can be edited, and the machine's
-//! answer about any turn, always as if the edited past had run from power-up.
+//! Edits and questions: a setup whose core words, tape and delays can be edited, a script of events that can be edited,
+//! and the machine's answer about any turn, always as if the edited past had run from power-up.
 //!
 //! It stands on pdp_script and pdp_cpu, on what is below these, and on indexmap for the patches. The contract of
 //! `Engine::ask` says that an answer is that of the run from power-up, and bounds the turns run for it; those of
 //! the edits give the whole engine after each. Lines of text it leaves to pdp_session.
 #![tactic(auto)]
 
+mod answer_bytes;
 mod answer_words;
 mod edits;
 mod engine;
@@ -14,20 +15,24 @@ mod laws;
 mod patch;
 mod question;
 mod setup;
+mod setup_edits;
 mod travel;
 
+pub use answer_bytes::Bytes;
 pub use answer_words::Words;
 pub use engine::Engine;
-pub use laws::{core_words_are_first_words, some_edits_need_no_memory};
+pub use laws::{core_words_are_first_words, some_edits_need_no_memory, texts_only_grow};
 pub use patch::Patch;
-pub use pdp_cpu::{Regs, RunState};
+pub use pdp_cpu::{DeviceRegisters, Regs, RunState};
 pub use pdp_script::Fault;
-pub use pdp_unibus::Event;
+pub use pdp_unibus::{Delays, Event, Line};
 pub use question::{Answer, Question, Value};
 pub use setup::{ONLY_STRIDE, Setup};
 
 #[cfg(test)]
 mod core_tests;
+#[cfg(test)]
+mod device_tests;
 #[cfg(test)]
 mod script_tests;
 #[cfg(test)]

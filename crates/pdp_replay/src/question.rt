@@ -3,10 +3,11 @@ ghost use Rattle.pdp_replay.specs.Past.{Past};
 ghost use Rattle.pdp_replay.specs.Setup.{SetupData};
 ghost use Rattle.pdp_replay.specs.Answer.{question_checked, range_checked, turn_asked, IsWithin, IsAnswerIn};
 
+use crate::answer_bytes::Bytes;
 use crate::answer_words::Words;
 use crate::setup::UNIT_WORDS;
 use crate::travel::FlatMachine;
-use pdp_cpu::Regs;
+use pdp_cpu::{DeviceRegisters, Regs};
 use pdp_script::Fault;
 use pdp_unibus::LAST_TURN;
 use pdp_word::NoMemory;
@@ -23,6 +24,12 @@ pub enum Question {
     Regs(u32),
     /// Words of core before this turn: from this address (octal, bytes, even) on, so many (1 to 256).
     Core(u32, u32, u32),
+    /// The bytes printed on the console before this turn.
+    Text(u32),
+    /// The bytes punched before this turn.
+    Punched(u32),
+    /// The registers of the devices before this turn.
+    Devices(u32),
 }
 
 impl Question {
@@ -31,8 +38,11 @@ impl Question {
         ensures { result ≡ turn_asked self }
     {
         match self {
-            Question::Regs(turn) => turn,
-            Question::Core(turn, _, _) => turn,
+            Question::Regs(turn)
+            | Question::Core(turn, _, _)
+            | Question::Text(turn)
+            | Question::Punched(turn)
+            | Question::Devices(turn) => turn,
         }
     }
 
@@ -49,8 +59,9 @@ impl Question {
             return Err(Fault::TurnTooLarge);
         }
         match self {
-            Question::Regs(_) => Ok(()),
             Question::Core(_, address, count) => check_range(units, address, count),
+            Question::Regs(_) | Question::Text(_) | Question::Punched(_) | Question::Devices(_) =>
+                Ok(()),
         }
     }
 
@@ -59,8 +70,8 @@ impl Question {
     /// Err where there is no memory for it.
     #[tactic(auto, unfolding(crate::specs::Answer::answer))]
     pub(crate) fn answer(self, alloc: Global, machine: &FlatMachine) -> Result<Value, NoMemory>
-        requires within { IsWithin self (length machine.now.world.bus.core) }
-        ensures { IfOk result (IsAnswerIn machine.now.world self) }
+        requires within { IsWithin self (length machine.now.state.world.bus.core) }
+        ensures { IfOk result (IsAnswerIn machine.now.state self) }
     {
         match self {
             Question::Regs(_) => Ok(Value::Regs(machine.regs())),
@@ -68,6 +79,9 @@ impl Question {
                 let words = Words::read(alloc, machine, address / 2, count)?;
                 Ok(Value::Core(words))
             }
+            Question::Text(_) => Ok(Value::Text(Bytes::read(alloc, machine.text())?)),
+            Question::Punched(_) => Ok(Value::Punched(Bytes::read(alloc, machine.punched())?)),
+            Question::Devices(_) => Ok(Value::Devices(machine.devices())),
         }
     }
 }
@@ -101,6 +115,12 @@ pub enum Value {
     Regs(Regs),
     /// The words of core that were asked for.
     Core(Words),
+    /// The bytes printed on the console since power-up, in their order.
+    Text(Bytes),
+    /// The bytes punched since power-up, in their order.
+    Punched(Bytes),
+    /// The registers of the devices, as reads would give them without the effect of a read.
+    Devices(DeviceRegisters),
 }
 
 /// A question's answer, with what it took.

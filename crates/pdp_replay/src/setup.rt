@@ -14,7 +14,7 @@ pub(crate) const UNIT_WORDS: usize = 4_096;
 const DISK_WORDS: usize = 1_247_232;
 
 /// The most bytes of a paper tape.
-const TAPE_BYTES: usize = 1_048_576;
+pub(crate) const TAPE_BYTES: usize = 1_048_576;
 
 /// The one stride for now, in turns (this project's profile).
 pub const ONLY_STRIDE: u32 = 2_000_000_000;

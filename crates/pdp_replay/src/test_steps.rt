@@ -36,6 +36,10 @@ pub enum Step<'a> {
     Regs(u32, Regs),
     /// The words that this question is answered.
     Core(Question, &'a [u16]),
+    /// The bytes, printed or punched, that this question is answered.
+    Bytes(Question, &'a [u8]),
+    /// The registers of the devices before this turn.
+    Devices(u32, DeviceRegisters),
     /// Whether these two questions are answered the same.
     Alike(Question, Question, bool),
     /// How many turns are run for this question, and the known turn after it.
@@ -45,14 +49,14 @@ pub enum Step<'a> {
     /// Why this question has no answer.
     Refused(Question, Fault),
     /// What this edit answers.
-    Edit(Edit, Result<u32, Fault>),
+    Edit(Edit<'a>, Result<u32, Fault>),
     /// How many words have a patch, and the first of the patches.
     Patches(usize, Option<Patch>),
 }
 
 /// An edit of the past. The number of an event that it puts in is its answer, else 0.
 #[derive(Clone, Copy)]
-pub enum Edit {
+pub enum Edit<'a> {
     /// Makes the core word at this address this word.
     Patch(u32, u16),
     /// Takes back the patch at this address.
@@ -63,6 +67,12 @@ pub enum Edit {
     Alter(u32, u32, Event),
     /// Takes the event of this number out of the script.
     Drop(u32),
+    /// Puts a paper tape with these bytes into the reader.
+    Tape(&'a [u8]),
+    /// Puts a paper tape of so many bytes, each 0, into the reader.
+    BlankTape(usize),
+    /// Sets the delay of this line.
+    Delay(Line, u32),
 }
 
 /// The question before this turn for so many words of core from this address on.
@@ -93,28 +103,29 @@ fn take(
     step: Step,
 ) -> Result<(), Fail> {
     match step {
-        Step::Regs(turn, want) => {
-            assert_same(rt, number, &regs_at(engine, alloc, turn)?, &want);
+        Step::Regs(turn, want) => assert_same(rt, number, &regs_at(engine, alloc, turn)?, &want),
+        Step::Core(asked, want) => {
+            assert_same(rt, number, &words_of(engine, alloc, asked)?.words(), &want);
         }
-        Step::Core(question, want) => {
-            let words = words_of(engine, alloc, question)?;
-            assert_same(rt, number, &words.words(), &want);
+        Step::Bytes(asked, want) => {
+            assert_same(rt, number, &bytes_of(engine, alloc, asked)?.bytes(), &want);
+        }
+        Step::Devices(turn, want) => {
+            assert_same(rt, number, &devices_at(engine, alloc, turn)?, &want);
         }
         Step::Alike(one, other, want) => {
             assert_same(rt, number, &are_alike(engine, alloc, one, other)?, &want);
         }
-        Step::Ran(question, ran, known) => {
+        Step::Ran(asked, ran, known) => {
             let want = (ran, known, STRIDE);
-            assert_same(rt, number, &took(engine, alloc, question)?, &want);
+            assert_same(rt, number, &took(engine, alloc, asked)?, &want);
         }
-        Step::Known(question, want) => {
-            let (_, known, stride) = took(engine, alloc, question)?;
+        Step::Known(asked, want) => {
+            let (_, known, stride) = took(engine, alloc, asked)?;
             assert_same(rt, number, &(known, stride), &(want, STRIDE));
         }
-        Step::Refused(question, want) => {
-            assert_same(rt, number, &engine.ask(alloc, question), &Err(want));
-        }
-        Step::Edit(edit, want) => assert_same(rt, number, &make(engine, edit), &want),
+        Step::Refused(asked, why) => assert_same(rt, number, &engine.ask(alloc, asked), &Err(why)),
+        Step::Edit(edit, want) => assert_same(rt, number, &make(engine, alloc, edit), &want),
         Step::Patches(count, first) => {
             let patches = (engine.patch_count(), engine.patches(0));
             assert_same(rt, number, &patches, &(count, first));
@@ -130,14 +141,28 @@ fn assert_same<T: PartialEq + Debug>(rt: &impl Abort, number: usize, got: &T, wa
 fn regs_at(engine: &mut Engine, alloc: Global, turn: u32) -> Result<Regs, Fail> {
     match engine.ask(alloc, Question::Regs(turn))?.value {
         Value::Regs(regs) => Ok(regs),
-        Value::Core(_) => Err(Fail::new("words of core in place of registers")),
+        _ => Err(Fail::new("another value in place of registers")),
     }
 }
 
 fn words_of(engine: &mut Engine, alloc: Global, question: Question) -> Result<Words, Fail> {
     match engine.ask(alloc, question)?.value {
         Value::Core(words) => Ok(words),
-        Value::Regs(_) => Err(Fail::new("registers in place of words of core")),
+        _ => Err(Fail::new("another value in place of words of core")),
+    }
+}
+
+fn bytes_of(engine: &mut Engine, alloc: Global, question: Question) -> Result<Bytes, Fail> {
+    match engine.ask(alloc, question)?.value {
+        Value::Text(bytes) | Value::Punched(bytes) => Ok(bytes),
+        _ => Err(Fail::new("another value in place of bytes")),
+    }
+}
+
+fn devices_at(engine: &mut Engine, alloc: Global, turn: u32) -> Result<DeviceRegisters, Fail> {
+    match engine.ask(alloc, Question::Devices(turn))?.value {
+        Value::Devices(devices) => Ok(devices),
+        _ => Err(Fail::new("another value in place of devices")),
     }
 }
 
@@ -160,13 +185,16 @@ fn took(engine: &mut Engine, alloc: Global, question: Question) -> Result<(u64, 
     Ok((answer.ran, answer.known, answer.stride))
 }
 
-fn make(engine: &mut Engine, edit: Edit) -> Result<u32, Fault> {
+fn make(engine: &mut Engine, alloc: Global, edit: Edit) -> Result<u32, Fault> {
     match edit {
         Edit::Patch(address, word) => engine.set_core(address, word)?,
         Edit::Revert(address) => engine.revert_core(address)?,
         Edit::Insert(turn, event) => return engine.insert(turn, event),
         Edit::Alter(number, turn, event) => engine.alter(number, turn, event)?,
         Edit::Drop(number) => engine.drop_event(number)?,
+        Edit::Tape(bytes) => engine.set_tape(bytes.to_vec(alloc)?)?,
+        Edit::BlankTape(bytes) => engine.set_tape(vec![in alloc; 0; bytes]?)?,
+        Edit::Delay(line, delay) => engine.set_delay(line, delay)?,
     }
     Ok(0)
 }

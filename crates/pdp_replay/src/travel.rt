@@ -4,7 +4,7 @@ ghost use Rattle.pdp_replay.specs.Setup.{setup_from, IsGood};
 ghost use Rattle.pdp_replay.specs.Core.{AllBelow};
 ghost use Rattle.pdp_replay.specs.Past.{past_from};
 ghost use Rattle.pdp_replay.specs.Quiet.{quiet_turns};
-ghost use Rattle.pdp_replay.specs.States.{power, state_at, at, RunsTo};
+ghost use Rattle.pdp_replay.specs.States.{powered_up, state_at, at, RunsTo};
 
 use crate::image::{image_store, put_patches};
 use crate::patch::PatchKey;
@@ -13,53 +13,56 @@ use indexmap::IndexMap;
 use pdp_cpu::{Machine, Meter};
 use pdp_script::Script;
 use pdp_store::Flat;
-use pdp_unibus::LAST_TURN;
+use pdp_unibus::{Delays, LAST_TURN};
 use pdp_word::NoMemory;
 use std::alloc::Global;
 
 /// The machine that an engine runs.
 pub type FlatMachine = Machine<Flat>;
 
-/// The machine as of power-up of this setup with its patches.
+/// The machine as of power-up of this setup with its delays and patches.
 ///
-/// Err where there is no memory for its core.
+/// Err where there is no memory for its core or its tape.
 #[tactic(auto, using(crate::proofs::CoreWords::length_padded, crate::proofs::CoreWords::core_is_filled), unfolding(crate::specs::States::power))]
 fn powered(
     alloc: Global,
     setup: &Setup,
+    delays: Delays,
     patches: &IndexMap<PatchKey, u16>,
 ) -> Result<FlatMachine, NoMemory>
-    requires good { IsGood (setup_from setup.now patches.now) }
+    requires good { IsGood (setup_from setup.now delays patches.now) }
     requires below { AllBelow (setup.now.units * UNIT_WORDS) patches.now.entries }
-    ensures { IfOk result (λ m. m ≡ record { turn = 0; world = power (setup_from setup.now patches.now) }) }
+    ensures { IfOk result (λ m. m.state ≡ powered_up (setup_from setup.now delays patches.now)) }
 {
     let words = usize::from(setup.units) * UNIT_WORDS;
     let mut store = image_store(alloc, words, &setup.core)?;
     put_patches(&mut store, patches);
-    Ok(Machine::power(alloc, setup.start, store))
+    let tape = setup.tape.to_vec(alloc)?;
+    Ok(Machine::power(alloc, setup.start, store, tape, delays))
 }
 
 /// The machine before this turn, run there from power-up with the events of the script; the meter counts each turn.
 ///
 /// Err where there is no memory for it.
-#[tactic(auto, using(crate::proofs::States::state_first))]
+#[tactic(auto, using(crate::proofs::States::at_first))]
 pub fn machine_at(
     alloc: Global,
     setup: &Setup,
+    delays: Delays,
     patches: &IndexMap<PatchKey, u16>,
     script: &Script,
     meter: &mut Meter,
     turn: u32,
 ) -> Result<FlatMachine, NoMemory>
-    requires good { IsGood (setup_from setup.now patches.now) }
+    requires good { IsGood (setup_from setup.now delays patches.now) }
     requires below { AllBelow (setup.now.units * UNIT_WORDS) patches.now.entries }
     requires limit { turn ≤ LAST_TURN }
-    ensures machine { IfOk result (λ m. m ≡ at (past_from setup.now patches.now script.now) turn) }
-    ensures size { IfOk result (λ m. length m.world.bus.core ≡ setup.now.units * UNIT_WORDS) }
+    ensures machine { IfOk result (λ m. m.state ≡ at (past_from setup.now delays patches.now script.now) turn) }
+    ensures size { IfOk result (λ m. length m.state.world.bus.core ≡ setup.now.units * UNIT_WORDS) }
     ensures least { meter.old ≤ meter.new }
     ensures most { meter.new ≤ meter.old + turn }
 {
-    let mut machine = powered(alloc, setup, patches)?;
+    let mut machine = powered(alloc, setup, delays, patches)?;
     run_to(&mut machine, script, meter, 0, turn)?;
     Ok(machine)
 }
@@ -67,7 +70,7 @@ pub fn machine_at(
 /// Runs the machine from one turn to another, with the events of the script; the meter counts each turn.
 ///
 /// Err where a turn's room was refused.
-#[tactic(auto, using(crate::proofs::States::quiet_reaches, crate::proofs::States::state_next))]
+#[tactic(auto, using(crate::proofs::States::quiet_reaches, crate::proofs::States::at_next))]
 fn run_to(
     machine: &mut FlatMachine,
     script: &Script,
@@ -75,10 +78,10 @@ fn run_to(
     from: u32,
     to: u32,
 ) -> Result<(), NoMemory>
-    requires here { machine.old.turn ≡ from }
+    requires here { machine.old.state.turn ≡ from }
     requires forward { from ≤ to }
     requires limit { to ≤ LAST_TURN }
-    ensures machine { RunsTo script.now from to machine.old.world (λ there. OnOk result (machine.new ≡ there)) }
+    ensures machine { RunsTo script.now from to machine.old.state (λ there. OnOk result (machine.new.state ≡ there)) }
     ensures least { meter.old ≤ meter.new }
     ensures most { meter.new + from ≤ meter.old + to }
 {
@@ -114,9 +117,9 @@ fn quiet_until(script: &Script, from: u32, to: u32) -> u32
 /// Err where a turn's room was refused.
 #[tactic(auto, using(crate::proofs::States::quiet_none, crate::proofs::States::quiet_next))]
 fn run_quiet(machine: &mut FlatMachine, meter: &mut Meter, turns: u32) -> Result<(), NoMemory>
-    requires { machine.old.turn + turns ≤ LAST_TURN }
-    ensures machine { OnOk result (machine.new ≡ quiet_turns turns machine.old) }
-    ensures turn { OnOk result (machine.new.turn ≡ machine.old.turn + turns) }
+    requires { machine.old.state.turn + turns ≤ LAST_TURN }
+    ensures machine { OnOk result (machine.new.state ≡ quiet_turns turns machine.old.state) }
+    ensures turn { OnOk result (machine.new.state.turn ≡ machine.old.state.turn + turns) }
     ensures least { meter.old ≤ meter.new }
     ensures most { meter.new ≤ meter.old + turns }
 {

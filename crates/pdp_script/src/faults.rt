@@ -48,7 +48,7 @@ pub enum Fault {
     /// The writer failed, or took no byte, during this call.
     #[error("output failed")]
     Output = 13,
-    /// An image has an odd number of bytes (core, disk), or is too long.
+    /// An image has an odd number of bytes (core, disk), or it or the tape is too long.
     #[error("bad image")]
     BadImage = 14,
     /// The units, the start address or the stride is out of range.

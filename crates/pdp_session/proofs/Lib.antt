@@ -1,7 +1,9 @@
+pub mod ByteLines
 pub mod CoreLines
 pub mod SessionEnds
 pub mod HeldLines
 pub mod LineLists
+pub mod NamedBytes
 pub mod PatchLines
 pub mod Pieces
 pub mod Pulls

@@ -52,6 +52,11 @@ unfolding words_of
 words_of-first text first some =
     ap (filter (λ word. ltb 0 (length word))) (first_piece text) ∙ rw (has_bytes text first some) (ap (λ words. take (end text) text ∷ words) (sym (later_words text)))
 
+-- such a text's first word has a byte
+pub first_word_has_bytes : (text : List ℕ) → IfSome (slice_get text 0) (λ byte. is_blank byte ≡ false) → 0 < length text → 0 < position_or_len is_blank text
+first_word_has_bytes [] first some = absurd (omega arith)
+first_word_has_bytes (byte ∷ bytes) first some = rw (first, one-add (end bytes)) (omega arith)
+
 pub words_of-nil : (text : List ℕ) → length text ≡ 0 → words_of text ≡ []
 unfolding words_of
 words_of-nil [] empty = refl

@@ -3,12 +3,13 @@
 use Rattle.std.specs.Prelude.{ℕ, Bool, ◌==◌, nat_lt, if◌then◌else◌, List, [], ◌∷◌, length, slice_index, codes, Option, None, Some, Result, Ok, Err}
 use Rattle.std.specs.Option.{option_map, ok_or}
 use Rattle.std.specs.Str.{bytes_eq}
+use Rattle.arrayvec.specs.ArrayVec.{ArrayVec}
 use Rattle.pdp_word.specs.Number.{number_of}
 use Rattle.pdp_script.specs.declared.faults.Fault.{Fault}
 use Rattle.pdp_script.specs.declared.faults.Fault.TheVariants.{BadLine, LineTooLong}
 use Rattle.pdp_session.specs.declared.command.Command.{Command}
-use Rattle.pdp_session.specs.declared.command.Command.TheVariants.{SetCore, RevertCore, Insert, Alter, DropEvent, ListPatches, Ask}
-use Rattle.pdp_session.specs.Grammar.Arguments.{◌>>=◌, first_of, one_of, two_of, word_named, event_named, turn_named}
+use Rattle.pdp_session.specs.declared.command.Command.TheVariants.{SetCore, RevertCore, SetTape, SetDelay, Insert, Alter, DropEvent, ListPatches, Ask}
+use Rattle.pdp_session.specs.Grammar.Arguments.{◌>>=◌, first_of, one_of, two_of, word_named, bytes_named, line_named, event_named, turn_named}
 use Rattle.pdp_session.specs.Grammar.Events.{event_of}
 use Rattle.pdp_session.specs.Grammar.Questions.{question_with}
 use Rattle.pdp_session.specs.Grammar.Words.{words_of}
@@ -32,6 +33,21 @@ uncore_form arguments = do
   address ← one_of arguments
   a ← number_of 8 address
   Some (RevertCore a)
+
+abbrev pub tape_of : List ℕ → ArrayVec ℕ
+tape_of bytes = record { items = bytes }
+
+-- `tape B B ..`: bytes, in octal; without any the tape is empty
+abbrev pub tape_form : List (List ℕ) → Option Command
+tape_form arguments = option_map (λ bytes. SetTape (tape_of bytes)) (bytes_named arguments)
+
+-- `delay printer N`, also `reader`, `punch`, `disk` and `clock`: so many turns, in decimal
+abbrev pub delay_form : List (List ℕ) → Option Command
+delay_form arguments = do
+  (name, turns) ← two_of arguments
+  line ← line_named name
+  n ← turn_named turns
+  Some (SetDelay line n)
 
 -- `at T event`: a turn, in decimal, and an event
 abbrev pub at_form : List (List ℕ) → Option Command
@@ -68,6 +84,8 @@ unfoldable pub command_with : List ℕ → List (List ℕ) → Option Command
 command_with name arguments =
     if bytes_eq name (codes "core") then core_form arguments
     else if bytes_eq name (codes "uncore") then uncore_form arguments
+    else if bytes_eq name (codes "tape") then tape_form arguments
+    else if bytes_eq name (codes "delay") then delay_form arguments
     else if bytes_eq name (codes "at") then at_form arguments
     else if bytes_eq name (codes "alter") then alter_form arguments
     else if bytes_eq name (codes "drop") then drop_form arguments

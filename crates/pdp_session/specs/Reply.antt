@@ -1,9 +1,10 @@
 -- What a reply is as text: lines that each end in LF (this project's profile).
-use Rattle.std.specs.Prelude.{ℕ, Bool, List, [], ◌∷◌, ◌++◌, codes, decimal, option_to_list, slice_get, slice_index}
+use Rattle.std.specs.Prelude.{ℕ, Bool, ◌==◌, ◌&&◌, not, nat_le, if◌then◌else◌, length, List, [], ◌∷◌, ◌++◌, codes, decimal, option_to_list, slice_get, slice_index}
 use Rattle.pdp_word.specs.Number.{octal_digits}
 use Rattle.pdp_script.specs.Fault.{number_of_fault, name_of_fault}
 use Rattle.pdp_script.specs.declared.faults.Fault.{Fault}
 use Rattle.pdp_cpu.specs.declared.regs.Regs.{Regs}
+use Rattle.pdp_cpu.specs.declared.devices.DeviceRegisters.{DeviceRegisters}
 use Rattle.pdp_operand.specs.declared.processor.RunState.{RunState}
 use Rattle.pdp_operand.specs.declared.processor.RunState.TheVariants.{Run, Wait, Halted}
 use Rattle.pdp_replay.specs.Edit.{patch_shown, patch_count}
@@ -12,7 +13,7 @@ use Rattle.pdp_replay.specs.PatchedWords.{Patches}
 use Rattle.pdp_replay.specs.declared.patch.Patch.{Patch}
 use Rattle.pdp_replay.specs.declared.patch.Patch.TheVariants.{Core}
 use Rattle.pdp_replay.specs.declared.question.Value.{Value}
-use Rattle.pdp_replay.specs.declared.question.Value.TheVariants.{Regs as RegsAre, Core as CoreIs}
+use Rattle.pdp_replay.specs.declared.question.Value.TheVariants.{Regs as RegsAre, Core as CoreIs, Text as TextIs, Punched as PunchedAre, Devices as DevicesAre}
 use Rattle.pdp_session.specs.declared.reply.Reply.{Reply}
 use Rattle.pdp_session.specs.declared.reply.Reply.TheVariants.{Nothing, Done, Inserted, Shown, Listed, Refused}
 use Rattle.pdp_session.specs.Command.{reply_to, past_after}
@@ -77,10 +78,62 @@ word_texts (word ∷ words) = word_text word ++ word_texts words
 unfoldable pub mem_line : List ℕ → List ℕ
 mem_line words = codes "mem" ++ word_texts words ++ codes "\n"
 
+-- a printing byte, 040 to 176, but no backslash
+abbrev pub stands_for_itself : ℕ → Bool
+stands_for_itself byte = nat_le 0o40 byte && nat_le byte 0o176 && not (byte == 0o134)
+
+-- any other byte is a backslash and its three octal digits
+abbrev pub byte_text : ℕ → List ℕ
+byte_text byte = if stands_for_itself byte then byte ∷ [] else codes "\\" ++ octal_digits 3 byte
+
+unfoldable pub byte_texts : List ℕ → List ℕ
+byte_texts [] = []
+byte_texts (byte ∷ bytes) = byte_text byte ++ byte_texts bytes
+
+-- what comes before the bytes: a name, and how many bytes there are
+abbrev pub bytes_head : List ℕ → ℕ → List ℕ
+bytes_head name count = name ++ codes " " ++ decimal count ++ codes ":"
+
+-- bytes, in one line after their name and their count
+unfoldable pub bytes_line : List ℕ → List ℕ → List ℕ
+bytes_line name bytes = bytes_head name (length bytes) ++ byte_texts bytes ++ codes "\n"
+
+-- a name and a word in six octal digits, each after a space
+abbrev pub device_text : List ℕ → ℕ → List ℕ
+device_text name word = codes " " ++ name ++ codes " " ++ octal_digits 6 word
+
+-- the disk is to come: until then each of its registers is shown as 0
+abbrev pub disk_register_texts : List ℕ
+disk_register_texts =
+    device_text (codes "RKDS") 0
+    ++ device_text (codes "RKER") 0
+    ++ device_text (codes "RKCS") 0
+    ++ device_text (codes "RKWC") 0
+    ++ device_text (codes "RKBA") 0
+    ++ device_text (codes "RKDA") 0
+
+-- the registers of the devices, in one line
+unfoldable pub devices_line : DeviceRegisters → List ℕ
+devices_line devices =
+    codes "devices"
+    ++ device_text (codes "TKS") devices.keyboard_status
+    ++ device_text (codes "TKB") devices.keyboard_buffer
+    ++ device_text (codes "TPS") devices.printer_status
+    ++ device_text (codes "LKS") devices.clock_status
+    ++ device_text (codes "PRS") devices.reader_status
+    ++ device_text (codes "PRB") devices.reader_buffer
+    ++ device_text (codes "PPS") devices.punch_status
+    ++ disk_register_texts
+    ++ device_text (codes "SWR") devices.switches
+    ++ codes "\n"
+
 -- the answer to a question as text: one row for each kind of question
 abbrev pub value_text : Value → List ℕ
 value_text (RegsAre regs) = regs_line regs ++ codes "\n"
 value_text (CoreIs words) = mem_line words
+value_text (TextIs bytes) = bytes_line (codes "text") bytes
+value_text (PunchedAre bytes) = bytes_line (codes "punched") bytes
+value_text (DevicesAre devices) = devices_line devices
 
 -- a reply as text; a list of patches is that of the past as it is then
 unfoldable pub text_of : Reply → Past → List ℕ

@@ -1,10 +1,16 @@
-ghost use Rattle.std.specs.Prelude.{◌≡◌};
+ghost use Rattle.std.specs.Prelude.{◌≡◌, ◌≤◌, length};
+ghost use Rattle.pdp_replay.specs.Edit.{tape_edit};
+ghost use Rattle.pdp_script.specs.Refusal.{edit_answer, for_memory, past_left};
 ghost use Rattle.pdp_session.specs.Command.{edit_reply, command_reply, command_leaves, reply_to, past_after, wants_memory};
 
-use crate::grammar::read_line;
+use crate::grammar::{LONGEST_LINE, read_line};
 use crate::reply::Reply;
-use pdp_replay::{Engine, Event, Fault, Question};
+use arrayvec::ArrayVec;
+use pdp_replay::{Engine, Event, Fault, Line, Question};
 use std::alloc::Global;
+
+// The bytes of a paper tape that a line names. They take no memory; a line has room for fewer.
+pub type TapeBytes = ArrayVec<u8, LONGEST_LINE>;
 
 // A command of the session language.
 #[derive(Debug, PartialEq, Eq, Drop)]
@@ -15,6 +21,11 @@ pub enum Command {
     },
     RevertCore {
         address: u32,
+    },
+    SetTape(TapeBytes),
+    SetDelay {
+        line: Line,
+        delay: u32,
     },
     Insert {
         turn: u32,
@@ -53,6 +64,8 @@ fn run_command(alloc: Global, engine: &mut Engine, command: Command) -> Reply
     match command {
         Command::SetCore { address, word } => edit_reply(engine.set_core(address, word)),
         Command::RevertCore { address } => edit_reply(engine.revert_core(address)),
+        Command::SetTape(tape) => edit_reply(set_tape(alloc, engine, &tape)),
+        Command::SetDelay { line, delay } => edit_reply(engine.set_delay(line, delay)),
         Command::Insert { turn, event } => match engine.insert(turn, event) {
             Ok(number) => Reply::Inserted(number),
             Err(fault) => Reply::Refused(fault),
@@ -69,6 +82,16 @@ fn run_command(alloc: Global, engine: &mut Engine, command: Command) -> Reply
             Err(fault) => Reply::Refused(fault),
         },
     }
+}
+
+// Replaces the tape. The engine's own copy of the bytes is all the memory that it takes.
+#[tactic(auto, unfolding(pdp_replay::specs::Edit::tape_edit))]
+fn set_tape(alloc: Global, engine: &mut Engine, tape: &TapeBytes) -> Result<(), Fault>
+    ensures answer { result ≡ edit_answer (tape_edit tape.now.items engine.old.past) (for_memory result) tt }
+    ensures after { engine.new.past ≡ past_left (tape_edit tape.now.items engine.old.past) (for_memory result) engine.old.past }
+{
+    let bytes = Vec::from_slice(alloc, tape.as_slice())?;
+    engine.set_tape(bytes)
 }
 
 // The reply to an edit.

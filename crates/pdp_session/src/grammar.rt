@@ -1,8 +1,9 @@
 //! The grammar of the session language: what a line means. A command is one row of [`read_command`] and one form below
 //! it; a question is one row of `read_question` and one form below that.
 
-ghost use Rattle.std.specs.Prelude.{◌≡◌};
-ghost use Rattle.pdp_session.specs.Grammar.{core_form, uncore_form, at_form, alter_form, drop_form, patches_form, command_with, line_means};
+ghost use Rattle.std.specs.Prelude.{◌≡◌, ◌≤◌, length};
+ghost use Rattle.pdp_session.specs.Grammar.{core_form, uncore_form, at_form, alter_form, drop_form, patches_form, tape_form, delay_form, command_with, line_means};
+ghost use Rattle.pdp_session.specs.Lines.{longest_line};
 ghost use Rattle.pdp_session.specs.Grammar.Words.{words_of};
 
 mod arguments;
@@ -11,7 +12,9 @@ mod questions;
 mod words;
 
 use crate::command::Command;
-use arguments::{one_word, read_event_number, read_turn, read_word, two_words};
+use arguments::{
+    one_word, read_bytes, read_event_number, read_line_name, read_turn, read_word, two_words,
+};
 use events::read_event;
 use pdp_replay::Fault;
 use pdp_word::read_octal;
@@ -45,12 +48,17 @@ pub fn read_line(line: &[u8]) -> Result<Option<Command>, Fault>
 // The command of a name, with the words that follow it.
 #[tactic(auto, unfolding(crate::specs::Grammar::command_with))]
 fn read_command(name: &[u8], arguments: &[u8]) -> Option<Command>
+    requires { length arguments.now ≤ longest_line }
     ensures { result ≡ command_with name.now (words_of arguments.now) }
 {
     if name == b"core".as_slice() {
         read_core(arguments)
     } else if name == b"uncore".as_slice() {
         read_uncore(arguments)
+    } else if name == b"tape".as_slice() {
+        read_tape(arguments)
+    } else if name == b"delay".as_slice() {
+        read_delay(arguments)
     } else if name == b"at".as_slice() {
         read_at(arguments)
     } else if name == b"alter".as_slice() {
@@ -81,6 +89,25 @@ fn read_uncore(arguments: &[u8]) -> Option<Command>
 {
     let address = read_octal(one_word(arguments)?)?;
     Some(Command::RevertCore { address })
+}
+
+// `tape B B ..`
+fn read_tape(arguments: &[u8]) -> Option<Command>
+    requires { length arguments.now ≤ longest_line }
+    ensures { result ≡ tape_form (words_of arguments.now) }
+{
+    let bytes = read_bytes(arguments)?;
+    Some(Command::SetTape(bytes))
+}
+
+// `delay printer N`, also `reader`, `punch`, `disk` and `clock`
+fn read_delay(arguments: &[u8]) -> Option<Command>
+    ensures { result ≡ delay_form (words_of arguments.now) }
+{
+    let (name, delay) = two_words(arguments)?;
+    let line = read_line_name(name)?;
+    let delay = read_turn(delay)?;
+    Some(Command::SetDelay { line, delay })
 }
 
 // `at T event`

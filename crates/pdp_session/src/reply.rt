@@ -2,12 +2,15 @@ ghost use Rattle.std.specs.Prelude.{◌≡◌, ◌||◌, is_err};
 ghost use Rattle.pdp_session.specs.Reply.{text_of, value_text, patches_text, patch_line_at, mem_line};
 ghost use Rattle.pdp_session.specs.Inside.Sends.{Sends};
 
+mod bytes;
 mod texts;
 
 use crate::streams::{Drain, Failed, send};
+use bytes::send_bytes;
 use pdp_replay::{Engine, Fault, Value};
 use texts::{
-    Text, count_text, done_text, insertion_text, patch_text, refusal_text, regs_text, word_text,
+    Text, count_text, devices_text, done_text, insertion_text, patch_text, refusal_text, regs_text,
+    word_text,
 };
 
 // What a line is answered.
@@ -47,6 +50,9 @@ fn send_value<W: Drain>(value: &Value, writer: &mut W) -> Result<(), Failed>
     match value {
         Value::Regs(regs) => send(writer, regs_text(*regs).as_slice()),
         Value::Core(words) => send_core(words.words(), writer),
+        Value::Text(bytes) => send_bytes("text", bytes.bytes(), writer),
+        Value::Punched(bytes) => send_bytes("punched", bytes.bytes(), writer),
+        Value::Devices(devices) => send(writer, devices_text(*devices).as_slice()),
     }
 }
 

@@ -2,23 +2,22 @@
 use Rattle.std.proofs.Common.{◌≡◌, false, List, [], ◌∷◌, refl, ap, ◌∙◌}
 use Rattle.pdp_console.proofs.KeyLaws.{others_leave_the_key, reads_leave_done_clear, status_shows_done}
 use Rattle.pdp_console.specs.declared.kl.KlRegister.TheVariants.{KeyboardBuffer}
-use Rattle.pdp_unibus.specs.Event.{bus_after}
+use Rattle.pdp_unibus.specs.Beginning.{at_start, after_key}
 use Rattle.pdp_word.specs.Bits.{bit_of}
 use Rattle.pdp_unibus.specs.Laws.{KeysAreReadOnce, KeysWaitUntilRead, NeverReading, Use, Reading, Writing, after_use, after_uses}
 use Rattle.pdp_unibus.specs.Register.{after_read, after_write, value_in}
 use Rattle.pdp_unibus.specs.declared.board.Board.{Board}
-use Rattle.pdp_unibus.specs.declared.event.Event.TheVariants.{Key}
 use Rattle.pdp_unibus.specs.declared.register.Register.TheVariants.{Console}
 
 -- no register sets done
-stays_clear : (u : Use) (b : Board) → b.console.done ≡ false → (after_use u b).console.done ≡ false
+stays_clear : (u : Use) (b : Board) → b.console.keyboard.channel.ready ≡ false → (after_use u b).console.keyboard.channel.ready ≡ false
 unfolding after_read after_write
 stays_clear (Reading (Console register)) b clear = reads_leave_done_clear register b.console clear
 stays_clear (Reading other) b clear = clear
-stays_clear (Writing (Console register) word turn) b clear = (others_leave_the_key register b.console word turn).0 ∙ clear
+stays_clear (Writing (Console register) word turn) b clear = (others_leave_the_key register b.console word turn b.delays.printer).0 ∙ clear
 stays_clear (Writing other word turn) b clear = clear
 
-all_stay_clear : (uses : List Use) (b : Board) → b.console.done ≡ false → (after_uses uses b).console.done ≡ false
+all_stay_clear : (uses : List Use) (b : Board) → b.console.keyboard.channel.ready ≡ false → (after_uses uses b).console.keyboard.channel.ready ≡ false
 all_stay_clear [] b clear = clear
 all_stay_clear (u ∷ uses) b clear = all_stay_clear uses (after_use u b) (stays_clear u b clear)
 
@@ -30,23 +29,23 @@ read_once b uses =
 
 -- all but a read of the buffer leave done and the key
 keeps : (uses : List Use) (b : Board) → NeverReading (Console KeyboardBuffer) uses
-    → ((after_uses uses b).console.done ≡ b.console.done) × ((after_uses uses b).console.buffer ≡ b.console.buffer)
+    → ((after_uses uses b).console.keyboard.channel.ready ≡ b.console.keyboard.channel.ready) × ((after_uses uses b).console.keyboard.key ≡ b.console.keyboard.key)
 unfolding after_read after_write
 keeps [] b never = (refl, refl)
 keeps (Reading (Console register) ∷ uses) b never =
     let rest = keeps uses (after_read (Console register) b) never.1 in
-    let here = (others_leave_the_key register b.console 0 0).2 (λ is. never.0 (ap Console is)) in
+    let here = (others_leave_the_key register b.console 0 0 0).2 (λ is. never.0 (ap Console is)) in
     (rest.0 ∙ here.0, rest.1 ∙ here.1)
 keeps (Reading other ∷ uses) b never = keeps uses (after_read other b) never.1
 keeps (Writing (Console register) word turn ∷ uses) b never =
     let rest = keeps uses (after_write (Console register) word turn b) never in
-    let here = others_leave_the_key register b.console word turn in
+    let here = others_leave_the_key register b.console word turn b.delays.printer in
     (rest.0 ∙ here.0, rest.1 ∙ here.1)
 keeps (Writing other word turn ∷ uses) b never = keeps uses (after_write other word turn b) never
 
 pub wait_until_read : KeysWaitUntilRead
-unfolding value_in bus_after
+unfolding value_in
 wait_until_read w key uses never = (
-  status_shows_done (after_uses uses (bus_after (Key key) w).board).console ∙ ap bit_of (keeps uses (bus_after (Key key) w).board never).0,
-  (keeps uses (bus_after (Key key) w).board never).1,
+  status_shows_done (after_uses uses (after_key key (at_start w)).bus.board).console ∙ ap bit_of (keeps uses (after_key key (at_start w)).bus.board never).0,
+  (keeps uses (after_key key (at_start w)).bus.board never).1,
 )

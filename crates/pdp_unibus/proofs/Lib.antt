@@ -1,4 +1,11 @@
+pub mod Beginnings
+pub mod CompletionLaws
 pub mod Devices
 pub mod KeyLaws
+pub mod OutputLaws
 pub mod RequestLaws
+pub mod RuleLaws
 pub mod StatusLaws
+pub mod TapeLaws
+pub mod Tapes
+pub mod Watching

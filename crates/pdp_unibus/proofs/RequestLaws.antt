@@ -1,10 +1,11 @@
 -- Who is chosen, over any sources that request; who is served.
-use Rattle.std.proofs.Common.{◌≡◌, ◌⊎◌, inl, inr, Bool, true, false, ◌&&◌, Some, None, List, [], ◌∷◌, refl, subst}
+use Rattle.std.proofs.Common.{◌≡◌, ◌⊎◌, inl, inr, Bool, true, false, ◌&&◌, Some, None, List, [], ◌∷◌, refl, subst, if◌then◌else◌, Option}
 use Rattle.std.specs.List.{find, list_any}
+use Rattle.std.specs.Option.{option_or}
 use Rattle.std.proofs.lemmas.Bool.{and_parts, and_from, or_parts}
 use Rattle.pdp_unibus.specs.BusWorld.{board_reset}
 use Rattle.pdp_unibus.specs.RequestLaws.{NoneIsChosenWhereNoneIsAbove, OthersGoOnRequesting, RequestsAreTold, ResetDropsRequests, ServedSourcesAreSilent, TheFirstIsChosen, goes_before}
-use Rattle.pdp_unibus.specs.Source.{chosen, has_request, level_of, order, requests, served}
+use Rattle.pdp_unibus.specs.Source.{alone_above, chosen, first_above, has_request, level_of, order, requests, served}
 use Rattle.pdp_unibus.specs.Status.{is_above}
 use Rattle.pdp_unibus.specs.declared.board.Board.{Board}
 use Rattle.pdp_unibus.specs.declared.priority.Priority.{Priority}
@@ -169,6 +170,31 @@ requests_are_told b = (
   λ none. rw (none Clock, none Disk, none Keyboard, none Printer, none Reader, none Punch) refl,
 )
 
+-- the choice, source by source in their order
+pub first_of_all : (is_requesting : Source → Bool) (priority : Priority)
+    → option_or (option_or (option_or (option_or (option_or (alone_above is_requesting priority Clock) (alone_above is_requesting priority Disk))
+    (alone_above is_requesting priority Keyboard)) (alone_above is_requesting priority Printer))
+    (alone_above is_requesting priority Reader)) (alone_above is_requesting priority Punch)
+    ≡ first_above is_requesting priority
+first_of_all is_requesting priority =
+    first (test Clock) (test Disk) (test Keyboard) (test Printer) (test Reader) (test Punch) where
+      test : Source → Bool
+      test s = is_requesting s && is_above (level_of s) priority
+
+      only : Bool → Source → Option Source
+      only holds s = if holds then Some s else None
+
+      first : (clock disk keyboard printer reader punch : Bool)
+          → option_or (option_or (option_or (option_or (option_or (only clock Clock) (only disk Disk)) (only keyboard Keyboard)) (only printer Printer)) (only reader Reader)) (only punch Punch)
+          ≡ (if clock then Some Clock else if disk then Some Disk else if keyboard then Some Keyboard else if printer then Some Printer else if reader then Some Reader else if punch then Some Punch else None)
+      first true disk keyboard printer reader punch = refl
+      first false true keyboard printer reader punch = refl
+      first false false true printer reader punch = refl
+      first false false false true reader punch = refl
+      first false false false false true punch = refl
+      first false false false false false true = refl
+      first false false false false false false = refl
+
 -- where no source requests none is chosen
 pub quiet_boards_choose_none : (priority : Priority) (b : Board) → has_request b ≡ false → chosen priority b ≡ None
 unfolding chosen
@@ -176,16 +202,28 @@ quiet_boards_choose_none priority b quiet =
     (none_is_chosen (requests b) priority).1 (λ s (asks, high). let no = (requests_are_told b).0 quiet s in cc)
 
 pub served_sources_are_silent : ServedSourcesAreSilent
-unfolding served
+unfolding requests served
+served_sources_are_silent Clock b = refl
+served_sources_are_silent Disk b = refl
 served_sources_are_silent Keyboard b = refl
-served_sources_are_silent _ b = refl
+served_sources_are_silent Printer b = refl
+served_sources_are_silent Reader b = refl
+served_sources_are_silent Punch b = refl
 
 pub others_go_on : OthersGoOnRequesting
-unfolding served
+unfolding requests served
+others_go_on Clock Clock b other = absurd (other refl)
+others_go_on Clock _ b other = refl
 others_go_on Keyboard Keyboard b other = absurd (other refl)
 others_go_on Keyboard _ b other = refl
-others_go_on _ t b other = refl
+others_go_on Printer Printer b other = absurd (other refl)
+others_go_on Printer _ b other = refl
+others_go_on Reader Reader b other = absurd (other refl)
+others_go_on Reader _ b other = refl
+others_go_on Punch Punch b other = absurd (other refl)
+others_go_on Punch _ b other = refl
+others_go_on Disk t b other = refl
 
 pub reset_drops_requests : ResetDropsRequests
-unfolding board_reset
+unfolding board_reset requests
 reset_drops_requests b = refl

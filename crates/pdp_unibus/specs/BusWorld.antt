@@ -1,10 +1,13 @@
 -- The bus and what is on it: PDP-11 Peripherals Handbook, Unibus (power-up and stamps are this project's profile).
 use Rattle.std.specs.Prelude.{ℕ, List, Option, false}
-use Rattle.pdp_console.specs.Kl.{kl_reset}
+use Rattle.pdp_console.specs.Kl.{kl_reset, quiet_kl}
+use Rattle.pdp_console.specs.Kw.{quiet_kw}
+use Rattle.pdp_tape.specs.Pc.{pc_reset, quiet_pc}
 use Rattle.pdp_kt11.specs.declared.mode.Mode.TheVariants.{Kernel}
 use Rattle.pdp_store.specs.declared.Stamp.{Stamp}
 use Rattle.pdp_word.specs.declared.codes.Codes.{Codes}
 use Rattle.pdp_unibus.specs.declared.board.Board.{Board}
+use Rattle.pdp_unibus.specs.declared.delays.Delays.{Delays}
 use Rattle.pdp_unibus.specs.declared.priority.Priority.TheVariants.{Level0}
 use Rattle.pdp_unibus.specs.declared.status.Status.{Status}
 
@@ -16,12 +19,14 @@ pub record BusWorld : Type 0 where
   pub core : List ℕ
   -- for each word of core the stamp of its last write, if it was written; no list at all where core keeps no stamps
   pub lasts : List (Option Stamp)
+  -- the bytes of the paper tape that the reader hasn't read
+  pub tape : List ℕ
   -- the turn of its cycles
   pub turn : ℕ
 
--- the board as of power-up: every bit of the program status word 0, no key, the switches 0
-abbrev pub powered_board : Board
-powered_board = record {
+-- the board as of power-up: every bit of the program status word and the switches 0, the devices as after RESET
+abbrev pub powered_board : Delays → Board
+powered_board delays = record {
   status = record {
     mode = Kernel;
     previous = Kernel;
@@ -29,13 +34,16 @@ powered_board = record {
     trace_bit = false;
     codes = record { n = false; z = false; v = false; c = false };
   };
-  console = record { done = false; enable = false; request = false; buffer = 0 };
+  console = quiet_kl;
+  clock = quiet_kw;
+  paper_tape = quiet_pc;
+  delays = delays;
   switches = 0;
 }
 
--- the bus as of power-up, over this core
-abbrev pub powered : List ℕ → List (Option Stamp) → BusWorld
-powered words lasts = record { board = powered_board; core = words; lasts = lasts; turn = 0 }
+-- the bus as of power-up, over this core and this tape
+abbrev pub powered : List ℕ → List (Option Stamp) → List ℕ → Delays → BusWorld
+powered words lasts tape delays = record { board = powered_board delays; core = words; lasts = lasts; tape = tape; turn = 0 }
 
 abbrev pub with_board : BusWorld → Board → BusWorld
 with_board w board = record w { board = board }
@@ -48,6 +56,7 @@ with_status w status = with_board w (record w.board { status = status })
 abbrev pub with_codes : BusWorld → Codes → BusWorld
 with_codes w codes = with_status w (record w.board.status { codes = codes })
 
--- RESET: each device is initialised; the program status and the switches stay
+-- RESET: each device is initialised; the program status, the delays and the switches stay
 unfoldable pub board_reset : Board → Board
-board_reset b = record b { console = kl_reset b.console }
+board_reset b =
+    record b { console = kl_reset b.console; clock = quiet_kw; paper_tape = pc_reset b.paper_tape }

@@ -4,11 +4,10 @@ use Rattle.std.specs.Prelude.{◌≡◌, ℕ, ◌+◌, ◌*◌, ◌/◌, ◌%◌
 use Rattle.pdp_word.specs.Bits.{bit_of, field}
 use Rattle.pdp_console.specs.declared.kl.KlRegister.TheVariants.{KeyboardStatus, KeyboardBuffer}
 use Rattle.pdp_unibus.specs.BusWorld.{BusWorld}
-use Rattle.pdp_unibus.specs.Event.{bus_after}
+use Rattle.pdp_unibus.specs.Beginning.{at_start, after_key}
 use Rattle.pdp_unibus.specs.Register.{after_read, after_write, value_in}
 use Rattle.pdp_unibus.specs.Status.{status_of, status_word, status_written}
 use Rattle.pdp_unibus.specs.declared.board.Board.{Board}
-use Rattle.pdp_unibus.specs.declared.event.Event.TheVariants.{Key}
 use Rattle.pdp_unibus.specs.declared.register.Register.{Register}
 use Rattle.pdp_unibus.specs.declared.register.Register.TheVariants.{Console, ProgramStatus}
 use Rattle.pdp_unibus.specs.declared.status.Status.{Status}
@@ -65,8 +64,8 @@ NeverReading register (Writing other word turn ∷ uses) = NeverReading register
 -- a key that was struck waits until the buffer is read: done, bit 7 of the status, is set, and the buffer holds the key
 abbrev pub KeysWaitUntilRead : Type 0
 KeysWaitUntilRead = (w : BusWorld) (key : ℕ) (uses : List Use) → NeverReading (Console KeyboardBuffer) uses
-    → (field 7 1 (value_in (Console KeyboardStatus) (after_uses uses (bus_after (Key key) w).board)) ≡ 1)
-    × (value_in (Console KeyboardBuffer) (after_uses uses (bus_after (Key key) w).board) ≡ key)
+    → (field 7 1 (value_in (Console KeyboardStatus) (after_uses uses (after_key key (at_start w)).bus.board)) ≡ 1)
+    × (value_in (Console KeyboardBuffer) (after_uses uses (after_key key (at_start w)).bus.board) ≡ key)
 
 -- a read of the buffer clears done, and no register that is then read or written sets it
 abbrev pub KeysAreReadOnce : Type 0

@@ -3,7 +3,12 @@ pub mod Source
 pub mod BusWorld
 pub mod Register
 pub mod Cycle
-pub mod Event
+pub mod Delays
+pub mod Beginning
+pub mod SingleBytes
+pub mod Watch
 pub mod LastTurn
 pub mod Laws
 pub mod RequestLaws
+pub mod RuleLaws
+pub mod ByteLaws

@@ -1,15 +1,21 @@
--- Registers on the bus, and who owns them: PDP-11 Peripherals Handbook, KL11; DEC PDP-11/40 Processor Handbook (1972),
--- Switch register and Processor status word.
-use Rattle.std.specs.Prelude.{ℕ, ◌+◌, ◌-◌, ◌*◌, ◌%◌, ◌==◌, ◌&&◌, nat_le, Option, Some, None, option_map, if◌then◌else◌}
+-- Registers on the bus, and who owns them: PDP-11 Peripherals Handbook, KL11, KW11-L and PC11; DEC PDP-11/40 Processor
+-- Handbook (1972), Switch register and Processor status word. How bytes are written is this project's profile.
+use Rattle.std.specs.Prelude.{ℕ, ◌+◌, ◌-◌, ◌*◌, ◌%◌, ◌==◌, ◌&&◌, nat_le, Bool, true, Option, Some, None, option_map, if◌then◌else◌}
 use Rattle.pdp_console.specs.Kl.{kl_read, kl_register_at, kl_value, kl_written}
+use Rattle.pdp_console.specs.Kw.{kw_value, kw_written}
+use Rattle.pdp_console.specs.declared.kl.KlRegister.TheVariants.{PrinterBuffer}
+use Rattle.pdp_tape.specs.Pc.{pc_read, pc_register_at, pc_value, pc_written}
+use Rattle.pdp_tape.specs.declared.pc.PcRegister.TheVariants.{PunchBuffer}
 use Rattle.pdp_unibus.specs.Status.{status_word, status_written}
 use Rattle.pdp_unibus.specs.declared.board.Board.{Board}
 use Rattle.pdp_unibus.specs.declared.register.Register.{Register}
-use Rattle.pdp_unibus.specs.declared.register.Register.TheVariants.{Console, Switches, ProgramStatus}
+use Rattle.pdp_unibus.specs.declared.register.Register.TheVariants.{Clock, Console, PaperTape, Switches, ProgramStatus}
 
 -- the owners: a device has its registers from its first address on
 abbrev pub register_of_word : ℕ → Option Register
 register_of_word address = (
+    if address == 0o777546 then Some Clock else
+    if nat_le 0o777550 address && nat_le address 0o777556 then option_map PaperTape (pc_register_at (address - 0o777550)) else
     if nat_le 0o777560 address && nat_le address 0o777566 then option_map Console (kl_register_at (address - 0o777560)) else
     if address == 0o777570 then Some Switches else
     if address == 0o777776 then Some ProgramStatus else None)
@@ -21,18 +27,25 @@ register_at address = register_of_word (address - address % 2)
 -- what a read gives
 unfoldable pub value_in : Register → Board → ℕ
 value_in (Console r) b = kl_value r b.console
+value_in Clock b = kw_value b.clock
+value_in (PaperTape r) b = pc_value r b.paper_tape
 value_in Switches b = b.switches
 value_in ProgramStatus b = status_word b.status
 
 -- what a read does
 unfoldable pub after_read : Register → Board → Board
 after_read (Console r) b = record b { console = kl_read r b.console }
+after_read Clock b = b
+after_read (PaperTape r) b = record b { paper_tape = pc_read r b.paper_tape }
 after_read Switches b = b
 after_read ProgramStatus b = b
 
 -- what a write of a word does in a turn; the switches can't be written
 unfoldable pub after_write : Register → ℕ → ℕ → Board → Board
-after_write (Console r) word turn b = record b { console = kl_written r word turn b.console }
+after_write (Console r) word turn b = record b { console = kl_written r word turn b.delays.printer b.console }
+after_write Clock word turn b = record b { clock = kw_written word b.clock }
+after_write (PaperTape r) word turn b =
+    record b { paper_tape = pc_written r word turn b.delays.reader b.delays.punch b.paper_tape }
 after_write Switches word turn b = b
 after_write ProgramStatus word turn b = record b { status = status_written word b.status }
 
@@ -41,7 +54,15 @@ abbrev pub word_with_byte : ℕ → ℕ → ℕ → ℕ
 word_with_byte word address byte =
     (if address % 2 == 0 then word - word % 256 + byte else byte * 256 + word % 256)
 
+-- whether a write of a byte at an address does anything: at the odd address of the printer's and the punch's buffer it
+-- does nothing
+abbrev pub is_byte_written : Register → ℕ → Bool
+is_byte_written (Console PrinterBuffer) address = address % 2 == 0
+is_byte_written (PaperTape PunchBuffer) address = address % 2 == 0
+is_byte_written _ address = true
+
 -- what a write of a byte does: the word is written with the other half as a read would give it, without the effect of a
--- read. A register whose bytes go otherwise has an equation of its own here.
+-- read
 unfoldable pub after_byte : Register → ℕ → ℕ → ℕ → Board → Board
-after_byte register address byte turn b = after_write register (word_with_byte (value_in register b) address byte) turn b
+after_byte register address byte turn b =
+    if is_byte_written register address then after_write register (word_with_byte (value_in register b) address byte) turn b else b

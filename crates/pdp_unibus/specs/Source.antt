@@ -1,8 +1,10 @@
 -- What can interrupt the processor: PDP-11 Peripherals Handbook, KL11, KW11-L, PC11 and RK11 (which of two at one level
 -- goes first is this project's profile).
-use Rattle.std.specs.Prelude.{ℕ, Bool, false, ◌&&◌, Option, List, [], ◌∷◌}
+use Rattle.std.specs.Prelude.{ℕ, Bool, false, ◌&&◌, Option, Some, None, List, [], ◌∷◌, if◌then◌else◌}
 use Rattle.std.specs.List.{find, list_any}
-use Rattle.pdp_console.specs.Kl.{kl_served}
+use Rattle.pdp_console.specs.Kl.{keyboard_served, printer_served}
+use Rattle.pdp_console.specs.Kw.{kw_served}
+use Rattle.pdp_tape.specs.Pc.{punch_served, reader_served}
 use Rattle.pdp_unibus.specs.Status.{is_above}
 use Rattle.pdp_unibus.specs.declared.board.Board.{Board}
 use Rattle.pdp_unibus.specs.declared.priority.Priority.{Priority}
@@ -29,14 +31,22 @@ vector_of Disk = 0o220
 abbrev pub order : List Source
 order = Clock ∷ Disk ∷ Keyboard ∷ Printer ∷ Reader ∷ Punch ∷ []
 
+-- a source, where it requests with a level above the priority
+abbrev pub alone_above : (Source → Bool) → Priority → Source → Option Source
+alone_above is_requesting priority s = if is_requesting s && is_above (level_of s) priority then Some s else None
+
 -- of those that request, the first with a level above the priority
 abbrev pub first_above : (Source → Bool) → Priority → Option Source
 first_above is_requesting priority = find (λ s. is_requesting s && is_above (level_of s) priority) order
 
--- whether a source requests; devices to come don't
-abbrev pub requests : Board → Source → Bool
-requests b Keyboard = b.console.request
-requests b _ = false
+-- whether a source requests; the disk is to come
+unfoldable pub requests : Board → Source → Bool
+requests b Clock = b.clock.request
+requests b Disk = false
+requests b Keyboard = b.console.keyboard.channel.request
+requests b Printer = b.console.printer.channel.request
+requests b Reader = b.paper_tape.reader.request
+requests b Punch = b.paper_tape.punch.channel.request
 
 -- whether any does
 abbrev pub has_request : Board → Bool
@@ -48,5 +58,9 @@ chosen priority b = first_above (requests b) priority
 
 -- the source's request is served: that request goes, and nothing else changes
 unfoldable pub served : Source → Board → Board
-served Keyboard b = record b { console = kl_served b.console }
-served _ b = b
+served Clock b = record b { clock = kw_served b.clock }
+served Disk b = b
+served Keyboard b = record b { console = keyboard_served b.console }
+served Printer b = record b { console = printer_served b.console }
+served Reader b = record b { paper_tape = reader_served b.paper_tape }
+served Punch b = record b { paper_tape = punch_served b.paper_tape }

@@ -1,21 +1,45 @@
 ghost use Rattle.std.specs.Prelude.{◌≡◌};
-ghost use Rattle.pdp_unibus.specs.BusWorld.{board_reset};
-ghost use Rattle.pdp_unibus.specs.Register.{value_in, after_byte, after_read, after_write, word_with_byte};
+ghost use Rattle.pdp_unibus.specs.BusWorld.{board_reset, powered_board};
+ghost use Rattle.pdp_unibus.specs.Register.{value_in, after_byte, after_read, after_write, is_byte_written, word_with_byte};
 
+use crate::delays::Delays;
 use crate::register::Register;
 use crate::status::Status;
-use pdp_console::Kl;
+use pdp_console::{Kl, KlRegister, Kw};
+use pdp_tape::{Pc, PcRegister};
 
-/// What the bus holds besides the lists of words and the turn: the program status word, the devices and the switches.
-#[derive(Clone, Copy, Debug, Default)]
+/// What the bus holds besides the lists of words, the tape and the turn: the program status word, the devices with their
+/// delays, and the switches.
+#[derive(Clone, Copy, Debug)]
 pub struct Board {
     pub status: Status,
     pub console: Kl,
+    /// The line clock.
+    pub clock: Kw,
+    /// The paper tape reader and punch.
+    pub paper_tape: Pc,
+    /// How long operations take.
+    pub delays: Delays,
     /// The switch register.
     pub switches: u16,
 }
 
 impl Board {
+    /// The board as of power-up, with these delays: every bit of the program status word and the switches 0, and the
+    /// devices as after RESET (this project's profile).
+    pub(crate) fn power(delays: Delays) -> Board
+        ensures { result ≡ powered_board delays }
+    {
+        Board {
+            status: Status::default(),
+            console: Kl::quiet(),
+            clock: Kw::quiet(),
+            paper_tape: Pc::quiet(),
+            delays,
+            switches: 0,
+        }
+    }
+
     /// What a read of the register gives, without the effect of a read.
     #[tactic(auto, unfolding(crate::specs::Register::value_in))]
     pub fn value(&self, register: Register) -> u16
@@ -23,6 +47,8 @@ impl Board {
     {
         match register {
             Register::Console(register) => self.console.value(register),
+            Register::Clock => self.clock.value(),
+            Register::PaperTape(register) => self.paper_tape.value(register),
             Register::Switches => self.switches,
             Register::ProgramStatus => self.status.word(),
         }
@@ -36,6 +62,8 @@ impl Board {
     {
         match register {
             Register::Console(register) => self.console.read_reg(register),
+            Register::Clock => self.clock.value(),
+            Register::PaperTape(register) => self.paper_tape.read_reg(register),
             Register::Switches => self.switches,
             Register::ProgramStatus => self.status.word(),
         }
@@ -47,28 +75,53 @@ impl Board {
         ensures { self.new ≡ after_write register word turn self.old }
     {
         match register {
-            Register::Console(register) => self.console.write_reg(register, word, turn),
+            Register::Console(register) => {
+                self.console
+                    .write_reg(register, word, turn, self.delays.printer)
+            }
+            Register::Clock => self.clock.write_reg(word),
+            Register::PaperTape(register) => {
+                let Delays { reader, punch, .. } = self.delays;
+                self.paper_tape
+                    .write_reg(register, word, turn, reader, punch)
+            }
             Register::Switches => {}
             Register::ProgramStatus => self.status = self.status.written(word),
         }
     }
 
     /// A write of a byte to the register, at an address in its word, in this turn: the other half is written as a read
-    /// would give it, without the effect of a read.
+    /// would give it, without the effect of a read. At the odd address of the printer's and the punch's buffer it does
+    /// nothing.
     #[tactic(auto, unfolding(crate::specs::Register::after_byte))]
     pub fn write_byte(&mut self, register: Register, address: u32, byte: u8, turn: u32)
         ensures { self.new ≡ after_byte register address byte turn self.old }
     {
-        let word = with_byte(self.value(register), address, byte);
-        self.write(register, word, turn);
+        if is_byte_written(register, address) {
+            let word = with_byte(self.value(register), address, byte);
+            self.write(register, word, turn);
+        }
     }
 
-    /// RESET of all devices. The program status and the switches stay.
+    /// RESET of all devices. The program status, the delays and the switches stay.
     #[tactic(auto, unfolding(crate::specs::BusWorld::board_reset))]
     pub(crate) fn reset(&mut self)
         ensures { self.new ≡ board_reset self.old }
     {
         self.console.reset();
+        self.clock.reset();
+        self.paper_tape.reset();
+    }
+}
+
+/// Whether a write of a byte at this address of the register does anything.
+fn is_byte_written(register: Register, address: u32) -> bool
+    ensures { result ≡ is_byte_written register address }
+{
+    match register {
+        Register::Console(KlRegister::PrinterBuffer)
+        | Register::PaperTape(PcRegister::PunchBuffer) => address % 2 == 0,
+        _ => true,
     }
 }
 

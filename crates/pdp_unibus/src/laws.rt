@@ -6,6 +6,10 @@ ghost use Rattle.pdp_unibus.specs.Laws.{ReadStatusWritesBack, WrittenRegisterRea
 ghost use Rattle.pdp_unibus.specs.Laws.{StatusIsItsWord, WholeStatusReadsBack};
 ghost use Rattle.pdp_unibus.specs.RequestLaws.{NoneIsChosenWhereNoneIsAbove, RequestsAreTold, TheFirstIsChosen};
 ghost use Rattle.pdp_unibus.specs.RequestLaws.{OthersGoOnRequesting, ResetDropsRequests, ServedSourcesAreSilent};
+ghost use Rattle.pdp_unibus.specs.RuleLaws.{RequestsGoByTheRule, keyboard_channel, printer_channel, punch_channel};
+ghost use Rattle.pdp_unibus.specs.ByteLaws.{BytesArePrintedAsOperationsEnd, BytesArePunchedAsOperationsEnd, ReadsTakeTheNextByte};
+ghost use Rattle.pdp_unibus.specs.ByteLaws.{PrintingEndsWhenDue, PunchingEndsWhenDue, ReadingEndsWhenDue};
+ghost use Rattle.pdp_unibus.specs.ByteLaws.{PrintingOutlivesUses, PunchingOutlivesUses, ReadingOutlivesUses};
 ghost use Rattle.pdp_unibus.specs.declared.bus.Timeout.{Timeout};
 
 /// A law of the bus: a cycle that times out leaves core, its stamps, the board and the turn as they were.
@@ -43,6 +47,17 @@ pub fn the_first_request_is_chosen()
     ensures none { NoneIsChosenWhereNoneIsAbove }
 {}
 
+/// A law of the one rule of requests, of the keyboard, the printer and the punch: whichever register is read or written
+/// and whatever happens to the devices, a request is there afterwards exactly where the device's condition holds and it
+/// was there, or the condition has just come to hold. So none is lost, and none comes twice.
+///
+/// This project's profile.
+pub fn requests_go_by_the_rule()
+    ensures keyboard { RequestsGoByTheRule keyboard_channel }
+    ensures printer { RequestsGoByTheRule printer_channel }
+    ensures punch { RequestsGoByTheRule punch_channel }
+{}
+
 /// A law of requests: whether there is any is told, a source that was served doesn't request, the others go on as
 /// before, and after RESET none does.
 ///
@@ -52,4 +67,35 @@ pub fn requests_go_one_by_one_or_by_reset()
     ensures served { ServedSourcesAreSilent }
     ensures others { OthersGoOnRequesting }
     ensures reset { ResetDropsRequests }
+{}
+
+/// A law of the printer and the punch: in the beginning of a turn a byte comes out exactly where its operation ends
+/// there, once, as it is then; and nothing else comes out.
+///
+/// PDP-11 Peripherals Handbook, KL11 and PC11; when an operation ends is this project's profile.
+pub fn bytes_come_out_as_operations_end()
+    ensures printed { BytesArePrintedAsOperationsEnd }
+    ensures punched { BytesArePunchedAsOperationsEnd }
+{}
+
+/// A law of completions: without its event an operation of the printer, the reader or the punch ends in the beginning
+/// of the turn in which it is due, and of no other; and whichever registers are read and written meanwhile, it stays as
+/// it was begun.
+///
+/// This project's profile.
+pub fn operations_end_when_due()
+    ensures printing { PrintingEndsWhenDue }
+    ensures reading { ReadingEndsWhenDue }
+    ensures punching { PunchingEndsWhenDue }
+    ensures printing_outlives { PrintingOutlivesUses }
+    ensures reading_outlives { ReadingOutlivesUses }
+    ensures punching_outlives { PunchingOutlivesUses }
+{}
+
+/// A law of the paper tape: in the beginning of a turn a read that ends takes the tape's next byte, or finds its end, and
+/// nothing else moves the tape.
+///
+/// PDP-11 Peripherals Handbook, PC11; when an operation ends is this project's profile.
+pub fn reads_take_the_next_byte()
+    ensures { ReadsTakeTheNextByte }
 {}

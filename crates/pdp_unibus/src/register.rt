@@ -2,10 +2,15 @@ ghost use Rattle.std.specs.Prelude.{◌≡◌};
 ghost use Rattle.pdp_unibus.specs.Register.{register_at};
 
 use pdp_console::KlRegister;
+use pdp_tape::PcRegister;
 
 /// A register on the bus, of a device or of the processor.
 #[derive(Clone, Copy, Debug, PartialEq, Eq)]
 pub enum Register {
+    /// 777546: the line clock's.
+    Clock,
+    /// 777550 to 777557: the paper tape reader's and punch's.
+    PaperTape(PcRegister),
     /// 777560 to 777567: the console terminal's.
     Console(KlRegister),
     /// 777570
@@ -16,14 +21,16 @@ pub enum Register {
 
 /// The register whose word has this physical address (bytes), if there is one.
 ///
-/// PDP-11 Peripherals Handbook, KL11; DEC PDP-11/40 Processor Handbook (1972), Switch register
-/// and Processor status word.
+/// PDP-11 Peripherals Handbook, KL11, KW11-L and PC11; DEC PDP-11/40 Processor Handbook (1972), Switch register and
+/// Processor status word.
 #[tactic(auto, unfolding(crate::specs::Register::register_at))]
 pub fn register_at_address(address: u32) -> Option<Register>
     ensures { result ≡ register_at address }
 {
     let word = address - address % 2;
     match word {
+        0o777546 => Some(Register::Clock),
+        0o777550..=0o777556 => PcRegister::at(word - 0o777550).map(Register::PaperTape),
         0o777560..=0o777566 => KlRegister::at(word - 0o777560).map(Register::Console),
         0o777570 => Some(Register::Switches),
         0o777776 => Some(Register::ProgramStatus),

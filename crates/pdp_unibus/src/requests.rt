@@ -1,49 +1,65 @@
 //! Requests of the devices on the board: who requests, who is chosen, and who is served.
 
 ghost use Rattle.std.specs.Prelude.{◌≡◌};
-ghost use Rattle.pdp_unibus.specs.Source.{chosen, has_request, requests, served};
+ghost use Rattle.pdp_unibus.specs.Source.{alone_above, chosen, has_request, requests, served};
 
 use crate::board::Board;
 use crate::priority::Priority;
 use crate::source::Source;
 
-// The order in which sources go: by levels, and at one level by this project's profile.
-const ORDER: [Source; 6] = [
-    Source::Clock,
-    Source::Disk,
-    Source::Keyboard,
-    Source::Printer,
-    Source::Reader,
-    Source::Punch,
-];
-
 impl Board {
-    /// Whether the source requests; devices to come don't.
+    /// Whether the source requests; the disk is to come.
+    #[tactic(auto, unfolding(crate::specs::Source::requests))]
     pub(crate) fn requests(&self, source: Source) -> bool
         ensures { result ≡ requests self.now source }
     {
         match source {
-            Source::Keyboard => self.console.request,
-            _ => false,
+            Source::Clock => self.clock.request,
+            Source::Disk => false,
+            Source::Keyboard => self.console.keyboard.channel.request,
+            Source::Printer => self.console.printer.channel.request,
+            Source::Reader => self.paper_tape.reader.request,
+            Source::Punch => self.paper_tape.punch.channel.request,
         }
     }
 
     /// Whether any source requests.
-    #[inline(always)]
     pub(crate) fn has_request(&self) -> bool
         ensures { result ≡ has_request self.now }
     {
-        self.console.request
+        self.requests(Source::Clock)
+            || self.requests(Source::Disk)
+            || self.requests(Source::Keyboard)
+            || self.requests(Source::Printer)
+            || self.requests(Source::Reader)
+            || self.requests(Source::Punch)
     }
 
-    /// The first source in their order that requests with a level above the priority, if there is one.
+    /// The first source in their order that requests with a level above the priority, if there is one: they go by
+    /// levels, and at one level by this project's profile.
     #[cold]
     #[inline(never)]
-    #[tactic(auto, unfolding(crate::specs::Source::chosen))]
+    #[tactic(auto, unfolding(crate::specs::Source::chosen), using(crate::proofs::RequestLaws::first_of_all))]
     pub(crate) fn choose(&self, priority: Priority) -> Option<Source>
         ensures { result ≡ chosen priority self.now }
     {
-        ORDER.into_iter().find(|source| self.requests(*source) && source.level().is_above(priority))
+        self.above(Source::Clock, priority)
+            .or(self.above(Source::Disk, priority))
+            .or(self.above(Source::Keyboard, priority))
+            .or(self.above(Source::Printer, priority))
+            .or(self.above(Source::Reader, priority))
+            .or(self.above(Source::Punch, priority))
+    }
+
+    /// The source, where it requests with a level above the priority.
+    fn above(&self, source: Source, priority: Priority) -> Option<Source>
+        ensures { result ≡ alone_above (requests self.now) priority source }
+    {
+        if self.requests(source) && source.level().is_above(priority) {
+            Some(source)
+        } else {
+            None
+        }
     }
 
     /// The source's request is served: that request goes.
@@ -52,8 +68,12 @@ impl Board {
         ensures { self.new ≡ served source self.old }
     {
         match source {
-            Source::Keyboard => self.console.serve(),
-            _ => {}
+            Source::Clock => self.clock.serve(),
+            Source::Disk => {}
+            Source::Keyboard => self.console.serve_keyboard(),
+            Source::Printer => self.console.serve_printer(),
+            Source::Reader => self.paper_tape.serve_reader(),
+            Source::Punch => self.paper_tape.serve_punch(),
         }
     }
 }

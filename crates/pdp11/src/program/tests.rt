@@ -1,3 +1,5 @@
+ghost use Rattle.std.specs.Prelude.{◌≡◌, None, Some, false};
+
 use super::*;
 use crate::files::FileFailure;
 use pdp_script::Fault;
@@ -12,10 +14,11 @@ A PDP-11/40 whose past can be edited: it reads the lines of a session and writes
 Usage: pdp11 [OPTIONS]
 
 Options:
-      --units <N>   Units of core, of 4096 words each, 1 to 31 [default: 31]
-      --start <A>   Start address, octal and even [default: 1000]
-      --stride <N>  Stride in turns, 2000000000 for now [default: 2000000000]
-  -h, --help        Print help
+      --tape <FILE>  Paper tape, a file of plain bytes [default: an empty tape]
+      --units <N>    Units of core, of 4096 words each, 1 to 31 [default: 31]
+      --start <A>    Start address, octal and even [default: 1000]
+      --stride <N>   Stride in turns, 2000000000 for now [default: 2000000000]
+  -h, --help         Print help
 ";
 
 #[derive(Drop)]
@@ -25,6 +28,8 @@ struct NoFiles {
 
 impl Files for NoFiles {
     ghost has_failed = { λ s. s.failed };
+
+    ghost contents = { λ s name. None };
 
     fn bytes(&mut self, _alloc: Global, _name: &str) -> Result<Vec<u8>, FileFailure> {
         self.failed = true;
@@ -50,6 +55,8 @@ const DONE: (u8, &str) = (0, "");
 const BAD_ARGUMENTS: (u8, &str) = (2, "pdp11: bad arguments");
 
 const INPUT_OR_OUTPUT: (u8, &str) = (3, "pdp11: input or output");
+
+const BAD_IMAGE: (u8, &str) = (5, "pdp11: refused 14 BadImage");
 
 const BAD_SETUP: (u8, &str) = (5, "pdp11: refused 15 BadSetup");
 
@@ -178,4 +185,91 @@ fn tells_of_refused_setups(rt: HostRuntime) {
         (bad_image.status(), bad_image.line()),
         (5, "pdp11: refused 14 BadImage")
     );
+}
+
+// One file, in memory.
+#[derive(Drop)]
+struct TapeFile {
+    bytes: Vec<u8>,
+    failed: bool,
+}
+
+const TAPE_NAME: &str = "tape.bin";
+
+impl Files for TapeFile {
+    ghost has_failed = { λ s. s.failed };
+
+    ghost contents = { λ s name. Some s.bytes.items };
+
+    fn bytes(&mut self, alloc: Global, name: &str) -> Result<Vec<u8>, FileFailure> {
+        if name != TAPE_NAME {
+            self.failed = true;
+            return Err(FileFailure::Unreadable);
+        }
+        match Vec::from_slice(alloc, &self.bytes) {
+            Ok(bytes) => Ok(bytes),
+            Err(_) => Err(FileFailure::NoMemory),
+        }
+    }
+
+    fn failed(&self) -> bool {
+        self.failed
+    }
+}
+
+// So many bytes of leader.
+fn leader(alloc: Global, count: usize) -> Result<Vec<u8>, Fail> {
+    let mut bytes = Vec::with_capacity(alloc, count)?;
+    for _ in 0..count {
+        bytes.push(0)?;
+    }
+    Ok(bytes)
+}
+
+// The outcome of these words on an empty input, where there is the one file.
+fn outcome_with(alloc: Global, words: &[&str], tape: Vec<u8>) -> (u8, &'static str) {
+    let mut files = TapeFile {
+        bytes: tape,
+        failed: false,
+    };
+    let mut written = Vec::new(alloc);
+    let mut reader = FromRead::new(b"".as_slice());
+    let mut writer = ToWrite::new(&mut written);
+    outcome(alloc, words, &mut files, &mut reader, &mut writer)
+}
+
+#[test]
+fn reads_tape_file(rt: HostRuntime) -> Result<(), Fail> {
+    let rows: [(&[&str], usize, (u8, &str)); 9] = [
+        (&["pdp11", "--tape", "tape.bin"], 0, DONE),
+        (&["pdp11", "--tape=tape.bin"], 3, DONE),
+        (&["pdp11", "--tape", "tape.bin"], 1_048_576, DONE),
+        (&["pdp11", "--tape", "tape.bin"], 1_048_577, BAD_IMAGE),
+        (
+            &["pdp11", "--tape", "tape.bin", "--units", "32"],
+            1_048_577,
+            BAD_SETUP,
+        ),
+        (
+            &["pdp11", "--tape", "missing", "--units", "32"],
+            1_048_577,
+            INPUT_OR_OUTPUT,
+        ),
+        (
+            &["pdp11", "--tape", "missing", "--units", "x"],
+            0,
+            BAD_ARGUMENTS,
+        ),
+        (&["pdp11", "--tape"], 0, BAD_ARGUMENTS),
+        (
+            &["pdp11", "--tape", "tape.bin", "--tape", "tape.bin"],
+            0,
+            BAD_ARGUMENTS,
+        ),
+    ];
+    for (words, length, told) in rows {
+        let tape = leader(rt.alloc(), length)?;
+        assert_eq!(rt; outcome_with(rt.alloc(), words, tape), told, "{words:?}");
+    }
+    Ok(())
 }

@@ -8,18 +8,20 @@ use Rattle.pdp_operand.specs.Phases.Phase.{State, Stop}
 use Rattle.pdp_operand.specs.Laws.Page.{AlikeOutside, SamePage}
 use Rattle.pdp_operand.specs.declared.processor.Processor.{Processor}
 use Rattle.pdp_operand.specs.Phases.World.{World, world}
-use Rattle.pdp_cpu.specs.Turns.Turn.{course_at, at_turn, one_turn, turn_trace}
+use Rattle.pdp_cpu.specs.Turns.Turn.{course_at, at_turn, one_turn, printed_in, punched_in, turn_trace}
 
 -- how many phases turn t runs
 unfoldable pub turn_phases : ℕ → List Event → World → ℕ
 turn_phases t events w = course_length (course_at (at_turn t events w)) (at_turn t events w)
 
 -- turn t with these events, of the processor p on bus b, and on bus c: it ends in the same way on both, with the same
--- trace, and leaves each its own words of the page
+-- trace and the same bytes printed and punched, and leaves each its own words of the page
 pub record Undisturbed (page t : ℕ) (events : List Event) (p : Processor) (b c : BusWorld) : Type 0 where
   pub processor : (one_turn t events (world p b)).processor ≡ (one_turn t events (world p c)).processor
   pub bus : AlikeOutside page (one_turn t events (world p b)).bus (one_turn t events (world p c)).bus
   pub trace : turn_trace t events (world p b) ≡ turn_trace t events (world p c)
+  pub printed : printed_in t events (world p b) ≡ printed_in t events (world p c)
+  pub punched : punched_in t events (world p b) ≡ punched_in t events (world p c)
   pub page_of_one : SamePage page b (one_turn t events (world p b)).bus
   pub page_of_other : SamePage page c (one_turn t events (world p c)).bus
 

@@ -1,28 +1,56 @@
 -- A machine as a contract sees it; its state as of power-up is this project's profile.
-use Rattle.std.specs.Prelude.{ℕ, ◌+◌, List, Option}
+use Rattle.std.specs.Prelude.{ℕ, ◌+◌, ◌<◌, ◌++◌, List, [], Option}
 use Rattle.pdp_store.specs.declared.Stamp.{Stamp}
 use Rattle.pdp_unibus.specs.BusWorld.{powered}
+use Rattle.pdp_unibus.specs.declared.delays.Delays.{Delays}
 use Rattle.pdp_unibus.specs.declared.event.Event.{Event}
 use Rattle.pdp_operand.specs.Handbook.Processor.{powered_processor}
 use Rattle.pdp_operand.specs.Phases.World.{World, world}
-use Rattle.pdp_cpu.specs.Turns.Turn.{one_turn}
+use Rattle.pdp_cpu.specs.Turns.Turn.{beginning, one_turn, printed_in, punched_in}
 
--- the turns that it has run, and its world
+-- the turns that it has run, its world, and the bytes that were printed and punched in them, in their order
 pub record MachineState : Type 0 where
   pub turn : ℕ
   pub world : World
+  pub text : List ℕ
+  pub punched : List ℕ
+
+-- a machine, and for how many more printed and punched bytes it has room
+pub record MachineWithRoom : Type 0 where
+  pub state : MachineState
+  pub text_room : ℕ
+  pub punched_room : ℕ
 
 -- the world as of power-up
-abbrev pub powered_world : ℕ → List ℕ → List (Option Stamp) → World
-powered_world start words lasts = world (powered_processor start) (powered words lasts)
+abbrev pub powered_world : ℕ → List ℕ → List (Option Stamp) → List ℕ → Delays → World
+powered_world start words lasts tape delays = world (powered_processor start) (powered words lasts tape delays)
 
-abbrev pub powered_machine : ℕ → List ℕ → List (Option Stamp) → MachineState
-powered_machine start words lasts = record { turn = 0; world = powered_world start words lasts }
+-- the machine as of power-up: no byte was printed or punched
+abbrev pub powered_machine : ℕ → List ℕ → List (Option Stamp) → List ℕ → Delays → MachineState
+powered_machine start words lasts tape delays = record {
+  turn = 0;
+  world = powered_world start words lasts tape delays;
+  text = [];
+  punched = [];
+}
 
--- the machine has the room that a turn may need; nothing of it grows yet
-unfoldable pub IsReady : MachineState → Type 0
-IsReady m = Unit {0}
+-- the machine has the room that a turn may need, for a printed and a punched byte
+abbrev pub IsReady : MachineWithRoom → Type 0
+IsReady m = (0 < m.text_room) × (0 < m.punched_room)
+
+-- the machine when its next turn has begun, with these events
+abbrev pub with_begun : List Event → MachineState → MachineState
+with_begun events m = record m {
+  world = beginning m.turn events m.world;
+  text = m.text ++ printed_in m.turn events m.world;
+  punched = m.punched ++ punched_in m.turn events m.world;
+}
 
 -- the machine after its next turn, with these events
 abbrev pub after_turn : List Event → MachineState → MachineState
-after_turn events m = record { turn = m.turn + 1; world = one_turn m.turn events m.world }
+after_turn events m = record {
+  turn = m.turn + 1;
+  world = one_turn m.turn events m.world;
+  text = m.text ++ printed_in m.turn events m.world;
+  punched = m.punched ++ punched_in m.turn events m.world;
+}

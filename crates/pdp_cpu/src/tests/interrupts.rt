@@ -1,6 +1,6 @@
 ghost use Rattle.std.specs.Prelude.{◌≤◌, length};
 
-use super::{KERNEL, START_TURNS, Start, machine_at, run_turns, trapped};
+use super::{KERNEL, START_TURNS, Start, ended_with, machine_at, run_turns, trapped};
 use crate::{Act, Meter, Regs, RunState};
 use pdp_unibus::Event;
 use pdp_word::NoMemory;
@@ -24,16 +24,7 @@ fn struck(
 ) -> Result<(Act, Regs), NoMemory>
     requires { length program.now ≤ 256 }
 {
-    let mut machine = machine_at(alloc, start, program)?;
-    let mut meter = Meter::new();
-    run_turns(&mut machine, &mut meter, START_TURNS + u16::from(before))?;
-    machine.ready()?;
-    let act = machine.turn(&mut meter, &[Event::Key(0o101)]);
-    if after == 0 {
-        return Ok((act, machine.regs()));
-    }
-    let act = run_turns(&mut machine, &mut meter, u16::from(after))?;
-    Ok((act, machine.regs()))
+    ended_with(alloc, start, program, before, &[Event::Key(0o101)], after)
 }
 
 // The keyboard is enabled, and then BR to itself: its level is 4, so it interrupts below priority 4 alone.

@@ -1,6 +1,7 @@
 use super::{KERNEL, Start, ended, halted, place, run_turns, running, trapped};
 use crate::{Act, Machine, Meter, Regs};
 use pdp_store::Flat;
+use pdp_unibus::Delays;
 use pdp_word::NoMemory;
 
 // BPT on a kernel stack where its own pushes fault: PC and PS come from vector 4, and those from before the BPT are
@@ -82,7 +83,13 @@ fn halts_where_the_red_sequence_faults(rt: HostRuntime) -> Result<(), NoMemory> 
     ] {
         let mut core = Flat::new(rt.alloc(), length, true)?;
         place(&mut core, 0, &words);
-        let mut machine = Machine::power(rt.alloc(), 0, core);
+        let mut machine = Machine::power(
+            rt.alloc(),
+            0,
+            core,
+            Vec::new(rt.alloc()),
+            Delays::standard(),
+        );
         let act = run_turns(&mut machine, &mut Meter::new(), 2)?;
         assert_eq!(rt; (act, machine.regs()), (Act::Instr, want), "{length} words");
     }

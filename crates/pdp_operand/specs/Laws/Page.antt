@@ -9,6 +9,7 @@ use Rattle.pdp_operand.specs.Laws.Trace.{trace_of}
 -- two buses that differ at most in the words of this page
 pub record AlikeOutside (page : ℕ) (b c : BusWorld) : Type 0 where
   pub board : b.board ≡ c.board
+  pub tape : b.tape ≡ c.tape
   pub turn : b.turn ≡ c.turn
   pub lasts : b.lasts ≡ c.lasts
   pub size : length b.core ≡ length c.core

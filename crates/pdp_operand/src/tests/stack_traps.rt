@@ -4,13 +4,17 @@ use super::{memory, near, page, processor_with};
 use crate::{Fill, Place, Slot, Trap, address, fetch, fetch_before_store, store};
 use pdp_decode::Spec;
 use pdp_store::Flat;
-use pdp_unibus::Bus;
+use pdp_unibus::{Bus, Delays};
 use pdp_word::{NoMemory, Size};
 use std::alloc::Global;
 
 // A bus over core that ends below 340.
 fn short_page(alloc: Global) -> Result<Bus<Flat>, NoMemory> {
-    Ok(Bus::new(Flat::new(alloc, 0o000340 / 2, true)?))
+    Ok(Bus::new(
+        Flat::new(alloc, 0o000340 / 2, true)?,
+        Vec::new(alloc),
+        Delays::standard(),
+    ))
 }
 
 #[derive(Clone, Copy, Debug)]

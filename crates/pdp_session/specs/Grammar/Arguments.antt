@@ -1,8 +1,11 @@
 -- What follows a command's name (this project's profile).
-use Rattle.std.specs.Prelude.{ℕ, min, nat_le, nat_lt, if◌then◌else◌, List, [], ◌∷◌, Option, None, Some}
+use Rattle.std.specs.Prelude.{ℕ, min, nat_le, nat_lt, if◌then◌else◌, List, [], ◌∷◌, codes, Option, None, Some}
 use Rattle.std.specs.Option.{option_map, option_and_then}
+use Rattle.std.specs.Str.{bytes_eq}
 use Rattle.pdp_word.specs.Number.{number_of}
 use Rattle.pdp_word.specs.Size.{span}
+use Rattle.pdp_unibus.specs.declared.delays.Line.{Line}
+use Rattle.pdp_unibus.specs.declared.delays.Line.TheVariants.{Printer, Reader, Punch, Disk, Clock}
 use Rattle.pdp_word.specs.declared.size.Size.TheVariants.{Word, Byte}
 
 -- in a `do` block: the first `None` is the block's
@@ -39,6 +42,24 @@ abbrev pub byte_named : List ℕ → Option ℕ
 byte_named text = do
   number ← number_of 8 text
   if nat_lt number (span Byte) then Some number else None
+
+-- bytes, in octal: none where one of the words is no byte
+unfoldable pub bytes_named : List (List ℕ) → Option (List ℕ)
+bytes_named [] = Some []
+bytes_named (word ∷ words) = do
+  byte ← byte_named word
+  bytes ← bytes_named words
+  Some (byte ∷ bytes)
+
+-- a line of the machine that has a delay, by its name
+unfoldable pub line_named : List ℕ → Option Line
+line_named name =
+    if bytes_eq name (codes "printer") then Some Printer
+    else if bytes_eq name (codes "reader") then Some Reader
+    else if bytes_eq name (codes "punch") then Some Punch
+    else if bytes_eq name (codes "disk") then Some Disk
+    else if bytes_eq name (codes "clock") then Some Clock
+    else None
 
 -- an event by its number, in decimal: one that 32 bits can't hold stands for 0, which no event has
 abbrev pub event_named : List ℕ → Option ℕ

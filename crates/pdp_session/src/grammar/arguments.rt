@@ -1,9 +1,12 @@
-ghost use Rattle.std.specs.Prelude.{◌≡◌};
+ghost use Rattle.std.specs.Prelude.{◌≡◌, ◌≤◌, length};
 ghost use Rattle.std.specs.Option.{option_map};
-ghost use Rattle.pdp_session.specs.Grammar.Arguments.{one_of, two_of, word_named, byte_named, event_named, turn_named, count_named};
+ghost use Rattle.pdp_session.specs.Grammar.Arguments.{one_of, two_of, word_named, byte_named, bytes_named, line_named, event_named, turn_named, count_named};
 ghost use Rattle.pdp_session.specs.Grammar.Words.{words_of};
+ghost use Rattle.pdp_session.specs.Lines.{longest_line};
 
 use super::words::next_word;
+use crate::command::TapeBytes;
+use pdp_replay::Line;
 use pdp_word::{read_decimal, read_octal};
 
 // The word of a text that has one.
@@ -40,6 +43,40 @@ pub fn read_byte(text: &[u8]) -> Option<u8>
 {
     let number = read_octal(text)?;
     u8::try_from(number).ok()
+}
+
+// The bytes that a text's words are, in octal; `None` where one of its words is no byte.
+pub fn read_bytes(text: &[u8]) -> Option<TapeBytes>
+    requires { length text.now ≤ longest_line }
+    ensures { option_map (λ bytes. bytes.items) result ≡ bytes_named (words_of text.now) }
+{
+    let mut bytes = TapeBytes::new();
+    let mut rest = text;
+    while let Some((word, others)) = next_word(rest) {
+        bytes.push(read_byte(word)?);
+        rest = others;
+    }
+    Some(bytes)
+}
+
+// A line of the machine that has a delay, by its name.
+#[tactic(auto, unfolding(crate::specs::Grammar::Arguments::line_named))]
+pub fn read_line_name(name: &[u8]) -> Option<Line>
+    ensures { result ≡ line_named name.now }
+{
+    if name == b"printer".as_slice() {
+        Some(Line::Printer)
+    } else if name == b"reader".as_slice() {
+        Some(Line::Reader)
+    } else if name == b"punch".as_slice() {
+        Some(Line::Punch)
+    } else if name == b"disk".as_slice() {
+        Some(Line::Disk)
+    } else if name == b"clock".as_slice() {
+        Some(Line::Clock)
+    } else {
+        None
+    }
 }
 
 // An event by its number, in decimal; one that 32 bits can't hold becomes 0, which no event has.

@@ -1,5 +1,5 @@
 ghost use Rattle.std.specs.Prelude.{◌≡◌};
-ghost use Rattle.pdp_session.specs.Grammar.Questions.{regs_form, mem_form, question_with};
+ghost use Rattle.pdp_session.specs.Grammar.Questions.{only_turn, mem_form, question_with};
 ghost use Rattle.pdp_session.specs.Grammar.Words.{words_of};
 
 use super::arguments::{one_word, read_count, read_turn, two_words};
@@ -13,20 +13,25 @@ pub fn read_question(name: &[u8], arguments: &[u8]) -> Option<Question>
     ensures { result ≡ question_with name.now (words_of arguments.now) }
 {
     if name == b"regs".as_slice() {
-        read_regs(arguments)
+        Some(Question::Regs(read_only_turn(arguments)?))
     } else if name == b"mem".as_slice() {
         read_mem(arguments)
+    } else if name == b"text".as_slice() {
+        Some(Question::Text(read_only_turn(arguments)?))
+    } else if name == b"punched".as_slice() {
+        Some(Question::Punched(read_only_turn(arguments)?))
+    } else if name == b"devices".as_slice() {
+        Some(Question::Devices(read_only_turn(arguments)?))
     } else {
         None
     }
 }
 
-// `regs N`
-fn read_regs(arguments: &[u8]) -> Option<Question>
-    ensures { result ≡ regs_form (words_of arguments.now) }
+// A turn, and no other word.
+fn read_only_turn(arguments: &[u8]) -> Option<u32>
+    ensures { result ≡ only_turn (words_of arguments.now) }
 {
-    let turn = read_turn(one_word(arguments)?)?;
-    Some(Question::Regs(turn))
+    read_turn(one_word(arguments)?)
 }
 
 // `mem N A C`

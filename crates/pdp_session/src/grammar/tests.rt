@@ -1,6 +1,6 @@
 use super::read_line;
-use crate::command::Command;
-use pdp_replay::{Event, Fault, Question};
+use crate::command::{Command, TapeBytes};
+use pdp_replay::{Event, Fault, Line, Question};
 
 #[test]
 fn commands(rt: HostRuntime) {
@@ -65,4 +65,79 @@ fn words_of_core(rt: HostRuntime) {
     assert_eq!(rt; read_line(b"mem 1 2000 3 4"), Err(Fault::BadLine));
     assert_eq!(rt; read_line(b"mem 1 2008 3"), Err(Fault::BadLine));
     assert_eq!(rt; read_line(b"mem 1 2000 0x3"), Err(Fault::BadLine));
+}
+
+// The bytes of the tape that a line names, where it names one.
+fn tape_named(line: &[u8]) -> Option<TapeBytes> {
+    match read_line(line) {
+        Ok(Some(Command::SetTape(bytes))) => Some(bytes),
+        _ => None,
+    }
+}
+
+#[test]
+fn tapes(rt: HostRuntime) {
+    let rows: [(&[u8], &[u8]); 4] = [
+        (b"tape", b""),
+        (b"tape \t", b""),
+        (b"tape 0 377 101", &[0, 0o377, 0o101]),
+        (b"tape 0000000012", &[0o12]),
+    ];
+    for (line, bytes) in rows {
+        match tape_named(line) {
+            Some(tape) => assert_eq!(rt; tape.as_slice(), bytes, "{line:?}"),
+            None => panic!(rt; "{line:?} names a tape"),
+        }
+    }
+    assert_eq!(rt; read_line(b"tape 101 400"), Err(Fault::BadLine));
+    assert_eq!(rt; read_line(b"tape 8 101"), Err(Fault::BadLine));
+    assert_eq!(rt; read_line(b"tape x"), Err(Fault::BadLine));
+    assert_eq!(rt; read_line(b"tapes 101"), Err(Fault::BadLine));
+}
+
+#[test]
+fn delays(rt: HostRuntime) {
+    for (line, want) in [
+        (b"delay printer 0".as_slice(), Line::Printer),
+        (b"delay reader 0".as_slice(), Line::Reader),
+        (b"delay punch 0".as_slice(), Line::Punch),
+        (b"delay disk 0".as_slice(), Line::Disk),
+        (b"delay clock 0".as_slice(), Line::Clock),
+    ] {
+        assert_eq!(rt;
+            read_line(line),
+            Ok(Some(Command::SetDelay {
+                line: want,
+                delay: 0
+            }))
+        );
+    }
+    assert_eq!(rt;
+        read_line(b"delay clock 4294967296"),
+        Ok(Some(Command::SetDelay {
+            line: Line::Clock,
+            delay: u32::MAX
+        }))
+    );
+    assert_eq!(rt; read_line(b"delay"), Err(Fault::BadLine));
+    assert_eq!(rt; read_line(b"delay clock"), Err(Fault::BadLine));
+    assert_eq!(rt; read_line(b"delay clock 1 2"), Err(Fault::BadLine));
+    assert_eq!(rt; read_line(b"delay keyboard 1"), Err(Fault::BadLine));
+    assert_eq!(rt; read_line(b"delay Clock 1"), Err(Fault::BadLine));
+    assert_eq!(rt; read_line(b"delay clock 0x1"), Err(Fault::BadLine));
+}
+
+#[test]
+fn questions_about_a_turn(rt: HostRuntime) {
+    for (line, question) in [
+        (b"text 7".as_slice(), Question::Text(7)),
+        (b"punched 7".as_slice(), Question::Punched(7)),
+        (b"devices 7".as_slice(), Question::Devices(7)),
+        (b"text 9999999999".as_slice(), Question::Text(u32::MAX)),
+    ] {
+        assert_eq!(rt; read_line(line), Ok(Some(Command::Ask(question))));
+    }
+    assert_eq!(rt; read_line(b"text"), Err(Fault::BadLine));
+    assert_eq!(rt; read_line(b"punched 1 2"), Err(Fault::BadLine));
+    assert_eq!(rt; read_line(b"devices 0x1"), Err(Fault::BadLine));
 }

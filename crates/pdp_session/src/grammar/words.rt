@@ -1,11 +1,12 @@
-ghost use Rattle.std.specs.Prelude.{◌≡◌, ◌||◌, ◌==◌, false, [], ◌∷◌, MatchOption, IfSome};
+ghost use Rattle.std.specs.Prelude.{◌≡◌, ◌<◌, ◌≤◌, ◌||◌, ◌==◌, false, [], ◌∷◌, length, MatchOption, IfSome};
 ghost use Rattle.std.specs.List.{position_or_len, slice_get};
 ghost use Rattle.pdp_session.specs.Grammar.Words.{is_blank, words_of};
 
 // The first word of a text, and what follows it; `None` where the text has no word.
 #[tactic(auto, using(crate::proofs::WordLists::words))]
 pub fn next_word(text: &[u8]) -> Option<(&[u8], &[u8])>
-    ensures { MatchOption result (words_of text.now ≡ []) (λ p. words_of text.now ≡ p.0.now ∷ words_of p.1.now) }
+    ensures words { MatchOption result (words_of text.now ≡ []) (λ p. words_of text.now ≡ p.0.now ∷ words_of p.1.now) }
+    ensures shorter { IfSome result (λ p. length p.1.now < length text.now) }
 {
     let text = skip_blanks(text);
     if text.is_empty() {
@@ -19,6 +20,7 @@ pub fn next_word(text: &[u8]) -> Option<(&[u8], &[u8])>
 fn skip_blanks(text: &[u8]) -> &[u8]
     ensures words { words_of result.now ≡ words_of text.now }
     ensures first { IfSome (slice_get result.now 0) (λ byte. is_blank byte ≡ false) }
+    ensures length { length result.now ≤ length text.now }
 {
     let mut rest = text;
     while let Some((first, after)) = rest.split_first() {

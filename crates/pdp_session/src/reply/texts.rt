@@ -1,21 +1,21 @@
 ghost use Rattle.std.specs.Prelude.{◌≡◌, ◌+◌, ◌≤◌, ◌++◌, length, codes, decimal};
-ghost use Rattle.pdp_session.specs.Reply.{register_text, regs_line, state_name, refusal_text, count_line, patch_line, word_text};
+ghost use Rattle.pdp_session.specs.Reply.{register_text, regs_line, state_name, refusal_text, count_line, patch_line, word_text, device_text, disk_register_texts, devices_line};
 
 use arrayvec::ArrayVec;
 use itoa::Buffer;
-use pdp_replay::{Fault, Patch, Regs, RunState};
+use pdp_replay::{DeviceRegisters, Fault, Patch, Regs, RunState};
 use pdp_word::write_octal6;
 
 // The most bytes that a text has: a line of the question `pages`, which is to come, with its LF. That is 34 words, each
 // of six digits after a space, and the names pages, SR0, SR2, KPDR, KPAR, UPDR and UPAR, a space before each but the
 // first.
-const LONGEST_TEXT: usize = 272;
+pub const LONGEST_TEXT: usize = 272;
 
 // A line of a reply, with its LF, or a piece of one. It takes no memory.
 pub type Text = ArrayVec<u8, LONGEST_TEXT>;
 
 // Adds `bytes` at the end.
-fn add(text: &mut Text, bytes: &[u8])
+pub fn add(text: &mut Text, bytes: &[u8])
     requires { length text.old.items + length bytes.now ≤ LONGEST_TEXT }
     ensures { text.new.items ≡ text.old.items ++ bytes.now }
 {
@@ -91,6 +91,52 @@ pub fn word_text(word: u16) -> Text
     text
 }
 
+// A name and a word in six octal digits, each after a space.
+fn add_device(text: &mut Text, name: &str, word: u16)
+    requires { length text.old.items + length name.now + 8 ≤ LONGEST_TEXT }
+    ensures device_text { text.new.items ≡ text.old.items ++ device_text name.now word }
+    ensures length { length text.new.items ≡ length text.old.items + length name.now + 8 }
+{
+    add(text, b" ");
+    add(text, name.as_bytes());
+    add(text, b" ");
+    add(text, &write_octal6(u32::from(word)));
+}
+
+// The registers of the devices.
+#[tactic(auto, unfolding(crate::specs::Reply::devices_line))]
+pub fn devices_text(devices: DeviceRegisters) -> Text
+    ensures { result.items ≡ devices_line devices }
+{
+    let mut text = Text::new();
+    add(&mut text, b"devices");
+    add_device(&mut text, "TKS", devices.keyboard_status);
+    add_device(&mut text, "TKB", devices.keyboard_buffer);
+    add_device(&mut text, "TPS", devices.printer_status);
+    add_device(&mut text, "LKS", devices.clock_status);
+    add_device(&mut text, "PRS", devices.reader_status);
+    add_device(&mut text, "PRB", devices.reader_buffer);
+    add_device(&mut text, "PPS", devices.punch_status);
+    add_disk(&mut text);
+    add_device(&mut text, "SWR", devices.switches);
+    add(&mut text, b"\n");
+    text
+}
+
+// The registers of the disk, which is to come: each is shown as 0.
+fn add_disk(text: &mut Text)
+    requires { length text.old.items + 72 ≤ LONGEST_TEXT }
+    ensures disk_register_texts { text.new.items ≡ text.old.items ++ disk_register_texts }
+    ensures length { length text.new.items ≡ length text.old.items + 72 }
+{
+    add_device(text, "RKDS", 0);
+    add_device(text, "RKER", 0);
+    add_device(text, "RKCS", 0);
+    add_device(text, "RKWC", 0);
+    add_device(text, "RKBA", 0);
+    add_device(text, "RKDA", 0);
+}
+
 // The registers and the run state.
 pub fn regs_text(regs: Regs) -> Text
     ensures { result.items ≡ regs_line regs ++ codes "\n" }
@@ -135,3 +181,6 @@ pub fn refusal_text(fault: Fault) -> Text
     add(&mut text, b"\n");
     text
 }
+
+#[cfg(test)]
+mod tests;

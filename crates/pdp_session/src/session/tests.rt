@@ -143,6 +143,48 @@ fn refused_words_of_core(rt: HostRuntime) -> Result<(), Fail> {
 }
 
 #[test]
+fn tapes_and_delays(rt: HostRuntime) -> Result<(), Fail> {
+    let input =
+        b"tape\ntape 101 377\ntape 400\ntape 101 8\ndelay printer 3\ndelay reader 0\ndelay punch 1000000000\n\
+        delay disk 1000000001\ndelay clock 9999999999\ndelay clock\ndelay bell 1000000001\ndelay clock 1 2\n";
+    let output = replies(rt.alloc(), input)?;
+    assert_eq!(rt;
+        output.as_slice(),
+        b"ok\nok\nrefused 10 BadLine\nrefused 10 BadLine\nok\nok\nok\n\
+        refused 7 TurnTooLarge\nrefused 7 TurnTooLarge\nrefused 10 BadLine\nrefused 10 BadLine\nrefused 10 BadLine\n"
+            .as_slice()
+    );
+    Ok(())
+}
+
+// As many bytes as a line has room for.
+#[test]
+fn longest_tape(rt: HostRuntime) -> Result<(), Fail> {
+    let alloc = rt.alloc();
+    let mut line = Vec::from_slice(alloc, b"tape")?;
+    for _ in 0..98 {
+        line.extend_from_slice(b" 7")?;
+    }
+    line.push(b'\n')?;
+    assert_eq!(rt; replies(alloc, &line)?.as_slice(), b"ok\n".as_slice());
+    Ok(())
+}
+
+#[test]
+fn texts_and_devices(rt: HostRuntime) -> Result<(), Fail> {
+    let input =
+        b"text 0\npunched 0\ntext 1000000001\npunched 9999999999\ndevices 1000000001\ntext\npunched 0 0\ndevices x\n";
+    let output = replies(rt.alloc(), input)?;
+    assert_eq!(rt;
+        output.as_slice(),
+        b"text 0:\npunched 0:\nrefused 7 TurnTooLarge\nrefused 7 TurnTooLarge\nrefused 7 TurnTooLarge\n\
+        refused 10 BadLine\nrefused 10 BadLine\nrefused 10 BadLine\n"
+            .as_slice()
+    );
+    Ok(())
+}
+
+#[test]
 fn refusals(rt: HostRuntime) -> Result<(), Fail> {
     let input = b"regs\nregs 9x\npages 0\nregs 1000000001\nregs 9999999999\nregs 00000000001\n\
         core 1001 0\ncore 777560 0\ncore 777561 0\ncore 1000 200000\nCORE 1000 0\nregs 0 0\n";

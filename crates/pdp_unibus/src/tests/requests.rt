@@ -1,9 +1,11 @@
-//! Requests of the keyboard over the bus, who is chosen, and RESET.
+//! Requests over the bus: when each source requests, who is chosen and served, and RESET.
 
+use super::Step::{Begin, Choose, Read, Reset, Serve, Write};
+use super::{LKS, PPB, PPS, PRS, SWITCHES, TKB, TKS, TPB, TPS, bus, take_steps};
 use crate::{
-    Bus, Event, Priority, Source, requests_go_one_by_one_or_by_reset, the_first_request_is_chosen,
+    Delays, Event, Line, Priority, Source, requests_go_one_by_one_or_by_reset,
+    the_first_request_is_chosen,
 };
-use pdp_store::Flat;
 use pdp_word::NoMemory;
 
 #[test]
@@ -31,47 +33,161 @@ fn levels_are_in_order(rt: HostRuntime) {
 
 #[test]
 fn chooses_and_serves_the_keyboard(rt: HostRuntime) -> Result<(), NoMemory> {
-    let mut bus = Bus::new(Flat::new(rt.alloc(), 1, false)?);
-    bus.event(Event::Key(0o101));
-    assert!(rt; !bus.has_request());
-    assert_eq!(rt; bus.choose(Priority::Level0), None);
-    assert_eq!(rt; bus.write(0o777560, 0o100), Ok(()));
-    assert!(rt; bus.has_request());
-    assert_eq!(rt; bus.choose(Priority::Level3), Some(Source::Keyboard));
-    assert_eq!(rt; bus.choose(Priority::Level4), None);
-
-    // Another source's request is not the keyboard's.
-    bus.serve(Source::Printer);
-    assert_eq!(rt; bus.choose(Priority::Level0), Some(Source::Keyboard));
-    bus.serve(Source::Keyboard);
-    assert_eq!(rt; bus.choose(Priority::Level0), None);
-    assert_eq!(rt; bus.read(0o777560), Ok(0o300));
-
-    // A read of the key ends the condition, and the next key is the next rise.
-    bus.event(Event::Key(0o102));
-    assert_eq!(rt; bus.choose(Priority::Level0), None);
-    assert_eq!(rt; bus.read(0o777562), Ok(0o102));
-    bus.event(Event::Key(0o103));
-    assert_eq!(rt; bus.choose(Priority::Level0), Some(Source::Keyboard));
+    let mut bus = bus(rt.alloc(), &[], Delays::standard())?;
+    let steps = [
+        Begin(1, &[Event::Key(0o101)], None, None),
+        Choose(Priority::Level0, None),
+        Write(TKS, 0o100),
+        Choose(Priority::Level3, Some(Source::Keyboard)),
+        Choose(Priority::Level4, None),
+        // Another source's request is not the keyboard's.
+        Serve(Source::Printer),
+        Choose(Priority::Level0, Some(Source::Keyboard)),
+        Serve(Source::Keyboard),
+        Choose(Priority::Level0, None),
+        Read(TKS, 0o300),
+        // A read of the key ends the condition, and the next key is the next rise.
+        Begin(2, &[Event::Key(0o102)], None, None),
+        Choose(Priority::Level0, None),
+        Read(TKB, 0o102),
+        Begin(3, &[Event::Key(0o103)], None, None),
+        Choose(Priority::Level0, Some(Source::Keyboard)),
+        Read(TKB, 0o103),
+        Choose(Priority::Level0, None),
+    ];
+    take_steps(&rt, &mut bus, &steps);
     the_first_request_is_chosen();
     requests_go_one_by_one_or_by_reset();
     Ok(())
 }
 
+// All sources request at once: the clock goes first, and the others at one level in their order.
+#[test]
+fn chooses_by_level_and_then_by_place(rt: HostRuntime) -> Result<(), NoMemory> {
+    let mut bus = bus(rt.alloc(), &[0o101], Delays::standard())?;
+    let steps = [
+        Begin(1, &[], None, None),
+        Write(PPS, 0o100),
+        Write(TPS, 0o100),
+        Write(TKS, 0o100),
+        Write(LKS, 0o300),
+        Write(PRS, 0o101),
+        Begin(5, &[Event::Key(0o102), Event::Tick], None, None),
+        Choose(Priority::Level0, Some(Source::Clock)),
+        Choose(Priority::Level5, Some(Source::Clock)),
+        Choose(Priority::Level6, None),
+        Serve(Source::Disk),
+        Choose(Priority::Level4, Some(Source::Clock)),
+        Serve(Source::Clock),
+        Choose(Priority::Level4, None),
+        Choose(Priority::Level3, Some(Source::Keyboard)),
+        Serve(Source::Keyboard),
+        Choose(Priority::Level3, Some(Source::Printer)),
+        Serve(Source::Printer),
+        Choose(Priority::Level3, Some(Source::Reader)),
+        Serve(Source::Reader),
+        Choose(Priority::Level3, Some(Source::Punch)),
+        Serve(Source::Punch),
+        Choose(Priority::Level0, None),
+    ];
+    take_steps(&rt, &mut bus, &steps);
+    Ok(())
+}
+
+// The printer and the punch request where they are enabled while ready, and where they are ready again.
+#[test]
+fn printer_and_punch_request_where_they_are_ready(rt: HostRuntime) -> Result<(), NoMemory> {
+    let delays = Delays::standard().with(Line::Punch, 1);
+    for (source, status, buffer) in [(Source::Printer, TPS, TPB), (Source::Punch, PPS, PPB)] {
+        let mut bus = bus(rt.alloc(), &[], delays)?;
+        let byte = |of| (source == of).then_some(0o101);
+        let steps = [
+            Begin(1, &[], None, None),
+            Write(status, 0o100),
+            Choose(Priority::Level3, Some(source)),
+            // The byte ends the condition.
+            Write(buffer, 0o101),
+            Choose(Priority::Level3, None),
+            Begin(2, &[], byte(Source::Printer), byte(Source::Punch)),
+            Choose(Priority::Level3, Some(source)),
+            Serve(source),
+            Begin(3, &[Event::PrinterDone, Event::PunchDone], None, None),
+            Write(status, 0o100),
+            Choose(Priority::Level3, None),
+            Write(status, 0),
+            Write(status, 0o100),
+            Choose(Priority::Level3, Some(source)),
+            Write(status, 0),
+            Choose(Priority::Level3, None),
+        ];
+        take_steps(&rt, &mut bus, &steps);
+    }
+    Ok(())
+}
+
+// A tick requests where enable was set before it, and a write of the status drops the request where it clears enable.
+#[test]
+fn clock_requests_where_it_was_enabled(rt: HostRuntime) -> Result<(), NoMemory> {
+    let mut bus = bus(rt.alloc(), &[], Delays::standard().with(Line::Clock, 3))?;
+    let steps = [
+        Begin(3, &[Event::Tick], None, None),
+        Write(LKS, 0o300),
+        Read(LKS, 0o300),
+        Choose(Priority::Level5, None),
+        Begin(6, &[], None, None),
+        Choose(Priority::Level5, Some(Source::Clock)),
+        Write(LKS, 0o100),
+        Read(LKS, 0o100),
+        Choose(Priority::Level5, Some(Source::Clock)),
+        Write(LKS, 0o200),
+        Write(LKS, 0o100),
+        Choose(Priority::Level5, None),
+        Begin(7, &[Event::Tick], None, None),
+        Read(LKS, 0o300),
+        Choose(Priority::Level5, Some(Source::Clock)),
+        Serve(Source::Clock),
+        Choose(Priority::Level5, None),
+    ];
+    take_steps(&rt, &mut bus, &steps);
+    Ok(())
+}
+
+// Where no source requests the bus says so, and where one does it doesn't.
+#[test]
+fn tells_whether_a_source_may_request(rt: HostRuntime) -> Result<(), NoMemory> {
+    let mut bus = bus(rt.alloc(), &[], Delays::standard())?;
+    take_steps(&rt, &mut bus, &[Begin(1, &[Event::Key(0o101)], None, None)]);
+    assert!(rt; !bus.may_request());
+    take_steps(&rt, &mut bus, &[Write(TKS, 0o100)]);
+    assert!(rt; bus.may_request());
+    bus.serve(Source::Keyboard);
+    assert!(rt; !bus.may_request());
+    Ok(())
+}
+
 #[test]
 fn resets_devices_alone(rt: HostRuntime) -> Result<(), NoMemory> {
-    let mut bus = Bus::new(Flat::new(rt.alloc(), 1, false)?);
-    assert_eq!(rt; bus.write(0o000000, 0o012345), Ok(()));
-    assert_eq!(rt; bus.write(0o777776, 0o000105), Ok(()));
-    assert_eq!(rt; bus.write(0o777560, 0o100), Ok(()));
-    bus.event(Event::Switches(0o52));
-    bus.event(Event::Key(0o101));
-    bus.reset();
-    assert!(rt; !bus.has_request());
-    assert_eq!(rt; bus.read(0o777560), Ok(0));
-    assert_eq!(rt; bus.read(0o777562), Ok(0o101));
-    assert_eq!(rt; bus.read(0o777570), Ok(0o52));
-    assert_eq!(rt; bus.read(0o777776), Ok(0o000105));
-    assert_eq!(rt; bus.read(0o000000), Ok(0o012345));
+    let mut bus = bus(rt.alloc(), &[], Delays::standard())?;
+    let events = [Event::Switches(0o52), Event::Key(0o101), Event::Tick];
+    let steps = [
+        Write(0o000000, 0o012345),
+        Write(0o777776, 0o000105),
+        Write(TKS, 0o100),
+        Write(TPS, 0o100),
+        Write(LKS, 0o100),
+        Begin(1, &events, None, None),
+        Choose(Priority::Level2, Some(Source::Clock)),
+        Reset,
+        Choose(Priority::Level0, None),
+        Read(TKS, 0),
+        Read(TKB, 0o101),
+        Read(TPS, 0o200),
+        Read(LKS, 0o200),
+        Read(SWITCHES, 0o52),
+        Read(0o777776, 0o000105),
+        Read(0o000000, 0o012345),
+    ];
+    take_steps(&rt, &mut bus, &steps);
+    assert!(rt; !bus.may_request());
     Ok(())
 }

@@ -4,6 +4,6 @@ use Rattle.pdp_cpu.proofs.tests.run_turns.Given as goal
 
 abbrev pub invariant-loop-done : goal.invariant-loop-done
 invariant-loop-done l = record {
-  turns : l.machine.turn ≡ l.initial.machine.turn + l._done;
-  words : length l.machine.world.bus.core ≡ length l.initial.machine.world.bus.core;
+  turns : l.machine.state.turn ≡ l.initial.machine.state.turn + l._done;
+  words : length l.machine.state.world.bus.core ≡ length l.initial.machine.state.world.bus.core;
 }

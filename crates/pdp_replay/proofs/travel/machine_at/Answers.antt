@@ -2,11 +2,11 @@ use Rattle.std.proofs.Common.{◌≡◌, length, ap, ◌∙◌, rules}
 use Rattle.pdp_replay.specs.Past.{past_from}
 use Rattle.pdp_replay.proofs.CoreSizes.{core_keeps_size}
 use Rattle.pdp_replay.specs.States.{at}
-use Rattle.pdp_replay.proofs.States.{state_first}
+use Rattle.pdp_replay.proofs.States.{at_first}
 use Rattle.pdp_replay.proofs.travel.machine_at.Goals as goal
 
 pub returns-clause-size : goal.returns-clause-size
 returns-clause-size c =
-    let past = past_from c.args.setup.now c.args.patches.now c.args.script.now in
-    let here : c.run_to.new.machine ≡ at past c.args.turn = search (rules, state_first) in
+    let past = past_from c.args.setup.now c.args.delays c.args.patches.now c.args.script.now in
+    let here : c.run_to.new.machine.state ≡ at past c.args.turn = search (rules, at_first) in
     ap (λ m. length m.world.bus.core) here ∙ core_keeps_size past c.args.turn

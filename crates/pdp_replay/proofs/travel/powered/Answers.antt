@@ -9,8 +9,9 @@ use Rattle.pdp_replay.proofs.travel.powered.Goals as goal
 pub returns : goal.returns
 unfolding power
 returns c =
-    let s = setup_from c.args.setup.now c.args.patches.now in
+    let s = setup_from c.args.setup.now c.args.delays c.args.patches.now in
     let filled : put_all s.patches (padded (core_size s) s.core) ≡ core_words s = core_is_filled s c.requires.good.core c.put_patches.ensures.apart in
     let words : c.put_patches.new.store.words ≡ put_all s.patches (padded (core_size s) s.core) = search rules in
     let lasts : c.put_patches.new.store.lasts ≡ replicate (core_size s) None = search rules in
-    rw (c.power.ensures, words ∙ filled, lasts) refl
+    let tape : c.in_ok-tape.tape.items ≡ s.tape = search rules in
+    rw (c.power.ensures, words ∙ filled, lasts, tape) refl

@@ -1,12 +1,12 @@
 use Rattle.std.proofs.Common.{◌≡◌, ◌+◌, ◌-◌, ◌≤◌}
 use Rattle.pdp_replay.specs.Past.{Past}
-use Rattle.pdp_replay.specs.States.{state_at, at}
+use Rattle.pdp_replay.specs.States.{at}
 use Rattle.pdp_replay.proofs.travel.run_to.Given as goal
 
 abbrev pub invariant-loop-turn : goal.invariant-loop-turn
 invariant-loop-turn l = record {
-  turn : l.machine.turn ≡ l.turn;
-  here : (past : Past) → past.script ≡ l.script → l.fn.machine.world ≡ state_at past l.from → l.machine ≡ at past l.turn;
+  turn : l.machine.state.turn ≡ l.turn;
+  here : (past : Past) → past.script ≡ l.script → l.fn.machine.state ≡ at past l.from → l.machine.state ≡ at past l.turn;
   begun : l.from ≤ l.turn;
   within : l.turn ≤ l.to;
   least : l.fn.meter ≤ l.meter;

@@ -1,0 +1,53 @@
+ghost use Rattle.std.specs.Prelude.{◌≡◌};
+
+use pdp_device::Channel;
+
+/// The keyboard of the console terminal.
+///
+/// PDP-11 Peripherals Handbook, KL11.
+#[derive(Clone, Copy, Debug, PartialEq, Eq)]
+pub struct Keyboard {
+    /// Ready is the handbook's done: a key has come since the buffer was last read.
+    pub channel: Channel,
+    /// The last key.
+    pub key: u8,
+}
+
+impl Keyboard {
+    ghost use Rattle.pdp_console.specs.Keyboard.{key_struck, key_taken, keyboard_reset, quiet_keyboard};
+
+    /// A keyboard at power-up: not done, not enabled, with key 0 (this project's profile).
+    pub fn quiet() -> Keyboard
+        ensures { result ≡ quiet_keyboard }
+    {
+        Keyboard {
+            channel: Channel::quiet(false),
+            key: 0,
+        }
+    }
+
+    /// A key is struck: it is kept, and done is set. One that comes while done is set replaces the last
+    /// (this project's profile).
+    pub fn strike(&mut self, key: u8)
+        ensures { self.new ≡ key_struck key self.old }
+    {
+        self.key = key;
+        self.channel.set_ready(true);
+    }
+
+    /// The last key is read: done is cleared.
+    pub fn take(&mut self) -> u8
+        ensures key { result ≡ self.old.key }
+        ensures after { self.new ≡ key_taken self.old }
+    {
+        self.channel.set_ready(false);
+        self.key
+    }
+
+    /// RESET: done and enable are cleared and a request is dropped; the key stays (this project's profile).
+    pub fn reset(&mut self)
+        ensures { self.new ≡ keyboard_reset self.old }
+    {
+        self.channel = Channel::quiet(false);
+    }
+}

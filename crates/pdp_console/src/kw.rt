@@ -1,0 +1,74 @@
+ghost use Rattle.std.specs.Prelude.{◌≡◌};
+
+use pdp_word::{bit_of, has_bit};
+
+/// The line clock, with its one register LKS.
+///
+/// PDP-11 Peripherals Handbook, KW11-L.
+#[derive(Clone, Copy, Debug, PartialEq, Eq)]
+pub struct Kw {
+    /// Bit 7: the clock has ticked since this was last cleared, or was initialised.
+    pub monitor: bool,
+    /// Bit 6: ticks request an interrupt.
+    pub enable: bool,
+    /// It requests an interrupt. A tick requests where enable is set; a request goes when it is served, by RESET, and
+    /// by a write with bit 6 clear (this project's profile).
+    pub request: bool,
+}
+
+impl Kw {
+    ghost use Rattle.pdp_console.specs.Kw.{kw_served, kw_value, kw_written, quiet_kw, ticked};
+
+    /// A clock at power-up and after RESET: monitor is set, enable is clear, and there is no request.
+    pub fn quiet() -> Kw
+        ensures { result ≡ quiet_kw }
+    {
+        Kw {
+            monitor: true,
+            enable: false,
+            request: false,
+        }
+    }
+
+    /// What a read of LKS gives: bit 7 monitor, bit 6 enable. A read has no effect.
+    pub fn value(&self) -> u16
+        ensures { result ≡ kw_value self.now }
+    {
+        bit_of(self.monitor) * 0o200 + bit_of(self.enable) * 0o100
+    }
+
+    /// A write of a word to LKS: bit 6 is enable, and a clear bit 7 clears monitor. With bit 6 clear a request is
+    /// dropped (this project's profile).
+    pub fn write_reg(&mut self, word: u16)
+        ensures { self.new ≡ kw_written word self.old }
+    {
+        let enable = has_bit(6, word);
+        *self = Kw {
+            monitor: self.monitor && has_bit(7, word),
+            enable,
+            request: self.request && enable,
+        };
+    }
+
+    /// The clock ticks: monitor is set, and where enable is set it requests an interrupt.
+    pub fn tick(&mut self)
+        ensures { self.new ≡ ticked self.old }
+    {
+        self.monitor = true;
+        self.request = self.request || self.enable;
+    }
+
+    /// The request is served: it goes, and nothing else changes.
+    pub fn serve(&mut self)
+        ensures { self.new ≡ kw_served self.old }
+    {
+        self.request = false;
+    }
+
+    /// RESET: monitor is set, enable is cleared and a request is dropped.
+    pub fn reset(&mut self)
+        ensures { self.new ≡ quiet_kw }
+    {
+        *self = Kw::quiet();
+    }
+}

@@ -1,0 +1,188 @@
+//! What programs print, punch and read from the tape.
+
+use super::{Outside, STANDARD, operated};
+use crate::RunState;
+use pdp_unibus::{Event, Line};
+use pdp_word::NoMemory;
+
+// MOVB #101,@#177566; BR to itself
+const PRINT: [u16; 4] = [0o112737, 0o000101, 0o177566, 0o000777];
+
+// MOVB #7,@#177556; BR to itself
+const PUNCH: [u16; 4] = [0o112737, 0o000007, 0o177556, 0o000777];
+
+// MOV #1,@#177550; TSTB @#177550; BPL back to it; MOVB @#177552,R0; HALT
+const READ: [u16; 9] = [
+    0o012737, 0o000001, 0o177550, 0o105737, 0o177550, 0o100375, 0o113700, 0o177552, 0,
+];
+
+// The write is in turn 0: the byte is in the text with the completion, in the turn that the delay or the event says.
+#[test]
+fn prints_a_byte(rt: HostRuntime) -> Result<(), NoMemory> {
+    let done = Event::PrinterDone;
+    for (delay, event, turns, printed) in [
+        (1, None, 1, false),
+        (1, None, 2, true),
+        (1, None, 30, true),
+        (4, None, 4, false),
+        (4, None, 5, true),
+        (4, Some((2, done)), 2, false),
+        (4, Some((2, done)), 3, true),
+        (4, Some((2, done)), 30, true),
+        (0, None, 30, false),
+        (0, Some((7, done)), 7, false),
+        (0, Some((7, done)), 8, true),
+        (0, Some((0, done)), 30, false),
+        (0, Some((7, Event::PunchDone)), 30, false),
+    ] {
+        let outside = Outside {
+            delay: (Line::Printer, delay),
+            event,
+            ..STANDARD
+        };
+        let machine = operated(rt.alloc(), &PRINT, outside, turns)?;
+        let text: &[u8] = if printed { &[0o101] } else { &[] };
+        assert_eq!(rt; machine.text(), text, "delay {delay}, {turns} turns");
+        assert!(rt; machine.punched().is_empty());
+    }
+    Ok(())
+}
+
+#[test]
+fn punches_a_byte(rt: HostRuntime) -> Result<(), NoMemory> {
+    let done = Event::PunchDone;
+    for (delay, event, turns, is_punched) in [
+        (4, None, 4, false),
+        (4, None, 5, true),
+        (2, None, 2, false),
+        (2, None, 3, true),
+        (2, None, 30, true),
+        (0, None, 30, false),
+        (0, Some((7, done)), 7, false),
+        (0, Some((7, done)), 8, true),
+        (0, Some((7, Event::PrinterDone)), 30, false),
+    ] {
+        let outside = Outside {
+            delay: (Line::Punch, delay),
+            event,
+            ..STANDARD
+        };
+        let machine = operated(rt.alloc(), &PUNCH, outside, turns)?;
+        let punched: &[u8] = if is_punched { &[7] } else { &[] };
+        assert_eq!(rt; machine.punched(), punched, "delay {delay}, {turns} turns");
+        assert!(rt; machine.text().is_empty());
+    }
+    Ok(())
+}
+
+// MOVB #101,@#177566; MOVB #102,@#177566: the second is printed after the first, or in place of it while it is busy.
+#[test]
+fn prints_two_bytes(rt: HostRuntime) -> Result<(), NoMemory> {
+    let program = [
+        0o112737, 0o000101, 0o177566, 0o112737, 0o000102, 0o177566, 0o000777,
+    ];
+    let rows: [(u32, u16, &[u8]); 5] = [
+        (1, 2, &[0o101]),
+        (1, 3, &[0o101, 0o102]),
+        (2, 2, &[]),
+        (2, 3, &[0o102]),
+        (2, 30, &[0o102]),
+    ];
+    for (delay, turns, text) in rows {
+        let outside = Outside {
+            delay: (Line::Printer, delay),
+            ..STANDARD
+        };
+        let machine = operated(rt.alloc(), &program, outside, turns)?;
+        assert_eq!(rt; machine.text(), text, "delay {delay}, {turns} turns");
+    }
+    Ok(())
+}
+
+// RESET in turn 1 drops what isn't complete by then, and the printer is ready again.
+#[test]
+fn reset_drops_a_printing(rt: HostRuntime) -> Result<(), NoMemory> {
+    let program = [0o112737, 0o000101, 0o177566, 0o000005, 0o000777];
+    for (delay, event, printed) in [
+        (1, None, true),
+        (2, None, false),
+        (0, Some((7, Event::PrinterDone)), false),
+    ] {
+        let outside = Outside {
+            delay: (Line::Printer, delay),
+            event,
+            ..STANDARD
+        };
+        let machine = operated(rt.alloc(), &program, outside, 30)?;
+        let text: &[u8] = if printed { &[0o101] } else { &[] };
+        assert_eq!(rt; machine.text(), text, "delay {delay}");
+        assert_eq!(rt; machine.devices().printer_status, 0o200);
+    }
+    Ok(())
+}
+
+// HALT follows in turn 1: the printing goes on.
+#[test]
+fn prints_while_halted(rt: HostRuntime) -> Result<(), NoMemory> {
+    let program = [0o112737, 0o000101, 0o177566, 0];
+    for (turns, status) in [(4, 0), (5, 0o200)] {
+        let outside = Outside {
+            delay: (Line::Printer, 4),
+            ..STANDARD
+        };
+        let machine = operated(rt.alloc(), &program, outside, turns)?;
+        let text: &[u8] = if status == 0 { &[] } else { &[0o101] };
+        assert_eq!(rt; machine.text(), text, "{turns} turns");
+        assert_eq!(rt; machine.devices().printer_status, status);
+        assert_eq!(rt; machine.regs().state, RunState::Halted);
+    }
+    Ok(())
+}
+
+// The reader is busy from turn 0 on; with a byte on the tape R0 has it, and at the end of the tape error is set.
+#[test]
+fn reads_the_tape(rt: HostRuntime) -> Result<(), NoMemory> {
+    let rows: [(&[u8], u16, u16, u16, u16); 8] = [
+        (&[0o101, 0o102], 1, 0o004000, 0, 0),
+        (&[0o101, 0o102], 4, 0o004000, 0, 0),
+        (&[0o101, 0o102], 5, 0o000200, 0o101, 0),
+        (&[0o101, 0o102], 7, 0o000200, 0o101, 0),
+        (&[0o101, 0o102], 8, 0, 0o101, 0o101),
+        (&[0o301], 8, 0, 0o301, 0o177701),
+        (&[], 4, 0o004000, 0, 0),
+        (&[], 5, 0o100000, 0, 0),
+    ];
+    for (tape, turns, status, buffer, r0) in rows {
+        let outside = Outside { tape, ..STANDARD };
+        let machine = operated(rt.alloc(), &READ, outside, turns)?;
+        let devices = machine.devices();
+        let got = (
+            devices.reader_status,
+            devices.reader_buffer,
+            machine.regs().r[0],
+        );
+        assert_eq!(rt; got, (status, buffer, r0), "after {turns} turns");
+    }
+    Ok(())
+}
+
+// With delay 0 the byte comes by the event alone.
+#[test]
+fn reads_the_tape_by_its_event(rt: HostRuntime) -> Result<(), NoMemory> {
+    for (event, status, buffer) in [
+        (None, 0o004000, 0),
+        (Some((0, Event::ReaderDone)), 0o004000, 0),
+        (Some((20, Event::ReaderDone)), 0o000200, 0o101),
+    ] {
+        let outside = Outside {
+            tape: &[0o101],
+            delay: (Line::Reader, 0),
+            event,
+        };
+        let machine = operated(rt.alloc(), &READ, outside, 21)?;
+        let devices = machine.devices();
+        let got = (devices.reader_status, devices.reader_buffer);
+        assert_eq!(rt; got, (status, buffer));
+    }
+    Ok(())
+}

@@ -1,0 +1,2 @@
+pub mod OutletLaws
+pub mod RequestLaws

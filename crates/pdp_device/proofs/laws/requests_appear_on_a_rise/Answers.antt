@@ -1,0 +1,6 @@
+use Rattle.pdp_device.proofs.RequestLaws.{served_stay_away}
+use Rattle.pdp_device.proofs.laws.requests_appear_on_a_rise.Goals as goal
+
+-- src/laws.rt
+pub returns-clause-served : goal.returns-clause-served
+returns-clause-served c = served_stay_away

@@ -1,0 +1,4 @@
+pub mod Channel
+pub mod Laws
+pub mod Operation
+pub mod Outlet

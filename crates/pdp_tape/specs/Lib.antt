@@ -1,0 +1,3 @@
+pub mod Laws
+pub mod Pc
+pub mod Reader

@@ -1,0 +1,151 @@
+ghost use Rattle.std.specs.Prelude.{◌≡◌};
+
+use super::Reader;
+use pdp_device::{Outlet, OutletRegister};
+
+/// A register of the paper tape's reader and punch.
+///
+/// PDP-11 Peripherals Handbook, PC11.
+#[derive(Clone, Copy, Debug, PartialEq, Eq)]
+pub enum PcRegister {
+    /// PRS: bit 15 error, bit 11 busy, bit 7 done, bit 6 enable, bit 0 go. Enable and go alone are written.
+    ReaderStatus,
+    /// PRB: the last byte read. A read clears done; a write does nothing (this project's profile).
+    ReaderBuffer,
+    /// PPS: bit 7 ready, bit 6 enable, which alone is written. Bit 15, error, is always 0 (this project's profile).
+    PunchStatus,
+    /// PPB: a write clears ready and begins to punch its low byte. Reads 0 (this project's profile).
+    PunchBuffer,
+}
+
+impl PcRegister {
+    ghost use Rattle.pdp_tape.specs.Pc.{pc_register_at};
+
+    /// The register so many bytes from the first one, if there is one.
+    pub fn at(offset: u32) -> Option<PcRegister>
+        ensures { result ≡ pc_register_at offset }
+    {
+        match offset {
+            0 => Some(PcRegister::ReaderStatus),
+            2 => Some(PcRegister::ReaderBuffer),
+            4 => Some(PcRegister::PunchStatus),
+            6 => Some(PcRegister::PunchBuffer),
+            _ => None,
+        }
+    }
+}
+
+/// The paper tape: its reader and its punch.
+///
+/// PDP-11 Peripherals Handbook, PC11.
+#[derive(Clone, Copy, Debug, PartialEq, Eq)]
+pub struct Pc {
+    /// What reads the tape.
+    pub reader: Reader,
+    /// What punches another.
+    pub punch: Outlet,
+}
+
+impl Pc {
+    ghost use Rattle.pdp_tape.specs.Pc.{pc_punch_completed, pc_punched, pc_read, pc_reader_completed, pc_reset};
+    ghost use Rattle.pdp_tape.specs.Pc.{pc_value, pc_written, punch_served, quiet_pc, reader_served};
+
+    /// Reader and punch at power-up: as after RESET, with both buffers 0 (this project's profile).
+    pub fn quiet() -> Pc
+        ensures { result ≡ quiet_pc }
+    {
+        Pc {
+            reader: Reader::quiet(),
+            punch: Outlet::quiet(),
+        }
+    }
+
+    /// What a read of the register gives, without the effect of a read.
+    pub fn value(&self, register: PcRegister) -> u16
+        ensures { result ≡ pc_value register self.now }
+    {
+        match register {
+            PcRegister::ReaderStatus => self.reader.status(),
+            PcRegister::ReaderBuffer => u16::from(self.reader.byte),
+            PcRegister::PunchStatus => self.punch.value(OutletRegister::Status),
+            PcRegister::PunchBuffer => self.punch.value(OutletRegister::Buffer),
+        }
+    }
+
+    /// A read of the register.
+    pub fn read_reg(&mut self, register: PcRegister) -> u16
+        ensures value { result ≡ pc_value register self.old }
+        ensures after { self.new ≡ pc_read register self.old }
+    {
+        match register {
+            PcRegister::ReaderBuffer => u16::from(self.reader.read_buffer()),
+            _ => self.value(register),
+        }
+    }
+
+    /// A write of a word to the register in this turn; reading and punching a byte take so many turns, with 0 until its
+    /// event (this project's profile).
+    pub fn write_reg(
+        &mut self,
+        register: PcRegister,
+        word: u16,
+        turn: u32,
+        reader_delay: u32,
+        punch_delay: u32,
+    )
+        ensures { self.new ≡ pc_written register word turn reader_delay punch_delay self.old }
+    {
+        match register {
+            PcRegister::ReaderStatus => self.reader.write_status(word, turn, reader_delay),
+            PcRegister::ReaderBuffer => {}
+            PcRegister::PunchStatus => self
+                .punch
+                .write_reg(OutletRegister::Status, word, turn, punch_delay),
+            PcRegister::PunchBuffer => self
+                .punch
+                .write_reg(OutletRegister::Buffer, word, turn, punch_delay),
+        }
+    }
+
+    /// The read that is under way is over, with the next byte of the tape, where there is one: the byte is in the
+    /// buffer and done is set, else error is set. Where none is under way, nothing happens (this project's profile).
+    pub fn complete_reader(&mut self, next: Option<u8>)
+        ensures { self.new ≡ pc_reader_completed next self.old }
+    {
+        self.reader.complete(next);
+    }
+
+    /// The byte that is being punched is out, and the punch is ready again. Gives the byte; where none is being
+    /// punched, nothing happens (this project's profile).
+    pub fn complete_punch(&mut self) -> Option<u8>
+        ensures byte { result ≡ pc_punched self.old }
+        ensures after { self.new ≡ pc_punch_completed self.old }
+    {
+        self.punch.complete()
+    }
+
+    /// The reader's request is served: it goes, and nothing else changes. The next one appears where its condition has
+    /// become false and true again, or at a go that finds error (this project's profile).
+    pub fn serve_reader(&mut self)
+        ensures { self.new ≡ reader_served self.old }
+    {
+        self.reader.serve();
+    }
+
+    /// The punch's request is served: it goes, and nothing else changes. The next one appears where ready or enable was
+    /// cleared and both are set again (this project's profile).
+    pub fn serve_punch(&mut self)
+        ensures { self.new ≡ punch_served self.old }
+    {
+        self.punch.serve();
+    }
+
+    /// RESET: the reader has nothing set, error too, the punch is ready, neither is enabled or requests, and bytes that
+    /// are being read or punched are dropped. The buffers stay (this project's profile).
+    pub fn reset(&mut self)
+        ensures { self.new ≡ pc_reset self.old }
+    {
+        self.reader.reset();
+        self.punch.reset();
+    }
+}

@@ -1,0 +1,156 @@
+ghost use Rattle.std.specs.Prelude.{◌≡◌, false};
+
+use pdp_device::Operation;
+use pdp_word::{bit_of, has_bit, request_after};
+
+/// The paper tape reader.
+///
+/// PDP-11 Peripherals Handbook, PC11.
+#[derive(Clone, Copy, Debug, PartialEq, Eq)]
+pub struct Reader {
+    /// Bit 15 of the status: a read found no byte. RESET alone clears it (this project's profile).
+    pub error: bool,
+    /// Bit 7 of the status: a byte has come since the buffer was last read.
+    pub done: bool,
+    /// Bit 6 of the status: its interrupts are enabled.
+    pub enable: bool,
+    /// It requests an interrupt. A request appears where enable and one of error and done come to be set, and at a go
+    /// that finds error and leaves enable set; it goes when it is served or where they are not set any more
+    /// (this project's profile).
+    pub request: bool,
+    /// The last byte read, or 0 once a read of a new one began.
+    pub byte: u8,
+    /// Reading a byte: bit 11 of the status, busy.
+    pub operation: Operation,
+}
+
+impl Reader {
+    ghost use Rattle.pdp_tape.specs.Reader.{buffer_read, gone, is_reader_calling, quiet_reader, reader_completed};
+    ghost use Rattle.pdp_tape.specs.Reader.{reader_reset, reader_status, reader_with, status_written, takes_byte};
+
+    /// A reader at power-up: nothing set, with byte 0 and nothing under way (this project's profile).
+    pub fn quiet() -> Reader
+        ensures { result ≡ quiet_reader }
+    {
+        Reader {
+            error: false,
+            done: false,
+            enable: false,
+            request: false,
+            byte: 0,
+            operation: Operation::Idle,
+        }
+    }
+
+    /// The status: bit 15 error, bit 11 busy, bit 7 done, bit 6 enable. Bit 0, go, reads 0.
+    pub fn status(&self) -> u16
+        ensures { result ≡ reader_status self.now }
+    {
+        let busy = self.operation.is_under_way();
+        bit_of(self.error) * 0o100000
+            + bit_of(busy) * 0o4000
+            + bit_of(self.done) * 0o200
+            + bit_of(self.enable) * 0o100
+    }
+
+    /// A write of a word to the status in this turn: bit 6 is enable, and bit 0 is go. Go begins to read a byte, which
+    /// takes so many turns, with 0 until its event; it clears done and the byte. While busy go does nothing; with error
+    /// set it begins nothing, and requests an interrupt where bit 6 is set (this project's profile).
+    pub fn write_status(&mut self, word: u16, turn: u32, delay: u32)
+        ensures { self.new ≡ status_written word turn delay self.old }
+    {
+        let enable = has_bit(6, word);
+        if self.operation.is_under_way() || !has_bit(0, word) {
+            self.change(self.error, self.done, enable);
+        } else {
+            self.go(enable, turn, delay);
+        }
+    }
+
+    /// A read of the buffer gives the byte, and clears done.
+    pub fn read_buffer(&mut self) -> u8
+        ensures byte { result ≡ self.old.byte }
+        ensures after { self.new ≡ buffer_read self.old }
+    {
+        self.change(self.error, false, self.enable);
+        self.byte
+    }
+
+    /// Whether a completion takes a byte from the tape: one is being read.
+    pub fn takes_byte(&self) -> bool
+        ensures { result ≡ takes_byte self.now }
+    {
+        self.operation.is_under_way()
+    }
+
+    /// The read that is under way is over, with the next byte of the tape, where there is one: the byte is in the
+    /// buffer and done is set, else error is set. Where none is under way, nothing happens (this project's profile).
+    pub fn complete(&mut self, next: Option<u8>)
+        ensures { self.new ≡ reader_completed next self.old }
+    {
+        if !self.operation.is_under_way() {
+            return;
+        }
+        self.operation = Operation::Idle;
+        match next {
+            Some(byte) => {
+                self.byte = byte;
+                self.change(self.error, true, self.enable);
+            }
+            None => self.change(true, self.done, self.enable),
+        }
+    }
+
+    /// RESET: error, done and enable are cleared, a request and what is under way are dropped. The byte stays
+    /// (this project's profile).
+    pub fn reset(&mut self)
+        ensures { self.new ≡ reader_reset self.old }
+    {
+        *self = Reader {
+            byte: self.byte,
+            ..Reader::quiet()
+        };
+    }
+
+    /// The request is served: it goes, and nothing else changes.
+    pub fn serve(&mut self)
+        ensures { self.new ≡ record self.old { request = false } }
+    {
+        self.request = false;
+    }
+
+    // Whether its condition holds: enable, and one of error and done.
+    fn is_calling(&self) -> bool
+        ensures { result ≡ is_reader_calling self.now }
+    {
+        (self.error || self.done) && self.enable
+    }
+
+    // Sets the three flags as one change: the request goes by the condition before it and after it.
+    fn change(&mut self, error: bool, done: bool, enable: bool)
+        ensures { self.new ≡ reader_with error done enable self.old }
+    {
+        let after = (error || done) && enable;
+        *self = Reader {
+            error,
+            done,
+            enable,
+            request: request_after(self.is_calling(), after, self.request),
+            ..*self
+        };
+    }
+
+    // Go, where nothing is under way: with error set it requests where the write sets enable, else it begins to read.
+    fn go(&mut self, enable: bool, turn: u32, delay: u32)
+        ensures { self.new ≡ gone enable turn delay self.old }
+    {
+        if self.error {
+            self.request = enable;
+            self.enable = enable;
+        } else {
+            self.change(false, false, enable);
+            self.byte = 0;
+            self.operation = Operation::begin(turn, delay);
+        }
+    }
+}

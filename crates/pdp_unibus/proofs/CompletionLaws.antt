@@ -1,0 +1,235 @@
+-- When operations end in the beginning of a turn.
+use Rattle.std.proofs.Common.{◌≡◌, ◌≢◌, ◌∙◌, ℕ, suc, Bool, true, false, Option, Some, None, List, [], ◌∷◌, refl, ap, arith}
+use Rattle.pdp_device.specs.Operation.{is_due, is_under_way}
+use Rattle.pdp_device.specs.declared.operation.Operation.{Operation}
+use Rattle.pdp_device.specs.declared.operation.Operation.TheVariants.{Idle, ByEvent, At}
+use Rattle.pdp_tape.specs.Reader.{reader_completed}
+use Rattle.pdp_unibus.proofs.Beginnings.{events_are_quiet, tick_is_quiet, printer_is_quiet, reader_is_quiet}
+use Rattle.pdp_unibus.specs.Beginning.{Progress, after_event, after_events, at_start, begun, clock_ticked, in_turn, is_tick, next_byte, printer_done, printer_due, punch_done, reader_done, reader_due, tick_due, where_due}
+use Rattle.pdp_unibus.specs.BusWorld.{BusWorld}
+use Rattle.pdp_unibus.specs.ByteLaws.{PrintingEndsWhenDue, PunchingEndsWhenDue, PrintingOutlivesUses, PunchingOutlivesUses, ReadingEndsWhenDue, ReadingOutlivesUses, Without, left_at}
+use Rattle.pdp_unibus.specs.declared.board.Board.{Board}
+use Rattle.pdp_unibus.specs.Laws.{Use, Reading, Writing, after_use, after_uses}
+use Rattle.pdp_unibus.specs.Register.{after_read, after_write}
+use Rattle.pdp_console.specs.declared.kl.KlRegister.TheVariants.{KeyboardStatus, KeyboardBuffer, PrinterStatus, PrinterBuffer}
+use Rattle.pdp_tape.specs.declared.pc.PcRegister.TheVariants.{ReaderStatus, ReaderBuffer, PunchStatus, PunchBuffer}
+use Rattle.pdp_unibus.specs.declared.register.Register.TheVariants as register
+use Rattle.pdp_unibus.specs.declared.register.Register.TheVariants.{Clock, Console, PaperTape, ProgramStatus}
+use Rattle.pdp_unibus.specs.declared.event.Event.{Event}
+use Rattle.pdp_unibus.specs.declared.event.Event.TheVariants.{Key, Tick, PrinterDone, ReaderDone, PunchDone, DiskDone, Switches, Continue}
+
+-- an operation that is idle afterwards where it was due, and else is as it was
+ended : (t : ℕ) (o after : Operation) (due : Bool) → is_due t o ≡ due → (due ≡ true → after ≡ Idle) → (due ≡ false → after ≡ o)
+    → after ≡ left_at t o
+ended t o after true is idle left = idle refl ∙ rw is refl
+ended t o after false is idle left = left refl ∙ rw is refl
+
+-- a part of the board is left where a step leaves it, due or not
+left_where : (part : Board → Operation) (f : Progress → Progress) (p : Progress) → part (f p).bus.board ≡ part p.bus.board
+    → (due : Bool) → part (where_due due f p).bus.board ≡ part p.bus.board
+left_where part f p is true = is
+left_where part f p is false = refl
+
+under_way_where_due : (t : ℕ) (o : Operation) → is_due t o ≡ true → is_under_way o ≡ true
+under_way_where_due t Idle due = absurd (cc due)
+under_way_where_due t ByEvent due = refl
+under_way_where_due t (At turn) due = refl
+
+-- the step that completes an operation, where it is due
+ends_where : (part : Board → Operation) (f : Progress → Progress)
+    → ((p : Progress) → is_under_way (part p.bus.board) ≡ true → part (f p).bus.board ≡ Idle)
+    → (p : Progress) (t : ℕ) (o : Operation) → p.bus.turn ≡ t → part p.bus.board ≡ o → (after : Operation)
+    → after ≡ part (where_due (is_due p.bus.turn (part p.bus.board)) f p).bus.board → after ≡ left_at t o
+ends_where part f completes p t o turn is after end =
+    ended t o after (is_due t o) refl
+    (λ due. end ∙ at (is_due p.bus.turn (part p.bus.board)) (same ∙ due) (same ∙ due))
+    (λ due. end ∙ not_at (is_due p.bus.turn (part p.bus.board)) (same ∙ due) ∙ is) where
+      same : is_due p.bus.turn (part p.bus.board) ≡ is_due t o
+      same = ap (λ turn. is_due turn (part p.bus.board)) turn ∙ ap (is_due t) is
+
+      at : (due : Bool) → due ≡ true → is_due p.bus.turn (part p.bus.board) ≡ true → part (where_due due f p).bus.board ≡ Idle
+      at true now holds = completes p (under_way_where_due p.bus.turn (part p.bus.board) holds)
+      at false now holds = absurd (cc now)
+
+      not_at : (due : Bool) → due ≡ false → part (where_due due f p).bus.board ≡ part p.bus.board
+      not_at false now = refl
+      not_at true now = absurd (cc now)
+
+-- events that leave a part of the board
+events_leave : (part : Board → Operation) (event : Event)
+    → ((e : Event) → e ≢ event → (p : Progress) → part (after_event e p).bus.board ≡ part p.bus.board)
+    → (es : List Event) → Without event es → (p : Progress) → part (after_events es p).bus.board ≡ part p.bus.board
+events_leave part event leaves [] none p = refl
+events_leave part event leaves (e ∷ es) none p =
+    events_leave part event leaves es (λ k d below. none (suc k) d (omega (arith, below))) (after_event e p)
+    ∙ leaves e (none 0 e (omega arith)) p
+
+printer_left : (e : Event) → e ≢ PrinterDone → (p : Progress) → (after_event e p).bus.board.console.printer.operation ≡ p.bus.board.console.printer.operation
+printer_left PrinterDone other p = absurd (other refl)
+printer_left (Key key) other p = refl
+printer_left Tick other p = refl
+printer_left ReaderDone other p = refl
+printer_left PunchDone other p = refl
+printer_left DiskDone other p = refl
+printer_left (Switches word) other p = refl
+printer_left Continue other p = refl
+
+reader_left : (e : Event) → e ≢ ReaderDone → (p : Progress) → (after_event e p).bus.board.paper_tape.reader.operation ≡ p.bus.board.paper_tape.reader.operation
+reader_left ReaderDone other p = absurd (other refl)
+reader_left (Key key) other p = refl
+reader_left Tick other p = refl
+reader_left PrinterDone other p = refl
+reader_left PunchDone other p = refl
+reader_left DiskDone other p = refl
+reader_left (Switches word) other p = refl
+reader_left Continue other p = refl
+
+punch_left : (e : Event) → e ≢ PunchDone → (p : Progress) → (after_event e p).bus.board.paper_tape.punch.operation ≡ p.bus.board.paper_tape.punch.operation
+punch_left PunchDone other p = absurd (other refl)
+punch_left (Key key) other p = refl
+punch_left Tick other p = refl
+punch_left PrinterDone other p = refl
+punch_left ReaderDone other p = refl
+punch_left DiskDone other p = refl
+punch_left (Switches word) other p = refl
+punch_left Continue other p = refl
+
+-- the steps of a beginning, one after another
+abbrev happened : ℕ → List Event → BusWorld → Progress
+happened t events w = after_events events (at_start (in_turn t w))
+
+abbrev ticked : ℕ → List Event → BusWorld → Progress
+ticked t events w = tick_due (happened t events w)
+
+abbrev printed : ℕ → List Event → BusWorld → Progress
+printed t events w = printer_due (ticked t events w)
+
+abbrev read : ℕ → List Event → BusWorld → Progress
+read t events w = reader_due (printed t events w)
+
+turn_happened : (t : ℕ) (events : List Event) (w : BusWorld) → (happened t events w).bus.turn ≡ t
+turn_happened t events w = (events_are_quiet events).turn (at_start (in_turn t w))
+
+turn_ticked : (t : ℕ) (events : List Event) (w : BusWorld) → (ticked t events w).bus.turn ≡ t
+turn_ticked t events w = tick_is_quiet.turn (happened t events w) ∙ turn_happened t events w
+
+turn_printed : (t : ℕ) (events : List Event) (w : BusWorld) → (printed t events w).bus.turn ≡ t
+turn_printed t events w = printer_is_quiet.turn (ticked t events w) ∙ turn_ticked t events w
+
+turn_read : (t : ℕ) (events : List Event) (w : BusWorld) → (read t events w).bus.turn ≡ t
+turn_read t events w = reader_is_quiet.turn (printed t events w) ∙ turn_printed t events w
+
+pub printing_ends : PrintingEndsWhenDue
+unfolding begun
+printing_ends t events w none =
+    ends_where part printer_done (λ p busy. rw busy refl) (ticked t events w) t (part w.board) (turn_ticked t events w)
+    (left_where part clock_ticked (happened t events w) refl (is_tick (happened t events w).bus.turn (happened t events w).bus.board.delays.clock)
+    ∙ events_leave part PrinterDone printer_left events none (at_start (in_turn t w))) _
+    (left_where part punch_done (read t events w) refl (is_due (read t events w).bus.turn (read t events w).bus.board.paper_tape.punch.operation)
+    ∙ left_where part reader_done (printed t events w) refl (is_due (printed t events w).bus.turn (printed t events w).bus.board.paper_tape.reader.operation)) where
+      part : Board → Operation
+      part b = b.console.printer.operation
+
+pub reading_ends : ReadingEndsWhenDue
+unfolding begun
+reading_ends t events w none =
+    ends_where part reader_done (λ p busy. read_over (next_byte p.bus.tape) p busy) (printed t events w) t (part w.board) (turn_printed t events w)
+    (left_where part printer_done (ticked t events w) refl (is_due (ticked t events w).bus.turn (ticked t events w).bus.board.console.printer.operation)
+    ∙ left_where part clock_ticked (happened t events w) refl (is_tick (happened t events w).bus.turn (happened t events w).bus.board.delays.clock)
+    ∙ events_leave part ReaderDone reader_left events none (at_start (in_turn t w))) _
+    (left_where part punch_done (read t events w) refl (is_due (read t events w).bus.turn (read t events w).bus.board.paper_tape.punch.operation)) where
+      part : Board → Operation
+      part b = b.paper_tape.reader.operation
+
+      read_over : (next : Option ℕ) (p : Progress) → is_under_way (part p.bus.board) ≡ true
+          → (reader_completed next p.bus.board.paper_tape.reader).operation ≡ Idle
+      read_over None p busy = rw busy refl
+      read_over (Some byte) p busy = rw busy refl
+
+pub punching_ends : PunchingEndsWhenDue
+unfolding begun
+punching_ends t events w none =
+    ends_where part punch_done (λ p busy. rw busy refl) (read t events w) t (part w.board) (turn_read t events w)
+    (left_where part reader_done (printed t events w) refl (is_due (printed t events w).bus.turn (printed t events w).bus.board.paper_tape.reader.operation)
+    ∙ left_where part printer_done (ticked t events w) refl (is_due (ticked t events w).bus.turn (ticked t events w).bus.board.console.printer.operation)
+    ∙ left_where part clock_ticked (happened t events w) refl (is_tick (happened t events w).bus.turn (happened t events w).bus.board.delays.clock)
+    ∙ events_leave part PunchDone punch_left events none (at_start (in_turn t w))) _ refl where
+      part : Board → Operation
+      part b = b.paper_tape.punch.operation
+
+printing_stays : (u : Use) (b : Board) → is_under_way b.console.printer.operation ≡ true
+    → (after_use u b).console.printer.operation ≡ b.console.printer.operation
+unfolding after_read after_write
+printing_stays (Writing (Console PrinterBuffer) word turn) b busy = rw busy refl
+printing_stays (Writing (Console PrinterStatus) word turn) b busy = refl
+printing_stays (Writing (Console KeyboardStatus) word turn) b busy = refl
+printing_stays (Writing (Console KeyboardBuffer) word turn) b busy = refl
+printing_stays (Writing Clock word turn) b busy = refl
+printing_stays (Writing (PaperTape r) word turn) b busy = refl
+printing_stays (Writing ProgramStatus word turn) b busy = refl
+printing_stays (Writing register.Switches word turn) b busy = refl
+printing_stays (Reading (Console PrinterBuffer)) b busy = refl
+printing_stays (Reading (Console PrinterStatus)) b busy = refl
+printing_stays (Reading (Console KeyboardStatus)) b busy = refl
+printing_stays (Reading (Console KeyboardBuffer)) b busy = refl
+printing_stays (Reading Clock) b busy = refl
+printing_stays (Reading (PaperTape r)) b busy = refl
+printing_stays (Reading ProgramStatus) b busy = refl
+printing_stays (Reading register.Switches) b busy = refl
+
+reading_stays : (u : Use) (b : Board) → is_under_way b.paper_tape.reader.operation ≡ true
+    → (after_use u b).paper_tape.reader.operation ≡ b.paper_tape.reader.operation
+unfolding after_read after_write
+reading_stays (Writing (PaperTape ReaderStatus) word turn) b busy = rw busy refl
+reading_stays (Writing (PaperTape ReaderBuffer) word turn) b busy = refl
+reading_stays (Writing (PaperTape PunchStatus) word turn) b busy = refl
+reading_stays (Writing (PaperTape PunchBuffer) word turn) b busy = refl
+reading_stays (Writing Clock word turn) b busy = refl
+reading_stays (Writing (Console r) word turn) b busy = refl
+reading_stays (Writing ProgramStatus word turn) b busy = refl
+reading_stays (Writing register.Switches word turn) b busy = refl
+reading_stays (Reading (PaperTape ReaderStatus)) b busy = refl
+reading_stays (Reading (PaperTape ReaderBuffer)) b busy = refl
+reading_stays (Reading (PaperTape PunchStatus)) b busy = refl
+reading_stays (Reading (PaperTape PunchBuffer)) b busy = refl
+reading_stays (Reading Clock) b busy = refl
+reading_stays (Reading (Console r)) b busy = refl
+reading_stays (Reading ProgramStatus) b busy = refl
+reading_stays (Reading register.Switches) b busy = refl
+
+punching_stays : (u : Use) (b : Board) → is_under_way b.paper_tape.punch.operation ≡ true
+    → (after_use u b).paper_tape.punch.operation ≡ b.paper_tape.punch.operation
+unfolding after_read after_write
+punching_stays (Writing (PaperTape PunchBuffer) word turn) b busy = rw busy refl
+punching_stays (Writing (PaperTape ReaderStatus) word turn) b busy = refl
+punching_stays (Writing (PaperTape ReaderBuffer) word turn) b busy = refl
+punching_stays (Writing (PaperTape PunchStatus) word turn) b busy = refl
+punching_stays (Writing Clock word turn) b busy = refl
+punching_stays (Writing (Console r) word turn) b busy = refl
+punching_stays (Writing ProgramStatus word turn) b busy = refl
+punching_stays (Writing register.Switches word turn) b busy = refl
+punching_stays (Reading (PaperTape ReaderStatus)) b busy = refl
+punching_stays (Reading (PaperTape ReaderBuffer)) b busy = refl
+punching_stays (Reading (PaperTape PunchStatus)) b busy = refl
+punching_stays (Reading (PaperTape PunchBuffer)) b busy = refl
+punching_stays (Reading Clock) b busy = refl
+punching_stays (Reading (Console r)) b busy = refl
+punching_stays (Reading ProgramStatus) b busy = refl
+punching_stays (Reading register.Switches) b busy = refl
+
+-- what stays in each use of a register while it is under way stays in all of them
+all_stay : (part : Board → Operation)
+    → ((u : Use) (b : Board) → is_under_way (part b) ≡ true → part (after_use u b) ≡ part b)
+    → (uses : List Use) (b : Board) → is_under_way (part b) ≡ true → part (after_uses uses b) ≡ part b
+all_stay part stays [] b busy = refl
+all_stay part stays (u ∷ uses) b busy =
+    all_stay part stays uses (after_use u b) (ap is_under_way (stays u b busy) ∙ busy) ∙ stays u b busy
+
+pub printing_outlives : PrintingOutlivesUses
+printing_outlives = all_stay (λ b. b.console.printer.operation) printing_stays
+
+pub reading_outlives : ReadingOutlivesUses
+reading_outlives = all_stay (λ b. b.paper_tape.reader.operation) reading_stays
+
+pub punching_outlives : PunchingOutlivesUses
+punching_outlives = all_stay (λ b. b.paper_tape.punch.operation) punching_stays

@@ -1,0 +1,116 @@
+-- The beginning of a turn: its events, a tick of the clock, and the operations that are due (this project's profile).
+use Rattle.std.specs.Prelude.{ℕ, ◌%◌, ◌==◌, ◌&&◌, nat_lt, Bool, List, [], ◌∷◌, ◌++◌, Option, Some, None, option_to_list, if◌then◌else◌}
+use Rattle.pdp_device.specs.Operation.{is_due}
+use Rattle.pdp_console.specs.Kl.{kl_completed, kl_printed, struck}
+use Rattle.pdp_console.specs.Kw.{ticked}
+use Rattle.pdp_tape.specs.Pc.{pc_punch_completed, pc_punched, pc_reader_completed}
+use Rattle.pdp_tape.specs.Reader.{takes_byte}
+use Rattle.pdp_unibus.specs.BusWorld.{BusWorld, with_board}
+use Rattle.pdp_unibus.specs.declared.beginning.Output.{Output}
+use Rattle.pdp_unibus.specs.declared.board.Board.{Board}
+use Rattle.pdp_unibus.specs.declared.event.Event.{Event}
+use Rattle.pdp_unibus.specs.declared.event.Event.TheVariants.{Key, Tick, PrinterDone, ReaderDone, PunchDone, DiskDone, Switches, Continue}
+
+-- the bus, and the bytes that were printed and punched so far in the beginning of a turn
+pub record Progress : Type 0 where
+  pub bus : BusWorld
+  pub printed : List ℕ
+  pub punched : List ℕ
+
+-- with what came out of it
+abbrev pub progress : BusWorld → Output → Progress
+progress w output =
+    record { bus = w; printed = option_to_list output.printed; punched = option_to_list output.punched }
+
+-- the bus as turn t begins: its cycles are those of the turn
+abbrev pub in_turn : ℕ → BusWorld → BusWorld
+in_turn t w = record w { turn = t }
+
+-- nothing came out yet
+abbrev pub at_start : BusWorld → Progress
+at_start w = record { bus = w; printed = []; punched = [] }
+
+abbrev pub on_board : Progress → Board → Progress
+on_board p board = record p { bus = with_board p.bus board }
+
+-- a key is struck
+abbrev pub after_key : ℕ → Progress → Progress
+after_key key p = on_board p (record p.bus.board { console = struck p.bus.board.console key })
+
+-- the clock ticks
+abbrev pub clock_ticked : Progress → Progress
+clock_ticked p = on_board p (record p.bus.board { clock = ticked p.bus.board.clock })
+
+-- the printer completes: its byte joins the text
+abbrev pub printer_done : Progress → Progress
+printer_done p = record (on_board p (record p.bus.board { console = kl_completed p.bus.board.console })) {
+  printed = p.printed ++ option_to_list (kl_printed p.bus.board.console);
+}
+
+-- the next byte of a tape, and the tape after it
+abbrev pub next_byte : List ℕ → Option ℕ
+next_byte [] = None
+next_byte (byte ∷ rest) = Some byte
+
+abbrev pub after_next : List ℕ → List ℕ
+after_next [] = []
+after_next (byte ∷ rest) = rest
+
+-- the reader completes: where it was reading, the next byte of the tape is taken
+abbrev pub reader_done : Progress → Progress
+reader_done p = record p {
+  bus = record p.bus {
+    board = record p.bus.board { paper_tape = pc_reader_completed (next_byte p.bus.tape) p.bus.board.paper_tape };
+    tape = if takes_byte p.bus.board.paper_tape.reader then after_next p.bus.tape else p.bus.tape;
+  };
+}
+
+-- the punch completes: its byte joins those punched
+abbrev pub punch_done : Progress → Progress
+punch_done p = record (on_board p (record p.bus.board { paper_tape = pc_punch_completed p.bus.board.paper_tape })) {
+  punched = p.punched ++ option_to_list (pc_punched p.bus.board.paper_tape);
+}
+
+-- the switches are set
+abbrev pub switches_set : ℕ → Progress → Progress
+switches_set word p = on_board p (record p.bus.board { switches = word })
+
+-- what an event does to the bus; the disk is to come, and Continue is the processor's
+abbrev pub after_event : Event → Progress → Progress
+after_event (Key key) p = after_key key p
+after_event Tick p = clock_ticked p
+after_event PrinterDone p = printer_done p
+after_event ReaderDone p = reader_done p
+after_event PunchDone p = punch_done p
+after_event DiskDone p = p
+after_event (Switches word) p = switches_set word p
+after_event Continue p = p
+
+-- what events do, in their order
+abbrev pub after_events : List Event → Progress → Progress
+after_events [] p = p
+after_events (e ∷ es) p = after_events es (after_event e p)
+
+-- whether the clock ticks by itself in turn t: in the positive multiples of its period, where that is above 0
+abbrev pub is_tick : ℕ → ℕ → Bool
+is_tick t period = nat_lt 0 period && nat_lt 0 t && t % period == 0
+
+-- a step that takes place where its cause holds
+abbrev pub where_due : Bool → (Progress → Progress) → Progress → Progress
+where_due due step p = if due then step p else p
+
+abbrev pub tick_due : Progress → Progress
+tick_due p = where_due (is_tick p.bus.turn p.bus.board.delays.clock) clock_ticked p
+
+abbrev pub printer_due : Progress → Progress
+printer_due p = where_due (is_due p.bus.turn p.bus.board.console.printer.operation) printer_done p
+
+abbrev pub reader_due : Progress → Progress
+reader_due p = where_due (is_due p.bus.turn p.bus.board.paper_tape.reader.operation) reader_done p
+
+abbrev pub punch_due : Progress → Progress
+punch_due p = where_due (is_due p.bus.turn p.bus.board.paper_tape.punch.operation) punch_done p
+
+-- the beginning of turn t: its events in their order, a tick, and the completions that are due: printer, reader, punch
+unfoldable pub begun : ℕ → List Event → BusWorld → Progress
+begun t events w = punch_due (reader_due (printer_due (tick_due (after_events events (at_start (in_turn t w))))))

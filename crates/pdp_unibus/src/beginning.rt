@@ -1,0 +1,164 @@
+//! The beginning of a turn: its events, a tick of the clock, and the operations that are due.
+
+ghost use Rattle.std.specs.Prelude.{◌≡◌, true, false, []};
+ghost use Rattle.pdp_unibus.specs.Beginning.{after_event, after_events, at_start, begun, printer_done, printer_due, progress, punch_done, punch_due, reader_done, reader_due, tick_due};
+ghost use Rattle.pdp_unibus.specs.SingleBytes.{IsSingle};
+ghost use Rattle.pdp_unibus.specs.declared.beginning.Output.{Output};
+
+use crate::bus::Bus;
+use crate::event::Event;
+use crate::watch::Watch;
+use pdp_store::Store;
+
+/// The byte that was printed on the console and the byte that was punched in the beginning of a turn, if any.
+#[derive(Clone, Copy, Debug, PartialEq, Eq, Default)]
+pub struct Output {
+    pub printed: Option<u8>,
+    pub punched: Option<u8>,
+}
+
+impl<S: Store> Bus<S> {
+    /// A turn begins: its events in their order, a tick where the clock's period is above 0 and the turn is a positive
+    /// multiple of it, and the completions that are due, of the printer, the reader and the punch in this order. The
+    /// cycles from now on are those of the turn. It answers the byte that was printed and the byte that was punched.
+    ///
+    /// `Continue` is the processor's and does nothing here; `DiskDone` has no disk yet. An event for an operation that
+    /// isn't under way does nothing. (This project's profile.)
+    #[inline(never)]
+    #[tactic(auto, unfolding(crate::specs::Beginning::begun))]
+    pub fn events(&mut self, turn: u32, events: &[Event]) -> Output
+        ensures { progress self.new result ≡ begun turn events.now self.old }
+    {
+        self.watch = Watch::unknown();
+        self.turn = turn;
+        let mut output = Output::default();
+        self.take_events(events, &mut output);
+        self.take_tick();
+        self.take_printer(&mut output);
+        self.take_reader();
+        self.take_punch(&mut output);
+        self.watch = self.board.watch(self.turn);
+        output
+    }
+
+    /// A turn without events begins, where nothing happens in its beginning, and says so; else nothing is done.
+    #[inline(always)]
+    pub fn begin_quietly(&mut self, turn: u32) -> bool
+        ensures begun { result ≡ true → begun turn [] self.old ≡ at_start self.new }
+        ensures left { result ≡ false → self.new ≡ self.old }
+    {
+        let quiet = (self.turn < turn) & (u64::from(turn) < self.watch.wake);
+        if quiet {
+            self.turn = turn;
+        }
+        quiet
+    }
+
+    #[tactic(auto, using(crate::proofs::Beginnings::after_more_events))]
+    fn take_events(&mut self, events: &[Event], output: &mut Output)
+        requires { IsSingle self.old.board output.old }
+        ensures after { progress self.new output.new ≡ after_events events.now (progress self.old output.old) }
+        ensures single { IsSingle self.new.board output.new }
+    {
+        for event in events {
+            self.take_event(*event, output);
+        }
+    }
+
+    fn take_event(&mut self, event: Event, output: &mut Output)
+        requires { IsSingle self.old.board output.old }
+        ensures after { progress self.new output.new ≡ after_event event (progress self.old output.old) }
+        ensures single { IsSingle self.new.board output.new }
+    {
+        self.watch = Watch::unknown();
+        match event {
+            Event::Key(key) => self.board.console.key(key),
+            Event::Tick => self.board.clock.tick(),
+            Event::PrinterDone => self.print(output),
+            Event::ReaderDone => self.read_tape(),
+            Event::PunchDone => self.punch(output),
+            Event::Switches(word) => self.board.switches = word,
+            Event::DiskDone | Event::Continue => {}
+        }
+    }
+
+    // The clock ticks by itself, where it is to in this turn.
+    fn take_tick(&mut self)
+        ensures after { (o : Output) → progress self.new o ≡ tick_due (progress self.old o) }
+        ensures single { (o : Output) → IsSingle self.old.board o → IsSingle self.new.board o }
+    {
+        let period = self.board.delays.clock;
+        if period > 0 && self.turn > 0 && self.turn % period == 0 {
+            self.watch = Watch::unknown();
+            self.board.clock.tick();
+        }
+    }
+
+    // The printer completes, where it is due.
+    fn take_printer(&mut self, output: &mut Output)
+        requires { IsSingle self.old.board output.old }
+        ensures after { progress self.new output.new ≡ printer_due (progress self.old output.old) }
+        ensures single { IsSingle self.new.board output.new }
+    {
+        if self.board.console.printer.operation.is_due(self.turn) {
+            self.print(output);
+        }
+    }
+
+    // The reader completes, where it is due.
+    fn take_reader(&mut self)
+        ensures after { (o : Output) → progress self.new o ≡ reader_due (progress self.old o) }
+        ensures single { (o : Output) → IsSingle self.old.board o → IsSingle self.new.board o }
+    {
+        if self.board.paper_tape.reader.operation.is_due(self.turn) {
+            self.read_tape();
+        }
+    }
+
+    // The punch completes, where it is due.
+    fn take_punch(&mut self, output: &mut Output)
+        requires { IsSingle self.old.board output.old }
+        ensures after { progress self.new output.new ≡ punch_due (progress self.old output.old) }
+        ensures single { IsSingle self.new.board output.new }
+    {
+        if self.board.paper_tape.punch.operation.is_due(self.turn) {
+            self.punch(output);
+        }
+    }
+
+    // The printer completes.
+    fn print(&mut self, output: &mut Output)
+        requires { IsSingle self.old.board output.old }
+        ensures after { progress self.new output.new ≡ printer_done (progress self.old output.old) }
+        ensures single { IsSingle self.new.board output.new }
+    {
+        self.watch = Watch::unknown();
+        if let Some(byte) = self.board.console.complete() {
+            output.printed = Some(byte);
+        }
+    }
+
+    // The punch completes.
+    fn punch(&mut self, output: &mut Output)
+        requires { IsSingle self.old.board output.old }
+        ensures after { progress self.new output.new ≡ punch_done (progress self.old output.old) }
+        ensures single { IsSingle self.new.board output.new }
+    {
+        self.watch = Watch::unknown();
+        if let Some(byte) = self.board.paper_tape.complete_punch() {
+            output.punched = Some(byte);
+        }
+    }
+
+    // The reader completes: where it was reading, the next byte of the tape is taken.
+    fn read_tape(&mut self)
+        ensures after { (o : Output) → progress self.new o ≡ reader_done (progress self.old o) }
+        ensures single { (o : Output) → IsSingle self.old.board o → IsSingle self.new.board o }
+    {
+        self.watch = Watch::unknown();
+        if self.board.paper_tape.reader.operation.is_under_way() {
+            let next = self.tape.take_byte();
+            self.board.paper_tape.complete_reader(next);
+        }
+    }
+}

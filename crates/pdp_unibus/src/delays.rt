@@ -1,0 +1,73 @@
+ghost use Rattle.std.specs.Prelude.{◌≡◌};
+ghost use Rattle.pdp_unibus.specs.Delays.{standard_delays, with_delay};
+
+/// A line of the machine to the outside whose delay can be set (this project's profile).
+#[derive(Clone, Copy, Debug, PartialEq, Eq)]
+pub enum Line {
+    /// The console terminal's printer.
+    Printer,
+    /// The paper tape reader.
+    Reader,
+    /// The paper tape punch.
+    Punch,
+    /// The disk.
+    Disk,
+    /// The line clock; its delay is the period of its ticks.
+    Clock,
+}
+
+/// How many turns after it began an operation of each device completes: 0 says by an event alone. Of the clock it is the
+/// period: with p above 0 it ticks in the turns p, 2p and so on, with 0 by events alone (this project's profile).
+#[derive(Clone, Copy, Debug, PartialEq, Eq)]
+pub struct Delays {
+    pub printer: u32,
+    pub reader: u32,
+    pub punch: u32,
+    pub disk: u32,
+    /// The period of the line clock, in turns.
+    pub clock: u32,
+}
+
+impl Delays {
+    /// The delays of a machine for which none is given: printer 1, reader 4, punch 4, disk 10, and no tick of the clock
+    /// but by events (this project's profile).
+    pub fn standard() -> Delays
+        ensures { result ≡ standard_delays }
+    {
+        Delays {
+            printer: 1,
+            reader: 4,
+            punch: 4,
+            disk: 10,
+            clock: 0,
+        }
+    }
+
+    /// These delays with that of one line set, in turns.
+    pub fn with(self, line: Line, delay: u32) -> Delays
+        ensures { result ≡ with_delay line delay self }
+    {
+        match line {
+            Line::Printer => Delays {
+                printer: delay,
+                ..self
+            },
+            Line::Reader => Delays {
+                reader: delay,
+                ..self
+            },
+            Line::Punch => Delays {
+                punch: delay,
+                ..self
+            },
+            Line::Disk => Delays {
+                disk: delay,
+                ..self
+            },
+            Line::Clock => Delays {
+                clock: delay,
+                ..self
+            },
+        }
+    }
+}
