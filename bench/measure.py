@@ -7,12 +7,13 @@ HERE = os.path.dirname(os.path.abspath(__file__))
 PROGRAM = os.path.join(HERE, "..", "crates", "pdp11", "out", "pdp11")
 
 
-def programs(kind="programs"):
-    """The name and the lines of each program in a folder: those that run on, or those that idle."""
+def programs(kind="programs", period=0):
+    """The name and the lines of each program in a folder: those that run on, or those that idle; the line clock ticks with
+    this period in turns, 0 for never."""
     folder = os.path.join(HERE, kind)
     for name in sorted(os.listdir(folder)):
         with open(os.path.join(folder, name), encoding="ascii") as file:
-            yield name.removesuffix(".session"), file.read()
+            yield name.removesuffix(".session"), file.read() + f"delay clock {period}\n"
 
 
 def words_of(lines):

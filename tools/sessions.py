@@ -1,5 +1,6 @@
 """The stored sessions of a folder: NAME.session is standard input, NAME.args the arguments (one a line),
-NAME.expected standard output, NAME.status the exit status (no file: 0), NAME.stderr standard error (no file: empty)."""
+NAME.expected standard output, NAME.status the exit status (no file: 0), NAME.stderr standard error (no file: empty).
+Each is run in its folder, where the files are that its arguments name."""
 import os
 import subprocess
 from collections import namedtuple
@@ -7,7 +8,7 @@ from collections import namedtuple
 SECONDS = 60
 
 Ended = namedtuple("Ended", "output status error")
-Session = namedtuple("Session", "name lines args expected")
+Session = namedtuple("Session", "name folder lines args expected")
 
 
 def stored(path, default=b""):
@@ -28,14 +29,16 @@ def sessions_of(folder):
                 args = stored(base + ".args").decode().splitlines()
                 status = int(stored(base + ".status", b"0"))
                 expected = Ended(stored(base + ".expected"), status, stored(base + ".stderr"))
-                found.append(Session(base, stored(base + ".session"), args, expected))
+                found.append(Session(base, at, stored(base + ".session"), args, expected))
     return found
 
 
-def run(program, args, lines, **more):
-    """Runs the program over these lines; `more` goes to subprocess.run."""
+def run(program, session, lines, **more):
+    """Runs the program with the session's arguments over these lines; `more` goes to subprocess.run."""
     try:
-        ran = subprocess.run([program, *args], input=lines, capture_output=True, timeout=SECONDS, **more)
+        ran = subprocess.run(
+            [program, *session.args], input=lines, cwd=session.folder, capture_output=True, timeout=SECONDS, **more
+        )
     except subprocess.TimeoutExpired:
         return Ended(b"", f"no answer in {SECONDS} seconds", b"")
     return Ended(ran.stdout, ran.returncode, ran.stderr)
