@@ -7,7 +7,7 @@ use pdp_word::{bit_of, has_bit};
 /// PDP-11 Peripherals Handbook, KW11-L.
 #[derive(Clone, Copy, Debug, PartialEq, Eq)]
 pub struct Kw {
-    /// Bit 7: the clock has ticked since this was last cleared, or was initialised.
+    /// Bit 7: the clock has ticked, or was initialised, since this was last cleared.
     pub monitor: bool,
     /// Bit 6: ticks request an interrupt.
     pub enable: bool,

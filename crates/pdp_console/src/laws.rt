@@ -2,7 +2,7 @@ ghost use Rattle.pdp_console.specs.Laws.{KeysWait, OtherUsesLeaveTheKey, ReadsCl
 ghost use Rattle.pdp_console.specs.Laws.{MonitorStaysUntilCleared, TicksRequest, TicksSetMonitor, WritesMakeNoRequest};
 
 /// A law and no code: a key sets done and is in the buffer, a read of the buffer clears done, and a write of the status
-/// register changes enable and what follows from it, the request. Whatever else is done to a register leaves done and the key.
+/// register sets enable and leaves done and the key. Whatever else is done to a register leaves done and the key.
 ///
 /// Source: PDP-11 Peripherals Handbook, KL11.
 pub fn keys_set_done_and_reads_clear_it()

@@ -68,6 +68,7 @@ impl<S: Store> Machine<S> {
     /// Makes the room that one turn may need: for one byte printed on the console and one punched.
     ///
     /// Err(NoMemory) where a growth was refused, so never where there was room; all but the room is then as before too.
+    /// (This project's profile.)
     #[inline(always)]
     pub fn ready(&mut self) -> Result<(), NoMemory>
         ensures ready { OnOk result (IsReady self.new) }
@@ -95,8 +96,9 @@ impl<S: Store> Machine<S> {
     /// One whole turn, which the meter counts: the events of the turn in their order, a tick of the clock and the
     /// completions that are due, and then one act, of which it tells how it began: the trace trap or the stack trap
     /// that is pending, an interrupt, one instruction with its trap if it has one, or nothing where the machine waits
-    /// or is halted. `Continue` ends a halt, and the act of that turn is chosen after it; the turns of a halted machine
-    /// begin like others. The bytes that come out are kept. Once asked it always takes place.
+    /// or is halted. `Continue` ends a halt, and the act of that turn is chosen after it; the turns of a halted
+    /// machine begin like others. The bytes that come out are kept. It asks for the room that `ready` makes, and that
+    /// fewer than 1,000,000,000 turns were run; then it always takes place.
     ///
     /// DEC PDP-11/40 Processor Handbook (1972), Processor traps and Interrupts; that a turn is one act, and their
     /// order, are this project's profile.
@@ -177,7 +179,8 @@ impl<S: Store> Machine<S> {
         &self.punched
     }
 
-    /// The registers of the devices as reads would give them, without the effect of a read.
+    /// The registers of the devices as reads would give them, without the effect of a read (PDP-11 Peripherals
+    /// Handbook, KL11, KW11-L and PC11).
     #[tactic(auto, unfolding(crate::specs::Turns::Devices::devices_of))]
     pub fn devices(&self) -> DeviceRegisters
         ensures { result ≡ devices_of self.now.state.world }

@@ -12,6 +12,8 @@ pub fn core_words_are_first_words()
 
 /// A law of edits: no alteration and no drop of an event is refused as out of memory, and no edit of the tape or of a
 /// delay.
+///
+/// This project's profile.
 #[tactic(auto, using(crate::proofs::Memory::alteration_needs_none, crate::proofs::Memory::drop_needs_none, crate::proofs::Memory::tape_needs_none, crate::proofs::Memory::delay_needs_none))]
 pub fn some_edits_need_no_memory()
     ensures alteration { AlterationNeedsNoMemory }
@@ -22,6 +24,8 @@ pub fn some_edits_need_no_memory()
 
 /// A law of runs: what was printed on the console before a turn begins what was printed before each later turn, and
 /// what was punched likewise.
+///
+/// This project's profile.
 #[tactic(auto, using(crate::proofs::Texts::text_grows, crate::proofs::Texts::punched_grows))]
 pub fn texts_only_grow()
     ensures text { TextOnlyGrows }

@@ -30,7 +30,7 @@ pub struct Setup {
     pub core: Vec<u16>,
     /// The words of the drive from its first word on; the drive past them is 0.
     pub disk: Vec<u16>,
-    /// The bytes of the paper tape.
+    /// The bytes of the paper tape: at most 1,048,576.
     pub tape: Vec<u8>,
     /// How many turns apart states are kept: 2,000,000,000 for now.
     pub stride: u32,

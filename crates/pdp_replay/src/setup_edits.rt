@@ -10,8 +10,8 @@ use pdp_script::Fault;
 use pdp_unibus::{LAST_TURN, Line};
 
 impl Engine {
-    /// Puts this paper tape into the reader as of power-up, in place of the one that is there. The known turn becomes 0;
-    /// no turn is run. Takes no memory.
+    /// Puts this paper tape into the reader as of power-up, in place of the one that is there. The known turn becomes
+    /// 0; no turn is run. Takes no memory.
     ///
     /// Err(BadImage) where the tape is longer than 1,048,576 bytes; nothing changes then. (This project's profile.)
     #[tactic(auto, unfolding(crate::specs::Edit::tape_edit))]

@@ -10,7 +10,8 @@ use pdp_device::{Outlet, OutletRegister};
 pub enum PcRegister {
     /// PRS: bit 15 error, bit 11 busy, bit 7 done, bit 6 enable, bit 0 go. Enable and go alone are written.
     ReaderStatus,
-    /// PRB: the last byte read. A read clears done; a write does nothing (this project's profile).
+    /// PRB: the last byte read, or 0 once go has begun a new one. A read clears done; a write does nothing (this
+    /// project's profile).
     ReaderBuffer,
     /// PPS: bit 7 ready, bit 6 enable, which alone is written. Bit 15, error, is always 0 (this project's profile).
     PunchStatus,

@@ -10,7 +10,7 @@ use pdp_word::{bit_of, has_bit, request_after};
 pub struct Reader {
     /// Bit 15 of the status: a read found no byte. RESET alone clears it (this project's profile).
     pub error: bool,
-    /// Bit 7 of the status: a byte has come since the buffer was last read.
+    /// Bit 7 of the status: a byte has come since the buffer was last read or a read of a new one began.
     pub done: bool,
     /// Bit 6 of the status: its interrupts are enabled.
     pub enable: bool,

@@ -10,7 +10,8 @@ use crate::event::Event;
 use crate::watch::Watch;
 use pdp_store::Store;
 
-/// The byte that was printed on the console and the byte that was punched in the beginning of a turn, if any.
+/// The byte that was printed on the console and the byte that was punched in the beginning of a turn, if any
+/// (this project's profile).
 #[derive(Clone, Copy, Debug, PartialEq, Eq, Default)]
 pub struct Output {
     pub printed: Option<u8>,
@@ -41,7 +42,8 @@ impl<S: Store> Bus<S> {
         output
     }
 
-    /// A turn without events begins, where nothing happens in its beginning, and says so; else nothing is done.
+    /// Begins this turn without events where the bus knows that nothing happens in its beginning, and answers true.
+    /// Else it does nothing and answers false, also where it only doesn't know. (This project's profile.)
     #[inline(always)]
     pub fn begin_quietly(&mut self, turn: u32) -> bool
         ensures begun { result ≡ true → begun turn [] self.old ≡ at_start self.new }

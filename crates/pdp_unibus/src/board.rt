@@ -8,8 +8,8 @@ use crate::status::Status;
 use pdp_console::{Kl, KlRegister, Kw};
 use pdp_tape::{Pc, PcRegister};
 
-/// What the bus holds besides the lists of words, the tape and the turn: the program status word, the devices with their
-/// delays, and the switches.
+/// What the bus holds besides the lists of words, the tape and the turn: the program status word, the devices with
+/// their delays, and the switches.
 #[derive(Clone, Copy, Debug)]
 pub struct Board {
     pub status: Status,
@@ -92,7 +92,7 @@ impl Board {
 
     /// A write of a byte to the register, at an address in its word, in this turn: the other half is written as a read
     /// would give it, without the effect of a read. At the odd address of the printer's and the punch's buffer it does
-    /// nothing.
+    /// nothing. (This project's profile.)
     #[tactic(auto, unfolding(crate::specs::Register::after_byte))]
     pub fn write_byte(&mut self, register: Register, address: u32, byte: u8, turn: u32)
         ensures { self.new ≡ after_byte register address byte turn self.old }

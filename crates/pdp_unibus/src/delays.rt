@@ -16,8 +16,8 @@ pub enum Line {
     Clock,
 }
 
-/// How many turns after it began an operation of each device completes: 0 says by an event alone. Of the clock it is the
-/// period: with p above 0 it ticks in the turns p, 2p and so on, with 0 by events alone (this project's profile).
+/// How many turns after it began an operation of each device completes: 0 says by an event alone. Of the clock it is
+/// the period: with p above 0 it ticks in the turns p, 2p and so on, with 0 by events alone (this project's profile).
 #[derive(Clone, Copy, Debug, PartialEq, Eq)]
 pub struct Delays {
     pub printer: u32,

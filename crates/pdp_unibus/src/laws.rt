@@ -12,7 +12,9 @@ ghost use Rattle.pdp_unibus.specs.ByteLaws.{PrintingEndsWhenDue, PunchingEndsWhe
 ghost use Rattle.pdp_unibus.specs.ByteLaws.{PrintingOutlivesUses, PunchingOutlivesUses, ReadingOutlivesUses};
 ghost use Rattle.pdp_unibus.specs.declared.bus.Timeout.{Timeout};
 
-/// A law of the bus: a cycle that times out leaves core, its stamps, the board and the turn as they were.
+/// A law of the bus: a cycle that times out leaves core, its stamps, the board, the tape and the turn as they were.
+///
+/// This project's profile.
 pub fn timeouts_change_nothing()
     ensures { (c : Cycle) (w : BusWorld) (t : Timeout) → (cycle c w).value ≡ Err t → (cycle c w).after ≡ w }
 {}
@@ -48,8 +50,9 @@ pub fn the_first_request_is_chosen()
 {}
 
 /// A law of the one rule of requests, of the keyboard, the printer and the punch: whichever register is read or written
-/// and whatever happens to the devices, a request is there afterwards exactly where the device's condition holds and it
-/// was there, or the condition has just come to hold. So none is lost, and none comes twice.
+/// and whatever event happens, where a request stands on its condition, as at power-up, it does so afterwards, and is
+/// there exactly where the condition holds and it was there, or the condition has just come to hold. So none is lost,
+/// and none comes twice.
 ///
 /// This project's profile.
 pub fn requests_go_by_the_rule()
@@ -92,8 +95,8 @@ pub fn operations_end_when_due()
     ensures punching_outlives { PunchingOutlivesUses }
 {}
 
-/// A law of the paper tape: in the beginning of a turn a read that ends takes the tape's next byte, or finds its end, and
-/// nothing else moves the tape.
+/// A law of the paper tape: in the beginning of a turn a read that ends takes the tape's next byte, or finds its end,
+/// and nothing else moves the tape.
 ///
 /// PDP-11 Peripherals Handbook, PC11; when an operation ends is this project's profile.
 pub fn reads_take_the_next_byte()
