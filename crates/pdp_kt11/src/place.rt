@@ -8,6 +8,19 @@ pub enum Access {
     Write,
 }
 
+/// Why memory management doesn't let an access through.
+///
+/// DEC PDP-11/40 Processor Handbook (1972), Memory management.
+#[derive(Clone, Copy, Debug, PartialEq, Eq)]
+pub enum Abort {
+    /// The page is not resident.
+    Resident,
+    /// The address is outside the length of its page.
+    Length,
+    /// A write to a read-only page.
+    ReadOnly,
+}
+
 /// The physical byte address (18 bits) of a virtual byte address (16 bits) while mapping is off: the top 4K words
 /// 160000-177777 (octal) are the I/O page 760000-777777, and every other address is itself.
 ///

@@ -1,0 +1,4 @@
+pub mod AbortLaws
+pub mod PageLaws
+pub mod ReadBackLaws
+pub mod WrittenLaws

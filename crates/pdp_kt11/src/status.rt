@@ -1,0 +1,107 @@
+ghost use Rattle.std.specs.Prelude.{◌≡◌};
+ghost use Rattle.pdp_kt11.specs.Status.{abort_told, clear_status, mapping_status_word, mapping_status_written, tells_abort};
+
+use crate::mode::Mode;
+use crate::page::PageNumber;
+use crate::place::Abort;
+use pdp_word::{bit_of, has_bit};
+
+/// SR0 of memory management.
+///
+/// DEC PDP-11/40 Processor Handbook (1972), Memory management.
+#[derive(Clone, Copy, Debug, PartialEq, Eq)]
+pub struct MappingStatus {
+    /// Bit 15: an access to a page that isn't resident was aborted.
+    pub resident_abort: bool,
+    /// Bit 14: an access outside the length of its page was aborted.
+    pub length_abort: bool,
+    /// Bit 13: a write to a read-only page was aborted.
+    pub read_only_abort: bool,
+    /// Bits 6-5: the mode of the access that was aborted.
+    pub mode: Mode,
+    /// Bits 3-1: its page.
+    pub page: PageNumber,
+    /// Bit 0: mapping is on.
+    pub enabled: bool,
+}
+
+impl MappingStatus {
+    /// All bits 0, as of power-up and after RESET.
+    #[tactic(auto, unfolding(crate::specs::Status::clear_status))]
+    pub const fn clear() -> MappingStatus
+        ensures { result ≡ clear_status }
+    {
+        MappingStatus {
+            resident_abort: false,
+            length_abort: false,
+            read_only_abort: false,
+            mode: Mode::Kernel,
+            page: PageNumber::P0,
+            enabled: false,
+        }
+    }
+
+    /// Whether one of bits 15-13 is set: then SR0 tells of an abort, or of what was written there, and neither it nor
+    /// SR2 follows what comes.
+    ///
+    /// DEC PDP-11/40 Processor Handbook (1972), Memory management, which has it that an abort stops SR2; that it stops SR0,
+    /// and that bits which were written stop both, is this project's profile.
+    #[inline(always)]
+    pub fn tells_abort(self) -> bool
+        ensures { result ≡ tells_abort self }
+    {
+        self.resident_abort | self.length_abort | self.read_only_abort
+    }
+
+    /// The word of SR0: 15 non-resident, 14 length, 13 read only, 6-5 mode, 3-1 page, 0 enable. The others are 0
+    /// (this project's profile).
+    pub fn word(self) -> u16
+        ensures { result ≡ mapping_status_word self }
+    {
+        let aborts = bit_of(self.resident_abort) * 0o100000
+            + bit_of(self.length_abort) * 0o40000
+            + bit_of(self.read_only_abort) * 0o20000;
+        aborts + self.mode.bits() * 32 + self.page.number() * 2 + bit_of(self.enabled)
+    }
+
+    /// SR0 after a word was written to it: bits 15-13 and 0 are the word's, mode and page stay
+    /// (this project's profile).
+    #[tactic(auto, unfolding(crate::specs::Status::mapping_status_written))]
+    pub fn written(self, word: u16) -> MappingStatus
+        ensures { result ≡ mapping_status_written word self }
+    {
+        MappingStatus {
+            resident_abort: has_bit(15, word),
+            length_abort: has_bit(14, word),
+            read_only_abort: has_bit(13, word),
+            enabled: has_bit(0, word),
+            ..self
+        }
+    }
+
+    /// SR0 after an abort at this page of the mode: its flag, the mode and the page, where it tells of none yet. Else it
+    /// stays (this project's profile).
+    #[tactic(auto, unfolding(crate::specs::Status::abort_told))]
+    pub fn with_abort(self, abort: Abort, mode: Mode, page: PageNumber) -> MappingStatus
+        ensures { result ≡ abort_told abort mode page self }
+    {
+        if self.tells_abort() {
+            return self;
+        }
+        let told = MappingStatus { mode, page, ..self };
+        match abort {
+            Abort::Resident => MappingStatus {
+                resident_abort: true,
+                ..told
+            },
+            Abort::Length => MappingStatus {
+                length_abort: true,
+                ..told
+            },
+            Abort::ReadOnly => MappingStatus {
+                read_only_abort: true,
+                ..told
+            },
+        }
+    }
+}
