@@ -21,26 +21,28 @@ after_more_events es i d p below = rw add-one (one_more es i d p below)
 abbrev pub over : List ℕ → Progress → Progress
 over words p = record p { bus = record p.bus { core = words } }
 
--- a step that does the same whatever core holds, and leaves core, its stamps, the turn and the program status
+-- a step that does the same whatever core holds, and leaves core, its stamps, the turn, the program status and the
+-- mapping registers
 pub record Quiet (step : Progress → Progress) : Type 0 where
   pub commutes : (words : List ℕ) (p : Progress) → step (over words p) ≡ over words (step p)
   pub core : (p : Progress) → (step p).bus.core ≡ p.bus.core
   pub lasts : (p : Progress) → (step p).bus.lasts ≡ p.bus.lasts
   pub turn : (p : Progress) → (step p).bus.turn ≡ p.bus.turn
   pub status : (p : Progress) → (step p).bus.board.status ≡ p.bus.board.status
+  pub mapping : (p : Progress) → (step p).bus.board.mapping ≡ p.bus.board.mapping
 
 event_is_quiet : (e : Event) → Quiet (after_event e)
-event_is_quiet (Key key) = record { commutes = λ words p. refl; core = λ p. refl; lasts = λ p. refl; turn = λ p. refl; status = λ p. refl }
-event_is_quiet Tick = record { commutes = λ words p. refl; core = λ p. refl; lasts = λ p. refl; turn = λ p. refl; status = λ p. refl }
-event_is_quiet PrinterDone = record { commutes = λ words p. refl; core = λ p. refl; lasts = λ p. refl; turn = λ p. refl; status = λ p. refl }
-event_is_quiet ReaderDone = record { commutes = λ words p. refl; core = λ p. refl; lasts = λ p. refl; turn = λ p. refl; status = λ p. refl }
-event_is_quiet PunchDone = record { commutes = λ words p. refl; core = λ p. refl; lasts = λ p. refl; turn = λ p. refl; status = λ p. refl }
-event_is_quiet DiskDone = record { commutes = λ words p. refl; core = λ p. refl; lasts = λ p. refl; turn = λ p. refl; status = λ p. refl }
-event_is_quiet (Switches word) = record { commutes = λ words p. refl; core = λ p. refl; lasts = λ p. refl; turn = λ p. refl; status = λ p. refl }
-event_is_quiet Continue = record { commutes = λ words p. refl; core = λ p. refl; lasts = λ p. refl; turn = λ p. refl; status = λ p. refl }
+event_is_quiet (Key key) = record { commutes = λ words p. refl; core = λ p. refl; lasts = λ p. refl; turn = λ p. refl; status = λ p. refl; mapping = λ p. refl }
+event_is_quiet Tick = record { commutes = λ words p. refl; core = λ p. refl; lasts = λ p. refl; turn = λ p. refl; status = λ p. refl; mapping = λ p. refl }
+event_is_quiet PrinterDone = record { commutes = λ words p. refl; core = λ p. refl; lasts = λ p. refl; turn = λ p. refl; status = λ p. refl; mapping = λ p. refl }
+event_is_quiet ReaderDone = record { commutes = λ words p. refl; core = λ p. refl; lasts = λ p. refl; turn = λ p. refl; status = λ p. refl; mapping = λ p. refl }
+event_is_quiet PunchDone = record { commutes = λ words p. refl; core = λ p. refl; lasts = λ p. refl; turn = λ p. refl; status = λ p. refl; mapping = λ p. refl }
+event_is_quiet DiskDone = record { commutes = λ words p. refl; core = λ p. refl; lasts = λ p. refl; turn = λ p. refl; status = λ p. refl; mapping = λ p. refl }
+event_is_quiet (Switches word) = record { commutes = λ words p. refl; core = λ p. refl; lasts = λ p. refl; turn = λ p. refl; status = λ p. refl; mapping = λ p. refl }
+event_is_quiet Continue = record { commutes = λ words p. refl; core = λ p. refl; lasts = λ p. refl; turn = λ p. refl; status = λ p. refl; mapping = λ p. refl }
 
 nothing_is_quiet : Quiet (λ p. p)
-nothing_is_quiet = record { commutes = λ words p. refl; core = λ p. refl; lasts = λ p. refl; turn = λ p. refl; status = λ p. refl }
+nothing_is_quiet = record { commutes = λ words p. refl; core = λ p. refl; lasts = λ p. refl; turn = λ p. refl; status = λ p. refl; mapping = λ p. refl }
 
 -- one quiet step after another
 both : (f g : Progress → Progress) → Quiet f → Quiet g → Quiet (λ p. g (f p))
@@ -50,6 +52,7 @@ both f g first second = record {
   lasts = λ p. second.lasts (f p) ∙ first.lasts p;
   turn = λ p. second.turn (f p) ∙ first.turn p;
   status = λ p. second.status (f p) ∙ first.status p;
+  mapping = λ p. second.mapping (f p) ∙ first.mapping p;
 }
 
 pub events_are_quiet : (es : List Event) → Quiet (after_events es)
@@ -65,6 +68,7 @@ where_due_is_quiet due f quiet = record {
   lasts = λ p. kept (λ bus. bus.lasts) p (quiet.lasts p) (due p.bus.turn p.bus.board);
   turn = λ p. kept (λ bus. bus.turn) p (quiet.turn p) (due p.bus.turn p.bus.board);
   status = λ p. kept (λ bus. bus.board.status) p (quiet.status p) (due p.bus.turn p.bus.board);
+  mapping = λ p. kept (λ bus. bus.board.mapping) p (quiet.mapping p) (due p.bus.turn p.bus.board);
 } where
   commuted : (words : List ℕ) (p : Progress) (holds : Bool) → where_due holds f (over words p) ≡ over words (where_due holds f p)
   commuted words p true = quiet.commutes words p
@@ -97,12 +101,13 @@ dues_are_quiet =
 beginning_is_quiet : (es : List Event) → Quiet (λ p. dues (after_events es p))
 beginning_is_quiet es = both (after_events es) dues (events_are_quiet es) dues_are_quiet
 
--- the beginning of a turn leaves core, its stamps and the program status
+-- the beginning of a turn leaves core, its stamps, the program status and the mapping registers
 pub record Keeps (t : ℕ) (b c : BusWorld) : Type 0 where
   pub core : c.core ≡ b.core
   pub lasts : c.lasts ≡ b.lasts
   pub turn : c.turn ≡ t
   pub status : c.board.status ≡ b.board.status
+  pub mapping : c.board.mapping ≡ b.board.mapping
 
 pub begun_keeps : (t : ℕ) (es : List Event) (w : BusWorld) → Keeps t w (begun t es w).bus
 unfolding begun dues
@@ -113,6 +118,7 @@ begun_keeps t es w =
       lasts = quiet.lasts (at_start (in_turn t w));
       turn = quiet.turn (at_start (in_turn t w));
       status = quiet.status (at_start (in_turn t w));
+      mapping = quiet.mapping (at_start (in_turn t w));
     }
 
 -- and does the same whatever words core holds

@@ -168,6 +168,7 @@ printing_stays (Writing Clock word turn) b busy = refl
 printing_stays (Writing (PaperTape r) word turn) b busy = refl
 printing_stays (Writing ProgramStatus word turn) b busy = refl
 printing_stays (Writing register.Switches word turn) b busy = refl
+printing_stays (Writing (register.Mapping r) word turn) b busy = refl
 printing_stays (Reading (Console PrinterBuffer)) b busy = refl
 printing_stays (Reading (Console PrinterStatus)) b busy = refl
 printing_stays (Reading (Console KeyboardStatus)) b busy = refl
@@ -176,6 +177,7 @@ printing_stays (Reading Clock) b busy = refl
 printing_stays (Reading (PaperTape r)) b busy = refl
 printing_stays (Reading ProgramStatus) b busy = refl
 printing_stays (Reading register.Switches) b busy = refl
+printing_stays (Reading (register.Mapping r)) b busy = refl
 
 reading_stays : (u : Use) (b : Board) → is_under_way b.paper_tape.reader.operation ≡ true
     → (after_use u b).paper_tape.reader.operation ≡ b.paper_tape.reader.operation
@@ -188,6 +190,7 @@ reading_stays (Writing Clock word turn) b busy = refl
 reading_stays (Writing (Console r) word turn) b busy = refl
 reading_stays (Writing ProgramStatus word turn) b busy = refl
 reading_stays (Writing register.Switches word turn) b busy = refl
+reading_stays (Writing (register.Mapping r) word turn) b busy = refl
 reading_stays (Reading (PaperTape ReaderStatus)) b busy = refl
 reading_stays (Reading (PaperTape ReaderBuffer)) b busy = refl
 reading_stays (Reading (PaperTape PunchStatus)) b busy = refl
@@ -196,6 +199,7 @@ reading_stays (Reading Clock) b busy = refl
 reading_stays (Reading (Console r)) b busy = refl
 reading_stays (Reading ProgramStatus) b busy = refl
 reading_stays (Reading register.Switches) b busy = refl
+reading_stays (Reading (register.Mapping r)) b busy = refl
 
 punching_stays : (u : Use) (b : Board) → is_under_way b.paper_tape.punch.operation ≡ true
     → (after_use u b).paper_tape.punch.operation ≡ b.paper_tape.punch.operation
@@ -208,6 +212,7 @@ punching_stays (Writing Clock word turn) b busy = refl
 punching_stays (Writing (Console r) word turn) b busy = refl
 punching_stays (Writing ProgramStatus word turn) b busy = refl
 punching_stays (Writing register.Switches word turn) b busy = refl
+punching_stays (Writing (register.Mapping r) word turn) b busy = refl
 punching_stays (Reading (PaperTape ReaderStatus)) b busy = refl
 punching_stays (Reading (PaperTape ReaderBuffer)) b busy = refl
 punching_stays (Reading (PaperTape PunchStatus)) b busy = refl
@@ -216,6 +221,7 @@ punching_stays (Reading Clock) b busy = refl
 punching_stays (Reading (Console r)) b busy = refl
 punching_stays (Reading ProgramStatus) b busy = refl
 punching_stays (Reading register.Switches) b busy = refl
+punching_stays (Reading (register.Mapping r)) b busy = refl
 
 -- what stays in each use of a register while it is under way stays in all of them
 all_stay : (part : Board → Operation)

@@ -1,5 +1,5 @@
 -- What the beginning of a turn prints and punches, and when operations end in it.
-use Rattle.std.proofs.Common.{◌≡◌, ◌∙◌, ◌+◌, ◌&&◌, not, ℕ, Bool, true, false, List, [], ◌∷◌, ◌++◌, option_to_list, refl, sym, ap, if◌then◌else◌}
+use Rattle.std.proofs.Common.{◌≡◌, ◌∙◌, ◌&&◌, not, ℕ, Bool, true, false, List, [], ◌∷◌, ◌++◌, option_to_list, refl, sym, ap, if◌then◌else◌}
 use Rattle.pdp_device.specs.Operation.{is_due, is_under_way}
 use Rattle.pdp_device.specs.Outlet.{byte_out, outlet_completed}
 use Rattle.pdp_device.specs.declared.operation.Operation.TheVariants.{Idle}

@@ -56,6 +56,7 @@ keyboard_uses (Reading (Console PrinterBuffer)) b sound = unchanged (keyboard_ch
 keyboard_uses (Reading Clock) b sound = unchanged (keyboard_channel b) sound
 keyboard_uses (Reading (PaperTape r)) b sound = unchanged (keyboard_channel b) sound
 keyboard_uses (Reading register.Switches) b sound = unchanged (keyboard_channel b) sound
+keyboard_uses (Reading (register.Mapping r)) b sound = unchanged (keyboard_channel b) sound
 keyboard_uses (Reading ProgramStatus) b sound = unchanged (keyboard_channel b) sound
 keyboard_uses (Writing (Console KeyboardStatus) word turn) b sound = changed (keyboard_channel b).ready _ (keyboard_channel b)
 keyboard_uses (Writing (Console KeyboardBuffer) word turn) b sound = unchanged (keyboard_channel b) sound
@@ -64,6 +65,7 @@ keyboard_uses (Writing (Console PrinterBuffer) word turn) b sound = unchanged (k
 keyboard_uses (Writing Clock word turn) b sound = unchanged (keyboard_channel b) sound
 keyboard_uses (Writing (PaperTape r) word turn) b sound = unchanged (keyboard_channel b) sound
 keyboard_uses (Writing register.Switches word turn) b sound = unchanged (keyboard_channel b) sound
+keyboard_uses (Writing (register.Mapping r) word turn) b sound = unchanged (keyboard_channel b) sound
 keyboard_uses (Writing ProgramStatus word turn) b sound = unchanged (keyboard_channel b) sound
 
 keyboard_events : (e : Event) (p : Progress) → IsSound (keyboard_channel p.bus.board)
@@ -86,6 +88,7 @@ printer_uses (Reading (Console PrinterBuffer)) b sound = unchanged (printer_chan
 printer_uses (Reading Clock) b sound = unchanged (printer_channel b) sound
 printer_uses (Reading (PaperTape r)) b sound = unchanged (printer_channel b) sound
 printer_uses (Reading register.Switches) b sound = unchanged (printer_channel b) sound
+printer_uses (Reading (register.Mapping r)) b sound = unchanged (printer_channel b) sound
 printer_uses (Reading ProgramStatus) b sound = unchanged (printer_channel b) sound
 printer_uses (Writing (Console PrinterStatus) word turn) b sound = changed (printer_channel b).ready _ (printer_channel b)
 printer_uses (Writing (Console PrinterBuffer) word turn) b sound = written _ turn b.delays.printer b.console.printer (is_under_way b.console.printer.operation) refl sound
@@ -94,6 +97,7 @@ printer_uses (Writing (Console KeyboardBuffer) word turn) b sound = unchanged (p
 printer_uses (Writing Clock word turn) b sound = unchanged (printer_channel b) sound
 printer_uses (Writing (PaperTape r) word turn) b sound = unchanged (printer_channel b) sound
 printer_uses (Writing register.Switches word turn) b sound = unchanged (printer_channel b) sound
+printer_uses (Writing (register.Mapping r) word turn) b sound = unchanged (printer_channel b) sound
 printer_uses (Writing ProgramStatus word turn) b sound = unchanged (printer_channel b) sound
 
 printer_events : (e : Event) (p : Progress) → IsSound (printer_channel p.bus.board)
@@ -116,6 +120,7 @@ punch_uses (Reading (PaperTape PunchBuffer)) b sound = unchanged (punch_channel 
 punch_uses (Reading Clock) b sound = unchanged (punch_channel b) sound
 punch_uses (Reading (Console r)) b sound = unchanged (punch_channel b) sound
 punch_uses (Reading register.Switches) b sound = unchanged (punch_channel b) sound
+punch_uses (Reading (register.Mapping r)) b sound = unchanged (punch_channel b) sound
 punch_uses (Reading ProgramStatus) b sound = unchanged (punch_channel b) sound
 punch_uses (Writing (PaperTape PunchStatus) word turn) b sound = changed (punch_channel b).ready _ (punch_channel b)
 punch_uses (Writing (PaperTape PunchBuffer) word turn) b sound = written _ turn b.delays.punch b.paper_tape.punch (is_under_way b.paper_tape.punch.operation) refl sound
@@ -124,6 +129,7 @@ punch_uses (Writing (PaperTape ReaderBuffer) word turn) b sound = unchanged (pun
 punch_uses (Writing Clock word turn) b sound = unchanged (punch_channel b) sound
 punch_uses (Writing (Console r) word turn) b sound = unchanged (punch_channel b) sound
 punch_uses (Writing register.Switches word turn) b sound = unchanged (punch_channel b) sound
+punch_uses (Writing (register.Mapping r) word turn) b sound = unchanged (punch_channel b) sound
 punch_uses (Writing ProgramStatus word turn) b sound = unchanged (punch_channel b) sound
 
 punch_events : (e : Event) (p : Progress) → IsSound (punch_channel p.bus.board)

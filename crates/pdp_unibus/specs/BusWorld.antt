@@ -1,8 +1,11 @@
--- The bus and what is on it: PDP-11 Peripherals Handbook, Unibus (power-up and stamps are this project's profile).
+-- The bus and what is on it: PDP-11 Peripherals Handbook, Unibus (power-up, stamps and what RESET leaves are this
+-- project's profile).
 use Rattle.std.specs.Prelude.{ℕ, List, Option, false}
 use Rattle.pdp_console.specs.Kl.{kl_reset, quiet_kl}
 use Rattle.pdp_console.specs.Kw.{quiet_kw}
 use Rattle.pdp_tape.specs.Pc.{pc_reset, quiet_pc}
+use Rattle.pdp_kt11.specs.Kt.{kt_reset, powered_kt}
+use Rattle.pdp_kt11.specs.declared.kt.Kt.{Kt}
 use Rattle.pdp_kt11.specs.declared.mode.Mode.TheVariants.{Kernel}
 use Rattle.pdp_store.specs.declared.Stamp.{Stamp}
 use Rattle.pdp_word.specs.declared.codes.Codes.{Codes}
@@ -13,7 +16,7 @@ use Rattle.pdp_unibus.specs.declared.status.Status.{Status}
 
 -- the bus and all that is on it, as a contract sees it
 pub record BusWorld : Type 0 where
-  -- the program status word, the devices and the switches
+  -- the program status word, the mapping registers, the devices and the switches
   pub board : Board
   -- the words of core
   pub core : List ℕ
@@ -24,7 +27,8 @@ pub record BusWorld : Type 0 where
   -- the turn of its cycles
   pub turn : ℕ
 
--- the board as of power-up: every bit of the program status word and the switches 0, the devices as after RESET
+-- the board as of power-up: every bit of the program status word, of the mapping registers and of the switches 0, the
+-- devices as after RESET
 abbrev pub powered_board : Delays → Board
 powered_board delays = record {
   status = record {
@@ -34,6 +38,7 @@ powered_board delays = record {
     trace_bit = false;
     codes = record { n = false; z = false; v = false; c = false };
   };
+  mapping = powered_kt;
   console = quiet_kl;
   clock = quiet_kw;
   paper_tape = quiet_pc;
@@ -56,7 +61,16 @@ with_status w status = with_board w (record w.board { status = status })
 abbrev pub with_codes : BusWorld → Codes → BusWorld
 with_codes w codes = with_status w (record w.board.status { codes = codes })
 
--- RESET: each device is initialised; the program status, the delays and the switches stay
+-- the bus with these mapping registers
+abbrev pub with_mapping : BusWorld → Kt → BusWorld
+with_mapping w mapping = with_board w (record w.board { mapping = mapping })
+
+-- RESET: each device is initialised, and SR0 is cleared, so mapping is off; the program status, the pages, SR2, the
+-- delays and the switches stay
 unfoldable pub board_reset : Board → Board
-board_reset b =
-    record b { console = kl_reset b.console; clock = quiet_kw; paper_tape = pc_reset b.paper_tape }
+board_reset b = record b {
+  mapping = kt_reset b.mapping;
+  console = kl_reset b.console;
+  clock = quiet_kw;
+  paper_tape = pc_reset b.paper_tape;
+}

@@ -9,6 +9,7 @@ pub mod SingleBytes
 pub mod Watch
 pub mod LastTurn
 pub mod Laws
+pub mod Placed
 pub mod RequestLaws
 pub mod RuleLaws
 pub mod ByteLaws

@@ -1,6 +1,8 @@
 -- Registers on the bus, and who owns them: PDP-11 Peripherals Handbook, KL11, KW11-L and PC11; DEC PDP-11/40 Processor
--- Handbook (1972), Switch register and Processor status word. How bytes are written is this project's profile.
-use Rattle.std.specs.Prelude.{ℕ, ◌+◌, ◌-◌, ◌*◌, ◌%◌, ◌==◌, ◌&&◌, nat_le, Bool, true, Option, Some, None, option_map, if◌then◌else◌}
+-- Handbook (1972), Switch register, Processor status word and Memory management. How bytes are written is this
+-- project's profile.
+use Rattle.std.specs.Prelude.{ℕ, ◌+◌, ◌-◌, ◌*◌, ◌%◌, ◌==◌, ◌&&◌, nat_le, Bool, true, Option, Some, option_map, if◌then◌else◌}
+use Rattle.pdp_kt11.specs.Kt.{kt_register_at, kt_value, kt_written}
 use Rattle.pdp_console.specs.Kl.{kl_read, kl_register_at, kl_value, kl_written}
 use Rattle.pdp_console.specs.Kw.{kw_value, kw_written}
 use Rattle.pdp_console.specs.declared.kl.KlRegister.TheVariants.{PrinterBuffer}
@@ -9,7 +11,7 @@ use Rattle.pdp_tape.specs.declared.pc.PcRegister.TheVariants.{PunchBuffer}
 use Rattle.pdp_unibus.specs.Status.{status_word, status_written}
 use Rattle.pdp_unibus.specs.declared.board.Board.{Board}
 use Rattle.pdp_unibus.specs.declared.register.Register.{Register}
-use Rattle.pdp_unibus.specs.declared.register.Register.TheVariants.{Clock, Console, PaperTape, Switches, ProgramStatus}
+use Rattle.pdp_unibus.specs.declared.register.Register.TheVariants.{Clock, Console, Mapping, PaperTape, Switches, ProgramStatus}
 
 -- the owners: a device has its registers from its first address on
 abbrev pub register_of_word : ℕ → Option Register
@@ -18,7 +20,7 @@ register_of_word address = (
     if nat_le 0o777550 address && nat_le address 0o777556 then option_map PaperTape (pc_register_at (address - 0o777550)) else
     if nat_le 0o777560 address && nat_le address 0o777566 then option_map Console (kl_register_at (address - 0o777560)) else
     if address == 0o777570 then Some Switches else
-    if address == 0o777776 then Some ProgramStatus else None)
+    if address == 0o777776 then Some ProgramStatus else option_map Mapping (kt_register_at address))
 
 -- the register that has an address in its word
 unfoldable pub register_at : ℕ → Option Register
@@ -30,6 +32,7 @@ value_in (Console r) b = kl_value r b.console
 value_in Clock b = kw_value b.clock
 value_in (PaperTape r) b = pc_value r b.paper_tape
 value_in Switches b = b.switches
+value_in (Mapping r) b = kt_value r b.mapping
 value_in ProgramStatus b = status_word b.status
 
 -- what a read does
@@ -38,6 +41,7 @@ after_read (Console r) b = record b { console = kl_read r b.console }
 after_read Clock b = b
 after_read (PaperTape r) b = record b { paper_tape = pc_read r b.paper_tape }
 after_read Switches b = b
+after_read (Mapping r) b = b
 after_read ProgramStatus b = b
 
 -- what a write of a word does in a turn; the switches can't be written
@@ -47,6 +51,7 @@ after_write Clock word turn b = record b { clock = kw_written word b.clock }
 after_write (PaperTape r) word turn b =
     record b { paper_tape = pc_written r word turn b.delays.reader b.delays.punch b.paper_tape }
 after_write Switches word turn b = b
+after_write (Mapping r) word turn b = record b { mapping = kt_written r word b.mapping }
 after_write ProgramStatus word turn b = record b { status = status_written word b.status }
 
 -- the word with the byte of this address replaced: the even address is the low half

@@ -6,13 +6,16 @@ use crate::delays::Delays;
 use crate::register::Register;
 use crate::status::Status;
 use pdp_console::{Kl, KlRegister, Kw};
+use pdp_kt11::Kt;
 use pdp_tape::{Pc, PcRegister};
 
-/// What the bus holds besides the lists of words, the tape and the turn: the program status word, the devices with
-/// their delays, and the switches.
+/// What the bus holds besides the lists of words, the tape and the turn: the program status word, the mapping
+/// registers, the devices with their delays, and the switches.
 #[derive(Clone, Copy, Debug)]
 pub struct Board {
     pub status: Status,
+    /// Memory management.
+    pub mapping: Kt,
     pub console: Kl,
     /// The line clock.
     pub clock: Kw,
@@ -25,13 +28,14 @@ pub struct Board {
 }
 
 impl Board {
-    /// The board as of power-up, with these delays: every bit of the program status word and the switches 0, and the
-    /// devices as after RESET (this project's profile).
+    /// The board as of power-up, with these delays: every bit of the program status word, of the mapping registers and
+    /// of the switches 0, and the devices as after RESET (this project's profile).
     pub(crate) fn power(delays: Delays) -> Board
         ensures { result ≡ powered_board delays }
     {
         Board {
             status: Status::default(),
+            mapping: Kt::power(),
             console: Kl::quiet(),
             clock: Kw::quiet(),
             paper_tape: Pc::quiet(),
@@ -50,6 +54,7 @@ impl Board {
             Register::Clock => self.clock.value(),
             Register::PaperTape(register) => self.paper_tape.value(register),
             Register::Switches => self.switches,
+            Register::Mapping(register) => self.mapping.read_reg(register),
             Register::ProgramStatus => self.status.word(),
         }
     }
@@ -65,6 +70,7 @@ impl Board {
             Register::Clock => self.clock.value(),
             Register::PaperTape(register) => self.paper_tape.read_reg(register),
             Register::Switches => self.switches,
+            Register::Mapping(register) => self.mapping.read_reg(register),
             Register::ProgramStatus => self.status.word(),
         }
     }
@@ -86,6 +92,7 @@ impl Board {
                     .write_reg(register, word, turn, reader, punch)
             }
             Register::Switches => {}
+            Register::Mapping(register) => self.mapping.write_reg(register, word),
             Register::ProgramStatus => self.status = self.status.written(word),
         }
     }
@@ -103,11 +110,13 @@ impl Board {
         }
     }
 
-    /// RESET of all devices. The program status, the delays and the switches stay.
+    /// RESET of all devices and of SR0, so mapping is off. The program status, the pages, SR2, the delays and the switches
+    /// stay.
     #[tactic(auto, unfolding(crate::specs::BusWorld::board_reset))]
     pub(crate) fn reset(&mut self)
         ensures { self.new ≡ board_reset self.old }
     {
+        self.mapping.reset();
         self.console.reset();
         self.clock.reset();
         self.paper_tape.reset();

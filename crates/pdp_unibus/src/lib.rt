@@ -1,11 +1,11 @@
-//! The Unibus of the PDP-11/40: bus cycles over core and the registers of devices, the beginning of a turn with its
-//! events, ticks and completions, requests for interrupts, and the program status word.
+//! The Unibus of the PDP-11/40: bus cycles over core and the registers of devices and of memory management, the
+//! beginning of a turn with its events, ticks and completions, requests for interrupts, and the program status word.
 //!
 //! It stands on pdp_word, pdp_store, pdp_kt11, pdp_device, pdp_console and pdp_tape. The contracts of `Bus` give each
 //! cycle its value and the bus after it, or a timeout that changes nothing, for every store of core, and say what the
 //! beginning of a turn does, which bytes come out of it, and which request is chosen. It says who owns an address; what
-//! a register does, and when a device requests, it leaves to pdp_console and pdp_tape, virtual addresses and traps to
-//! pdp_operand, interrupts and `Continue` to pdp_cpu.
+//! a register does, when a device requests, and where a virtual address goes, it leaves to pdp_console, pdp_tape and
+//! pdp_kt11, references and their traps to pdp_operand, interrupts and `Continue` to pdp_cpu.
 #![tactic(auto)]
 
 mod beginning;
@@ -27,7 +27,7 @@ mod watch;
 
 pub use beginning::Output;
 pub use board::Board;
-pub use bus::{Bus, Timeout};
+pub use bus::{Aborted, Bus, Timeout};
 pub use delays::{Delays, Line};
 pub use event::Event;
 pub use last_turn::LAST_TURN;

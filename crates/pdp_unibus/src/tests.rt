@@ -1,7 +1,8 @@
-//! Bus cycles over a page of core, and what the tests of registers, of the beginnings of turns, of requests and of the
-//! program status word share.
+//! Bus cycles over a page of core, and what the tests of registers, of memory management, of the beginnings of turns, of
+//! requests and of the program status word share.
 
-use crate::{Bus, Delays, Event, Priority, Source, Timeout, timeouts_change_nothing};
+use crate::{Aborted, Bus, Delays, Event, Priority, Source, Timeout, timeouts_change_nothing};
+use pdp_kt11::{Access, Mode};
 use pdp_store::{Agent, Flat, Stamp};
 use pdp_word::NoMemory;
 use std::alloc::Global;
@@ -9,6 +10,7 @@ use std::process::Abort;
 
 mod beginnings;
 mod devices;
+mod mapping;
 mod requests;
 mod status;
 
@@ -50,6 +52,10 @@ enum Step<'a> {
     Read(u32, u16),
     Write(u32, u16),
     WriteByte(u32, u8),
+    // The physical address of a virtual one, or why there is none.
+    Place(Mode, u16, Access, Result<u32, Aborted>),
+    // An instruction was fetched at this virtual address.
+    Fetched(u16),
     // The source that is chosen for a priority.
     Choose(Priority, Option<Source>),
     Serve(Source),
@@ -80,6 +86,10 @@ fn take_steps(rt: &impl Abort, bus: &mut Bus<Flat>, steps: &[Step]) {
             Step::WriteByte(address, byte) => {
                 assert_eq!(rt; bus.write_byte(address, byte), Ok(()), "{step:?}");
             }
+            Step::Place(mode, address, access, place) => {
+                assert_eq!(rt; bus.place(mode, address, access), place, "{step:?}");
+            }
+            Step::Fetched(address) => bus.fetched(address),
             Step::Choose(priority, source) => {
                 assert_eq!(rt; bus.choose(priority), source, "{step:?}");
             }
@@ -144,8 +154,9 @@ fn times_out_where_nothing_answers(rt: HostRuntime) -> Result<(), NoMemory> {
     assert_eq!(rt; bus.write(0o000776, 0o177777), Ok(()));
     assert_eq!(rt; bus.read(0o000777), Ok(0o177777));
     for address in [
-        0o001000, 0o001001, 0o757776, 0o760000, 0o777414, 0o777540, 0o777544, 0o777545, 0o777700,
-        0o777774, 0o777775,
+        0o001000, 0o001001, 0o757776, 0o760000, 0o772276, 0o772320, 0o772336, 0o772337, 0o772360,
+        0o777414, 0o777540, 0o777544, 0o777545, 0o777620, 0o777636, 0o777660, 0o777700, 0o777774,
+        0o777775,
     ] {
         assert_eq!(rt; bus.read(address), Err(Timeout), "at {address:06o}");
         assert_eq!(rt; bus.write(address, 1), Err(Timeout), "at {address:06o}");

@@ -1,8 +1,8 @@
-//! The registers on the bus: where they are, and what bytes that are written to them do.
+//! The registers of devices on the bus: where they are, and what bytes that are written to them do.
 
 use super::Step::{Begin, Choose, Read, Write, WriteByte};
 use super::{LKS, PPB, PPS, PRB, PRS, SWITCHES, TKB, TKS, TPB, TPS, bus, take_steps};
-use crate::{Board, Delays, Event, Line, Priority, Register, Source, register_at_address};
+use crate::{Delays, Event, Line, Priority, Register, Source, register_at_address};
 use pdp_console::KlRegister;
 use pdp_tape::PcRegister;
 use pdp_word::NoMemory;
@@ -203,24 +203,6 @@ fn shows_registers_without_effects(rt: HostRuntime) -> Result<(), NoMemory> {
     ];
     take_steps(&rt, &mut bus, &steps);
     Ok(())
-}
-
-#[test]
-fn holds_devices_on_a_board(rt: HostRuntime) {
-    let mut board = Board::power(Delays::standard());
-    board.console.key(0o102);
-    board.switches = 0o52;
-    let (status, buffer) = (
-        Register::Console(KlRegister::KeyboardStatus),
-        Register::Console(KlRegister::KeyboardBuffer),
-    );
-    assert_eq!(rt; board.value(buffer), 0o102);
-    assert_eq!(rt; board.value(status), 0o200);
-    assert_eq!(rt; board.read(buffer), 0o102);
-    assert_eq!(rt; board.read(status), 0);
-    board.write(status, 0o100, 1);
-    assert_eq!(rt; board.read(status), 0o100);
-    assert_eq!(rt; board.read(Register::Switches), 0o52);
 }
 
 #[test]

@@ -166,7 +166,7 @@ fn tells_whether_a_source_may_request(rt: HostRuntime) -> Result<(), NoMemory> {
 }
 
 #[test]
-fn resets_devices_alone(rt: HostRuntime) -> Result<(), NoMemory> {
+fn reset_leaves_core_status_and_switches(rt: HostRuntime) -> Result<(), NoMemory> {
     let mut bus = bus(rt.alloc(), &[], Delays::standard())?;
     let events = [Event::Switches(0o52), Event::Key(0o101), Event::Tick];
     let steps = [

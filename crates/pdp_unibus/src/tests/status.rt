@@ -1,34 +1,63 @@
 //! The program status word: its layout, its writes by words, bytes and whole, and its condition codes.
 
 use super::bus;
-use crate::{Board, Delays, Priority, Register, Status, register_at_address};
+use crate::{Board, Delays, Priority, Register, Status};
 use pdp_kt11::Mode;
 use pdp_word::{Codes, NoMemory};
 
+// A status, its word, and what a write of this word leaves where T was clear.
 #[test]
 fn lays_out_the_status_word(rt: HostRuntime) {
     assert_eq!(rt; Status::default().word(), 0o000000);
-    let status = Status {
-        mode: Mode::User,
-        previous: Mode::Kernel,
-        priority: Priority::Level7,
-        trace_bit: true,
-        codes: Codes {
-            n: true,
-            z: false,
-            v: false,
-            c: true,
-        },
-    };
-    assert_eq!(rt; status.word(), 0o140371);
-    let status = Status {
-        mode: Mode::Kernel,
-        previous: Mode::User,
-        priority: Priority::Level5,
-        ..Status::default()
-    };
-    assert_eq!(rt; status.word(), 0o030240);
-    assert_eq!(rt; Priority::Level6.bits(), 6);
+    for (status, word) in [
+        (
+            Status {
+                mode: Mode::User,
+                previous: Mode::Kernel,
+                priority: Priority::Level7,
+                trace_bit: true,
+                codes: Codes {
+                    n: true,
+                    z: false,
+                    v: false,
+                    c: true,
+                },
+            },
+            0o140371,
+        ),
+        (
+            Status {
+                mode: Mode::Kernel,
+                previous: Mode::User,
+                priority: Priority::Level5,
+                ..Status::default()
+            },
+            0o030240,
+        ),
+        (
+            Status {
+                mode: Mode::Bad1,
+                previous: Mode::Bad2,
+                priority: Priority::Level4,
+                trace_bit: false,
+                codes: Codes {
+                    n: false,
+                    z: true,
+                    v: true,
+                    c: false,
+                },
+            },
+            0o060206,
+        ),
+    ] {
+        assert_eq!(rt; status.word(), word, "{word:06o}");
+        assert_eq!(rt; Status::of_word(word), status, "of {word:06o}");
+        let untraced = Status {
+            trace_bit: false,
+            ..status
+        };
+        assert_eq!(rt; Status::default().written(word), untraced, "of {word:06o}");
+    }
 }
 
 #[test]
@@ -47,36 +76,6 @@ fn gives_priorities_their_bits(rt: HostRuntime) {
         assert!(rt; bits < 8);
         assert_eq!(rt; Priority::of_bits(bits), priority);
     }
-}
-
-#[test]
-fn takes_words_of_status_apart(rt: HostRuntime) {
-    let status = Status {
-        mode: Mode::User,
-        previous: Mode::Kernel,
-        priority: Priority::Level7,
-        trace_bit: false,
-        codes: Codes {
-            n: false,
-            z: true,
-            v: false,
-            c: true,
-        },
-    };
-    assert_eq!(rt; Status::default().written(0o140345), status);
-    let status = Status {
-        mode: Mode::Bad1,
-        previous: Mode::Bad2,
-        priority: Priority::Level4,
-        trace_bit: false,
-        codes: Codes {
-            n: true,
-            z: false,
-            v: true,
-            c: false,
-        },
-    };
-    assert_eq!(rt; Status::default().written(0o060212), status);
 }
 
 #[test]
@@ -128,33 +127,9 @@ fn writes_all_of_status_but_trace(rt: HostRuntime) {
 }
 
 #[test]
-fn keeps_condition_codes(rt: HostRuntime) -> Result<(), NoMemory> {
-    let mut bus = bus(rt.alloc(), &[], Delays::standard())?;
-    assert_eq!(rt; bus.status(), Status::default());
-    bus.set_codes(Codes {
-        n: false,
-        z: true,
-        v: false,
-        c: true,
-    });
-    assert_eq!(rt; bus.status().word(), 0o000005);
-    Ok(())
-}
-
-#[test]
 fn reads_and_writes_the_status_word(rt: HostRuntime) -> Result<(), NoMemory> {
     let mut bus = bus(rt.alloc(), &[], Delays::standard())?;
-    assert_eq!(rt;
-        register_at_address(0o777776),
-        Some(Register::ProgramStatus)
-    );
-    assert_eq!(rt;
-        register_at_address(0o777777),
-        Some(Register::ProgramStatus)
-    );
-    assert_eq!(rt; register_at_address(0o777774), None);
-    assert_eq!(rt; register_at_address(0o777775), None);
-
+    assert_eq!(rt; bus.status(), Status::default());
     assert_eq!(rt; bus.read(0o777776), Ok(0));
     assert_eq!(rt; bus.write(0o777776, 0o177777), Ok(()));
     assert_eq!(rt; bus.read(0o777776), Ok(0o170357));
@@ -223,24 +198,11 @@ fn keeps_trace_in_writes_of_the_status_word(rt: HostRuntime) {
 
 #[test]
 fn takes_whole_words_of_status(rt: HostRuntime) -> Result<(), NoMemory> {
-    let status = Status {
-        mode: Mode::User,
-        previous: Mode::Kernel,
-        priority: Priority::Level7,
-        trace_bit: true,
-        codes: Codes {
-            n: true,
-            z: false,
-            v: false,
-            c: true,
-        },
-    };
-    assert_eq!(rt; Status::of_word(0o140371), status);
-    assert_eq!(rt; Status::of_word(0o147771), status);
     assert_eq!(rt; Status::of_word(0o177777).word(), 0o170377);
     assert_eq!(rt; Status::of_word(0o007757), Status::of_word(0o000357));
 
     let mut bus = bus(rt.alloc(), &[], Delays::standard())?;
+    let status = Status::of_word(0o147771);
     bus.set_status(status);
     assert_eq!(rt; bus.status(), status);
     assert_eq!(rt; bus.read(0o777776), Ok(0o140371));
