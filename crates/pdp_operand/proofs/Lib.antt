@@ -6,3 +6,4 @@ pub mod Kept
 pub mod Pairs
 pub mod Bound
 pub mod Outside
+pub mod Aborts

@@ -1,15 +1,16 @@
 -- What a reference comes to. Nothing else opens `perform` and `touches`.
-use Rattle.std.proofs.Common.{◌≡◌, ℕ, ◌<◌, ◌/◌, Bool, true, false, List, [], refl, Ok, Err, Option, None, Some, Result, length, slice_index, nat_lt, if◌then◌else◌, ltb-true}
+use Rattle.std.proofs.Common.{◌≡◌, ◌∙◌, ℕ, ◌<◌, ◌/◌, Bool, true, false, List, [], refl, Ok, Err, Option, None, Some, Result, length, slice_index, nat_lt, if◌then◌else◌, ltb-true}
 use Rattle.pdp_kt11.specs.declared.place.Access.TheVariants.{Read, Write}
-use Rattle.pdp_unibus.specs.BusWorld.{BusWorld, with_board}
+use Rattle.pdp_unibus.specs.BusWorld.{BusWorld, with_board, with_mapping}
 use Rattle.pdp_unibus.specs.declared.board.Board.{Board}
 use Rattle.pdp_unibus.specs.Cycle.{Slave, Core, Device, Nobody, Answer, device_slave, slave_at, read_from, write_to, write_byte_to, core_written}
 use Rattle.pdp_unibus.specs.Register.{register_at, value_in, after_byte, after_read, after_write, word_with_byte}
 use Rattle.pdp_unibus.specs.declared.register.Register.{Register}
-use Rattle.pdp_operand.specs.Handbook.Reference.{Kind, ReadWord, ReadByte, WriteWord, WriteByte, Reference, Reply, half_at, reply_of, at_place, perform, physical_address, access_of}
+use Rattle.pdp_operand.specs.Handbook.Reference.{Kind, ReadWord, ReadByte, WriteWord, WriteByte, Reference, Reply, half_at, reply_of, at_place, perform, is_odd, translation, access_of}
+use Rattle.pdp_kt11.specs.declared.place.Abort.{Abort}
 use Rattle.pdp_operand.specs.Laws.Trace.{Touch, touch_at, touched, touches}
 use Rattle.pdp_operand.specs.declared.trap.Trap.{Trap}
-use Rattle.pdp_operand.specs.declared.trap.Trap.TheVariants.{BusTimeout}
+use Rattle.pdp_operand.specs.declared.trap.Trap.TheVariants.{BusTimeout, MappingAbort, OddAddress}
 
 -- what a reference does, besides the board that it leaves: no word of core answers; or a word is read, and told through
 -- a function; or a word is written, from what it was
@@ -45,12 +46,18 @@ shape_at (WriteWord word) physical turn board (Device r) = Apart (after_write r 
 shape_at (WriteByte byte) physical turn board (Device r) = Apart (after_byte r physical byte turn board) (Ok physical)
 shape_at _ physical turn board Nobody = Apart board (Err BusTimeout)
 
-abbrev pub shape_by : Kind → ℕ → ℕ → Board → Result ℕ Trap → Shape
+abbrev pub shape_by : Kind → ℕ → ℕ → Board → Result ℕ Abort → Shape
 shape_by kind words turn board (Ok physical) = shape_at kind physical turn board (slave_at words physical)
-shape_by kind words turn board (Err trap) = Apart board (Err trap)
+shape_by kind words turn board (Err abort) = Apart board (Err MappingAbort)
+
+-- of a reference to an odd address or not, with the board that the translation leaves
+abbrev pub shape_if : Bool → Reference → BusWorld → Shape
+shape_if true r b = Apart b.board (Err OddAddress)
+shape_if false r b =
+    shape_by r.kind (length b.core) b.turn (with_mapping b (translation r b).after).board (translation r b).address
 
 unfoldable pub shape_of : Reference → BusWorld → Shape
-shape_of r b = shape_by r.kind (length b.core) b.turn b.board (physical_address r)
+shape_of r b = shape_if (is_odd r.kind r.address) r b
 
 abbrev answer_by : Kind → ℕ → BusWorld → Slave → Answer
 answer_by ReadWord physical b slave = read_from slave b
@@ -73,41 +80,60 @@ reply_at (WriteByte byte) physical b (Core k) = refl
 reply_at (WriteByte byte) physical b (Device r) = refl
 reply_at (WriteByte byte) physical b Nobody = refl
 
-placed : (kind : Kind) (b : BusWorld) (place : Result ℕ Trap)
+placed : (kind : Kind) (b : BusWorld) (place : Result ℕ Abort)
     → at_place kind b place ≡ reply_by (shape_by kind (length b.core) b.turn b.board place) b
 placed ReadWord b (Ok physical) = reply_at ReadWord physical b (slave_at (length b.core) physical)
 placed ReadByte b (Ok physical) = reply_at ReadByte physical b (slave_at (length b.core) physical)
 placed (WriteWord word) b (Ok physical) = reply_at (WriteWord word) physical b (slave_at (length b.core) physical)
 placed (WriteByte byte) b (Ok physical) = reply_at (WriteByte byte) physical b (slave_at (length b.core) physical)
-placed kind b (Err trap) = refl
+placed kind b (Err abort) = refl
+
+-- the board of a shape is the one that it leaves: the one before counts for nothing
+on_board : (shape : Shape) (b : BusWorld) (board : Board) → reply_by shape (with_board b board) ≡ reply_by shape b
+on_board (Apart after value) b board = refl
+on_board (Looked after f k) b board = refl
+on_board (Wrote after told f k) b board = refl
+
+performed : (odd : Bool) (r : Reference) (b : BusWorld)
+    → (if odd then record { value = Err OddAddress; after = b } else at_place r.kind (with_mapping b (translation r b).after) (translation r b).address)
+    ≡ reply_by (shape_if odd r b) b
+performed true r b = refl
+performed false r b =
+    placed r.kind (with_mapping b (translation r b).after) (translation r b).address
+    ∙ on_board (shape_if false r b) b (with_mapping b (translation r b).after).board
 
 pub perform_is : (r : Reference) (b : BusWorld) → perform r b ≡ reply_by (shape_of r b) b
 unfolding perform shape_of
-perform_is r b = placed r.kind b (physical_address r)
+perform_is r b = performed (is_odd r.kind r.address) r b
 
-touched_at : (kind : Kind) (physical : ℕ) (b : BusWorld) (slave : Slave)
-    → touch_at (access_of kind) b slave ≡ touches_by (shape_at kind physical b.turn b.board slave) b
-touched_at ReadWord physical b (Core k) = refl
-touched_at ReadWord physical b (Device r) = refl
-touched_at ReadByte physical b (Core k) = refl
-touched_at ReadByte physical b (Device r) = refl
-touched_at (WriteWord word) physical b (Core k) = refl
-touched_at (WriteWord word) physical b (Device r) = refl
-touched_at (WriteByte byte) physical b (Core k) = refl
-touched_at (WriteByte byte) physical b (Device r) = refl
-touched_at ReadWord physical b Nobody = refl
-touched_at ReadByte physical b Nobody = refl
-touched_at (WriteWord word) physical b Nobody = refl
-touched_at (WriteByte byte) physical b Nobody = refl
+touched_at : (kind : Kind) (physical : ℕ) (b : BusWorld) (board : Board) (slave : Slave)
+    → touch_at (access_of kind) b slave ≡ touches_by (shape_at kind physical b.turn board slave) b
+touched_at ReadWord physical b board (Core k) = refl
+touched_at ReadWord physical b board (Device r) = refl
+touched_at ReadByte physical b board (Core k) = refl
+touched_at ReadByte physical b board (Device r) = refl
+touched_at (WriteWord word) physical b board (Core k) = refl
+touched_at (WriteWord word) physical b board (Device r) = refl
+touched_at (WriteByte byte) physical b board (Core k) = refl
+touched_at (WriteByte byte) physical b board (Device r) = refl
+touched_at ReadWord physical b board Nobody = refl
+touched_at ReadByte physical b board Nobody = refl
+touched_at (WriteWord word) physical b board Nobody = refl
+touched_at (WriteByte byte) physical b board Nobody = refl
 
-touched_by : (kind : Kind) (b : BusWorld) (place : Result ℕ Trap)
-    → touched kind b place ≡ touches_by (shape_by kind (length b.core) b.turn b.board place) b
-touched_by kind b (Ok physical) = touched_at kind physical b (slave_at (length b.core) physical)
-touched_by kind b (Err trap) = refl
+touched_by : (kind : Kind) (b : BusWorld) (board : Board) (place : Result ℕ Abort)
+    → touched kind b place ≡ touches_by (shape_by kind (length b.core) b.turn board place) b
+touched_by kind b board (Ok physical) = touched_at kind physical b board (slave_at (length b.core) physical)
+touched_by kind b board (Err abort) = refl
+
+touched_if : (odd : Bool) (r : Reference) (b : BusWorld)
+    → (if odd then [] else touched r.kind b (translation r b).address) ≡ touches_by (shape_if odd r b) b
+touched_if true r b = refl
+touched_if false r b = touched_by r.kind b (with_mapping b (translation r b).after).board (translation r b).address
 
 pub touches_is : (r : Reference) (b : BusWorld) → touches r b ≡ touches_by (shape_of r b) b
 unfolding touches shape_of
-touches_is r b = touched_by r.kind b (physical_address r)
+touches_is r b = touched_if (is_odd r.kind r.address) r b
 
 in_core_apart : (kind : Kind) (physical turn words : ℕ) (board : Board) (register : Option Register)
     → InCore words (shape_at kind physical turn board (device_slave register))
@@ -128,16 +154,26 @@ in_core_at (WriteWord word) physical turn words board true is = ltb-true _ _ is
 in_core_at (WriteByte byte) physical turn words board true is = ltb-true _ _ is
 in_core_at kind physical turn words board false is = in_core_apart kind physical turn words board (register_at physical)
 
-in_core_by : (kind : Kind) (words turn : ℕ) (board : Board) (place : Result ℕ Trap) → InCore words (shape_by kind words turn board place)
+in_core_by : (kind : Kind) (words turn : ℕ) (board : Board) (place : Result ℕ Abort) → InCore words (shape_by kind words turn board place)
 in_core_by kind words turn board (Ok physical) = in_core_at kind physical turn words board _ refl
-in_core_by kind words turn board (Err trap) = tt
+in_core_by kind words turn board (Err abort) = tt
+
+in_core_if : (odd : Bool) (r : Reference) (b : BusWorld) → InCore (length b.core) (shape_if odd r b)
+in_core_if true r b = tt
+in_core_if false r b =
+    in_core_by r.kind (length b.core) b.turn (with_mapping b (translation r b).after).board (translation r b).address
 
 pub shape_in_core : (r : Reference) (b : BusWorld) → InCore (length b.core) (shape_of r b)
 unfolding shape_of
-shape_in_core r b = in_core_by r.kind (length b.core) b.turn b.board (physical_address r)
+shape_in_core r b = in_core_if (is_odd r.kind r.address) r b
+
+alike_if : (odd : Bool) (r : Reference) (b : BusWorld) (ys : List ℕ) → length ys ≡ length b.core
+    → shape_if odd r (record b { core = ys }) ≡ shape_if odd r b
+alike_if true r b ys same = refl
+alike_if false r b ys same = rw same refl
 
 -- a shape depends on the length of core, and on no word of it
 pub shape_alike : (r : Reference) (b : BusWorld) (ys : List ℕ) → length ys ≡ length b.core
     → shape_of r (record b { core = ys }) ≡ shape_of r b
 unfolding shape_of
-shape_alike r b ys same = rw same refl
+shape_alike r b ys same = alike_if (is_odd r.kind r.address) r b ys same

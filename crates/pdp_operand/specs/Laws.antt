@@ -3,3 +3,4 @@ pub mod Trace
 pub mod Count
 pub mod Touched
 pub mod Page
+pub mod Aborted

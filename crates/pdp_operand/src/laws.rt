@@ -1,5 +1,6 @@
 ghost use Rattle.std.specs.Prelude.{◌≡◌, ◌<◌, ℕ, All, None, length, slice_index_or};
 ghost use Rattle.pdp_unibus.specs.BusWorld.{BusWorld};
+ghost use Rattle.pdp_operand.specs.Laws.Aborted.{AbortsLeaveCore, ReadOnlyPagesKeepTheirWords, ToldAbortsLeaveCore};
 ghost use Rattle.pdp_operand.specs.Laws.Page.{AlikeOutside, UndisturbedCourse};
 ghost use Rattle.pdp_operand.specs.Laws.Touched.{IsOfTurn};
 ghost use Rattle.pdp_operand.specs.Phases.Course.{Course, follow};
@@ -35,4 +36,15 @@ pub fn stamps_of_courses_are_last_writes()
 pub fn courses_leave_what_they_never_touch()
     ensures { (page : ℕ) (course : Course) (s : State) (c : BusWorld) → AlikeOutside page s.world.bus c →
         Avoids page (trace_of course s) → UndisturbedCourse page course s c }
+{}
+
+/// A law of references: one whose address isn't odd, and that memory management aborts, whyever, fails with a mapping
+/// abort; a write through a read-only page fails with one too, or where its address is odd with that. None of them changes
+/// a word of core, a stamp, or anything else but SR0.
+///
+/// DEC PDP-11/40 Processor Handbook (1972), Memory management; that an odd address goes first is this project's profile.
+pub fn aborts_change_no_core_word()
+    ensures aborted { AbortsLeaveCore }
+    ensures told { ToldAbortsLeaveCore }
+    ensures read_only { ReadOnlyPagesKeepTheirWords }
 {}

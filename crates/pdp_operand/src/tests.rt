@@ -1,8 +1,8 @@
 //! Operands and references over a page of core, or over less.
 
 use crate::{
-    Cell, Place, Processor, Slot, courses_leave_what_they_never_touch, plan_is_its_phases,
-    stamps_of_courses_are_last_writes, touches_of_courses_are_of_their_turn,
+    Cell, Place, Processor, Slot, aborts_change_no_core_word, courses_leave_what_they_never_touch,
+    plan_is_its_phases, stamps_of_courses_are_last_writes, touches_of_courses_are_of_their_turn,
 };
 use pdp_kt11::Mode;
 use pdp_store::{Flat, Store};
@@ -11,6 +11,7 @@ use pdp_word::NoMemory;
 use std::alloc::Global;
 
 mod addressing;
+mod mapping;
 mod operands;
 mod references;
 mod registers;
@@ -58,4 +59,5 @@ fn states_its_laws() {
     touches_of_courses_are_of_their_turn();
     stamps_of_courses_are_last_writes();
     courses_leave_what_they_never_touch();
+    aborts_change_no_core_word();
 }

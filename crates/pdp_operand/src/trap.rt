@@ -5,6 +5,8 @@
 pub enum Trap {
     /// A word was asked for at an odd address.
     OddAddress,
+    /// Memory management aborted the reference.
+    MappingAbort,
     /// Nothing on the bus has the address.
     BusTimeout,
     /// The word is no instruction of the machine, or HALT in user mode.

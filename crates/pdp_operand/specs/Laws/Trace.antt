@@ -7,7 +7,8 @@ use Rattle.pdp_store.specs.declared.Agent.TheVariants.{Cpu}
 use Rattle.pdp_store.specs.declared.Stamp.{Stamp}
 use Rattle.pdp_unibus.specs.BusWorld.{BusWorld}
 use Rattle.pdp_unibus.specs.Cycle.{Slave, Core, Device, Nobody, slave_at}
-use Rattle.pdp_operand.specs.Handbook.Reference.{Kind, Reference, access_of, physical_address}
+use Rattle.pdp_operand.specs.Handbook.Reference.{Kind, Reference, access_of, is_odd, translation}
+use Rattle.pdp_kt11.specs.declared.place.Abort.{Abort}
 use Rattle.pdp_operand.specs.Phases.Phase.{Phase, State, Stop, Request, Nothing, Ask, Raise, Latch, step, inner_of}
 use Rattle.pdp_operand.specs.Phases.Plan.{phases_of, run_plan}
 use Rattle.pdp_operand.specs.Phases.Course.{Course, End, Go, caught_in}
@@ -27,12 +28,12 @@ touch_at access w (Device register) = []
 touch_at access w Nobody = []
 
 -- none where the reference has no physical address
-abbrev pub touched : Kind → BusWorld → Result ℕ Trap → List Touch
+abbrev pub touched : Kind → BusWorld → Result ℕ Abort → List Touch
 touched kind w (Ok physical) = touch_at (access_of kind) w (slave_at (length w.core) physical)
-touched kind w (Err trap) = []
+touched kind w (Err abort) = []
 
 unfoldable pub touches : Reference → BusWorld → List Touch
-touches r w = touched r.kind w (physical_address r)
+touches r w = if is_odd r.kind r.address then [] else touched r.kind w (translation r w).address
 
 abbrev pub requested : Request → BusWorld → List Touch
 requested Nothing w = []

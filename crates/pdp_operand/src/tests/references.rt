@@ -1,4 +1,4 @@
-//! References over the bus by virtual addresses.
+//! References over the bus by virtual addresses, while mapping is off.
 
 use super::page;
 use crate::{Trap, read_byte, read_word, write_byte, write_word};

@@ -18,14 +18,14 @@ fn short_page(alloc: Global) -> Result<Bus<Flat>, NoMemory> {
 }
 
 #[derive(Clone, Copy, Debug)]
-enum Access {
+pub(super) enum Access {
     Fetch(Size),
     FetchBeforeStore(Size),
     Store(Fill),
 }
 
 // How the access to the place ends, and whether a stack trap is pending then.
-fn after(bus: &mut Bus<Flat>, access: Access, place: Place) -> (Result<(), Trap>, bool) {
+pub(super) fn after(bus: &mut Bus<Flat>, access: Access, place: Place) -> (Result<(), Trap>, bool) {
     let mut processor = processor_with(0, 0);
     let ended = match access {
         Access::Fetch(size) => fetch(&mut processor, bus, place, size).map(|_value| ()),
