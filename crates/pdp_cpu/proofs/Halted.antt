@@ -38,19 +38,21 @@ turn_stays t events w is none =
     record {
       processor = ap (λ v. v.processor) same ∙ begun;
       status = ap (λ v. v.bus.board.status) same ∙ kept.status;
+      mapping = ap (λ v. v.bus.board.mapping) same ∙ kept.mapping;
       core = ap (λ v. v.bus.core) same ∙ kept.core;
       lasts = ap (λ v. v.bus.lasts) same ∙ kept.lasts;
     }
 
 pub halted_stays : (events : ℕ → List Event) (t n : ℕ) (w : World) → w.processor.run ≡ Halted
     → ((k : ℕ) → NoneContinues (events k)) → Stays w (world_after events t n w)
-halted_stays events t zero w is none = record { processor = refl; status = refl; core = refl; lasts = refl }
+halted_stays events t zero w is none = record { processor = refl; status = refl; mapping = refl; core = refl; lasts = refl }
 halted_stays events t (suc n) w is none =
     let before = halted_stays events t n w is none in
     let turn = turn_stays (t + n) (events (t + n)) (world_after events t n w) (ap (λ p. p.run) before.processor ∙ is) (none (t + n)) in
     record {
       processor = turn.processor ∙ before.processor;
       status = turn.status ∙ before.status;
+      mapping = turn.mapping ∙ before.mapping;
       core = turn.core ∙ before.core;
       lasts = turn.lasts ∙ before.lasts;
     }

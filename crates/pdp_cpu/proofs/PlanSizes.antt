@@ -18,6 +18,7 @@ use Rattle.pdp_cpu.specs.declared.action.Action.{Action}
 use Rattle.pdp_cpu.specs.declared.action.Action.TheVariants as action
 use Rattle.pdp_cpu.specs.Handbook.Jump.{jmp_plan, jsr_plan, rts_plan, mark_plan, pop_register, push, pop}
 use Rattle.pdp_cpu.specs.Handbook.Moves.{mov_plan, movb_plan}
+use Rattle.pdp_cpu.specs.Handbook.PreviousMode.{mfpi_plan, mtpi_plan}
 use Rattle.pdp_cpu.specs.Handbook.Operands.{operands_plan, source_first, place_first, is_late}
 use Rattle.pdp_cpu.specs.Handbook.Operation.{size_of_comparison, size_of_combination, size_of_modification, size_of_replacement}
 use Rattle.pdp_cpu.specs.Handbook.OneOperand.{tst_plan, modify_plan, replace_plan}
@@ -101,6 +102,14 @@ size_of_return : size_of return_plan ≤ 12
 unfolding return_plan
 size_of_return = omega (arith, size_of_find Word pop)
 
+size_of_mfpi : (source : Spec) → size_of (mfpi_plan source) ≤ 12
+unfolding mfpi_plan finish_plan
+size_of_mfpi source = omega (arith, size_of_find Word source, size_of_find Word push)
+
+size_of_mtpi : (destination : Spec) → size_of (mtpi_plan destination) ≤ 12
+unfolding mtpi_plan finish_plan
+size_of_mtpi destination = omega (arith, size_of_find Word pop, size_of_find Word destination)
+
 -- the plan of an action has at most twelve phases
 size_of_action : (a : Action) → size_of (plan_of_action a) ≤ 12
 unfolding halt_plan wait_plan reset_plan raise_plan branch_plan sob_plan clear_plan set_plan
@@ -124,6 +133,8 @@ size_of_action (action.Combine c source destination) = size_of_combine c source 
 size_of_action (action.Modify m destination) = size_of_modify m destination
 size_of_action (action.Replace r destination) = size_of_replace r destination
 size_of_action (action.Test size destination) = size_of_tst size destination
+size_of_action (action.MoveFromPrevious source) = size_of_mfpi source
+size_of_action (action.MoveToPrevious destination) = size_of_mtpi destination
 size_of_action (action.Multiply register source) = size_of_mul register source
 size_of_action (action.Divide register source) = size_of_div register source
 size_of_action (action.Shift register source) = size_of_ash register source

@@ -20,6 +20,7 @@ use Rattle.pdp_cpu.specs.Handbook.Instruction.{fetch_instruction}
 use Rattle.pdp_cpu.specs.Handbook.Jump.{aim, jump_request, jmp_plan, jsr_plan, rts_plan, mark_plan, pop_register, take_link, link, return_by, take_mark}
 use Rattle.pdp_cpu.specs.Handbook.Moves.{execute_mov, mov_plan, movb_plan}
 use Rattle.pdp_cpu.specs.Handbook.Operands.{operands_plan, source_first, place_first, keep_source, take_register}
+use Rattle.pdp_cpu.specs.Handbook.PreviousMode.{cross, mfpi_plan, mtpi_plan}
 use Rattle.pdp_cpu.specs.Handbook.OneOperand.{execute_tst, execute_modification, execute_replacement, tst_plan, modify_plan, replace_plan}
 use Rattle.pdp_cpu.specs.declared.action.Action.{Action}
 use Rattle.pdp_cpu.specs.declared.action.Action.TheVariants as action
@@ -145,6 +146,30 @@ safe_ashc r source =
     steady_safe _ _ (steady_find Word source)
     (steady_safe _ _ (steady_read Word) (steady_safe _ _ (phase_steady _ (λ i. tt) (λ i value. refl)) (phase_safe _)))
 
+steady_cross : Steady (one cross)
+unfolding cross
+steady_cross = phase_steady _ (λ i. tt) (λ i value. refl)
+
+safe_mfpi : (source : Spec) → Safe (mfpi_plan source)
+unfolding mfpi_plan keep_source execute_mov
+safe_mfpi source =
+    steady_safe _ _ (steady_find Word source)
+    (steady_safe _ _ steady_cross
+    (steady_safe _ _ (steady_read Word)
+    (steady_safe _ _ (phase_steady _ (λ i. tt) (λ i value. refl))
+    (steady_safe _ _ (steady_find Word _)
+    (steady_safe _ _ (phase_steady _ (λ i. tt) (λ i value. refl)) (safe_finish _))))))
+
+safe_mtpi : (destination : Spec) → Safe (mtpi_plan destination)
+unfolding mtpi_plan keep_source execute_mov
+safe_mtpi destination =
+    steady_safe _ _ (steady_find Word _)
+    (steady_safe _ _ (steady_read Word)
+    (steady_safe _ _ (phase_steady _ (λ i. tt) (λ i value. refl))
+    (steady_safe _ _ (steady_find Word destination)
+    (steady_safe _ _ steady_cross
+    (steady_safe _ _ (phase_steady _ (λ i. tt) (λ i value. refl)) (safe_finish _))))))
+
 safe_return : Safe return_plan
 unfolding return_plan keep_counter
 safe_return =
@@ -175,6 +200,8 @@ safe_action (action.Combine c source destination) = safe_combine c source destin
 safe_action (action.Modify m destination) = safe_modify m destination
 safe_action (action.Replace r destination) = safe_replace r destination
 safe_action (action.Test size destination) = safe_tst size destination
+safe_action (action.MoveFromPrevious source) = safe_mfpi source
+safe_action (action.MoveToPrevious destination) = safe_mtpi destination
 safe_action (action.Multiply register source) = safe_mul register source
 safe_action (action.Divide register source) = safe_div register source
 safe_action (action.Shift register source) = safe_ash register source

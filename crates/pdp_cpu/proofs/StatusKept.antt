@@ -1,7 +1,7 @@
 -- An instruction that can't go on leaves the program status word.
 use Rattle.std.proofs.Common.{◌≡◌, ℕ, Bool, true, false, [], refl, ◌∙◌, subst, Ok, Err, Result, length, if◌then◌else◌}
 use Rattle.pdp_kt11.specs.declared.place.Access.TheVariants.{Read}
-use Rattle.pdp_unibus.specs.BusWorld.{BusWorld}
+use Rattle.pdp_unibus.specs.BusWorld.{BusWorld, with_mapping}
 use Rattle.pdp_unibus.specs.Cycle.{Slave, Core, Device, Nobody, slave_at}
 use Rattle.pdp_unibus.specs.Register.{after_read}
 use Rattle.pdp_unibus.specs.declared.board.Board.{Board}
@@ -11,14 +11,15 @@ use Rattle.pdp_unibus.specs.declared.status.Status.{Status}
 use Rattle.pdp_decode.specs.declared.instruction.Spec.{Spec}
 use Rattle.pdp_word.specs.declared.size.Size.{Size}
 use Rattle.pdp_word.specs.declared.size.Size.TheVariants.{Word, Byte}
-use Rattle.pdp_operand.specs.Handbook.Reference.{Kind, ReadWord, ReadByte, WriteWord, WriteByte, Reference, access_of, perform, physical_address}
+use Rattle.pdp_operand.specs.Handbook.Reference.{Kind, ReadWord, ReadByte, WriteWord, WriteByte, Reference, access_of, is_odd, perform, translation}
+use Rattle.pdp_kt11.specs.declared.place.Abort.{Abort}
 use Rattle.pdp_operand.specs.Phases.Phase.{Phase, Inner, State, Stop, Request, Nothing, Ask, Raise, run, step, and_then, by_request, after_reply, inner_of}
 use Rattle.pdp_operand.specs.Phases.Plan.{Plan, ◌▸◌, one, run_plan}
 use Rattle.pdp_operand.specs.Handbook.Operand.{find, lower, name_register, point, grow, index, indirect, read_before_write, read_operand, reference_at, reading, mode_now}
 use Rattle.pdp_operand.specs.declared.place.Place.{Place}
 use Rattle.pdp_operand.specs.declared.place.Place.TheVariants.{Reg, Mem}
 use Rattle.pdp_operand.specs.declared.trap.Trap.{Trap}
-use Rattle.pdp_operand.proofs.Shape.{reply_by, shape_of, shape_at, shape_by, perform_is}
+use Rattle.pdp_operand.proofs.Shape.{reply_by, shape_if, shape_of, shape_at, shape_by, perform_is}
 
 abbrev pub status_in : State → Status
 status_in s = s.world.bus.board.status
@@ -87,29 +88,35 @@ abbrev Unanswered : Board → Result ℕ Trap → Board → Type 0
 Unanswered board (Ok value) after = Unit {0}
 Unanswered board (Err trap) after = after.status ≡ board.status
 
-unanswered_at : (kind : Kind) (physical : ℕ) (b : BusWorld) (slave : Slave)
-    → Unanswered b.board (reply_by (shape_at kind physical b.turn b.board slave) b).value (reply_by (shape_at kind physical b.turn b.board slave) b).after.board
-unanswered_at ReadWord physical b (Core k) = tt
-unanswered_at ReadByte physical b (Core k) = tt
-unanswered_at (WriteWord word) physical b (Core k) = tt
-unanswered_at (WriteByte byte) physical b (Core k) = tt
-unanswered_at ReadWord physical b (Device r) = tt
-unanswered_at ReadByte physical b (Device r) = tt
-unanswered_at (WriteWord word) physical b (Device r) = tt
-unanswered_at (WriteByte byte) physical b (Device r) = tt
-unanswered_at ReadWord physical b Nobody = refl
-unanswered_at ReadByte physical b Nobody = refl
-unanswered_at (WriteWord word) physical b Nobody = refl
-unanswered_at (WriteByte byte) physical b Nobody = refl
+unanswered_at : (kind : Kind) (physical : ℕ) (b : BusWorld) (board : Board) (slave : Slave) → board.status ≡ b.board.status
+    → Unanswered b.board (reply_by (shape_at kind physical b.turn board slave) b).value (reply_by (shape_at kind physical b.turn board slave) b).after.board
+unanswered_at ReadWord physical b board (Core k) same = tt
+unanswered_at ReadByte physical b board (Core k) same = tt
+unanswered_at (WriteWord word) physical b board (Core k) same = tt
+unanswered_at (WriteByte byte) physical b board (Core k) same = tt
+unanswered_at ReadWord physical b board (Device r) same = tt
+unanswered_at ReadByte physical b board (Device r) same = tt
+unanswered_at (WriteWord word) physical b board (Device r) same = tt
+unanswered_at (WriteByte byte) physical b board (Device r) same = tt
+unanswered_at ReadWord physical b board Nobody same = same
+unanswered_at ReadByte physical b board Nobody same = same
+unanswered_at (WriteWord word) physical b board Nobody same = same
+unanswered_at (WriteByte byte) physical b board Nobody same = same
 
-unanswered_by : (kind : Kind) (b : BusWorld) (place : Result ℕ Trap)
-    → Unanswered b.board (reply_by (shape_by kind (length b.core) b.turn b.board place) b).value (reply_by (shape_by kind (length b.core) b.turn b.board place) b).after.board
-unanswered_by kind b (Ok physical) = unanswered_at kind physical b (slave_at (length b.core) physical)
-unanswered_by kind b (Err trap) = refl
+unanswered_by : (kind : Kind) (b : BusWorld) (board : Board) (place : Result ℕ Abort) → board.status ≡ b.board.status
+    → Unanswered b.board (reply_by (shape_by kind (length b.core) b.turn board place) b).value (reply_by (shape_by kind (length b.core) b.turn board place) b).after.board
+unanswered_by kind b board (Ok physical) same = unanswered_at kind physical b board (slave_at (length b.core) physical) same
+unanswered_by kind b board (Err abort) same = same
+
+unanswered_if : (odd : Bool) (r : Reference) (b : BusWorld)
+    → Unanswered b.board (reply_by (shape_if odd r b) b).value (reply_by (shape_if odd r b) b).after.board
+unanswered_if true r b = refl
+unanswered_if false r b =
+    unanswered_by r.kind b (with_mapping b (translation r b).after).board (translation r b).address refl
 
 unanswered : (r : Reference) (b : BusWorld) → Unanswered b.board (perform r b).value (perform r b).after.board
 unfolding shape_of
-unanswered r b = rw (perform_is r b) (unanswered_by r.kind b (physical_address r))
+unanswered r b = rw (perform_is r b) (unanswered_if (is_odd r.kind r.address) r b)
 
 read_leaves : (r : Register) (board : Board) → (after_read r board).status ≡ board.status
 unfolding after_read
@@ -117,27 +124,33 @@ read_leaves (register.Console r) board = refl
 read_leaves register.Clock board = refl
 read_leaves (register.PaperTape r) board = refl
 read_leaves register.Switches board = refl
+read_leaves (register.Mapping r) board = refl
 read_leaves register.ProgramStatus board = refl
 
-read_at : (kind : Kind) (physical : ℕ) (b : BusWorld) (slave : Slave) → access_of kind ≡ Read
-    → (reply_by (shape_at kind physical b.turn b.board slave) b).after.board.status ≡ b.board.status
-read_at ReadWord physical b (Core k) reads = refl
-read_at ReadByte physical b (Core k) reads = refl
-read_at ReadWord physical b (Device r) reads = read_leaves r b.board
-read_at ReadByte physical b (Device r) reads = read_leaves r b.board
-read_at ReadWord physical b Nobody reads = refl
-read_at ReadByte physical b Nobody reads = refl
-read_at (WriteWord word) physical b slave reads = absurd (cc reads)
-read_at (WriteByte byte) physical b slave reads = absurd (cc reads)
+read_at : (kind : Kind) (physical : ℕ) (b : BusWorld) (board : Board) (slave : Slave) → access_of kind ≡ Read
+    → (reply_by (shape_at kind physical b.turn board slave) b).after.board.status ≡ board.status
+read_at ReadWord physical b board (Core k) reads = refl
+read_at ReadByte physical b board (Core k) reads = refl
+read_at ReadWord physical b board (Device r) reads = read_leaves r board
+read_at ReadByte physical b board (Device r) reads = read_leaves r board
+read_at ReadWord physical b board Nobody reads = refl
+read_at ReadByte physical b board Nobody reads = refl
+read_at (WriteWord word) physical b board slave reads = absurd (cc reads)
+read_at (WriteByte byte) physical b board slave reads = absurd (cc reads)
 
-read_by : (kind : Kind) (b : BusWorld) (place : Result ℕ Trap) → access_of kind ≡ Read
-    → (reply_by (shape_by kind (length b.core) b.turn b.board place) b).after.board.status ≡ b.board.status
-read_by kind b (Ok physical) reads = read_at kind physical b (slave_at (length b.core) physical) reads
-read_by kind b (Err trap) reads = refl
+read_by : (kind : Kind) (b : BusWorld) (board : Board) (place : Result ℕ Abort) → access_of kind ≡ Read
+    → (reply_by (shape_by kind (length b.core) b.turn board place) b).after.board.status ≡ board.status
+read_by kind b board (Ok physical) reads = read_at kind physical b board (slave_at (length b.core) physical) reads
+read_by kind b board (Err abort) reads = refl
+
+read_if : (odd : Bool) (r : Reference) (b : BusWorld) → access_of r.kind ≡ Read
+    → (reply_by (shape_if odd r b) b).after.board.status ≡ b.board.status
+read_if true r b reads = refl
+read_if false r b reads = read_by r.kind b (with_mapping b (translation r b).after).board (translation r b).address reads
 
 read_keeps : (r : Reference) (b : BusWorld) → access_of r.kind ≡ Read → (perform r b).after.board.status ≡ b.board.status
 unfolding shape_of
-read_keeps r b reads = rw (perform_is r b) (read_by r.kind b (physical_address r) reads)
+read_keeps r b reads = rw (perform_is r b) (read_if (is_odd r.kind r.address) r b reads)
 
 -- one phase: each is safe; it is steady where it reads at most and leaves the word itself; it is sure where it asks for
 -- nothing

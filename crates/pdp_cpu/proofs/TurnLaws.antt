@@ -26,7 +26,7 @@ use Rattle.pdp_cpu.specs.declared.due.Due.TheVariants as due
 use Rattle.pdp_cpu.specs.declared.origin.Origin.{Origin}
 use Rattle.pdp_decode.specs.declared.instruction.Instr.{Instr}
 use Rattle.pdp_operand.specs.Phases.Course.{Course, End, Go, ends, follow}
-use Rattle.pdp_operand.specs.declared.trap.Trap.TheVariants.{OddAddress, BusTimeout, Reserved, JumpToRegister, StackLimit, Breakpoint, InputOutput, Emulator, TrapInstruction}
+use Rattle.pdp_operand.specs.declared.trap.Trap.TheVariants.{OddAddress, MappingAbort, BusTimeout, Reserved, JumpToRegister, StackLimit, Breakpoint, InputOutput, Emulator, TrapInstruction}
 use Rattle.pdp_unibus.specs.Source.{vector_of}
 
 ends_at_most : (n : ℕ) → (i : Inner) → AtMost (ends i) n
@@ -49,6 +49,7 @@ more (Go plan next caught) m n room bound = (bound.0, omega (arith, room, bound.
 handled_at_most : (trap : Trap) (i : Inner) → AtMost (handled trap i) 14
 handled_at_most StackLimit i = more (red (origin_of i)) 7 14 (omega arith) (red_at_most (origin_of i))
 handled_at_most OddAddress i = sequence_at_most true _ (origin_of i)
+handled_at_most MappingAbort i = sequence_at_most true _ (origin_of i)
 handled_at_most BusTimeout i = sequence_at_most true _ (origin_of i)
 handled_at_most JumpToRegister i = sequence_at_most true _ (origin_of i)
 handled_at_most Reserved i = sequence_at_most true _ (origin_of i)

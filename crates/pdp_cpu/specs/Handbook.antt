@@ -5,6 +5,7 @@ pub mod Execute
 pub mod Moves
 pub mod OneOperand
 pub mod TwoOperands
+pub mod PreviousMode
 pub mod Extended
 pub mod ChangeCodes
 pub mod Branch

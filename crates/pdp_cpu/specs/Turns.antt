@@ -3,4 +3,5 @@ pub mod Due
 pub mod Turn
 pub mod Devices
 pub mod MachineState
+pub mod Pages
 pub mod Regs

@@ -73,6 +73,12 @@ pub enum Action {
         size: Size,
         destination: Spec,
     },
+    MoveFromPrevious {
+        source: Spec,
+    },
+    MoveToPrevious {
+        destination: Spec,
+    },
     Multiply {
         register: u8,
         source: Spec,
@@ -95,7 +101,7 @@ pub enum Action {
     },
 }
 
-/// What an instruction does. One that is to come does what a reserved word does.
+/// What an instruction does.
 #[inline(always)]
 pub fn action_of(instr: Instr) -> Action
     ensures { result ≡ action_of instr }
@@ -234,20 +240,17 @@ pub fn action_of(instr: Instr) -> Action
             size: Size::Byte,
             destination,
         },
-        Instr::Bpt
-        | Instr::Iot
-        | Instr::Emt { .. }
-        | Instr::Trap { .. }
-        | Instr::Mfpi { .. }
-        | Instr::Mtpi { .. }
-        | Instr::Reserved => Action::Raise {
-            trap: trap_of(instr),
-        },
+        Instr::Mfpi { source } => Action::MoveFromPrevious { source },
+        Instr::Mtpi { destination } => Action::MoveToPrevious { destination },
+        Instr::Bpt | Instr::Iot | Instr::Emt { .. } | Instr::Trap { .. } | Instr::Reserved =>
+            Action::Raise {
+                trap: trap_of(instr),
+            },
     }
 }
 
 /// The trap that an instruction asks for which does nothing else; a word that is no instruction asks for that of a
-/// reserved word, and so do instructions that are to come.
+/// reserved word.
 #[cold]
 #[inline(never)]
 fn trap_of(instr: Instr) -> Trap

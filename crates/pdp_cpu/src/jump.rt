@@ -11,7 +11,7 @@ use pdp_unibus::Bus;
 use pdp_word::Size;
 
 // Where a word is pushed: -(SP).
-const PUSH: Spec = Spec { mode: 4, reg: 6 };
+pub const PUSH: Spec = Spec { mode: 4, reg: 6 };
 
 // Where a word is popped: (SP)+.
 pub const POP: Spec = Spec { mode: 2, reg: 6 };

@@ -65,8 +65,8 @@ pub fn what_cannot_go_on_leaves_the_codes()
         run_plan (plan_of instr) s ≡ Err stop → LeavesStatus s stop }
 {}
 
-/// A law of turns: a halted machine stays. Without `Continue` its processor, the program status and its core are the
-/// same after any number of turns, whatever other events come.
+/// A law of turns: a halted machine stays. Without `Continue` its processor, the program status, the mapping registers and
+/// its core are the same after any number of turns, whatever other events come.
 pub fn halted_machines_stay()
     ensures { (events : ℕ → List Event) (t n : ℕ) (w : World) → w.processor.run ≡ Halted →
         ((k : ℕ) → NoneContinues (events k)) → Stays w (world_after events t n w) }

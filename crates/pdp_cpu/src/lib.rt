@@ -28,7 +28,9 @@ mod one_operand;
 mod operands;
 mod operation;
 mod origin;
+mod pages;
 mod pair;
+mod previous_mode;
 mod regs;
 mod return_from_trap;
 mod serving;
@@ -46,6 +48,7 @@ pub use laws::{
 };
 pub use machine::Machine;
 pub use meter::Meter;
+pub use pages::PageRegisters;
 pub use pdp_operand::RunState;
 pub use pdp_unibus::LAST_TURN;
 pub use regs::Regs;

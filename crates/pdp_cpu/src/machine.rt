@@ -2,6 +2,10 @@ ghost use Rattle.std.specs.Prelude.{◌≡◌, ◌+◌, ◌-◌, ◌^◌, ◌<�
 ghost use Rattle.pdp_unibus.specs.BusWorld.{powered};
 ghost use Rattle.pdp_cpu.specs.Turns.Devices.{devices_of};
 ghost use Rattle.pdp_cpu.specs.Turns.MachineState.{IsReady, powered_machine, after_turn};
+ghost use Rattle.pdp_cpu.specs.Turns.Pages.{of_each_page, page_registers_of};
+ghost use Rattle.pdp_kt11.specs.declared.register.KtRegister.TheVariants.{Address, Descriptor};
+ghost use Rattle.pdp_unibus.specs.Register.{value_in};
+ghost use Rattle.pdp_unibus.specs.declared.register.Register.TheVariants.{Mapping};
 ghost use Rattle.pdp_cpu.specs.Turns.Regs.{regs_of};
 ghost use Rattle.pdp_cpu.specs.Turns.Turn.{turn_act};
 
@@ -10,9 +14,11 @@ use crate::devices::DeviceRegisters;
 use crate::due::nothing_is_pending;
 use crate::instruction::instruct;
 use crate::meter::Meter;
+use crate::pages::PageRegisters;
 use crate::regs::Regs;
 use crate::serving::take_what_is_due;
 use pdp_console::KlRegister;
+use pdp_kt11::{KtRegister, PageNumber, Space};
 use pdp_operand::{Processor, RunState, Slot};
 use pdp_store::{Stamp, Store};
 use pdp_tape::PcRegister;
@@ -203,6 +209,61 @@ impl<S: Store> Machine<S> {
             punch_status: self.bus.value(Register::PaperTape(PcRegister::PunchStatus)),
             switches: self.bus.value(Register::Switches),
         }
+    }
+
+    /// The registers of memory management as reads would give them (DEC PDP-11/40 Processor Handbook (1972), Memory
+    /// management).
+    #[tactic(auto, unfolding(crate::specs::Turns::Pages::page_registers_of))]
+    pub fn pages(&self) -> PageRegisters
+        ensures { result ≡ page_registers_of self.now.state.world }
+    {
+        PageRegisters {
+            status0: self.mapping(KtRegister::Status0),
+            status2: self.mapping(KtRegister::Status2),
+            kernel_descriptors: self.descriptors(Space::Kernel),
+            kernel_addresses: self.addresses(Space::Kernel),
+            user_descriptors: self.descriptors(Space::User),
+            user_addresses: self.addresses(Space::User),
+        }
+    }
+
+    // What a read of a register of memory management would give.
+    fn mapping(&self, register: KtRegister) -> u16
+        ensures { result ≡ value_in (Mapping register) self.now.state.world.bus.board }
+    {
+        self.bus.value(Register::Mapping(register))
+    }
+
+    // The page descriptor registers of a space.
+    fn descriptors(&self, space: Space) -> [u16; 8]
+        ensures { result ≡ of_each_page (Descriptor space) self.now.state.world.bus.board }
+    {
+        [
+            self.mapping(KtRegister::Descriptor(space, PageNumber::P0)),
+            self.mapping(KtRegister::Descriptor(space, PageNumber::P1)),
+            self.mapping(KtRegister::Descriptor(space, PageNumber::P2)),
+            self.mapping(KtRegister::Descriptor(space, PageNumber::P3)),
+            self.mapping(KtRegister::Descriptor(space, PageNumber::P4)),
+            self.mapping(KtRegister::Descriptor(space, PageNumber::P5)),
+            self.mapping(KtRegister::Descriptor(space, PageNumber::P6)),
+            self.mapping(KtRegister::Descriptor(space, PageNumber::P7)),
+        ]
+    }
+
+    // The page address registers of a space.
+    fn addresses(&self, space: Space) -> [u16; 8]
+        ensures { result ≡ of_each_page (Address space) self.now.state.world.bus.board }
+    {
+        [
+            self.mapping(KtRegister::Address(space, PageNumber::P0)),
+            self.mapping(KtRegister::Address(space, PageNumber::P1)),
+            self.mapping(KtRegister::Address(space, PageNumber::P2)),
+            self.mapping(KtRegister::Address(space, PageNumber::P3)),
+            self.mapping(KtRegister::Address(space, PageNumber::P4)),
+            self.mapping(KtRegister::Address(space, PageNumber::P5)),
+            self.mapping(KtRegister::Address(space, PageNumber::P6)),
+            self.mapping(KtRegister::Address(space, PageNumber::P7)),
+        ]
     }
 
     // A turn begins that has events, or in which something comes of the devices.

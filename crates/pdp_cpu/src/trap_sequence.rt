@@ -76,7 +76,7 @@ fn enter<S: Store>(
 
 /// The sequence of the trap with this vector (octal). `marks` says whether its pushes may leave a stack trap pending.
 ///
-/// Err where it can't go on; PC and the program status are then as before.
+/// Err where it can't go on; PC is then as before, and so is the program status, but where a push wrote over it.
 #[inline(never)]
 #[tactic(auto, unfolding(crate::specs::Handbook::TrapSequence::trap_plan))]
 fn trap<S: Store>(
@@ -207,6 +207,7 @@ fn vector(trap: Trap) -> u16
         Trap::InputOutput => 0o20,
         Trap::Emulator => 0o30,
         Trap::TrapInstruction => 0o34,
+        Trap::MappingAbort => 0o250,
     }
 }
 

@@ -38,9 +38,10 @@ abbrev pub world_after : (ℕ → List Event) → ℕ → ℕ → World → Worl
 world_after events t zero w = w
 world_after events t (suc n) w = one_turn (t + n) (events (t + n)) (world_after events t n w)
 
--- the processor, its status, the words of core and their stamps are those of the first world
+-- the processor, its status, the mapping registers, the words of core and their stamps are those of the first world
 pub record Stays (v w : World) : Type 0 where
   pub processor : w.processor ≡ v.processor
   pub status : w.bus.board.status ≡ v.bus.board.status
+  pub mapping : w.bus.board.mapping ≡ v.bus.board.mapping
   pub core : w.bus.core ≡ v.bus.core
   pub lasts : w.bus.lasts ≡ v.bus.lasts

@@ -135,16 +135,6 @@ const QUIET: DeviceRegisters = DeviceRegisters {
     switches: 0,
 };
 
-#[test]
-fn shows_devices_as_of_power_up(rt: HostRuntime) -> Result<(), NoMemory> {
-    for tape in [&[][..], &[0o101]] {
-        let outside = Outside { tape, ..STANDARD };
-        let machine = operated(rt.alloc(), &[0o000777], outside, 0)?;
-        assert_eq!(rt; machine.devices(), QUIET);
-    }
-    Ok(())
-}
-
 // The registers after one turn, with an event and with an instruction that writes 101 to a register.
 #[test]
 fn shows_each_device(rt: HostRuntime) -> Result<(), NoMemory> {

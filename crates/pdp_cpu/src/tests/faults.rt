@@ -71,16 +71,6 @@ fn traps_where_a_reference_faults(rt: HostRuntime) -> Result<(), NoMemory> {
     Ok(())
 }
 
-// MOV (R1)+,@#1001: R1 and PC keep what they were changed to for both operands.
-#[test]
-fn traps_where_the_second_operand_faults(rt: HostRuntime) -> Result<(), NoMemory> {
-    let program = [0o012701, 0o001000, 0o000277, 0o012137, 0o001001];
-    let got = ended(rt.alloc(), KERNEL, &program, 3)?;
-    let regs = trapped([0, 0o001002, 0, 0, 0, 0], 0o4);
-    assert_eq!(rt; got, (Act::Instr, regs, [0o001012, 0o000017]));
-    Ok(())
-}
-
 // A pop and a push on the user's stack that fault: RTS R5 has moved PC and the stack pointer; JSR R5,@#1200, RTI and
 // RTT the stack pointer alone, these two by 4 where the second pop faults.
 #[test]

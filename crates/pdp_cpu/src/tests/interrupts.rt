@@ -27,29 +27,6 @@ fn struck(
     ended_with(alloc, start, program, before, &[Event::Key(0o101)], after)
 }
 
-// The keyboard is enabled, and then BR to itself: its level is 4, so it interrupts below priority 4 alone.
-#[test]
-fn interrupts_below_its_level(rt: HostRuntime) -> Result<(), NoMemory> {
-    let program = [0o012737, 0o000100, 0o177560, 0o000777];
-    for (ps, irq) in [
-        (0, true),
-        (0o000140, true),
-        (0o000200, false),
-        (0o000340, false),
-    ] {
-        let start = Start { ps, ..CONSOLE };
-        let (act, regs) = struck(rt.alloc(), start, &program, 1, 0)?;
-        let got = (act, regs.ksp, regs.pc, regs.ps);
-        let want = if irq {
-            (Act::Irq(0o60), 0o000674, 0o001460, 0o000340)
-        } else {
-            (Act::Instr, 0o000700, 0o001006, ps)
-        };
-        assert_eq!(rt; got, want, "PS {ps:06o}");
-    }
-    Ok(())
-}
-
 // In user mode the interrupt goes to the kernel's stack, and the previous mode is the user's.
 #[test]
 fn interrupts_user_mode(rt: HostRuntime) -> Result<(), NoMemory> {

@@ -75,52 +75,6 @@ fn punches_a_byte(rt: HostRuntime) -> Result<(), NoMemory> {
     Ok(())
 }
 
-// MOVB #101,@#177566; MOVB #102,@#177566: the second is printed after the first, or in place of it while it is busy.
-#[test]
-fn prints_two_bytes(rt: HostRuntime) -> Result<(), NoMemory> {
-    let program = [
-        0o112737, 0o000101, 0o177566, 0o112737, 0o000102, 0o177566, 0o000777,
-    ];
-    let rows: [(u32, u16, &[u8]); 5] = [
-        (1, 2, &[0o101]),
-        (1, 3, &[0o101, 0o102]),
-        (2, 2, &[]),
-        (2, 3, &[0o102]),
-        (2, 30, &[0o102]),
-    ];
-    for (delay, turns, text) in rows {
-        let outside = Outside {
-            delay: (Line::Printer, delay),
-            ..STANDARD
-        };
-        let machine = operated(rt.alloc(), &program, outside, turns)?;
-        assert_eq!(rt; machine.text(), text, "delay {delay}, {turns} turns");
-    }
-    Ok(())
-}
-
-// RESET in turn 1 drops what isn't complete by then, and the printer is ready again.
-#[test]
-fn reset_drops_a_printing(rt: HostRuntime) -> Result<(), NoMemory> {
-    let program = [0o112737, 0o000101, 0o177566, 0o000005, 0o000777];
-    for (delay, event, printed) in [
-        (1, None, true),
-        (2, None, false),
-        (0, Some((7, Event::PrinterDone)), false),
-    ] {
-        let outside = Outside {
-            delay: (Line::Printer, delay),
-            event,
-            ..STANDARD
-        };
-        let machine = operated(rt.alloc(), &program, outside, 30)?;
-        let text: &[u8] = if printed { &[0o101] } else { &[] };
-        assert_eq!(rt; machine.text(), text, "delay {delay}");
-        assert_eq!(rt; machine.devices().printer_status, 0o200);
-    }
-    Ok(())
-}
-
 // HALT follows in turn 1: the printing goes on.
 #[test]
 fn prints_while_halted(rt: HostRuntime) -> Result<(), NoMemory> {
@@ -162,27 +116,6 @@ fn reads_the_tape(rt: HostRuntime) -> Result<(), NoMemory> {
             machine.regs().r[0],
         );
         assert_eq!(rt; got, (status, buffer, r0), "after {turns} turns");
-    }
-    Ok(())
-}
-
-// With delay 0 the byte comes by the event alone.
-#[test]
-fn reads_the_tape_by_its_event(rt: HostRuntime) -> Result<(), NoMemory> {
-    for (event, status, buffer) in [
-        (None, 0o004000, 0),
-        (Some((0, Event::ReaderDone)), 0o004000, 0),
-        (Some((20, Event::ReaderDone)), 0o000200, 0o101),
-    ] {
-        let outside = Outside {
-            tape: &[0o101],
-            delay: (Line::Reader, 0),
-            event,
-        };
-        let machine = operated(rt.alloc(), &READ, outside, 21)?;
-        let devices = machine.devices();
-        let got = (devices.reader_status, devices.reader_buffer);
-        assert_eq!(rt; got, (status, buffer));
     }
     Ok(())
 }

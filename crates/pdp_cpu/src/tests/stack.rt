@@ -1,23 +1,6 @@
 use super::{after, running};
 use crate::{Regs, RunState};
-use pdp_store::{Agent, Stamp};
 use pdp_word::NoMemory;
-
-// MOV #402,SP, all codes set, and MOV R0,-(SP).
-#[test]
-fn pushes_at_the_stack_limit(rt: HostRuntime) -> Result<(), NoMemory> {
-    let machine = after(rt.alloc(), &[0o012706, 0o000402, 0o000277, 0o010046], 3)?;
-    assert_eq!(rt;
-        machine.regs(),
-        running([0; 6], 0o000400, 0o001010, 0o000005)
-    );
-    let stamp = Stamp {
-        turn: 2,
-        agent: Agent::Cpu,
-    };
-    assert_eq!(rt; machine.last(0o000400 / 2), Some(stamp));
-    Ok(())
-}
 
 // Only pushes and autodecrements by the stack pointer have a limit: MOV #376,SP and MOV #400,R1 come before.
 #[test]

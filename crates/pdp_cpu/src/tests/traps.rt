@@ -46,12 +46,10 @@ fn traps_by_vectors(rt: HostRuntime) -> Result<(), NoMemory> {
     Ok(())
 }
 
-// Words that name no instruction, and those of instructions that are to come: the word after them is not read.
+// Words that name no instruction: the word after them is not read.
 #[test]
 fn traps_at_reserved_words(rt: HostRuntime) -> Result<(), NoMemory> {
     for word in [
-        // MFPI, MTPI of an immediate
-        0o006527, 0o006627,
         // SPL, FADD, MTPS, MFPD, MTPD, MFPS, SETF
         0o000237, 0o075000, 0o106427, 0o106527, 0o106627, 0o106727, 0o170001,
         // words that nothing names

@@ -48,22 +48,6 @@ fn branches_to_itself(rt: HostRuntime) -> Result<(), NoMemory> {
     Ok(())
 }
 
-// TSTB @#177560, BPL back to it, MOVB @#177562,R1: a key of turn 4 is in R1 after turn 6.
-#[test]
-fn takes_a_key(rt: HostRuntime) -> Result<(), NoMemory> {
-    let program = [0o105737, 0o177560, 0o100375, 0o113701, 0o177562];
-    let mut machine = machine_over(rt.alloc(), 0o001000, &program)?;
-    let mut meter = Meter::new();
-    run_turns(&mut machine, &mut meter, 4)?;
-    assert_eq!(rt; machine.regs(), running([0; 6], 0, 0o001000, 0o000004));
-    machine.ready()?;
-    machine.turn(&mut meter, &[Event::Key(0o101)]);
-    run_turns(&mut machine, &mut meter, 2)?;
-    let r = [0, 0o000101, 0, 0, 0, 0];
-    assert_eq!(rt; machine.regs(), running(r, 0, 0o001012, 0));
-    Ok(())
-}
-
 // Continue ends a halt, and the act of its turn runs.
 #[test]
 fn continues_after_a_halt(rt: HostRuntime) -> Result<(), NoMemory> {
