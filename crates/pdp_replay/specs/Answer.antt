@@ -2,6 +2,7 @@
 use Rattle.std.specs.Prelude.{ℕ, ◌≡◌, ◌+◌, ◌/◌, ◌%◌, ◌==◌, ◌≤◌, ◌&&◌, List, take, drop, Result, Ok, Err, nat_le, if◌then◌else◌}
 use Rattle.pdp_cpu.specs.Turns.Devices.{devices_of}
 use Rattle.pdp_cpu.specs.Turns.MachineState.{MachineState}
+use Rattle.pdp_cpu.specs.Turns.Pages.{page_registers_of}
 use Rattle.pdp_cpu.specs.Turns.Regs.{regs_of}
 use Rattle.pdp_script.specs.Refusal.{result_map}
 use Rattle.pdp_unibus.specs.LastTurn.{last_turn}
@@ -23,6 +24,7 @@ turn_asked (question.Core turn address count) = turn
 turn_asked (question.Text turn) = turn
 turn_asked (question.Punched turn) = turn
 turn_asked (question.Devices turn) = turn
+turn_asked (question.Pages turn) = turn
 
 -- the first turn whose state the answer needs: that of every question so far
 abbrev pub first_turn_needed : Question → ℕ
@@ -39,6 +41,7 @@ answer (question.Core turn address count) p = value.Core (words_from (address / 
 answer (question.Text turn) p = value.Text (text_at p turn)
 answer (question.Punched turn) p = value.Punched (punched_at p turn)
 answer (question.Devices turn) p = value.Devices (devices_of (state_at p turn))
+answer (question.Pages turn) p = value.Pages (page_registers_of (state_at p turn))
 
 -- the most words that a question asks for
 abbrev pub most_words : ℕ

@@ -55,38 +55,15 @@ fn texts_of_a_machine_that_prints_nothing(rt: HostRuntime) -> Result<(), Fail> {
 }
 
 #[test]
-fn devices_that_nothing_happens_to(rt: HostRuntime) -> Result<(), Fail> {
-    let engine = engine_with(rt.alloc(), 31, &[0o777]);
-    let steps = [
-        Step::Devices(0, QUIET),
-        Step::Alike(Question::Devices(0), Question::Devices(5), true),
-        Step::Alike(Question::Devices(0), Question::Text(0), false),
-    ];
-    follow(&rt, rt.alloc(), engine, &steps)
-}
-
-#[test]
-fn what_texts_and_devices_took(rt: HostRuntime) -> Result<(), Fail> {
-    let engine = engine_with(rt.alloc(), 31, &[0o777]);
-    let steps = [
-        Step::Ran(Question::Text(30), 30, 30),
-        Step::Known(Question::Text(5), 30),
-        Step::Known(Question::Punched(40), 40),
-        Step::Known(Question::Devices(5), 40),
-        Step::Known(Question::Devices(50), 50),
-    ];
-    follow(&rt, rt.alloc(), engine, &steps)
-}
-
-#[test]
-fn refused_texts_and_devices(rt: HostRuntime) -> Result<(), Fail> {
+fn turns_that_are_too_large(rt: HostRuntime) -> Result<(), Fail> {
     let engine = engine_with(rt.alloc(), 31, &[0o777]);
     let steps = [
         Step::Known(Question::Regs(3), 3),
         Step::Refused(Question::Text(1_000_000_001), Fault::TurnTooLarge),
         Step::Refused(Question::Punched(1_000_000_001), Fault::TurnTooLarge),
         Step::Refused(Question::Devices(1_000_000_001), Fault::TurnTooLarge),
-        Step::Refused(Question::Text(4_294_967_295), Fault::TurnTooLarge),
+        Step::Refused(Question::Regs(1_000_000_001), Fault::TurnTooLarge),
+        Step::Refused(Question::Regs(4_294_967_295), Fault::TurnTooLarge),
         Step::Known(Question::Regs(0), 3),
     ];
     follow(&rt, rt.alloc(), engine, &steps)

@@ -23,7 +23,7 @@ pub use answer_words::Words;
 pub use engine::Engine;
 pub use laws::{core_words_are_first_words, some_edits_need_no_memory, texts_only_grow};
 pub use patch::Patch;
-pub use pdp_cpu::{DeviceRegisters, Regs, RunState};
+pub use pdp_cpu::{DeviceRegisters, PageRegisters, Regs, RunState};
 pub use pdp_script::Fault;
 pub use pdp_unibus::{Delays, Event, Line};
 pub use question::{Answer, Question, Value};
@@ -33,6 +33,8 @@ pub use setup::{ONLY_STRIDE, Setup};
 mod core_tests;
 #[cfg(test)]
 mod device_tests;
+#[cfg(test)]
+mod page_tests;
 #[cfg(test)]
 mod script_tests;
 #[cfg(test)]

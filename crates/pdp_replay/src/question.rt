@@ -7,7 +7,7 @@ use crate::answer_bytes::Bytes;
 use crate::answer_words::Words;
 use crate::setup::UNIT_WORDS;
 use crate::travel::FlatMachine;
-use pdp_cpu::{DeviceRegisters, Regs};
+use pdp_cpu::{DeviceRegisters, PageRegisters, Regs};
 use pdp_script::Fault;
 use pdp_unibus::LAST_TURN;
 use pdp_word::NoMemory;
@@ -30,6 +30,8 @@ pub enum Question {
     Punched(u32),
     /// The registers of the devices before this turn.
     Devices(u32),
+    /// The registers of memory management before this turn.
+    Pages(u32),
 }
 
 impl Question {
@@ -42,7 +44,8 @@ impl Question {
             | Question::Core(turn, _, _)
             | Question::Text(turn)
             | Question::Punched(turn)
-            | Question::Devices(turn) => turn,
+            | Question::Devices(turn)
+            | Question::Pages(turn) => turn,
         }
     }
 
@@ -60,8 +63,11 @@ impl Question {
         }
         match self {
             Question::Core(_, address, count) => check_range(units, address, count),
-            Question::Regs(_) | Question::Text(_) | Question::Punched(_) | Question::Devices(_) =>
-                Ok(()),
+            Question::Regs(_)
+            | Question::Text(_)
+            | Question::Punched(_)
+            | Question::Devices(_)
+            | Question::Pages(_) => Ok(()),
         }
     }
 
@@ -82,6 +88,7 @@ impl Question {
             Question::Text(_) => Ok(Value::Text(Bytes::read(alloc, machine.text())?)),
             Question::Punched(_) => Ok(Value::Punched(Bytes::read(alloc, machine.punched())?)),
             Question::Devices(_) => Ok(Value::Devices(machine.devices())),
+            Question::Pages(_) => Ok(Value::Pages(machine.pages())),
         }
     }
 }
@@ -121,6 +128,8 @@ pub enum Value {
     Punched(Bytes),
     /// The registers of the devices, as reads would give them without the effect of a read.
     Devices(DeviceRegisters),
+    /// The registers of memory management, as reads would give them.
+    Pages(PageRegisters),
 }
 
 /// A question's answer, with what it took.

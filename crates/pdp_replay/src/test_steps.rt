@@ -40,6 +40,8 @@ pub enum Step<'a> {
     Bytes(Question, &'a [u8]),
     /// The registers of the devices before this turn.
     Devices(u32, DeviceRegisters),
+    /// The registers of memory management before this turn.
+    Pages(u32, PageRegisters),
     /// Whether these two questions are answered the same.
     Alike(Question, Question, bool),
     /// How many turns are run for this question, and the known turn after it.
@@ -113,6 +115,7 @@ fn take(
         Step::Devices(turn, want) => {
             assert_same(rt, number, &devices_at(engine, alloc, turn)?, &want);
         }
+        Step::Pages(turn, want) => assert_same(rt, number, &pages_at(engine, alloc, turn)?, &want),
         Step::Alike(one, other, want) => {
             assert_same(rt, number, &are_alike(engine, alloc, one, other)?, &want);
         }
@@ -163,6 +166,13 @@ fn devices_at(engine: &mut Engine, alloc: Global, turn: u32) -> Result<DeviceReg
     match engine.ask(alloc, Question::Devices(turn))?.value {
         Value::Devices(devices) => Ok(devices),
         _ => Err(Fail::new("another value in place of devices")),
+    }
+}
+
+fn pages_at(engine: &mut Engine, alloc: Global, turn: u32) -> Result<PageRegisters, Fail> {
+    match engine.ask(alloc, Question::Pages(turn))?.value {
+        Value::Pages(pages) => Ok(pages),
+        _ => Err(Fail::new("another value in place of pages")),
     }
 }
 

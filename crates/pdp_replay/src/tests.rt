@@ -48,20 +48,6 @@ fn first_run(rt: HostRuntime) -> Result<(), Fail> {
 }
 
 #[test]
-fn branch_to_itself(rt: HostRuntime) -> Result<(), Fail> {
-    let engine = patched(rt.alloc(), &[0o777]);
-    let steps = [Step::Regs(1000, regs(0, 0, 0o1000, RunState::Run))];
-    follow(&rt, rt.alloc(), engine, &steps)
-}
-
-#[test]
-fn move_of_a_register(rt: HostRuntime) -> Result<(), Fail> {
-    let engine = patched(rt.alloc(), &[0o12701, 7, 0o10100, 0]);
-    let steps = [Step::Regs(2, regs(7, 7, 0o1006, RunState::Run))];
-    follow(&rt, rt.alloc(), engine, &steps)
-}
-
-#[test]
 fn patches_over_an_image(rt: HostRuntime) -> Result<(), Fail> {
     let engine = from_zero(rt.alloc(), &[0o12700, 5, 0]);
 
@@ -105,18 +91,6 @@ fn refused_edits(rt: HostRuntime) -> Result<(), Fail> {
         Step::Known(Question::Regs(1), 2),
         Step::Regs(2, halted),
         Step::Edit(Edit::Patch(0o757776, 0o777), Ok(0)),
-    ];
-    follow(&rt, rt.alloc(), engine, &steps)
-}
-
-#[test]
-fn refused_questions(rt: HostRuntime) -> Result<(), Fail> {
-    let engine = patched(rt.alloc(), &[0o12700, 5, 0]);
-    let steps = [
-        Step::Known(Question::Regs(2), 2),
-        Step::Refused(Question::Regs(1_000_000_001), Fault::TurnTooLarge),
-        Step::Refused(Question::Regs(4_294_967_295), Fault::TurnTooLarge),
-        Step::Known(Question::Regs(1), 2),
     ];
     follow(&rt, rt.alloc(), engine, &steps)
 }
@@ -175,4 +149,5 @@ fn turn_of_a_question(rt: HostRuntime) {
     assert_eq!(rt; Question::Text(8).turn(), 8);
     assert_eq!(rt; Question::Punched(9).turn(), 9);
     assert_eq!(rt; Question::Devices(10).turn(), 10);
+    assert_eq!(rt; Question::Pages(11).turn(), 11);
 }

@@ -1,4 +1,4 @@
--- Words of core as they are written one after another.
+-- Words as they are written one after another, those of core in their line.
 use Rattle.std.proofs.Common.{◌≡◌, ℕ, zero, suc, ◌+◌, ◌<◌, ◌≤◌, List, [], ◌∷◌, ◌++◌, length, take, drop, get_or, codes, Result, Ok, Err, refl, sym, ap, ◌∙◌, append_assoc, append-nil, add-one, subst, arith}
 use Rattle.std.proofs.KnownBytes.{Appends-trans}
 use Rattle.std.specs.Io.KnownBytes.{Appends}
@@ -15,6 +15,14 @@ word_texts_suc (w ∷ ws) zero below = append-nil (word_text w)
 word_texts_suc (w ∷ ws) (suc i) below =
     ap (λ texts. word_text w ++ texts) (word_texts_suc ws i (omega arith))
     ∙ sym (append_assoc (word_text w) (word_texts (take i ws)) (word_text (get_or ws i 0)))
+
+-- a text with the words up to one, and then with that one
+pub one_more_word : (words text front : List ℕ) (i : ℕ) → i < length words → text ≡ front ++ word_texts (take i words)
+    → text ++ word_text (get_or words i 0) ≡ front ++ word_texts (take (i + 1) words)
+one_more_word words text front i below before =
+    ap (λ all. all ++ word_text (get_or words i 0)) before
+    ∙ append_assoc front (word_texts (take i words)) (word_text (get_or words i 0))
+    ∙ rw add-one (ap (λ texts. front ++ texts) (sym (word_texts_suc words i below)))
 
 -- the words up to one, that one, and the others
 word_texts_split : (words : List ℕ) (i : ℕ) → i < length words

@@ -5,6 +5,7 @@ use Rattle.pdp_script.specs.Fault.{number_of_fault, name_of_fault}
 use Rattle.pdp_script.specs.declared.faults.Fault.{Fault}
 use Rattle.pdp_cpu.specs.declared.regs.Regs.{Regs}
 use Rattle.pdp_cpu.specs.declared.devices.DeviceRegisters.{DeviceRegisters}
+use Rattle.pdp_cpu.specs.declared.pages.PageRegisters.{PageRegisters}
 use Rattle.pdp_operand.specs.declared.processor.RunState.{RunState}
 use Rattle.pdp_operand.specs.declared.processor.RunState.TheVariants.{Run, Wait, Halted}
 use Rattle.pdp_replay.specs.Edit.{patch_shown, patch_count}
@@ -13,7 +14,7 @@ use Rattle.pdp_replay.specs.PatchedWords.{Patches}
 use Rattle.pdp_replay.specs.declared.patch.Patch.{Patch}
 use Rattle.pdp_replay.specs.declared.patch.Patch.TheVariants.{Core}
 use Rattle.pdp_replay.specs.declared.question.Value.{Value}
-use Rattle.pdp_replay.specs.declared.question.Value.TheVariants.{Regs as RegsAre, Core as CoreIs, Text as TextIs, Punched as PunchedAre, Devices as DevicesAre}
+use Rattle.pdp_replay.specs.declared.question.Value.TheVariants.{Regs as RegsAre, Core as CoreIs, Text as TextIs, Punched as PunchedAre, Devices as DevicesAre, Pages as PagesAre}
 use Rattle.pdp_session.specs.declared.reply.Reply.{Reply}
 use Rattle.pdp_session.specs.declared.reply.Reply.TheVariants.{Nothing, Done, Inserted, Shown, Listed, Refused}
 use Rattle.pdp_session.specs.Command.{reply_to, past_after}
@@ -66,7 +67,7 @@ count_line count = codes "patches " ++ decimal count ++ codes "\n"
 unfoldable pub patches_text : Past → List ℕ
 patches_text past = count_line (patch_count past) ++ patch_lines past.setup.patches
 
--- a word of core, in six octal digits, after a space
+-- a word in six octal digits, after a space
 abbrev pub word_text : ℕ → List ℕ
 word_text word = codes " " ++ octal_digits 6 word
 
@@ -99,32 +100,48 @@ unfoldable pub bytes_line : List ℕ → List ℕ → List ℕ
 bytes_line name bytes = bytes_head name (length bytes) ++ byte_texts bytes ++ codes "\n"
 
 -- a name and a word in six octal digits, each after a space
-abbrev pub device_text : List ℕ → ℕ → List ℕ
-device_text name word = codes " " ++ name ++ codes " " ++ octal_digits 6 word
+abbrev pub named_word_text : List ℕ → ℕ → List ℕ
+named_word_text name word = codes " " ++ name ++ word_text word
 
 -- the disk is to come: until then each of its registers is shown as 0
 abbrev pub disk_register_texts : List ℕ
 disk_register_texts =
-    device_text (codes "RKDS") 0
-    ++ device_text (codes "RKER") 0
-    ++ device_text (codes "RKCS") 0
-    ++ device_text (codes "RKWC") 0
-    ++ device_text (codes "RKBA") 0
-    ++ device_text (codes "RKDA") 0
+    named_word_text (codes "RKDS") 0
+    ++ named_word_text (codes "RKER") 0
+    ++ named_word_text (codes "RKCS") 0
+    ++ named_word_text (codes "RKWC") 0
+    ++ named_word_text (codes "RKBA") 0
+    ++ named_word_text (codes "RKDA") 0
 
 -- the registers of the devices, in one line
 unfoldable pub devices_line : DeviceRegisters → List ℕ
 devices_line devices =
     codes "devices"
-    ++ device_text (codes "TKS") devices.keyboard_status
-    ++ device_text (codes "TKB") devices.keyboard_buffer
-    ++ device_text (codes "TPS") devices.printer_status
-    ++ device_text (codes "LKS") devices.clock_status
-    ++ device_text (codes "PRS") devices.reader_status
-    ++ device_text (codes "PRB") devices.reader_buffer
-    ++ device_text (codes "PPS") devices.punch_status
+    ++ named_word_text (codes "TKS") devices.keyboard_status
+    ++ named_word_text (codes "TKB") devices.keyboard_buffer
+    ++ named_word_text (codes "TPS") devices.printer_status
+    ++ named_word_text (codes "LKS") devices.clock_status
+    ++ named_word_text (codes "PRS") devices.reader_status
+    ++ named_word_text (codes "PRB") devices.reader_buffer
+    ++ named_word_text (codes "PPS") devices.punch_status
     ++ disk_register_texts
-    ++ device_text (codes "SWR") devices.switches
+    ++ named_word_text (codes "SWR") devices.switches
+    ++ codes "\n"
+
+-- a name and the words of the eight pages, each after a space
+abbrev pub page_words_text : List ℕ → List ℕ → List ℕ
+page_words_text name words = codes " " ++ name ++ word_texts words
+
+-- the registers of memory management, in one line
+unfoldable pub pages_line : PageRegisters → List ℕ
+pages_line pages =
+    codes "pages"
+    ++ named_word_text (codes "SR0") pages.status0
+    ++ named_word_text (codes "SR2") pages.status2
+    ++ page_words_text (codes "KPDR") pages.kernel_descriptors
+    ++ page_words_text (codes "KPAR") pages.kernel_addresses
+    ++ page_words_text (codes "UPDR") pages.user_descriptors
+    ++ page_words_text (codes "UPAR") pages.user_addresses
     ++ codes "\n"
 
 -- the answer to a question as text: one row for each kind of question
@@ -134,6 +151,7 @@ value_text (CoreIs words) = mem_line words
 value_text (TextIs bytes) = bytes_line (codes "text") bytes
 value_text (PunchedAre bytes) = bytes_line (codes "punched") bytes
 value_text (DevicesAre devices) = devices_line devices
+value_text (PagesAre pages) = pages_line pages
 
 -- a reply as text; a list of patches is that of the past as it is then
 unfoldable pub text_of : Reply → Past → List ℕ

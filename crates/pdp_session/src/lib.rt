@@ -14,8 +14,9 @@ mod session;
 mod streams;
 
 pub use pdp_replay::{
-    Answer, Bytes, DeviceRegisters, Engine, Event, Fault, Line, Patch, Question, Regs, RunState,
-    Setup, Value, Words, core_words_are_first_words, some_edits_need_no_memory, texts_only_grow,
+    Answer, Bytes, DeviceRegisters, Engine, Event, Fault, Line, PageRegisters, Patch, Question,
+    Regs, RunState, Setup, Value, Words, core_words_are_first_words, some_edits_need_no_memory,
+    texts_only_grow,
 };
 pub use pdp_script::Script;
 pub use session::run;

@@ -9,8 +9,8 @@ use crate::streams::{Drain, Failed, send};
 use bytes::send_bytes;
 use pdp_replay::{Engine, Fault, Value};
 use texts::{
-    Text, count_text, devices_text, done_text, insertion_text, patch_text, refusal_text, regs_text,
-    word_text,
+    Text, count_text, devices_text, done_text, insertion_text, pages_text, patch_text,
+    refusal_text, regs_text, word_text,
 };
 
 // What a line is answered.
@@ -53,6 +53,7 @@ fn send_value<W: Drain>(value: &Value, writer: &mut W) -> Result<(), Failed>
         Value::Text(bytes) => send_bytes("text", bytes.bytes(), writer),
         Value::Punched(bytes) => send_bytes("punched", bytes.bytes(), writer),
         Value::Devices(devices) => send(writer, devices_text(*devices).as_slice()),
+        Value::Pages(pages) => send(writer, pages_text(*pages).as_slice()),
     }
 }
 

@@ -4,7 +4,7 @@ use Rattle.std.specs.Option.{option_map}
 use Rattle.std.specs.Str.{bytes_eq}
 use Rattle.pdp_word.specs.Number.{number_of}
 use Rattle.pdp_replay.specs.declared.question.Question.{Question}
-use Rattle.pdp_replay.specs.declared.question.Question.TheVariants.{Regs, Core, Text, Punched, Devices}
+use Rattle.pdp_replay.specs.declared.question.Question.TheVariants.{Regs, Core, Text, Punched, Devices, Pages}
 use Rattle.pdp_session.specs.Grammar.Arguments.{◌>>=◌, first_of, one_of, two_of, turn_named, count_named}
 
 -- `mem N A C`: a turn, in decimal, an address, in octal, and a count, in decimal
@@ -17,7 +17,7 @@ mem_form arguments = do
   c ← count_named count
   Some (Core n a c)
 
--- `regs N`, `text N`, `punched N` and `devices N`: a turn, in decimal
+-- `regs N`, `text N`, `punched N`, `devices N` and `pages N`: a turn, in decimal
 abbrev pub only_turn : List (List ℕ) → Option ℕ
 only_turn arguments = do
   turn ← one_of arguments
@@ -31,4 +31,5 @@ question_with name arguments =
     else if bytes_eq name (codes "text") then option_map Text (only_turn arguments)
     else if bytes_eq name (codes "punched") then option_map Punched (only_turn arguments)
     else if bytes_eq name (codes "devices") then option_map Devices (only_turn arguments)
+    else if bytes_eq name (codes "pages") then option_map Pages (only_turn arguments)
     else None

@@ -22,6 +22,8 @@ pub fn read_question(name: &[u8], arguments: &[u8]) -> Option<Question>
         Some(Question::Punched(read_only_turn(arguments)?))
     } else if name == b"devices".as_slice() {
         Some(Question::Devices(read_only_turn(arguments)?))
+    } else if name == b"pages".as_slice() {
+        Some(Question::Pages(read_only_turn(arguments)?))
     } else {
         None
     }

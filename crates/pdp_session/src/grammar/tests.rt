@@ -133,6 +133,7 @@ fn questions_about_a_turn(rt: HostRuntime) {
         (b"text 7".as_slice(), Question::Text(7)),
         (b"punched 7".as_slice(), Question::Punched(7)),
         (b"devices 7".as_slice(), Question::Devices(7)),
+        (b"pages 7".as_slice(), Question::Pages(7)),
         (b"text 9999999999".as_slice(), Question::Text(u32::MAX)),
     ] {
         assert_eq!(rt; read_line(line), Ok(Some(Command::Ask(question))));
@@ -140,4 +141,5 @@ fn questions_about_a_turn(rt: HostRuntime) {
     assert_eq!(rt; read_line(b"text"), Err(Fault::BadLine));
     assert_eq!(rt; read_line(b"punched 1 2"), Err(Fault::BadLine));
     assert_eq!(rt; read_line(b"devices 0x1"), Err(Fault::BadLine));
+    assert_eq!(rt; read_line(b"pages"), Err(Fault::BadLine));
 }

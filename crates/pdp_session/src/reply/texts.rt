@@ -1,14 +1,13 @@
-ghost use Rattle.std.specs.Prelude.{◌≡◌, ◌+◌, ◌≤◌, ◌++◌, length, codes, decimal};
-ghost use Rattle.pdp_session.specs.Reply.{register_text, regs_line, state_name, refusal_text, count_line, patch_line, word_text, device_text, disk_register_texts, devices_line};
+ghost use Rattle.std.specs.Prelude.{◌≡◌, ◌+◌, ◌*◌, ◌≤◌, ◌++◌, length, codes, decimal};
+ghost use Rattle.pdp_session.specs.Reply.{register_text, regs_line, state_name, refusal_text, count_line, patch_line, word_text, word_texts, named_word_text, disk_register_texts, devices_line, page_words_text, pages_line};
 
 use arrayvec::ArrayVec;
 use itoa::Buffer;
-use pdp_replay::{DeviceRegisters, Fault, Patch, Regs, RunState};
+use pdp_replay::{DeviceRegisters, Fault, PageRegisters, Patch, Regs, RunState};
 use pdp_word::write_octal6;
 
-// The most bytes that a text has: a line of the question `pages`, which is to come, with its LF. That is 34 words, each
-// of six digits after a space, and the names pages, SR0, SR2, KPDR, KPAR, UPDR and UPAR, a space before each but the
-// first.
+// The most bytes that a text has: the reply to the question `pages`, with its LF. That is 34 words, each of six digits
+// after a space, and the names pages, SR0, SR2, KPDR, KPAR, UPDR and UPAR, a space before each but the first.
 pub const LONGEST_TEXT: usize = 272;
 
 // A line of a reply, with its LF, or a piece of one. It takes no memory.
@@ -81,26 +80,34 @@ pub fn patch_text(patch: Patch) -> Text
     text
 }
 
-// A word of core, after a space.
+// A word in six octal digits, after a space.
 pub fn word_text(word: u16) -> Text
     ensures { result.items ≡ word_text word }
 {
     let mut text = Text::new();
-    add(&mut text, b" ");
-    add(&mut text, &write_octal6(u32::from(word)));
+    add_word(&mut text, word);
     text
 }
 
+// Adds a word in six octal digits, after a space.
+fn add_word(text: &mut Text, word: u16)
+    requires { length text.old.items + 7 ≤ LONGEST_TEXT }
+    ensures word_text { text.new.items ≡ text.old.items ++ word_text word }
+    ensures length { length text.new.items ≡ length text.old.items + 7 }
+{
+    add(text, b" ");
+    add(text, &write_octal6(u32::from(word)));
+}
+
 // A name and a word in six octal digits, each after a space.
-fn add_device(text: &mut Text, name: &str, word: u16)
+fn add_named_word(text: &mut Text, name: &str, word: u16)
     requires { length text.old.items + length name.now + 8 ≤ LONGEST_TEXT }
-    ensures device_text { text.new.items ≡ text.old.items ++ device_text name.now word }
+    ensures named_word_text { text.new.items ≡ text.old.items ++ named_word_text name.now word }
     ensures length { length text.new.items ≡ length text.old.items + length name.now + 8 }
 {
     add(text, b" ");
     add(text, name.as_bytes());
-    add(text, b" ");
-    add(text, &write_octal6(u32::from(word)));
+    add_word(text, word);
 }
 
 // The registers of the devices.
@@ -110,15 +117,15 @@ pub fn devices_text(devices: DeviceRegisters) -> Text
 {
     let mut text = Text::new();
     add(&mut text, b"devices");
-    add_device(&mut text, "TKS", devices.keyboard_status);
-    add_device(&mut text, "TKB", devices.keyboard_buffer);
-    add_device(&mut text, "TPS", devices.printer_status);
-    add_device(&mut text, "LKS", devices.clock_status);
-    add_device(&mut text, "PRS", devices.reader_status);
-    add_device(&mut text, "PRB", devices.reader_buffer);
-    add_device(&mut text, "PPS", devices.punch_status);
+    add_named_word(&mut text, "TKS", devices.keyboard_status);
+    add_named_word(&mut text, "TKB", devices.keyboard_buffer);
+    add_named_word(&mut text, "TPS", devices.printer_status);
+    add_named_word(&mut text, "LKS", devices.clock_status);
+    add_named_word(&mut text, "PRS", devices.reader_status);
+    add_named_word(&mut text, "PRB", devices.reader_buffer);
+    add_named_word(&mut text, "PPS", devices.punch_status);
     add_disk(&mut text);
-    add_device(&mut text, "SWR", devices.switches);
+    add_named_word(&mut text, "SWR", devices.switches);
     add(&mut text, b"\n");
     text
 }
@@ -129,12 +136,52 @@ fn add_disk(text: &mut Text)
     ensures disk_register_texts { text.new.items ≡ text.old.items ++ disk_register_texts }
     ensures length { length text.new.items ≡ length text.old.items + 72 }
 {
-    add_device(text, "RKDS", 0);
-    add_device(text, "RKER", 0);
-    add_device(text, "RKCS", 0);
-    add_device(text, "RKWC", 0);
-    add_device(text, "RKBA", 0);
-    add_device(text, "RKDA", 0);
+    add_named_word(text, "RKDS", 0);
+    add_named_word(text, "RKER", 0);
+    add_named_word(text, "RKCS", 0);
+    add_named_word(text, "RKWC", 0);
+    add_named_word(text, "RKBA", 0);
+    add_named_word(text, "RKDA", 0);
+}
+
+// Words in six octal digits, each after a space.
+#[tactic(auto, using(crate::proofs::CoreLines::one_more_word))]
+fn add_words(text: &mut Text, words: &[u16])
+    requires { length text.old.items + 7 * length words.now ≤ LONGEST_TEXT }
+    ensures word_texts { text.new.items ≡ text.old.items ++ word_texts words.now }
+    ensures length { length text.new.items ≡ length text.old.items + 7 * length words.now }
+{
+    for word in words {
+        add_word(text, *word);
+    }
+}
+
+// A name and the words of the eight pages, each after a space.
+fn add_page_words(text: &mut Text, name: &str, words: [u16; 8])
+    requires { length text.old.items + length name.now + 57 ≤ LONGEST_TEXT }
+    ensures page_words_text { text.new.items ≡ text.old.items ++ page_words_text name.now words }
+    ensures length { length text.new.items ≡ length text.old.items + length name.now + 57 }
+{
+    add(text, b" ");
+    add(text, name.as_bytes());
+    add_words(text, &words);
+}
+
+// The registers of memory management.
+#[tactic(auto, unfolding(crate::specs::Reply::pages_line))]
+pub fn pages_text(pages: PageRegisters) -> Text
+    ensures { result.items ≡ pages_line pages }
+{
+    let mut text = Text::new();
+    add(&mut text, b"pages");
+    add_named_word(&mut text, "SR0", pages.status0);
+    add_named_word(&mut text, "SR2", pages.status2);
+    add_page_words(&mut text, "KPDR", pages.kernel_descriptors);
+    add_page_words(&mut text, "KPAR", pages.kernel_addresses);
+    add_page_words(&mut text, "UPDR", pages.user_descriptors);
+    add_page_words(&mut text, "UPAR", pages.user_addresses);
+    add(&mut text, b"\n");
+    text
 }
 
 // The registers and the run state.

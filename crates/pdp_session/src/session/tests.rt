@@ -53,27 +53,6 @@ fn first_run(rt: HostRuntime) -> Result<(), Fail> {
 }
 
 #[test]
-fn a_key_one_turn_sooner(rt: HostRuntime) -> Result<(), Fail> {
-    let input =
-        b"core 1000 105737\ncore 1002 177560\ncore 1004 100375\ncore 1006 113701\ncore 1010 177562\ncore 1012 0\n\
-        at 4 key 101\nregs 7\nalter 1 5 key 101\nregs 7\nregs 9\ndrop 1\nregs 9\ndrop 1\nat 4 key 102\n";
-    let output = replies(rt.alloc(), input)?;
-    assert_eq!(rt;
-        output.as_slice(),
-        b"ok\nok\nok\nok\nok\nok\nevent 1\n\
-        R0 000000 R1 000101 R2 000000 R3 000000 R4 000000 R5 000000 KSP 000000 USP 000000 PC 001012 PS 000000 run\n\
-        ok\n\
-        R0 000000 R1 000000 R2 000000 R3 000000 R4 000000 R5 000000 KSP 000000 USP 000000 PC 001004 PS 000010 run\n\
-        R0 000000 R1 000101 R2 000000 R3 000000 R4 000000 R5 000000 KSP 000000 USP 000000 PC 001012 PS 000000 run\n\
-        ok\n\
-        R0 000000 R1 000000 R2 000000 R3 000000 R4 000000 R5 000000 KSP 000000 USP 000000 PC 001004 PS 000004 run\n\
-        refused 5 NoSuchEvent\nevent 2\n"
-            .as_slice()
-    );
-    Ok(())
-}
-
-#[test]
 fn patches_in_first_given_order(rt: HostRuntime) -> Result<(), Fail> {
     let input =
         b"patches\ncore 2 177777\ncore 757776 1\ncore 2 5\nuncore 4\npatches\nuncore 2\npatches\n\
@@ -127,22 +106,6 @@ fn words_of_core(rt: HostRuntime) -> Result<(), Fail> {
 }
 
 #[test]
-fn refused_words_of_core(rt: HostRuntime) -> Result<(), Fail> {
-    let input =
-        b"mem 1000000001 1001 0\nmem 0 760001 0\nmem 0 1000 257\nmem 0 1000 9999999999\nmem 0 757776 2\nmem 0 757777 2\n\
-        mem 0 760001 1\nmem 0 1001 1\nmem 0 757777 1\nmem 0 757776 1\nmem 0 1000\nmem 0 1008 1\nmem 0 1000 00000000001\n";
-    let output = replies(rt.alloc(), input)?;
-    assert_eq!(rt;
-        output.as_slice(),
-        b"refused 7 TurnTooLarge\nrefused 8 CountOutOfRange\nrefused 8 CountOutOfRange\nrefused 8 CountOutOfRange\n\
-        refused 2 OutsideCore\nrefused 2 OutsideCore\nrefused 2 OutsideCore\nrefused 3 OddAddress\nrefused 3 OddAddress\n\
-        mem 000000\nrefused 10 BadLine\nrefused 10 BadLine\nrefused 10 BadLine\n"
-            .as_slice()
-    );
-    Ok(())
-}
-
-#[test]
 fn tapes_and_delays(rt: HostRuntime) -> Result<(), Fail> {
     let input =
         b"tape\ntape 101 377\ntape 400\ntape 101 8\ndelay printer 3\ndelay reader 0\ndelay punch 1000000000\n\
@@ -171,14 +134,16 @@ fn longest_tape(rt: HostRuntime) -> Result<(), Fail> {
 }
 
 #[test]
-fn texts_and_devices(rt: HostRuntime) -> Result<(), Fail> {
+fn texts_devices_and_pages(rt: HostRuntime) -> Result<(), Fail> {
     let input =
-        b"text 0\npunched 0\ntext 1000000001\npunched 9999999999\ndevices 1000000001\ntext\npunched 0 0\ndevices x\n";
+        b"text 0\npunched 0\ntext 1000000001\npunched 9999999999\ndevices 1000000001\npages 1000000001\n\
+        text\npunched 0 0\ndevices x\npages 0 0\n";
     let output = replies(rt.alloc(), input)?;
     assert_eq!(rt;
         output.as_slice(),
-        b"text 0:\npunched 0:\nrefused 7 TurnTooLarge\nrefused 7 TurnTooLarge\nrefused 7 TurnTooLarge\n\
-        refused 10 BadLine\nrefused 10 BadLine\nrefused 10 BadLine\n"
+        b"text 0:\npunched 0:\n\
+        refused 7 TurnTooLarge\nrefused 7 TurnTooLarge\nrefused 7 TurnTooLarge\nrefused 7 TurnTooLarge\n\
+        refused 10 BadLine\nrefused 10 BadLine\nrefused 10 BadLine\nrefused 10 BadLine\n"
             .as_slice()
     );
     Ok(())
@@ -186,7 +151,7 @@ fn texts_and_devices(rt: HostRuntime) -> Result<(), Fail> {
 
 #[test]
 fn refusals(rt: HostRuntime) -> Result<(), Fail> {
-    let input = b"regs\nregs 9x\npages 0\nregs 1000000001\nregs 9999999999\nregs 00000000001\n\
+    let input = b"regs\nregs 9x\npage 0\nregs 1000000001\nregs 9999999999\nregs 00000000001\n\
         core 1001 0\ncore 777560 0\ncore 777561 0\ncore 1000 200000\nCORE 1000 0\nregs 0 0\n";
     let output = replies(rt.alloc(), input)?;
     assert_eq!(rt;

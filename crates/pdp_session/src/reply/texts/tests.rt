@@ -1,5 +1,5 @@
-use super::devices_text;
-use pdp_replay::DeviceRegisters;
+use super::{devices_text, pages_text};
+use pdp_replay::{DeviceRegisters, PageRegisters};
 
 #[test]
 fn devices(rt: HostRuntime) {
@@ -17,6 +17,28 @@ fn devices(rt: HostRuntime) {
         devices_text(devices).as_slice(),
         b"devices TKS 000200 TKB 000101 TPS 000300 LKS 000100 PRS 100200 PRB 000377 PPS 000001 \
         RKDS 000000 RKER 000000 RKCS 000000 RKWC 000000 RKBA 000000 RKDA 000000 SWR 177777\n"
+            .as_slice()
+    );
+}
+
+// Core's page and that of the registers are mapped for the kernel, and an abort of the user's first page is told.
+#[test]
+fn pages(rt: HostRuntime) {
+    let pages = PageRegisters {
+        status0: 0o20141,
+        status2: 0o1104,
+        kernel_descriptors: [0o77506, 0, 0, 0, 0, 0, 0, 0o77406],
+        kernel_addresses: [0, 0, 0, 0, 0, 0, 0, 0o7600],
+        user_descriptors: [0o77402, 0, 0, 0, 0, 0, 0, 0],
+        user_addresses: [0; 8],
+    };
+    assert_eq!(rt;
+        pages_text(pages).as_slice(),
+        b"pages SR0 020141 SR2 001104 \
+        KPDR 077506 000000 000000 000000 000000 000000 000000 077406 \
+        KPAR 000000 000000 000000 000000 000000 000000 000000 007600 \
+        UPDR 077402 000000 000000 000000 000000 000000 000000 000000 \
+        UPAR 000000 000000 000000 000000 000000 000000 000000 000000\n"
             .as_slice()
     );
 }
