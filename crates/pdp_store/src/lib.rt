@@ -1,8 +1,8 @@
 //! Stores: lists of 16-bit words, each with the stamp of the last write to it.
 //!
 //! It stands on pdp_word. The contract of [`Store`] says what each call answers and what it does to the list of
-//! words and to their last stamps; [`Flat`] keeps that contract in two arrays. Core is a store, and a drive will be
-//! one. Addresses, and which turn and agent a stamp names, it leaves to pdp_unibus.
+//! words and to their last stamps; [`Flat`] keeps that contract in two arrays. Core is a store, and so is each drive.
+//! Addresses, and which turn and agent a stamp names, it leaves to pdp_unibus and pdp_rk11.
 #![tactic(auto)]
 
 ghost use Rattle.std.specs.Prelude.{◌≡◌, ◌<◌, length, slice_index, slice_index_or, slice_set};
@@ -68,8 +68,8 @@ pub trait Store {
         requires { i < length (words self.now) }
         ensures { result ≡ slice_index_or (lasts self.now) i None };
 
-    /// Makes word `i` equal to `w` and takes its stamp away: for what an image, a patch or a copy
-    /// puts there, which is no write of the machine.
+    /// Makes word `i` equal to `w` and takes its stamp away: for what an image or a patch puts there,
+    /// which is no write of the machine, and for what the disk writes to a drive, which has no stamps.
     fn set(&mut self, i: usize, w: u16)
         requires { i < length (words self.old) }
         ensures words { words self.new ≡ slice_set (words self.old) i w }

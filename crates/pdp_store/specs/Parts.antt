@@ -1,0 +1,26 @@
+-- The words of core and of the drives, by the part where they are. No rule of the handbook is here.
+use Rattle.std.specs.Prelude.{ℕ, ◌≡◌, ◌≢◌, ◌/◌, List, [], length, slice_index, slice_index_or, slice_set}
+use Rattle.pdp_store.specs.Touch.{Part, Core, Drive}
+
+-- the words of a part: none of a drive that isn't there
+abbrev pub words_in : Part → List ℕ → List (List ℕ) → List ℕ
+words_in Core core drives = core
+words_in (Drive number) core drives = slice_index_or drives number []
+
+-- core, and the drives, where the words of a part are these
+abbrev pub core_with : Part → List ℕ → List ℕ → List ℕ
+core_with Core words core = words
+core_with (Drive number) words core = core
+
+abbrev pub drives_with : Part → List ℕ → List (List ℕ) → List (List ℕ)
+drives_with Core words drives = drives
+drives_with (Drive number) words drives = slice_set drives number words
+
+-- two lists of words that differ at most in this page of 256 words
+pub record AlikeWords (page : ℕ) (xs ys : List ℕ) : Type 0 where
+  pub size : length ys ≡ length xs
+  pub words : (k : ℕ) → k / 256 ≢ page → slice_index ys k ≡ slice_index xs k
+
+-- two lists with the same words in this page
+abbrev pub SameWords : ℕ → List ℕ → List ℕ → Type 0
+SameWords page xs ys = (k : ℕ) → k / 256 ≡ page → slice_index xs k ≡ slice_index ys k
