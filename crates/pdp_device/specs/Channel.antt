@@ -1,5 +1,5 @@
--- Ready, enable and the request of a device: PDP-11 Peripherals Handbook, KL11 and PC11 (when a request appears and
--- goes is this project's profile).
+-- Ready, enable and the request of a device: PDP-11 Peripherals Handbook, KL11, PC11 and RK11 (when a request appears
+-- and goes is this project's profile).
 use Rattle.std.specs.Prelude.{ℕ, ◌+◌, ◌*◌, Bool, false, ◌&&◌}
 use Rattle.pdp_word.specs.Bits.{bit_of, has_bit}
 use Rattle.pdp_word.specs.Request.{request_after}

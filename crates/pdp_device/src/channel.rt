@@ -4,7 +4,7 @@ use pdp_word::{bit_of, has_bit, request_after};
 
 /// Ready, enable and the request of a device that interrupts where ready and enable are both set.
 ///
-/// PDP-11 Peripherals Handbook, KL11 and PC11.
+/// PDP-11 Peripherals Handbook, KL11, PC11 and RK11.
 #[derive(Clone, Copy, Debug, PartialEq, Eq, Default)]
 pub struct Channel {
     /// Bit 7 of the status: the device is ready, or done.

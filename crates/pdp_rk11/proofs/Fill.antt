@@ -1,0 +1,27 @@
+-- Moves past the end of a list go nowhere.
+use Rattle.std.proofs.Common.{◌≡◌, ℕ, ◌-◌, ◌<◌, min, List, length, get_or, arith, ap, sym, ◌∙◌}
+use Rattle.std.proofs.lemmas.Bool.Decides.{nat_tests}
+use Rattle.std.proofs.lemmas.List.{same_lists}
+use Rattle.pdp_rk11.specs.Moves.{item_after, moved}
+use Rattle.pdp_rk11.proofs.Moves.{get_or-moved, length-moved}
+
+same_item : {A : Type 0} (first n size : ℕ) (value : ℕ → A) (k : ℕ) (x : A) → k < size
+    → item_after first (min n (size - first)) value k x ≡ item_after first n value k x
+same_item first n size value k x within = grind (arith, nat_tests)
+
+pub moved_within : {A : Type 0} (first n : ℕ) (value : ℕ → A) (xs : List A)
+    → moved first (min n (length xs - first)) value xs ≡ moved first n value xs
+moved_within first n value xs =
+    let less = min n (length xs - first) in
+    same_lists (moved first less value xs) (moved first n value xs)
+    (length-moved first less value xs ∙ sym (length-moved first n value xs))
+    (λ k d within.
+    let inside : k < length xs = omega (arith, length-moved first less value xs) in
+    get_or-moved first less value xs k d inside
+    ∙ same_item first n (length xs) value k (get_or xs k d) inside
+    ∙ sym (get_or-moved first n value xs k d inside))
+
+-- a list into which as many items were moved as have room
+pub moved_as_far : {A : Type 0} (first n done : ℕ) (value : ℕ → A) (xs ys : List A) → ys ≡ moved first done value xs
+    → done ≡ min n (length xs - first) → ys ≡ moved first n value xs
+moved_as_far first n done value xs ys is far = is ∙ ap (λ k. moved first k value xs) far ∙ moved_within first n value xs

@@ -1,0 +1,16 @@
+pub mod AlikeEnds
+pub mod AlikeMoves
+pub mod CompletionPages
+pub mod CompletionPairs
+pub mod CompletionSizes
+pub mod CompletionStamps
+pub mod CompletionTouches
+pub mod Done
+pub mod Fill
+pub mod Fronts
+pub mod Moves
+pub mod Names
+pub mod ReadLaws
+pub mod Readiness
+pub mod StatusLaws
+pub mod WriteLaws

@@ -1,0 +1,170 @@
+-- The completion of a function of the RK11: PDP-11 Peripherals Handbook, RK11 (that it is one act, the order of its tests,
+-- and where registers are left are this project's profile).
+use Rattle.std.specs.Prelude.{ℕ, ◌+◌, ◌-◌, ◌*◌, ◌/◌, ◌%◌, ◌==◌, nat_lt, min, Bool, true, false, not, ◌&&◌, ◌||◌, List, [], Option, Some, None, length, slice_index_or, slice_set, if◌then◌else◌}
+use Rattle.pdp_device.specs.Channel.{with_ready}
+use Rattle.pdp_device.specs.Operation.{is_under_way}
+use Rattle.pdp_device.specs.declared.operation.Operation.TheVariants.{Idle}
+use Rattle.pdp_store.specs.declared.Agent.TheVariants.{Disk}
+use Rattle.pdp_store.specs.declared.Stamp.{Stamp}
+use Rattle.pdp_rk11.specs.Geometry.{address_of_sector, cylinder_in, cylinders, drive_in, sector_in, sector_number, sectors_of_track, words_of_sector}
+use Rattle.pdp_rk11.specs.Rk.{is_locked}
+use Rattle.pdp_rk11.specs.Transfer.{core_read, disk_written, is_different, lasts_read}
+use Rattle.pdp_rk11.specs.declared.function.Function.{Function}
+use Rattle.pdp_rk11.specs.declared.function.Function.TheVariants.{ControlReset, Write, Read, WriteCheck, Seek, ReadCheck, DriveReset, WriteLock}
+use Rattle.pdp_rk11.specs.declared.failure.Failure.{Failure}
+use Rattle.pdp_rk11.specs.declared.failure.Failure.TheVariants.{NoDrive, NoCylinder, NoSector, NoMemory, WriteLocked, Overrun}
+use Rattle.pdp_rk11.specs.declared.rk.Rk.{Rk}
+use Rattle.pdp_rk11.specs.declared.transfer.Transfer.{Transfer}
+
+-- the controller, core with its last stamps, and the words of each drive
+pub record DiskWorld : Type 0 where
+  pub rk : Rk
+  pub core : List ℕ
+  pub lasts : List (Option Stamp)
+  pub drives : List (List ℕ)
+
+abbrev pub disk_world : Rk → List ℕ → List (Option Stamp) → List (List ℕ) → DiskWorld
+disk_world rk core lasts drives = record { rk = rk; core = core; lasts = lasts; drives = drives }
+
+abbrev pub with_rk : DiskWorld → Rk → DiskWorld
+with_rk w rk = record w { rk = rk }
+
+-- which functions name a sector: write, read, write check, seek and read check
+abbrev pub names_sector : Function → Bool
+names_sector Write = true
+names_sector Read = true
+names_sector WriteCheck = true
+names_sector Seek = true
+names_sector ReadCheck = true
+names_sector _ = false
+
+abbrev pub is_write : Function → Bool
+is_write Write = true
+is_write _ = false
+
+abbrev pub is_write_check : Function → Bool
+is_write_check WriteCheck = true
+is_write_check _ = false
+
+abbrev pub is_read_check : Function → Bool
+is_read_check ReadCheck = true
+is_read_check _ = false
+
+-- why a function can't be done with so many drives, if so: of the drive, the cylinder, the sector and the write lock the
+-- first that is amiss
+unfoldable pub refusal : Rk → ℕ → Option Failure
+refusal rk drives = (
+    if not (nat_lt (drive_in rk.disk_address) drives) then Some NoDrive else
+    if names_sector rk.function && not (nat_lt (cylinder_in rk.disk_address) cylinders) then Some NoCylinder else
+    if names_sector rk.function && not (nat_lt (sector_in rk.disk_address) sectors_of_track) then Some NoSector else
+    if is_write rk.function && is_locked rk then Some WriteLocked else None)
+
+-- the word of core at a bus address of 18 bits
+abbrev pub core_word_at : ℕ → ℕ
+core_word_at address = address % 0o1000000 / 2
+
+-- how many words were asked for: RKWC counts up to 0, and 0 at the start is 65,536
+abbrev pub words_asked : Rk → ℕ
+words_asked rk = 0o200000 - rk.word_count
+
+-- how many of them come before an address outside a core of so many words; a read check asks for no address
+abbrev pub within_core : Rk → ℕ → ℕ
+within_core rk words = (
+    if is_read_check rk.function || rk.no_increment && nat_lt (core_word_at rk.address) words then words_asked rk
+    else words - core_word_at rk.address)
+
+-- the first word of the sector that RKDA names
+abbrev pub first_disk_word : Rk → ℕ
+first_disk_word rk = sector_number rk.disk_address * words_of_sector
+
+-- what is done: the least of the words asked for, those left on a drive of this size, and those before an address outside
+-- core
+unfoldable pub transfer_of : Rk → ℕ → ℕ → Transfer
+transfer_of rk words size = record {
+  no_increment = rk.no_increment;
+  core_start = core_word_at rk.address;
+  disk_start = first_disk_word rk;
+  count = min (words_asked rk) (min (size - first_disk_word rk) (within_core rk words));
+}
+
+-- why it stopped before its end, if it did
+abbrev pub stop_of : ℕ → ℕ → ℕ → Option Failure
+stop_of count asked left = if count == asked then None else if count == left then Some Overrun else Some NoMemory
+
+-- where the bus address is left: after the last word done, unless it is not to be incremented, or a read check
+abbrev pub address_after : Rk → Transfer → ℕ
+address_after rk t = if rk.no_increment || is_read_check rk.function then t.core_start * 2 else (t.core_start + t.count) * 2
+
+-- where the disk address is left: at the sector after the last one in which a word was done
+abbrev pub disk_address_after : ℕ → Transfer → ℕ
+disk_address_after address t =
+    if t.count == 0 then address else address_of_sector (drive_in address) ((t.disk_start + t.count - 1) / words_of_sector + 1)
+
+-- the registers after a transfer with a drive of this size, and whether a write check differed
+unfoldable pub registers_after : ℕ → Transfer → Bool → Rk → Rk
+registers_after size t different rk = record rk {
+  word_count = (rk.word_count + t.count) % 0o200000;
+  address = address_after rk t;
+  disk_address = disk_address_after rk.disk_address t;
+  write_check = different;
+  failure = stop_of t.count (words_asked rk) (size - t.disk_start);
+}
+
+-- the drive that RKDA names
+abbrev pub drive_of : DiskWorld → List ℕ
+drive_of w = slice_index_or w.drives (drive_in w.rk.disk_address) []
+
+abbrev pub stamp_of_disk : ℕ → Stamp
+stamp_of_disk turn = record { turn = turn; agent = Disk }
+
+-- core and drives after a transfer: a read leaves core's words stamped, a write the drive's, a check none
+abbrev pub lists_after : Function → Transfer → ℕ → DiskWorld → DiskWorld
+lists_after Read t turn w = record w {
+  core = core_read t (drive_of w) w.core;
+  lasts = lasts_read t (stamp_of_disk turn) w.lasts;
+}
+lists_after Write t turn w =
+    record w { drives = slice_set w.drives (drive_in w.rk.disk_address) (disk_written t w.core (drive_of w)) }
+lists_after _ t turn w = w
+
+abbrev pub after_transfer : Transfer → ℕ → DiskWorld → DiskWorld
+after_transfer t turn w =
+    with_rk (lists_after w.rk.function t turn w)
+    (registers_after (length (drive_of w)) t (is_write_check w.rk.function && is_different t w.core (drive_of w)) w.rk)
+
+unfoldable pub transferred : ℕ → DiskWorld → DiskWorld
+transferred turn w = after_transfer (transfer_of w.rk (length w.core) (length (drive_of w))) turn w
+
+abbrev pub searched : Rk → Rk
+searched rk = record rk { search_complete = true }
+
+-- write lock: for good
+abbrev pub write_locked : Rk → Rk
+write_locked rk = record rk { locked = slice_set rk.locked (drive_in rk.disk_address) true }
+
+-- what a function does that nothing forbids
+abbrev pub worked : Function → ℕ → DiskWorld → DiskWorld
+worked ControlReset turn w = w
+worked Seek turn w = with_rk w (searched w.rk)
+worked DriveReset turn w = with_rk w (searched w.rk)
+worked WriteLock turn w = with_rk w (write_locked w.rk)
+worked _ turn w = transferred turn w
+
+abbrev pub failed : Failure → Rk → Rk
+failed failure rk = record rk { failure = Some failure }
+
+abbrev pub performed : Option Failure → ℕ → DiskWorld → DiskWorld
+performed (Some failure) turn w = with_rk w (failed failure w.rk)
+performed None turn w = worked w.rk.function turn w
+
+-- ready again
+abbrev pub finished : Rk → Rk
+finished rk = record rk { operation = Idle; channel = with_ready true rk.channel }
+
+abbrev pub finished_world : DiskWorld → DiskWorld
+finished_world w = with_rk w (finished w.rk)
+
+-- the completion of what is under way, in this turn; where nothing is under way it does nothing
+unfoldable pub completed : ℕ → DiskWorld → DiskWorld
+completed turn w =
+    if is_under_way w.rk.operation then finished_world (performed (refusal w.rk (length w.drives)) turn w) else w

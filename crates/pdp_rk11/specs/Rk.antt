@@ -1,0 +1,183 @@
+-- The RK11's registers: PDP-11 Peripherals Handbook, RK11 (that functions are begun, and registers written, while ready
+-- alone, and what control reset and RESET leave are this project's profile).
+use Rattle.std.specs.Prelude.{ℕ, ◌+◌, ◌*◌, ◌==◌, nat_lt, Bool, true, false, ◌||◌, Option, Some, None, List, [], ◌∷◌, slice_index_or, if◌then◌else◌}
+use Rattle.pdp_word.specs.Bits.{bit_of, field, has_bit}
+use Rattle.pdp_device.specs.Channel.{channel_served, channel_status, channel_with, enable_written, quiet_channel}
+use Rattle.pdp_device.specs.Operation.{begun_operation}
+use Rattle.pdp_device.specs.declared.operation.Operation.TheVariants.{Idle}
+use Rattle.pdp_rk11.specs.Geometry.{drive_in}
+use Rattle.pdp_rk11.specs.declared.function.Function.{Function}
+use Rattle.pdp_rk11.specs.declared.function.Function.TheVariants.{ControlReset, Write, Read, WriteCheck, Seek, ReadCheck, DriveReset, WriteLock}
+use Rattle.pdp_rk11.specs.declared.failure.Failure.{Failure}
+use Rattle.pdp_rk11.specs.declared.failure.Failure.TheVariants.{NoDrive, NoCylinder, NoSector, NoMemory, WriteLocked, Overrun}
+use Rattle.pdp_rk11.specs.declared.register.RkRegister.{RkRegister}
+use Rattle.pdp_rk11.specs.declared.register.RkRegister.TheVariants.{DriveStatus, Error, Control, WordCount, BusAddress, DiskAddress}
+use Rattle.pdp_rk11.specs.declared.rk.Rk.{Rk}
+
+-- the registers by the bytes from the first one
+abbrev pub rk_register_at : ℕ → Option RkRegister
+rk_register_at offset = (
+    if offset == 0 then Some DriveStatus else
+    if offset == 2 then Some Error else
+    if offset == 4 then Some Control else
+    if offset == 6 then Some WordCount else
+    if offset == 0o10 then Some BusAddress else
+    if offset == 0o12 then Some DiskAddress else None)
+
+-- the functions by their codes, bits 3-1 of RKCS
+abbrev pub function_of : ℕ → Function
+function_of code = (
+    if code == 0 then ControlReset else
+    if code == 1 then Write else
+    if code == 2 then Read else
+    if code == 3 then WriteCheck else
+    if code == 4 then Seek else
+    if code == 5 then ReadCheck else
+    if code == 6 then DriveReset else WriteLock)
+
+abbrev pub code_of : Function → ℕ
+code_of ControlReset = 0
+code_of Write = 1
+code_of Read = 2
+code_of WriteCheck = 3
+code_of Seek = 4
+code_of ReadCheck = 5
+code_of DriveReset = 6
+code_of WriteLock = 7
+
+-- the bit of RKER by which a failure is told: 5 no sector, 6 no cylinder, 7 no drive, 10 no memory, 13 write locked,
+-- 14 overrun
+abbrev pub failure_bit : Failure → ℕ
+failure_bit NoSector = 0o40
+failure_bit NoCylinder = 0o100
+failure_bit NoDrive = 0o200
+failure_bit NoMemory = 0o2000
+failure_bit WriteLocked = 0o20000
+failure_bit Overrun = 0o40000
+
+abbrev pub has_failed : Option Failure → Bool
+has_failed None = false
+has_failed (Some failure) = true
+
+abbrev pub failure_bits : Option Failure → ℕ
+failure_bits None = 0
+failure_bits (Some failure) = failure_bit failure
+
+-- as RESET leaves it: ready, not enabled, nothing under way, no function, no error, and word count, bus address and disk
+-- address 0; the write locks stay
+abbrev pub rk_reset : Rk → Rk
+rk_reset rk = record {
+  channel = quiet_channel true;
+  function = ControlReset;
+  no_increment = false;
+  search_complete = false;
+  write_check = false;
+  failure = None;
+  word_count = 0;
+  address = 0;
+  disk_address = 0;
+  locked = rk.locked;
+  operation = Idle;
+}
+
+-- no drive is locked
+abbrev pub no_locks : List Bool
+no_locks = false ∷ false ∷ false ∷ false ∷ false ∷ false ∷ false ∷ false ∷ []
+
+-- at power-up: as RESET leaves it, with no drive locked
+abbrev pub quiet_rk : Rk
+quiet_rk = record {
+  channel = quiet_channel true;
+  function = ControlReset;
+  no_increment = false;
+  search_complete = false;
+  write_check = false;
+  failure = None;
+  word_count = 0;
+  address = 0;
+  disk_address = 0;
+  locked = no_locks;
+  operation = Idle;
+}
+
+-- whether the drive that a disk address names is locked
+abbrev pub is_locked : Rk → Bool
+is_locked rk = slice_index_or rk.locked (drive_in rk.disk_address) false
+
+-- RKDS of a controller with so many drives: 0 where the drive that RKDA names isn't there; else 4700, and bit 5 where it is
+-- locked
+abbrev pub drive_status : ℕ → Rk → ℕ
+drive_status drives rk = if nat_lt (drive_in rk.disk_address) drives then 0o4700 + bit_of (is_locked rk) * 0o40 else 0
+
+-- RKER: bit 0 is the write check's
+abbrev pub error_word : Rk → ℕ
+error_word rk = failure_bits rk.failure + bit_of rk.write_check
+
+-- RKCS: 15 error, 14 hard error, 13 search complete, 11 no increment, 7 ready, 6 enable, 5-4 bits 17-16 of the bus
+-- address, 3-1 function; go, bit 0, reads 0
+abbrev pub control_word : Rk → ℕ
+control_word rk =
+    bit_of (has_failed rk.failure || rk.write_check) * 0o100000 + bit_of (has_failed rk.failure) * 0o40000
+    + bit_of rk.search_complete * 0o20000 + bit_of rk.no_increment * 0o4000 + channel_status rk.channel
+    + field 16 2 rk.address * 0o20 + code_of rk.function * 2
+
+-- what a read gives, with so many drives; no read has an effect
+abbrev pub rk_value : RkRegister → ℕ → Rk → ℕ
+rk_value DriveStatus drives rk = drive_status drives rk
+rk_value Error drives rk = error_word rk
+rk_value Control drives rk = control_word rk
+rk_value WordCount drives rk = rk.word_count
+rk_value BusAddress drives rk = field 0 16 rk.address
+rk_value DiskAddress drives rk = rk.disk_address
+
+-- bits 11 and 5-1 of a word written to RKCS: the function, bits 17-16 of the bus address, and no increment
+abbrev pub with_command : ℕ → Rk → Rk
+with_command word rk = record rk {
+  function = function_of (field 1 3 word);
+  address = field 4 2 word * 0o200000 + field 0 16 rk.address;
+  no_increment = has_bit 11 word;
+}
+
+-- a function begins, but for control reset: ready, the errors and search complete are cleared
+abbrev pub begun_function : ℕ → ℕ → ℕ → Rk → Rk
+begun_function word turn delay rk = record (with_command word rk) {
+  channel = channel_with false (has_bit 6 word) rk.channel;
+  search_complete = false;
+  write_check = false;
+  failure = None;
+  operation = begun_operation turn delay;
+}
+
+-- go with this function, while ready: control reset acts at once
+abbrev pub gone_with : Function → ℕ → ℕ → ℕ → Rk → Rk
+gone_with ControlReset word turn delay rk = rk_reset rk
+gone_with _ word turn delay rk = begun_function word turn delay rk
+
+-- a word written to RKCS while ready, without go or with it
+abbrev pub commanded : ℕ → ℕ → ℕ → Rk → Rk
+commanded word turn delay rk =
+    if has_bit 0 word then gone_with (function_of (field 1 3 word)) word turn delay rk
+    else record (with_command word rk) { channel = enable_written word rk.channel }
+
+-- a word written to RKCS; while not ready it sets or clears enable alone
+abbrev pub control_written : ℕ → ℕ → ℕ → Rk → Rk
+control_written word turn delay rk =
+    if rk.channel.ready then commanded word turn delay rk else record rk { channel = enable_written word rk.channel }
+
+-- what is written while ready alone
+abbrev pub while_ready : Rk → Rk → Rk
+while_ready written rk = if rk.channel.ready then written else rk
+
+-- what a write of a word does in a turn, with the delay of the disk; RKDS and RKER can't be written
+unfoldable pub rk_written : RkRegister → ℕ → ℕ → ℕ → Rk → Rk
+rk_written DriveStatus word turn delay rk = rk
+rk_written Error word turn delay rk = rk
+rk_written Control word turn delay rk = control_written word turn delay rk
+rk_written WordCount word turn delay rk = while_ready (record rk { word_count = word }) rk
+rk_written BusAddress word turn delay rk =
+    while_ready (record rk { address = field 16 2 rk.address * 0o200000 + word }) rk
+rk_written DiskAddress word turn delay rk = while_ready (record rk { disk_address = word }) rk
+
+-- the request is served: it goes, and nothing else changes
+abbrev pub rk_served : Rk → Rk
+rk_served rk = record rk { channel = channel_served rk.channel }

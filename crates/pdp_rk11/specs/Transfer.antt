@@ -1,0 +1,41 @@
+-- A transfer between core and a drive, as one equation over both lists: PDP-11 Peripherals Handbook, RK11 (the zero fill of
+-- a sector is this project's profile).
+use Rattle.std.specs.Prelude.{ℕ, ◌+◌, ◌-◌, ◌*◌, ◌/◌, ◌==◌, Bool, not, List, Option, Some, slice_index, if◌then◌else◌}
+use Rattle.pdp_store.specs.declared.Stamp.{Stamp}
+use Rattle.pdp_rk11.specs.Moves.{any_below, moved, moved_to_one}
+use Rattle.pdp_rk11.specs.declared.transfer.Transfer.{Transfer}
+
+-- the word of core, and the word of the drive, of move i: counted from 0, below the transfer's count
+abbrev pub core_word : Transfer → ℕ → ℕ
+core_word t i = if t.no_increment then t.core_start else t.core_start + i
+
+abbrev pub disk_word : Transfer → ℕ → ℕ
+disk_word t i = t.disk_start + i
+
+-- a list of core's length with a value moved to the word of core of each move: where many go to one word, the last stays
+abbrev pub moved_to_core : {A : Type 0} → Transfer → (ℕ → A) → List A → List A
+moved_to_core t value xs =
+    if t.no_increment then moved_to_one t.core_start t.count value xs else moved t.core_start t.count value xs
+
+-- core, and its stamps, after a read
+abbrev pub core_read : Transfer → List ℕ → List ℕ → List ℕ
+core_read t disk core = moved_to_core t (λ i. slice_index disk (disk_word t i)) core
+
+abbrev pub lasts_read : Transfer → Stamp → List (Option Stamp) → List (Option Stamp)
+lasts_read t stamp lasts = moved_to_core t (λ i. Some stamp) lasts
+
+-- how many words are left of the sector in which it ends, where it ends inside of one
+abbrev pub rest_of_sector : Transfer → ℕ
+rest_of_sector t = (t.count + 255) / 256 * 256 - t.count
+
+-- the drive after a write: the words moved there, and zeros to the end of the last sector
+abbrev pub moved_to_disk : Transfer → List ℕ → List ℕ → List ℕ
+moved_to_disk t core disk = moved t.disk_start t.count (λ i. slice_index core (core_word t i)) disk
+
+abbrev pub disk_written : Transfer → List ℕ → List ℕ → List ℕ
+disk_written t core disk = moved (disk_word t t.count) (rest_of_sector t) (λ i. 0) (moved_to_disk t core disk)
+
+-- whether core and drive differ in any of the words that are compared
+abbrev pub is_different : Transfer → List ℕ → List ℕ → Bool
+is_different t core disk =
+    any_below t.count (λ i. not (slice_index core (core_word t i) == slice_index disk (disk_word t i)))

@@ -1,0 +1,270 @@
+//! The completion of what is under way, as one act.
+
+ghost use Rattle.std.specs.Prelude.{◌≡◌, ℕ, ◌+◌, ◌*◌, ◌<◌, ◌≤◌, ◌-◌, true, false, ◌&&◌, length, map};
+ghost use Rattle.pdp_rk11.specs.Completion.{address_after, completed, disk_address_after, disk_world, drive_of};
+ghost use Rattle.pdp_rk11.specs.Completion.{finished, is_read_check, is_write_check, lists_after, names_sector};
+ghost use Rattle.pdp_rk11.specs.Completion.{performed, refusal, registers_after, stop_of, transfer_of, transferred};
+ghost use Rattle.pdp_rk11.specs.Completion.{core_word_at, within_core, worked, words_asked, write_locked};
+ghost use Rattle.pdp_rk11.specs.Geometry.{drive_in, sector_number};
+ghost use Rattle.pdp_rk11.specs.Transfer.{core_word, disk_word, is_different};
+
+use crate::geometry::{
+    WORDS_OF_SECTOR, address_of_sector, has_cylinder, has_sector, sector_number,
+};
+use crate::transfer::Transfer;
+use crate::{Failure, Function, Rk};
+use pdp_device::Operation;
+use pdp_store::{Agent, Stamp, Store};
+use pdp_word::field;
+
+impl Rk {
+    /// The function that is under way is done in this turn, as one act over core and the drives, numbered from 0 on:
+    /// words move or are compared, the registers tell how it ended, and the controller is ready again. Where none is
+    /// under way, nothing happens.
+    ///
+    /// RKER tells the first of these that holds, and then nothing is moved: no drive where the drive isn't there; no
+    /// cylinder, then no sector, where write, read, write check, seek or read check names one that no drive has; write
+    /// locked where a locked drive would be written. It tells of a transfer that stops before its count is up: overrun
+    /// past the last sector of the drive, else no memory at an address outside core, which no read check asks for. A
+    /// write check sets bit 0 where any word differs.
+    ///
+    /// Words read into core take the stamp of this turn and of the disk. A write fills the rest of its last sector with
+    /// zeros.
+    ///
+    /// PDP-11 Peripherals Handbook, RK11; that it is one act, the order of the tests, the fill, and where the registers
+    /// are left, are this project's profile.
+    #[tactic(auto, unfolding(crate::specs::Completion::completed), using(crate::proofs::Names::map_length))]
+    pub fn complete<S: Store>(&mut self, core: &mut S, drives: &mut [S], turn: u32)
+        ensures { disk_world self.new (S.words core.new) (S.lasts core.new) (map S.words drives.new)
+            ≡ completed turn (disk_world self.old (S.words core.old) (S.lasts core.old) (map S.words drives.old)) }
+    {
+        if self.operation.is_under_way() {
+            self.perform(core, drives, turn);
+            self.finish();
+        }
+    }
+
+    // Ready again.
+    fn finish(&mut self)
+        ensures { self.new ≡ finished self.old }
+    {
+        self.channel.set_ready(true);
+        self.operation = Operation::Idle;
+    }
+
+    // What is under way, or why it can't be done.
+    fn perform<S: Store>(&mut self, core: &mut S, drives: &mut [S], turn: u32)
+        ensures { disk_world self.new (S.words core.new) (S.lasts core.new) (map S.words drives.new)
+            ≡ performed (refusal self.old (length drives.old)) turn
+            (disk_world self.old (S.words core.old) (S.lasts core.old) (map S.words drives.old)) }
+    {
+        match self.refusal(drives.len()) {
+            Some(failure) => self.failure = Some(failure),
+            None => self.work(core, drives, turn),
+        }
+    }
+
+    // Why the function can't be done with so many drives, if so.
+    #[tactic(auto, unfolding(crate::specs::Completion::refusal))]
+    fn refusal(&self, drives: usize) -> Option<Failure>
+        ensures value { result ≡ refusal self.now drives }
+        ensures drive { result ≡ None → drive_in self.now.disk_address < drives }
+        ensures sector { result ≡ None → names_sector self.now.function ≡ true → sector_number self.now.disk_address < 4872 }
+    {
+        if self.drive() >= drives {
+            Some(Failure::NoDrive)
+        } else if self.function.names_sector() && !has_cylinder(self.disk_address) {
+            Some(Failure::NoCylinder)
+        } else if self.function.names_sector() && !has_sector(self.disk_address) {
+            Some(Failure::NoSector)
+        } else if self.function == Function::Write && self.is_locked() {
+            Some(Failure::WriteLocked)
+        } else {
+            None
+        }
+    }
+
+    // What the function does, where nothing forbids it.
+    fn work<S: Store>(&mut self, core: &mut S, drives: &mut [S], turn: u32)
+        requires drive { drive_in self.old.disk_address < length drives.old }
+        requires sector { names_sector self.old.function ≡ true → sector_number self.old.disk_address < 4872 }
+        ensures { disk_world self.new (S.words core.new) (S.lasts core.new) (map S.words drives.new)
+            ≡ worked self.old.function turn
+            (disk_world self.old (S.words core.old) (S.lasts core.old) (map S.words drives.old)) }
+    {
+        match self.function {
+            Function::ControlReset => {}
+            Function::Seek | Function::DriveReset => self.search_complete = true,
+            Function::WriteLock => self.lock(),
+            Function::Write | Function::Read | Function::WriteCheck | Function::ReadCheck => {
+                self.transfer(core, drives, turn)
+            }
+        }
+    }
+
+    // The drive that RKDA names is locked, for good.
+    fn lock(&mut self)
+        ensures { self.new ≡ write_locked self.old }
+    {
+        let drive = self.drive();
+        self.locked[drive] = true;
+    }
+
+    // Words are moved or compared.
+    #[tactic(auto, unfolding(crate::specs::Completion::transferred), using(crate::proofs::Names::map_get))]
+    fn transfer<S: Store>(&mut self, core: &mut S, drives: &mut [S], turn: u32)
+        requires drive { drive_in self.old.disk_address < length drives.old }
+        requires sector { sector_number self.old.disk_address < 4872 }
+        ensures { disk_world self.new (S.words core.new) (S.lasts core.new) (map S.words drives.new)
+            ≡ transferred turn (disk_world self.old (S.words core.old) (S.lasts core.old) (map S.words drives.old)) }
+    {
+        let size = drives[self.drive()].len();
+        let transfer = self.transfer_of(core.len(), size);
+        let different = self.move_words(transfer, core, drives, turn);
+        self.end_transfer(size, transfer, different);
+    }
+
+    // The words of a transfer, with so many words of core and with a drive of this size (words).
+    #[tactic(auto, unfolding(crate::specs::Completion::transfer_of))]
+    fn transfer_of(&self, words: usize, size: usize) -> Transfer
+        requires { sector_number self.now.disk_address < 4872 }
+        ensures value { result ≡ transfer_of self.now words size }
+        ensures on_disk { (i : ℕ) → i < result.count → disk_word result i < size }
+        ensures in_core { is_read_check self.now.function ≡ false → (i : ℕ) → i < result.count → core_word result i < words }
+        ensures count { result.count ≤ 65536 }
+        ensures core_start { result.core_start < 131072 }
+        ensures disk_start { result.disk_start < 4872 * 256 }
+    {
+        let disk_start = sector_number(self.disk_address) * WORDS_OF_SECTOR;
+        let left = size.saturating_sub(disk_start as usize);
+        let asked = self.words_asked() as usize;
+        let count = asked.min(left.min(self.within_core(words)));
+        Transfer {
+            no_increment: self.no_increment,
+            core_start: self.core_word(),
+            disk_start,
+            count: count as u32,
+        }
+    }
+
+    // The number of the word of core at the bus address.
+    fn core_word(&self) -> u32
+        ensures { result ≡ core_word_at self.now.address }
+    {
+        self.address % 0o1000000 / 2
+    }
+
+    // How many words were asked for.
+    fn words_asked(&self) -> u32
+        ensures { result ≡ words_asked self.now }
+    {
+        0o200000 - u32::from(self.word_count)
+    }
+
+    // How many of the words asked for come before an address outside a core of so many words.
+    fn within_core(&self, words: usize) -> usize
+        ensures { result ≡ within_core self.now words }
+    {
+        let start = self.core_word() as usize;
+        if self.function == Function::ReadCheck || self.no_increment && start < words {
+            self.words_asked() as usize
+        } else {
+            words.saturating_sub(start)
+        }
+    }
+
+    // Moves or compares the words. Whether a write check found words that differ.
+    #[tactic(auto, using(crate::proofs::Names::map_get, crate::proofs::Names::map_with))]
+    fn move_words<S: Store>(
+        &self,
+        transfer: Transfer,
+        core: &mut S,
+        drives: &mut [S],
+        turn: u32,
+    ) -> bool
+        requires drive { drive_in self.now.disk_address < length drives.old }
+        requires on_disk { (i : ℕ) → i < transfer.count
+            → disk_word transfer i < length (drive_of (disk_world self.now (S.words core.old) (S.lasts core.old) (map S.words drives.old))) }
+        requires in_core { is_read_check self.now.function ≡ false → (i : ℕ) → i < transfer.count → core_word transfer i < length (S.words core.old) }
+        ensures words { disk_world self.now (S.words core.new) (S.lasts core.new) (map S.words drives.new)
+            ≡ lists_after self.now.function transfer turn
+            (disk_world self.now (S.words core.old) (S.lasts core.old) (map S.words drives.old)) }
+        ensures different { result
+            ≡ (is_write_check self.now.function
+            && is_different transfer (S.words core.old)
+            (drive_of (disk_world self.now (S.words core.old) (S.lasts core.old) (map S.words drives.old)))) }
+    {
+        let drive = self.drive();
+        match self.function {
+            Function::Read => {
+                let agent = Agent::Disk;
+                transfer.read(core, &drives[drive], Stamp { turn, agent });
+                false
+            }
+            Function::Write => {
+                transfer.write(core, &mut drives[drive]);
+                false
+            }
+            Function::WriteCheck => transfer.is_different(core, &drives[drive]),
+            _ => false,
+        }
+    }
+
+    // The registers tell how the transfer with a drive of this size (words) ended, and whether a write check differed.
+    #[tactic(auto, unfolding(crate::specs::Completion::registers_after))]
+    fn end_transfer(&mut self, size: usize, transfer: Transfer, different: bool)
+        requires count { transfer.count ≤ 65536 }
+        requires core_start { transfer.core_start < 131072 }
+        requires disk_start { transfer.disk_start < 4872 * 256 }
+        ensures { self.new ≡ registers_after size transfer different self.old }
+    {
+        *self = Rk {
+            word_count: ((u32::from(self.word_count) + transfer.count) % 0o200000) as u16,
+            address: self.address_after(transfer),
+            disk_address: self.disk_address_after(transfer),
+            write_check: different,
+            failure: self.stop_of(transfer, size),
+            ..*self
+        };
+    }
+
+    // Where the bus address is left.
+    fn address_after(&self, transfer: Transfer) -> u32
+        requires count { transfer.count ≤ 65536 }
+        requires core_start { transfer.core_start < 131072 }
+        ensures { result ≡ address_after self.now transfer }
+    {
+        if self.no_increment || self.function == Function::ReadCheck {
+            transfer.core_start * 2
+        } else {
+            (transfer.core_start + transfer.count) * 2
+        }
+    }
+
+    // Where the disk address is left: past the last sector in which a word was done.
+    fn disk_address_after(&self, transfer: Transfer) -> u16
+        requires count { transfer.count ≤ 65536 }
+        requires disk_start { transfer.disk_start < 4872 * 256 }
+        ensures { result ≡ disk_address_after self.now.disk_address transfer }
+    {
+        if transfer.count == 0 {
+            self.disk_address
+        } else {
+            let last = (transfer.disk_start + transfer.count - 1) / WORDS_OF_SECTOR;
+            address_of_sector(field(13, 3, self.disk_address), last + 1)
+        }
+    }
+
+    // Why the transfer stopped before its end, if it did.
+    fn stop_of(&self, transfer: Transfer, size: usize) -> Option<Failure>
+        ensures { result ≡ stop_of transfer.count (words_asked self.now) (size - transfer.disk_start) }
+    {
+        if transfer.count == self.words_asked() {
+            None
+        } else if transfer.count as usize == size.saturating_sub(transfer.disk_start as usize) {
+            Some(Failure::Overrun)
+        } else {
+            Some(Failure::NoMemory)
+        }
+    }
+}

@@ -1,0 +1,236 @@
+ghost use Rattle.std.specs.Prelude.{◌≡◌, ◌<◌};
+ghost use Rattle.pdp_word.specs.Bits.{field};
+
+use super::{Failure, Function, RkRegister};
+use pdp_device::{Channel, Operation};
+use pdp_word::{bit_of, field, has_bit};
+
+/// The RK11 controller.
+///
+/// PDP-11 Peripherals Handbook, RK11.
+#[derive(Clone, Copy, Debug, PartialEq, Eq)]
+pub struct Rk {
+    /// Ready where no function is under way.
+    pub channel: Channel,
+    /// The function that was written last.
+    pub function: Function,
+    /// Bit 11 of RKCS: the bus address isn't incremented.
+    pub no_increment: bool,
+    /// Bit 13 of RKCS: a seek or a drive reset is done.
+    pub search_complete: bool,
+    /// Bit 0 of RKER: a write check found words that differ.
+    pub write_check: bool,
+    /// The other bits of RKER: at most one failure is told.
+    pub failure: Option<Failure>,
+    /// RKWC.
+    pub word_count: u16,
+    /// The bus address (bytes): RKBA, and bits 17-16 from RKCS above it.
+    pub address: u32,
+    /// RKDA.
+    pub disk_address: u16,
+    /// Which of the eight drives are locked against writing.
+    pub locked: [bool; 8],
+    /// The function that is under way.
+    pub operation: Operation,
+}
+
+impl Rk {
+    ghost use Rattle.pdp_rk11.specs.Geometry.{drive_in};
+    ghost use Rattle.pdp_rk11.specs.Rk.{begun_function, commanded, control_word, control_written, drive_status};
+    ghost use Rattle.pdp_rk11.specs.Rk.{error_word, function_of, gone_with, is_locked, quiet_rk, rk_reset, rk_served, rk_value};
+    ghost use Rattle.pdp_rk11.specs.Rk.{rk_written, with_command};
+
+    /// The controller at power-up: as after RESET, with no drive locked (this project's profile).
+    pub fn quiet() -> Rk
+        ensures { result ≡ quiet_rk }
+    {
+        Rk {
+            channel: Channel::quiet(true),
+            function: Function::ControlReset,
+            no_increment: false,
+            search_complete: false,
+            write_check: false,
+            failure: None,
+            word_count: 0,
+            address: 0,
+            disk_address: 0,
+            locked: [false; 8],
+            operation: Operation::Idle,
+        }
+    }
+
+    /// What a read of the register gives, where there are so many drives, numbered from 0 on. A read has no effect.
+    ///
+    /// PDP-11 Peripherals Handbook, RK11; that RKDS has no other bits, and is 0 for a drive that isn't there, is this
+    /// project's profile.
+    pub fn read_reg(&self, register: RkRegister, drives: usize) -> u16
+        ensures { result ≡ rk_value register drives self.now }
+    {
+        match register {
+            RkRegister::DriveStatus => self.drive_status(drives),
+            RkRegister::Error => self.error_word(),
+            RkRegister::Control => self.control_word(),
+            RkRegister::WordCount => self.word_count,
+            RkRegister::BusAddress => (self.address % 0o200000) as u16,
+            RkRegister::DiskAddress => self.disk_address,
+        }
+    }
+
+    /// A write of a word to the register in this turn; a function takes so many turns, with 0 until its event. While
+    /// the controller isn't ready a write sets or clears enable, by RKCS, and nothing else. Control reset acts at once,
+    /// and drops the enable that is written with it.
+    ///
+    /// PDP-11 Peripherals Handbook, RK11; how long a function takes, what a write does while the controller isn't
+    /// ready, and that control reset acts at once, are this project's profile.
+    #[tactic(auto, unfolding(crate::specs::Rk::rk_written))]
+    pub fn write_reg(&mut self, register: RkRegister, word: u16, turn: u32, delay: u32)
+        ensures { self.new ≡ rk_written register word turn delay self.old }
+    {
+        match register {
+            RkRegister::DriveStatus | RkRegister::Error => {}
+            RkRegister::Control => self.write_control(word, turn, delay),
+            RkRegister::WordCount => {
+                if self.channel.ready {
+                    self.word_count = word;
+                }
+            }
+            RkRegister::BusAddress => {
+                if self.channel.ready {
+                    self.address = self.address / 0o200000 % 4 * 0o200000 + u32::from(word);
+                }
+            }
+            RkRegister::DiskAddress => {
+                if self.channel.ready {
+                    self.disk_address = word;
+                }
+            }
+        }
+    }
+
+    /// RESET, and control reset: ready, not enabled, no request, nothing under way, no error, and word count, bus
+    /// address and disk address 0. Drives that are locked stay so.
+    ///
+    /// PDP-11 Peripherals Handbook, RK11; that the locks stay is this project's profile.
+    pub fn reset(&mut self)
+        ensures { self.new ≡ rk_reset self.old }
+    {
+        *self = Rk {
+            locked: self.locked,
+            ..Rk::quiet()
+        };
+    }
+
+    /// Whether it requests an interrupt.
+    pub fn request(&self) -> bool
+        ensures { result ≡ self.now.channel.request }
+    {
+        self.channel.request
+    }
+
+    /// The request is served: it goes, and nothing else changes. The next one appears where ready or enable was cleared
+    /// and both are set again (this project's profile).
+    pub fn serve(&mut self)
+        ensures { self.new ≡ rk_served self.old }
+    {
+        self.channel.serve();
+    }
+
+    // The number of the drive that RKDA names, 0 to 7.
+    pub(crate) fn drive(&self) -> usize
+        ensures value { result ≡ drive_in self.now.disk_address }
+        ensures fits { result < 8 }
+    {
+        usize::from(field(13, 3, self.disk_address))
+    }
+
+    // Whether the drive that RKDA names is locked.
+    pub(crate) fn is_locked(&self) -> bool
+        ensures { result ≡ is_locked self.now }
+    {
+        self.locked[self.drive()]
+    }
+
+    fn drive_status(&self, drives: usize) -> u16
+        ensures { result ≡ drive_status drives self.now }
+    {
+        if self.drive() < drives {
+            0o4700 + bit_of(self.is_locked()) * 0o40
+        } else {
+            0
+        }
+    }
+
+    fn error_word(&self) -> u16
+        ensures { result ≡ error_word self.now }
+    {
+        let failure = match self.failure {
+            Some(failure) => failure.bit(),
+            None => 0,
+        };
+        failure + bit_of(self.write_check)
+    }
+
+    fn control_word(&self) -> u16
+        ensures { result ≡ control_word self.now }
+    {
+        let failed = self.failure.is_some();
+        let errors = bit_of(failed || self.write_check) * 0o100000 + bit_of(failed) * 0o40000;
+        let flags = bit_of(self.search_complete) * 0o20000 + bit_of(self.no_increment) * 0o4000;
+        let high_address = (self.address / 0o200000 % 4) as u16;
+        errors + flags + self.channel.status() + high_address * 0o20 + self.function.code() * 2
+    }
+
+    // A write of a word to RKCS.
+    fn write_control(&mut self, word: u16, turn: u32, delay: u32)
+        ensures { self.new ≡ control_written word turn delay self.old }
+    {
+        if self.channel.ready {
+            self.command(word, turn, delay);
+        } else {
+            self.channel.write_enable(word);
+        }
+    }
+
+    // A write of a word to RKCS while ready, without go or with it.
+    fn command(&mut self, word: u16, turn: u32, delay: u32)
+        ensures { self.new ≡ commanded word turn delay self.old }
+    {
+        if has_bit(0, word) {
+            self.go(word, turn, delay);
+        } else {
+            self.set_command(word);
+            self.channel.write_enable(word);
+        }
+    }
+
+    // Go with the function of this word.
+    fn go(&mut self, word: u16, turn: u32, delay: u32)
+        ensures { self.new ≡ gone_with (function_of (field 1 3 word)) word turn delay self.old }
+    {
+        match Function::of_code(field(1, 3, word)) {
+            Function::ControlReset => self.reset(),
+            _ => self.begin(word, turn, delay),
+        }
+    }
+
+    // A function begins.
+    fn begin(&mut self, word: u16, turn: u32, delay: u32)
+        ensures { self.new ≡ begun_function word turn delay self.old }
+    {
+        self.set_command(word);
+        self.channel.change(false, has_bit(6, word));
+        self.search_complete = false;
+        self.write_check = false;
+        self.failure = None;
+        self.operation = Operation::begin(turn, delay);
+    }
+
+    // Sets the function, bits 17-16 of the bus address, and no increment.
+    fn set_command(&mut self, word: u16)
+        ensures { self.new ≡ with_command word self.old }
+    {
+        self.function = Function::of_code(field(1, 3, word));
+        self.address = u32::from(field(4, 2, word)) * 0o200000 + self.address % 0o200000;
+        self.no_increment = has_bit(11, word);
+    }
+}

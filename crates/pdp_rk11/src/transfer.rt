@@ -1,0 +1,139 @@
+//! The words of a transfer, moved or compared.
+
+ghost use Rattle.std.specs.Prelude.{◌≡◌, ℕ, ◌+◌, ◌<◌, length, slice_index};
+
+use pdp_store::{Stamp, Store};
+
+/// The words that a transfer moves or compares: so many, one by one from a first word of core and of the drive on.
+#[derive(Clone, Copy, Debug, PartialEq, Eq)]
+pub struct Transfer {
+    /// The bus address isn't incremented: each move is of the first word of core.
+    pub no_increment: bool,
+    /// The number of the first word of core.
+    pub core_start: u32,
+    /// The number of the first word of the drive.
+    pub disk_start: u32,
+    /// How many words are done.
+    pub count: u32,
+}
+
+impl Transfer {
+    ghost use Rattle.pdp_rk11.specs.Moves.{moved, moved_to_one};
+    ghost use Rattle.pdp_rk11.specs.Transfer.{core_read, core_word, disk_word, disk_written, is_different, lasts_read};
+    ghost use Rattle.pdp_rk11.specs.Transfer.{moved_to_disk, rest_of_sector};
+
+    /// A read: words of the drive go to core, with this stamp.
+    pub(crate) fn read<S: Store>(self, core: &mut S, disk: &S, stamp: Stamp)
+        requires on_disk { (i : ℕ) → i < self.count → disk_word self i < length (S.words disk.now) }
+        requires in_core { (i : ℕ) → i < self.count → core_word self i < length (S.words core.old) }
+        ensures words { S.words core.new ≡ core_read self (S.words disk.now) (S.words core.old) }
+        ensures lasts { S.lasts core.new ≡ lasts_read self stamp (S.lasts core.old) }
+    {
+        if self.no_increment {
+            self.read_last(core, disk, stamp);
+        } else {
+            self.read_all(core, disk, stamp);
+        }
+    }
+
+    // Each word goes to a word of its own.
+    #[tactic(auto, using(crate::proofs::Moves::moved_none, crate::proofs::Moves::moved_more, crate::proofs::Names::moved_length))]
+    fn read_all<S: Store>(self, core: &mut S, disk: &S, stamp: Stamp)
+        requires on_disk { (i : ℕ) → i < self.count → self.disk_start + i < length (S.words disk.now) }
+        requires in_core { (i : ℕ) → i < self.count → self.core_start + i < length (S.words core.old) }
+        ensures words { S.words core.new
+            ≡ moved self.core_start self.count (λ i. slice_index (S.words disk.now) (self.disk_start + i)) (S.words core.old) }
+        ensures lasts { S.lasts core.new ≡ moved self.core_start self.count (λ i. Some stamp) (S.lasts core.old) }
+    {
+        let core_start = self.core_start as usize;
+        let disk_start = self.disk_start as usize;
+        for i in 0..self.count as usize {
+            core.write(core_start + i, disk.read(disk_start + i), stamp);
+        }
+    }
+
+    // All words go to one word of core, where the last stays.
+    #[tactic(auto, using(crate::proofs::Moves::moved_to_one_none, crate::proofs::Moves::moved_to_one_last))]
+    fn read_last<S: Store>(self, core: &mut S, disk: &S, stamp: Stamp)
+        requires on_disk { (i : ℕ) → i < self.count → self.disk_start + i < length (S.words disk.now) }
+        requires in_core { (i : ℕ) → i < self.count → self.core_start < length (S.words core.old) }
+        ensures words { S.words core.new
+            ≡ moved_to_one self.core_start self.count (λ i. slice_index (S.words disk.now) (self.disk_start + i)) (S.words core.old) }
+        ensures lasts { S.lasts core.new ≡ moved_to_one self.core_start self.count (λ i. Some stamp) (S.lasts core.old) }
+    {
+        if self.count > 0 {
+            let last = self.disk_start as usize + (self.count - 1) as usize;
+            core.write(self.core_start as usize, disk.read(last), stamp);
+        }
+    }
+
+    /// A write: words of core go to the drive, and zeros to the rest of the last sector.
+    pub(crate) fn write<S: Store>(self, core: &S, disk: &mut S)
+        requires on_disk { (i : ℕ) → i < self.count → disk_word self i < length (S.words disk.old) }
+        requires in_core { (i : ℕ) → i < self.count → core_word self i < length (S.words core.now) }
+        ensures { S.words disk.new ≡ disk_written self (S.words core.now) (S.words disk.old) }
+    {
+        self.write_all(core, disk);
+        self.fill_sector(disk);
+    }
+
+    // Words of core go to the drive.
+    #[tactic(auto, using(crate::proofs::Moves::moved_none, crate::proofs::Moves::moved_more, crate::proofs::Names::moved_length))]
+    fn write_all<S: Store>(self, core: &S, disk: &mut S)
+        requires on_disk { (i : ℕ) → i < self.count → disk_word self i < length (S.words disk.old) }
+        requires in_core { (i : ℕ) → i < self.count → core_word self i < length (S.words core.now) }
+        ensures { S.words disk.new ≡ moved_to_disk self (S.words core.now) (S.words disk.old) }
+    {
+        let disk_start = self.disk_start as usize;
+        for i in 0..self.count as usize {
+            disk.set(disk_start + i, core.read(self.core_word(i)));
+        }
+    }
+
+    // Zeros go to the rest of the last sector.
+    #[tactic(auto, using(crate::proofs::Moves::moved_none, crate::proofs::Moves::moved_more, crate::proofs::Names::moved_length))]
+    fn fill_sector<S: Store>(self, disk: &mut S)
+        ensures { S.words disk.new ≡ moved (disk_word self self.count) (rest_of_sector self) (λ i. 0) (S.words disk.old) }
+    {
+        let start = self.disk_start as usize + self.count as usize;
+        let left = disk.len().saturating_sub(start);
+        for i in 0..self.rest_of_sector().min(left) {
+            disk.set(start + i, 0);
+        }
+    }
+
+    /// Whether any word of core differs from the drive's.
+    pub(crate) fn is_different<S: Store>(self, core: &S, disk: &S) -> bool
+        requires on_disk { (i : ℕ) → i < self.count → disk_word self i < length (S.words disk.now) }
+        requires in_core { (i : ℕ) → i < self.count → core_word self i < length (S.words core.now) }
+        ensures { result ≡ is_different self (S.words core.now) (S.words disk.now) }
+    {
+        let disk_start = self.disk_start as usize;
+        let mut different = false;
+        for i in 0..self.count as usize {
+            different = core.read(self.core_word(i)) != disk.read(disk_start + i) || different;
+        }
+        different
+    }
+
+    // The number of the word of core of move i, counted from 0.
+    #[inline(always)]
+    fn core_word(self, i: usize) -> usize
+        requires { i < self.count }
+        ensures { result ≡ core_word self i }
+    {
+        if self.no_increment {
+            self.core_start as usize
+        } else {
+            self.core_start as usize + i
+        }
+    }
+
+    // How many words are left of the last sector.
+    fn rest_of_sector(self) -> usize
+        ensures { result ≡ rest_of_sector self }
+    {
+        let count = self.count as usize;
+        count.div_ceil(256) * 256 - count
+    }
+}
