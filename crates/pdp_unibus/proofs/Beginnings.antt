@@ -1,8 +1,12 @@
--- The beginning of a turn, step by step: none of them touches core, or looks at it.
-use Rattle.std.proofs.Common.{◌≡◌, ◌∙◌, ℕ, suc, zero, ◌+◌, ◌<◌, Bool, true, false, List, [], ◌∷◌, length, take, get_or, refl, ap, add-one, arith}
-use Rattle.pdp_device.specs.Operation.{is_due}
-use Rattle.pdp_unibus.specs.Beginning.{Progress, after_event, after_events, at_start, begun, clock_ticked, in_turn, is_tick, printer_done, printer_due, punch_done, punch_due, reader_done, reader_due, tick_due, where_due}
-use Rattle.pdp_unibus.specs.BusWorld.{BusWorld}
+-- The beginning of a turn, step by step: all but the disk's completion neither touch a word of core or of a drive, nor
+-- look at one.
+use Rattle.std.proofs.Common.{◌≡◌, ◌≢◌, ◌∙◌, ℕ, suc, zero, ◌+◌, ◌<◌, Bool, true, false, List, [], ◌∷◌, length, take, get_or, refl, sym, subst, ap, add-one, arith}
+use Rattle.pdp_device.specs.Operation.{is_due, is_under_way}
+use Rattle.pdp_unibus.specs.Beginning.{Progress, after_event, after_events, at_start, before_disk, begun, clock_ticked, disk_done, disk_due, in_turn, is_tick, printer_done, printer_due, punch_done, punch_due, reader_done, reader_due, tick_due, where_due}
+use Rattle.pdp_store.specs.Touch.{Part}
+use Rattle.pdp_rk11.proofs.Readiness.{completed_idle}
+use Rattle.pdp_unibus.specs.BusWorld.{BusWorld, disk_world_of, with_disk_world}
+use Rattle.pdp_unibus.specs.Page.{with_words}
 use Rattle.pdp_unibus.specs.declared.board.Board.{Board}
 use Rattle.pdp_unibus.specs.declared.event.Event.{Event}
 use Rattle.pdp_unibus.specs.declared.event.Event.TheVariants.{Key, Tick, PrinterDone, ReaderDone, PunchDone, DiskDone, Switches, Continue}
@@ -17,112 +21,194 @@ pub after_more_events : (es : List Event) (i : ℕ) (d : Event) (p : Progress) �
     → after_events (take (i + 1) es) p ≡ after_event (get_or es i d) (after_events (take i es) p)
 after_more_events es i d p below = rw add-one (one_more es i d p below)
 
--- the same with other words of core
-abbrev pub over : List ℕ → Progress → Progress
-over words p = record p { bus = record p.bus { core = words } }
+-- the same with other words in a part
+abbrev pub over : Part → List ℕ → Progress → Progress
+over part words p = record p { bus = with_words part words p.bus }
 
--- a step that does the same whatever core holds, and leaves core, its stamps, the turn, the program status and the
--- mapping registers
+-- a step that does the same whatever core and the drives hold, and leaves them, the stamps, the turn, the program status
+-- and the mapping registers
 pub record Quiet (step : Progress → Progress) : Type 0 where
-  pub commutes : (words : List ℕ) (p : Progress) → step (over words p) ≡ over words (step p)
-  pub core : (p : Progress) → (step p).bus.core ≡ p.bus.core
-  pub lasts : (p : Progress) → (step p).bus.lasts ≡ p.bus.lasts
-  pub turn : (p : Progress) → (step p).bus.turn ≡ p.bus.turn
+  pub commutes : (part : Part) (words : List ℕ) (p : Progress) → step (over part words p) ≡ over part words (step p)
+  pub leaves : (p : Progress) → (step p).bus ≡ record p.bus { board = (step p).bus.board; tape = (step p).bus.tape }
   pub status : (p : Progress) → (step p).bus.board.status ≡ p.bus.board.status
   pub mapping : (p : Progress) → (step p).bus.board.mapping ≡ p.bus.board.mapping
+  pub disk : (p : Progress) → (step p).bus.board.disk ≡ p.bus.board.disk
 
-event_is_quiet : (e : Event) → Quiet (after_event e)
-event_is_quiet (Key key) = record { commutes = λ words p. refl; core = λ p. refl; lasts = λ p. refl; turn = λ p. refl; status = λ p. refl; mapping = λ p. refl }
-event_is_quiet Tick = record { commutes = λ words p. refl; core = λ p. refl; lasts = λ p. refl; turn = λ p. refl; status = λ p. refl; mapping = λ p. refl }
-event_is_quiet PrinterDone = record { commutes = λ words p. refl; core = λ p. refl; lasts = λ p. refl; turn = λ p. refl; status = λ p. refl; mapping = λ p. refl }
-event_is_quiet ReaderDone = record { commutes = λ words p. refl; core = λ p. refl; lasts = λ p. refl; turn = λ p. refl; status = λ p. refl; mapping = λ p. refl }
-event_is_quiet PunchDone = record { commutes = λ words p. refl; core = λ p. refl; lasts = λ p. refl; turn = λ p. refl; status = λ p. refl; mapping = λ p. refl }
-event_is_quiet DiskDone = record { commutes = λ words p. refl; core = λ p. refl; lasts = λ p. refl; turn = λ p. refl; status = λ p. refl; mapping = λ p. refl }
-event_is_quiet (Switches word) = record { commutes = λ words p. refl; core = λ p. refl; lasts = λ p. refl; turn = λ p. refl; status = λ p. refl; mapping = λ p. refl }
-event_is_quiet Continue = record { commutes = λ words p. refl; core = λ p. refl; lasts = λ p. refl; turn = λ p. refl; status = λ p. refl; mapping = λ p. refl }
-
-nothing_is_quiet : Quiet (λ p. p)
-nothing_is_quiet = record { commutes = λ words p. refl; core = λ p. refl; lasts = λ p. refl; turn = λ p. refl; status = λ p. refl; mapping = λ p. refl }
+pub event_is_quiet : (e : Event) → e ≢ DiskDone → Quiet (after_event e)
+event_is_quiet (Key key) other = record { commutes = λ part words p. refl; leaves = λ p. refl; status = λ p. refl; mapping = λ p. refl; disk = λ p. refl }
+event_is_quiet Tick other = record { commutes = λ part words p. refl; leaves = λ p. refl; status = λ p. refl; mapping = λ p. refl; disk = λ p. refl }
+event_is_quiet PrinterDone other = record { commutes = λ part words p. refl; leaves = λ p. refl; status = λ p. refl; mapping = λ p. refl; disk = λ p. refl }
+event_is_quiet ReaderDone other = record { commutes = λ part words p. refl; leaves = λ p. refl; status = λ p. refl; mapping = λ p. refl; disk = λ p. refl }
+event_is_quiet PunchDone other = record { commutes = λ part words p. refl; leaves = λ p. refl; status = λ p. refl; mapping = λ p. refl; disk = λ p. refl }
+event_is_quiet DiskDone other = absurd (other refl)
+event_is_quiet (Switches word) other = record { commutes = λ part words p. refl; leaves = λ p. refl; status = λ p. refl; mapping = λ p. refl; disk = λ p. refl }
+event_is_quiet Continue other = record { commutes = λ part words p. refl; leaves = λ p. refl; status = λ p. refl; mapping = λ p. refl; disk = λ p. refl }
 
 -- one quiet step after another
 both : (f g : Progress → Progress) → Quiet f → Quiet g → Quiet (λ p. g (f p))
 both f g first second = record {
-  commutes = λ words p. ap g (first.commutes words p) ∙ second.commutes words (f p);
-  core = λ p. second.core (f p) ∙ first.core p;
-  lasts = λ p. second.lasts (f p) ∙ first.lasts p;
-  turn = λ p. second.turn (f p) ∙ first.turn p;
+  commutes = λ part words p. ap g (first.commutes part words p) ∙ second.commutes part words (f p);
+  leaves = λ p. second.leaves (f p) ∙ ap {A = BusWorld} (λ bus. record bus { board = (g (f p)).bus.board; tape = (g (f p)).bus.tape }) (first.leaves p);
   status = λ p. second.status (f p) ∙ first.status p;
   mapping = λ p. second.mapping (f p) ∙ first.mapping p;
+  disk = λ p. second.disk (f p) ∙ first.disk p;
 }
-
-pub events_are_quiet : (es : List Event) → Quiet (after_events es)
-events_are_quiet [] = nothing_is_quiet
-events_are_quiet (e ∷ es) = both (after_event e) (after_events es) (event_is_quiet e) (events_are_quiet es)
 
 -- a quiet step where it is due, by the turn and the board
 where_due_is_quiet : (due : ℕ → Board → Bool) (f : Progress → Progress) → Quiet f
     → Quiet (λ p. where_due (due p.bus.turn p.bus.board) f p)
 where_due_is_quiet due f quiet = record {
-  commutes = λ words p. commuted words p (due p.bus.turn p.bus.board);
-  core = λ p. kept (λ bus. bus.core) p (quiet.core p) (due p.bus.turn p.bus.board);
-  lasts = λ p. kept (λ bus. bus.lasts) p (quiet.lasts p) (due p.bus.turn p.bus.board);
-  turn = λ p. kept (λ bus. bus.turn) p (quiet.turn p) (due p.bus.turn p.bus.board);
-  status = λ p. kept (λ bus. bus.board.status) p (quiet.status p) (due p.bus.turn p.bus.board);
-  mapping = λ p. kept (λ bus. bus.board.mapping) p (quiet.mapping p) (due p.bus.turn p.bus.board);
+  commutes = λ part words p. commuted part words p (due p.bus.turn p.bus.board);
+  leaves = λ p. left p (due p.bus.turn p.bus.board);
+  status = λ p. kept (λ board. board.status) p (quiet.status p) (due p.bus.turn p.bus.board);
+  mapping = λ p. kept (λ board. board.mapping) p (quiet.mapping p) (due p.bus.turn p.bus.board);
+  disk = λ p. kept (λ board. board.disk) p (quiet.disk p) (due p.bus.turn p.bus.board);
 } where
-  commuted : (words : List ℕ) (p : Progress) (holds : Bool) → where_due holds f (over words p) ≡ over words (where_due holds f p)
-  commuted words p true = quiet.commutes words p
-  commuted words p false = refl
+  commuted : (part : Part) (words : List ℕ) (p : Progress) (holds : Bool)
+      → where_due holds f (over part words p) ≡ over part words (where_due holds f p)
+  commuted part words p true = quiet.commutes part words p
+  commuted part words p false = refl
 
-  kept : {A : Type 0} (part : BusWorld → A) (p : Progress) → part (f p).bus ≡ part p.bus → (holds : Bool)
-      → part (where_due holds f p).bus ≡ part p.bus
-  kept part p is true = is
-  kept part p is false = refl
+  left : (p : Progress) (holds : Bool)
+      → (where_due holds f p).bus ≡ record p.bus { board = (where_due holds f p).bus.board; tape = (where_due holds f p).bus.tape }
+  left p true = quiet.leaves p
+  left p false = refl
+
+  kept : {A : Type 0} (field : Board → A) (p : Progress) → field (f p).bus.board ≡ field p.bus.board → (holds : Bool)
+      → field (where_due holds f p).bus.board ≡ field p.bus.board
+  kept field p is true = is
+  kept field p is false = refl
 
 pub tick_is_quiet : Quiet tick_due
-tick_is_quiet = where_due_is_quiet (λ t b. is_tick t b.delays.clock) clock_ticked (event_is_quiet Tick)
+tick_is_quiet = where_due_is_quiet (λ t b. is_tick t b.delays.clock) clock_ticked (event_is_quiet Tick (λ is. cc is))
 
 pub printer_is_quiet : Quiet printer_due
-printer_is_quiet = where_due_is_quiet (λ t b. is_due t b.console.printer.operation) printer_done (event_is_quiet PrinterDone)
+printer_is_quiet = where_due_is_quiet (λ t b. is_due t b.console.printer.operation) printer_done (event_is_quiet PrinterDone (λ is. cc is))
 
 pub reader_is_quiet : Quiet reader_due
-reader_is_quiet = where_due_is_quiet (λ t b. is_due t b.paper_tape.reader.operation) reader_done (event_is_quiet ReaderDone)
+reader_is_quiet = where_due_is_quiet (λ t b. is_due t b.paper_tape.reader.operation) reader_done (event_is_quiet ReaderDone (λ is. cc is))
 
-dues : Progress → Progress
+pub punch_is_quiet : Quiet punch_due
+punch_is_quiet = where_due_is_quiet (λ t b. is_due t b.paper_tape.punch.operation) punch_done (event_is_quiet PunchDone (λ is. cc is))
+
+-- a quiet step leaves the turn
+pub turn_left : (f : Progress → Progress) → Quiet f → (p : Progress) → (f p).bus.turn ≡ p.bus.turn
+turn_left f quiet p = ap (λ bus. bus.turn) (quiet.leaves p)
+
+-- what is due before the disk
+unfoldable pub dues : Progress → Progress
 dues p = punch_due (reader_due (printer_due (tick_due p)))
 
-dues_are_quiet : Quiet dues
+pub dues_are_quiet : Quiet dues
 unfolding dues
 dues_are_quiet =
     both (λ p. reader_due (printer_due (tick_due p))) punch_due
     (both (λ p. printer_due (tick_due p)) reader_due (both tick_due printer_due tick_is_quiet printer_is_quiet) reader_is_quiet)
-    (where_due_is_quiet (λ t b. is_due t b.paper_tape.punch.operation) punch_done (event_is_quiet PunchDone))
+    punch_is_quiet
 
-beginning_is_quiet : (es : List Event) → Quiet (λ p. dues (after_events es p))
-beginning_is_quiet es = both (after_events es) dues (events_are_quiet es) dues_are_quiet
+-- a step leaves the turn, the program status and the mapping registers
+pub record Settled (p q : Progress) : Type 0 where
+  pub turn : q.bus.turn ≡ p.bus.turn
+  pub status : q.bus.board.status ≡ p.bus.board.status
+  pub mapping : q.bus.board.mapping ≡ p.bus.board.mapping
 
--- the beginning of a turn leaves core, its stamps, the program status and the mapping registers
-pub record Keeps (t : ℕ) (b c : BusWorld) : Type 0 where
-  pub core : c.core ≡ b.core
-  pub lasts : c.lasts ≡ b.lasts
-  pub turn : c.turn ≡ t
-  pub status : c.board.status ≡ b.board.status
-  pub mapping : c.board.mapping ≡ b.board.mapping
+then_settled : (p q r : Progress) → Settled p q → Settled q r → Settled p r
+then_settled p q r first second = record {
+  turn = second.turn ∙ first.turn;
+  status = second.status ∙ first.status;
+  mapping = second.mapping ∙ first.mapping;
+}
 
-pub begun_keeps : (t : ℕ) (es : List Event) (w : BusWorld) → Keeps t w (begun t es w).bus
-unfolding begun dues
-begun_keeps t es w =
-    let quiet = beginning_is_quiet es in
-    record {
-      core = quiet.core (at_start (in_turn t w));
-      lasts = quiet.lasts (at_start (in_turn t w));
-      turn = quiet.turn (at_start (in_turn t w));
-      status = quiet.status (at_start (in_turn t w));
-      mapping = quiet.mapping (at_start (in_turn t w));
-    }
+quiet_is_settled : (f : Progress → Progress) (p : Progress) → Quiet f → Settled p (f p)
+quiet_is_settled f p quiet = record {
+  turn = ap (λ bus. bus.turn) (quiet.leaves p);
+  status = quiet.status p;
+  mapping = quiet.mapping p;
+}
 
--- and does the same whatever words core holds
-pub begun_over : (t : ℕ) (es : List Event) (w : BusWorld) (words : List ℕ)
-    → begun t es (record w { core = words }) ≡ over words (begun t es w)
-unfolding begun dues
-begun_over t es w words = (beginning_is_quiet es).commutes words (at_start (in_turn t w))
+disk_is_settled : (p : Progress) → Settled p (disk_done p)
+disk_is_settled p = record { turn = refl; status = refl; mapping = refl }
+
+event_is_settled : (e : Event) (p : Progress) → Settled p (after_event e p)
+event_is_settled DiskDone p = disk_is_settled p
+event_is_settled (Key key) p = quiet_is_settled (after_event (Key key)) p (event_is_quiet (Key key) (λ is. cc is))
+event_is_settled Tick p = quiet_is_settled (after_event Tick) p (event_is_quiet Tick (λ is. cc is))
+event_is_settled PrinterDone p = quiet_is_settled (after_event PrinterDone) p (event_is_quiet PrinterDone (λ is. cc is))
+event_is_settled ReaderDone p = quiet_is_settled (after_event ReaderDone) p (event_is_quiet ReaderDone (λ is. cc is))
+event_is_settled PunchDone p = quiet_is_settled (after_event PunchDone) p (event_is_quiet PunchDone (λ is. cc is))
+event_is_settled (Switches word) p = quiet_is_settled (after_event (Switches word)) p (event_is_quiet (Switches word) (λ is. cc is))
+event_is_settled Continue p = quiet_is_settled (after_event Continue) p (event_is_quiet Continue (λ is. cc is))
+
+pub events_are_settled : (es : List Event) (p : Progress) → Settled p (after_events es p)
+events_are_settled [] p = record { turn = refl; status = refl; mapping = refl }
+events_are_settled (e ∷ es) p =
+    then_settled p (after_event e p) (after_events es (after_event e p)) (event_is_settled e p) (events_are_settled es (after_event e p))
+
+disk_due_is_settled : (p : Progress) (due : Bool) → Settled p (where_due due disk_done p)
+disk_due_is_settled p true = disk_is_settled p
+disk_due_is_settled p false = record { turn = refl; status = refl; mapping = refl }
+
+pub before_is_settled : (t : ℕ) (es : List Event) (w : BusWorld) → Settled (at_start (in_turn t w)) (before_disk t es w)
+unfolding before_disk dues
+before_is_settled t es w =
+    let events = after_events es (at_start (in_turn t w)) in
+    then_settled (at_start (in_turn t w)) events (dues events) (events_are_settled es (at_start (in_turn t w)))
+    (quiet_is_settled dues events dues_are_quiet)
+
+-- the beginning of a turn is in that turn, and leaves the program status and the mapping registers
+pub begun_is_settled : (t : ℕ) (es : List Event) (w : BusWorld) → Settled (at_start (in_turn t w)) (begun t es w)
+unfolding begun
+begun_is_settled t es w =
+    then_settled (at_start (in_turn t w)) (before_disk t es w) (disk_due (before_disk t es w)) (before_is_settled t es w)
+    (disk_due_is_settled (before_disk t es w) (is_due (before_disk t es w).bus.turn (before_disk t es w).bus.board.disk.operation))
+
+-- a step while nothing is under way on the disk: core, its stamps and the drives stay, and so does the disk
+pub record Idles (p q : Progress) : Type 0 where
+  pub leaves : q.bus ≡ record p.bus { board = q.bus.board; tape = q.bus.tape }
+  pub disk : q.bus.board.disk ≡ p.bus.board.disk
+
+then_idles : (p q r : Progress) → Idles p q → Idles q r → Idles p r
+then_idles p q r first second = record {
+  leaves = second.leaves ∙ ap {A = BusWorld} (λ bus. record bus { board = r.bus.board; tape = r.bus.tape }) first.leaves;
+  disk = second.disk ∙ first.disk;
+}
+
+quiet_idles : (f : Progress → Progress) (p : Progress) → Quiet f → Idles p (f p)
+quiet_idles f p quiet = record { leaves = quiet.leaves p; disk = quiet.disk p }
+
+disk_idles : (p : Progress) → is_under_way p.bus.board.disk.operation ≡ false → Idles p (disk_done p)
+disk_idles p idle =
+    let same : disk_done p ≡ p = ap (λ d. record p { bus = with_disk_world p.bus d }) (completed_idle p.bus.turn (disk_world_of p.bus) idle) in
+    subst (Idles p) (sym same) (record { leaves = refl; disk = refl })
+
+event_idles : (e : Event) (p : Progress) → is_under_way p.bus.board.disk.operation ≡ false → Idles p (after_event e p)
+event_idles DiskDone p idle = disk_idles p idle
+event_idles (Key key) p idle = quiet_idles (after_event (Key key)) p (event_is_quiet (Key key) (λ is. cc is))
+event_idles Tick p idle = quiet_idles (after_event Tick) p (event_is_quiet Tick (λ is. cc is))
+event_idles PrinterDone p idle = quiet_idles (after_event PrinterDone) p (event_is_quiet PrinterDone (λ is. cc is))
+event_idles ReaderDone p idle = quiet_idles (after_event ReaderDone) p (event_is_quiet ReaderDone (λ is. cc is))
+event_idles PunchDone p idle = quiet_idles (after_event PunchDone) p (event_is_quiet PunchDone (λ is. cc is))
+event_idles (Switches word) p idle = quiet_idles (after_event (Switches word)) p (event_is_quiet (Switches word) (λ is. cc is))
+event_idles Continue p idle = quiet_idles (after_event Continue) p (event_is_quiet Continue (λ is. cc is))
+
+events_idle : (es : List Event) (p : Progress) → is_under_way p.bus.board.disk.operation ≡ false → Idles p (after_events es p)
+events_idle [] p idle = record { leaves = refl; disk = refl }
+events_idle (e ∷ es) p idle =
+    let first = event_idles e p idle in
+    then_idles p (after_event e p) (after_events es (after_event e p)) first
+    (events_idle es (after_event e p) (ap (λ disk. is_under_way disk.operation) first.disk ∙ idle))
+
+due_idles : (p : Progress) (due : Bool) → is_under_way p.bus.board.disk.operation ≡ false → Idles p (where_due due disk_done p)
+due_idles p true idle = disk_idles p idle
+due_idles p false idle = record { leaves = refl; disk = refl }
+
+pub begun_idles : (t : ℕ) (es : List Event) (w : BusWorld) → is_under_way w.board.disk.operation ≡ false
+    → Idles (at_start (in_turn t w)) (begun t es w)
+unfolding begun before_disk dues
+begun_idles t es w idle =
+    let start = at_start (in_turn t w) in
+    let events = after_events es start in
+    let before = then_idles start events (dues events) (events_idle es start idle) (quiet_idles dues events dues_are_quiet) in
+    then_idles start (dues events) (disk_due (dues events)) before
+    (due_idles (dues events) (is_due (dues events).bus.turn (dues events).bus.board.disk.operation)
+    (ap (λ disk. is_under_way disk.operation) before.disk ∙ idle))

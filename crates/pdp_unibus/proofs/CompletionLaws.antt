@@ -3,11 +3,14 @@ use Rattle.std.proofs.Common.{◌≡◌, ◌≢◌, ◌∙◌, ℕ, suc, Bool, t
 use Rattle.pdp_device.specs.Operation.{is_due, is_under_way}
 use Rattle.pdp_device.specs.declared.operation.Operation.{Operation}
 use Rattle.pdp_device.specs.declared.operation.Operation.TheVariants.{Idle, ByEvent, At}
+use Rattle.pdp_rk11.proofs.Readiness.{completed_operation}
+use Rattle.pdp_rk11.specs.Rk.{rk_written}
+use Rattle.pdp_rk11.specs.declared.register.RkRegister.TheVariants as rk
 use Rattle.pdp_tape.specs.Reader.{reader_completed}
-use Rattle.pdp_unibus.proofs.Beginnings.{events_are_quiet, tick_is_quiet, printer_is_quiet, reader_is_quiet}
-use Rattle.pdp_unibus.specs.Beginning.{Progress, after_event, after_events, at_start, begun, clock_ticked, in_turn, is_tick, next_byte, printer_done, printer_due, punch_done, reader_done, reader_due, tick_due, where_due}
-use Rattle.pdp_unibus.specs.BusWorld.{BusWorld}
-use Rattle.pdp_unibus.specs.ByteLaws.{PrintingEndsWhenDue, PunchingEndsWhenDue, PrintingOutlivesUses, PunchingOutlivesUses, ReadingEndsWhenDue, ReadingOutlivesUses, Without, left_at}
+use Rattle.pdp_unibus.proofs.Beginnings.{dues, dues_are_quiet, before_is_settled, event_is_quiet, events_are_settled, printer_is_quiet, reader_is_quiet, tick_is_quiet, turn_left}
+use Rattle.pdp_unibus.specs.Beginning.{Progress, after_event, after_events, at_start, before_disk, begun, clock_ticked, disk_done, in_turn, is_tick, next_byte, printer_done, printer_due, punch_done, punch_due, reader_done, reader_due, tick_due, where_due}
+use Rattle.pdp_unibus.specs.BusWorld.{BusWorld, disk_world_of}
+use Rattle.pdp_unibus.specs.ByteLaws.{PrintingEndsWhenDue, PunchingEndsWhenDue, DiskEndsWhenDue, DiskOutlivesUses, PrintingOutlivesUses, PunchingOutlivesUses, ReadingEndsWhenDue, ReadingOutlivesUses, Without, left_at}
 use Rattle.pdp_unibus.specs.declared.board.Board.{Board}
 use Rattle.pdp_unibus.specs.Laws.{Use, Reading, Writing, after_use, after_uses}
 use Rattle.pdp_unibus.specs.Register.{after_read, after_write}
@@ -107,37 +110,42 @@ printed t events w = printer_due (ticked t events w)
 abbrev read : ℕ → List Event → BusWorld → Progress
 read t events w = reader_due (printed t events w)
 
+abbrev punched : ℕ → List Event → BusWorld → Progress
+punched t events w = punch_due (read t events w)
+
 turn_happened : (t : ℕ) (events : List Event) (w : BusWorld) → (happened t events w).bus.turn ≡ t
-turn_happened t events w = (events_are_quiet events).turn (at_start (in_turn t w))
+turn_happened t events w = (events_are_settled events (at_start (in_turn t w))).turn
 
 turn_ticked : (t : ℕ) (events : List Event) (w : BusWorld) → (ticked t events w).bus.turn ≡ t
-turn_ticked t events w = tick_is_quiet.turn (happened t events w) ∙ turn_happened t events w
+turn_ticked t events w = turn_left tick_due tick_is_quiet (happened t events w) ∙ turn_happened t events w
 
 turn_printed : (t : ℕ) (events : List Event) (w : BusWorld) → (printed t events w).bus.turn ≡ t
-turn_printed t events w = printer_is_quiet.turn (ticked t events w) ∙ turn_ticked t events w
+turn_printed t events w = turn_left printer_due printer_is_quiet (ticked t events w) ∙ turn_ticked t events w
 
 turn_read : (t : ℕ) (events : List Event) (w : BusWorld) → (read t events w).bus.turn ≡ t
-turn_read t events w = reader_is_quiet.turn (printed t events w) ∙ turn_printed t events w
+turn_read t events w = turn_left reader_due reader_is_quiet (printed t events w) ∙ turn_printed t events w
 
 pub printing_ends : PrintingEndsWhenDue
-unfolding begun
+unfolding begun before_disk
 printing_ends t events w none =
     ends_where part printer_done (λ p busy. rw busy refl) (ticked t events w) t (part w.board) (turn_ticked t events w)
     (left_where part clock_ticked (happened t events w) refl (is_tick (happened t events w).bus.turn (happened t events w).bus.board.delays.clock)
     ∙ events_leave part PrinterDone printer_left events none (at_start (in_turn t w))) _
-    (left_where part punch_done (read t events w) refl (is_due (read t events w).bus.turn (read t events w).bus.board.paper_tape.punch.operation)
+    (left_where part disk_done (punched t events w) refl (is_due (punched t events w).bus.turn (punched t events w).bus.board.disk.operation)
+    ∙ left_where part punch_done (read t events w) refl (is_due (read t events w).bus.turn (read t events w).bus.board.paper_tape.punch.operation)
     ∙ left_where part reader_done (printed t events w) refl (is_due (printed t events w).bus.turn (printed t events w).bus.board.paper_tape.reader.operation)) where
       part : Board → Operation
       part b = b.console.printer.operation
 
 pub reading_ends : ReadingEndsWhenDue
-unfolding begun
+unfolding begun before_disk
 reading_ends t events w none =
     ends_where part reader_done (λ p busy. read_over (next_byte p.bus.tape) p busy) (printed t events w) t (part w.board) (turn_printed t events w)
     (left_where part printer_done (ticked t events w) refl (is_due (ticked t events w).bus.turn (ticked t events w).bus.board.console.printer.operation)
     ∙ left_where part clock_ticked (happened t events w) refl (is_tick (happened t events w).bus.turn (happened t events w).bus.board.delays.clock)
     ∙ events_leave part ReaderDone reader_left events none (at_start (in_turn t w))) _
-    (left_where part punch_done (read t events w) refl (is_due (read t events w).bus.turn (read t events w).bus.board.paper_tape.punch.operation)) where
+    (left_where part disk_done (punched t events w) refl (is_due (punched t events w).bus.turn (punched t events w).bus.board.disk.operation)
+    ∙ left_where part punch_done (read t events w) refl (is_due (read t events w).bus.turn (read t events w).bus.board.paper_tape.punch.operation)) where
       part : Board → Operation
       part b = b.paper_tape.reader.operation
 
@@ -147,15 +155,29 @@ reading_ends t events w none =
       read_over (Some byte) p busy = rw busy refl
 
 pub punching_ends : PunchingEndsWhenDue
-unfolding begun
+unfolding begun before_disk
 punching_ends t events w none =
     ends_where part punch_done (λ p busy. rw busy refl) (read t events w) t (part w.board) (turn_read t events w)
     (left_where part reader_done (printed t events w) refl (is_due (printed t events w).bus.turn (printed t events w).bus.board.paper_tape.reader.operation)
     ∙ left_where part printer_done (ticked t events w) refl (is_due (ticked t events w).bus.turn (ticked t events w).bus.board.console.printer.operation)
     ∙ left_where part clock_ticked (happened t events w) refl (is_tick (happened t events w).bus.turn (happened t events w).bus.board.delays.clock)
-    ∙ events_leave part PunchDone punch_left events none (at_start (in_turn t w))) _ refl where
+    ∙ events_leave part PunchDone punch_left events none (at_start (in_turn t w))) _
+    (left_where part disk_done (punched t events w) refl (is_due (punched t events w).bus.turn (punched t events w).bus.board.disk.operation)) where
       part : Board → Operation
       part b = b.paper_tape.punch.operation
+
+disk_left : (e : Event) → e ≢ DiskDone → (p : Progress) → (after_event e p).bus.board.disk.operation ≡ p.bus.board.disk.operation
+disk_left e other p = ap (λ disk. disk.operation) ((event_is_quiet e other).disk p)
+
+pub disk_ends : DiskEndsWhenDue
+unfolding begun before_disk dues
+disk_ends t events w none =
+    ends_where part disk_done (λ p busy. completed_operation p.bus.turn (disk_world_of p.bus) busy) (before_disk t events w) t (part w.board)
+    (before_is_settled t events w).turn
+    (ap (λ disk. disk.operation) (dues_are_quiet.disk (happened t events w))
+    ∙ events_leave part DiskDone disk_left events none (at_start (in_turn t w))) _ refl where
+      part : Board → Operation
+      part b = b.disk.operation
 
 printing_stays : (u : Use) (b : Board) → is_under_way b.console.printer.operation ≡ true
     → (after_use u b).console.printer.operation ≡ b.console.printer.operation
@@ -167,6 +189,7 @@ printing_stays (Writing (Console KeyboardBuffer) word turn) b busy = refl
 printing_stays (Writing Clock word turn) b busy = refl
 printing_stays (Writing (PaperTape r) word turn) b busy = refl
 printing_stays (Writing ProgramStatus word turn) b busy = refl
+printing_stays (Writing (register.Disk r) word turn) b busy = refl
 printing_stays (Writing register.Switches word turn) b busy = refl
 printing_stays (Writing (register.Mapping r) word turn) b busy = refl
 printing_stays (Reading (Console PrinterBuffer)) b busy = refl
@@ -176,6 +199,7 @@ printing_stays (Reading (Console KeyboardBuffer)) b busy = refl
 printing_stays (Reading Clock) b busy = refl
 printing_stays (Reading (PaperTape r)) b busy = refl
 printing_stays (Reading ProgramStatus) b busy = refl
+printing_stays (Reading (register.Disk r)) b busy = refl
 printing_stays (Reading register.Switches) b busy = refl
 printing_stays (Reading (register.Mapping r)) b busy = refl
 
@@ -189,6 +213,7 @@ reading_stays (Writing (PaperTape PunchBuffer) word turn) b busy = refl
 reading_stays (Writing Clock word turn) b busy = refl
 reading_stays (Writing (Console r) word turn) b busy = refl
 reading_stays (Writing ProgramStatus word turn) b busy = refl
+reading_stays (Writing (register.Disk r) word turn) b busy = refl
 reading_stays (Writing register.Switches word turn) b busy = refl
 reading_stays (Writing (register.Mapping r) word turn) b busy = refl
 reading_stays (Reading (PaperTape ReaderStatus)) b busy = refl
@@ -198,6 +223,7 @@ reading_stays (Reading (PaperTape PunchBuffer)) b busy = refl
 reading_stays (Reading Clock) b busy = refl
 reading_stays (Reading (Console r)) b busy = refl
 reading_stays (Reading ProgramStatus) b busy = refl
+reading_stays (Reading (register.Disk r)) b busy = refl
 reading_stays (Reading register.Switches) b busy = refl
 reading_stays (Reading (register.Mapping r)) b busy = refl
 
@@ -211,6 +237,7 @@ punching_stays (Writing (PaperTape PunchStatus) word turn) b busy = refl
 punching_stays (Writing Clock word turn) b busy = refl
 punching_stays (Writing (Console r) word turn) b busy = refl
 punching_stays (Writing ProgramStatus word turn) b busy = refl
+punching_stays (Writing (register.Disk r) word turn) b busy = refl
 punching_stays (Writing register.Switches word turn) b busy = refl
 punching_stays (Writing (register.Mapping r) word turn) b busy = refl
 punching_stays (Reading (PaperTape ReaderStatus)) b busy = refl
@@ -220,6 +247,7 @@ punching_stays (Reading (PaperTape PunchBuffer)) b busy = refl
 punching_stays (Reading Clock) b busy = refl
 punching_stays (Reading (Console r)) b busy = refl
 punching_stays (Reading ProgramStatus) b busy = refl
+punching_stays (Reading (register.Disk r)) b busy = refl
 punching_stays (Reading register.Switches) b busy = refl
 punching_stays (Reading (register.Mapping r)) b busy = refl
 
@@ -239,3 +267,33 @@ reading_outlives = all_stay (λ b. b.paper_tape.reader.operation) reading_stays
 
 pub punching_outlives : PunchingOutlivesUses
 punching_outlives = all_stay (λ b. b.paper_tape.punch.operation) punching_stays
+
+-- what isn't ready isn't written, but for enable
+disk_stays : (u : Use) (b : Board) → b.disk.channel.ready ≡ false
+    → ((after_use u b).disk.operation ≡ b.disk.operation) × ((after_use u b).disk.channel.ready ≡ false)
+unfolding after_read after_write rk_written
+disk_stays (Writing (register.Disk rk.DriveStatus) word turn) b busy = (refl, busy)
+disk_stays (Writing (register.Disk rk.Error) word turn) b busy = (refl, busy)
+disk_stays (Writing (register.Disk rk.Control) word turn) b busy = rw busy (refl, refl)
+disk_stays (Writing (register.Disk rk.WordCount) word turn) b busy = rw busy (refl, refl)
+disk_stays (Writing (register.Disk rk.BusAddress) word turn) b busy = rw busy (refl, refl)
+disk_stays (Writing (register.Disk rk.DiskAddress) word turn) b busy = rw busy (refl, refl)
+disk_stays (Writing (Console r) word turn) b busy = (refl, busy)
+disk_stays (Writing Clock word turn) b busy = (refl, busy)
+disk_stays (Writing (PaperTape r) word turn) b busy = (refl, busy)
+disk_stays (Writing ProgramStatus word turn) b busy = (refl, busy)
+disk_stays (Writing register.Switches word turn) b busy = (refl, busy)
+disk_stays (Writing (register.Mapping r) word turn) b busy = (refl, busy)
+disk_stays (Reading (register.Disk r)) b busy = (refl, busy)
+disk_stays (Reading (Console r)) b busy = (refl, busy)
+disk_stays (Reading Clock) b busy = (refl, busy)
+disk_stays (Reading (PaperTape r)) b busy = (refl, busy)
+disk_stays (Reading ProgramStatus) b busy = (refl, busy)
+disk_stays (Reading register.Switches) b busy = (refl, busy)
+disk_stays (Reading (register.Mapping r)) b busy = (refl, busy)
+
+pub disk_outlives : DiskOutlivesUses
+disk_outlives [] b busy = refl
+disk_outlives (u ∷ uses) b busy =
+    let here = disk_stays u b busy in
+    disk_outlives uses (after_use u b) here.1 ∙ here.0

@@ -23,7 +23,7 @@ all_stay_clear (u ∷ uses) b clear = all_stay_clear uses (after_use u b) (stays
 
 pub read_once : KeysAreReadOnce
 unfolding value_in after_read
-read_once b uses =
+read_once b drives uses =
     status_shows_done (after_uses uses (after_read (Console KeyboardBuffer) b)).console
     ∙ ap bit_of (all_stay_clear uses (after_read (Console KeyboardBuffer) b) refl)
 
@@ -45,7 +45,7 @@ keeps (Writing other word turn ∷ uses) b never = keeps uses (after_write other
 
 pub wait_until_read : KeysWaitUntilRead
 unfolding value_in
-wait_until_read w key uses never = (
+wait_until_read w key drives uses never = (
   status_shows_done (after_uses uses (after_key key (at_start w)).bus.board).console ∙ ap bit_of (keeps uses (after_key key (at_start w)).bus.board never).0,
   (keeps uses (after_key key (at_start w)).bus.board never).1,
 )

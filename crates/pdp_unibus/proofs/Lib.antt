@@ -9,3 +9,5 @@ pub mod StatusLaws
 pub mod TapeLaws
 pub mod Tapes
 pub mod Watching
+pub mod Kept
+pub mod Pairs

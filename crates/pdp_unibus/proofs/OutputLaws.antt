@@ -4,7 +4,7 @@ use Rattle.pdp_device.specs.Operation.{is_due, is_under_way}
 use Rattle.pdp_device.specs.Outlet.{byte_out, outlet_completed}
 use Rattle.pdp_device.specs.declared.operation.Operation.TheVariants.{Idle}
 use Rattle.pdp_device.specs.declared.outlet.Outlet.{Outlet}
-use Rattle.pdp_unibus.specs.Beginning.{Progress, after_event, after_events, at_start, begun, clock_ticked, in_turn, is_tick, printer_done, printer_due, punch_done, punch_due, reader_done, reader_due, tick_due, where_due}
+use Rattle.pdp_unibus.specs.Beginning.{Progress, after_event, after_events, at_start, before_disk, begun, clock_ticked, disk_done, disk_due, in_turn, is_tick, printer_done, printer_due, punch_done, punch_due, reader_done, reader_due, tick_due, where_due}
 use Rattle.pdp_unibus.specs.ByteLaws.{BytesArePrintedAsOperationsEnd, BytesArePunchedAsOperationsEnd, came_out}
 use Rattle.pdp_unibus.specs.declared.board.Board.{Board}
 use Rattle.pdp_unibus.specs.declared.event.Event.{Event}
@@ -69,17 +69,19 @@ after_each outlet out tracks o (e ∷ es) p since =
 
 after_all : (outlet : Board → Outlet) (out : Progress → List ℕ) → ((e : Event) → Tracks outlet out (after_event e))
     → (o : Outlet) (es : List Event) (p : Progress) → SinceAt outlet out o p
-    → SinceAt outlet out o (punch_due (reader_due (printer_due (tick_due (after_events es p)))))
+    → SinceAt outlet out o (disk_due (punch_due (reader_due (printer_due (tick_due (after_events es p))))))
 after_all outlet out tracks o es p since =
     let events = after_events es p in
     let ticked = tick_due events in
     let printed = printer_due ticked in
     let read = reader_due printed in
-    after_due outlet out punch_done (tracks PunchDone) o read (is_due read.bus.turn read.bus.board.paper_tape.punch.operation)
+    let punched = punch_due read in
+    after_due outlet out disk_done (tracks DiskDone) o punched (is_due punched.bus.turn punched.bus.board.disk.operation)
+    (after_due outlet out punch_done (tracks PunchDone) o read (is_due read.bus.turn read.bus.board.paper_tape.punch.operation)
     (after_due outlet out reader_done (tracks ReaderDone) o printed (is_due printed.bus.turn printed.bus.board.paper_tape.reader.operation)
     (after_due outlet out printer_done (tracks PrinterDone) o ticked (is_due ticked.bus.turn ticked.bus.board.console.printer.operation)
     (after_due outlet out clock_ticked (tracks Tick) o events (is_tick events.bus.turn events.bus.board.delays.clock)
-    (after_each outlet out tracks o es p since))))
+    (after_each outlet out tracks o es p since)))))
 
 came : (o now : Outlet) (out : List ℕ) → Since o now out → out ≡ came_out o now
 came o now out (Still still none) = none ∙ sym (ap (λ p. came_out o p) still ∙ unmoved (is_under_way o.operation)) where
@@ -109,13 +111,13 @@ punch_tracks (Switches word) p = Leaves refl refl
 punch_tracks Continue p = Leaves refl refl
 
 pub bytes_are_printed : BytesArePrintedAsOperationsEnd
-unfolding begun
+unfolding begun before_disk
 bytes_are_printed t events w =
     came w.board.console.printer _ _
     (after_all (λ b. b.console.printer) (λ p. p.printed) printer_tracks w.board.console.printer events (at_start (in_turn t w)) (Still refl refl))
 
 pub bytes_are_punched : BytesArePunchedAsOperationsEnd
-unfolding begun
+unfolding begun before_disk
 bytes_are_punched t events w =
     came w.board.paper_tape.punch _ _
     (after_all (λ b. b.paper_tape.punch) (λ p. p.punched) punch_tracks w.board.paper_tape.punch events (at_start (in_turn t w)) (Still refl refl))

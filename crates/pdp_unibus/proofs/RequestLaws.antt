@@ -222,7 +222,8 @@ others_go_on Reader Reader b other = absurd (other refl)
 others_go_on Reader _ b other = refl
 others_go_on Punch Punch b other = absurd (other refl)
 others_go_on Punch _ b other = refl
-others_go_on Disk t b other = refl
+others_go_on Disk Disk b other = absurd (other refl)
+others_go_on Disk _ b other = refl
 
 pub reset_drops_requests : ResetDropsRequests
 unfolding board_reset requests

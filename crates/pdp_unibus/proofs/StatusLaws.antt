@@ -66,10 +66,10 @@ whole_status word fits =
     in
     all ∙ omega arith
 
-pub written_register : (b : Board) (word turn : ℕ) → word < 0o200000
-    → value_in ProgramStatus (after_write ProgramStatus word turn b) ≡ writable_part word + bit_of b.status.trace_bit * 0o20
+pub written_register : (b : Board) (word turn drives : ℕ) → word < 0o200000
+    → value_in ProgramStatus drives (after_write ProgramStatus word turn b) ≡ writable_part word + bit_of b.status.trace_bit * 0o20
 unfolding value_in after_write
-written_register b word turn fits = written_status b.status word fits
+written_register b word turn drives fits = written_status b.status word fits
 
 -- each part from its bits
 mode_back : (mode : Mode) → mode_of (mode_bits mode) ≡ mode

@@ -4,7 +4,7 @@ use Rattle.pdp_device.specs.Operation.{is_due, is_under_way}
 use Rattle.pdp_device.specs.declared.operation.Operation.TheVariants.{Idle}
 use Rattle.pdp_tape.specs.Reader.{read_over}
 use Rattle.pdp_tape.specs.declared.reader.Reader.{Reader}
-use Rattle.pdp_unibus.specs.Beginning.{Progress, after_event, after_events, after_next, at_start, begun, clock_ticked, in_turn, is_tick, next_byte, printer_done, printer_due, punch_done, punch_due, reader_done, reader_due, tick_due, where_due}
+use Rattle.pdp_unibus.specs.Beginning.{Progress, after_event, after_events, after_next, at_start, before_disk, begun, clock_ticked, disk_done, disk_due, in_turn, is_tick, next_byte, printer_done, printer_due, punch_done, punch_due, reader_done, reader_due, tick_due, where_due}
 use Rattle.pdp_unibus.specs.ByteLaws.{ReadsTakeTheNextByte, has_ended, reader_of}
 use Rattle.pdp_unibus.specs.declared.event.Event.{Event}
 use Rattle.pdp_unibus.specs.declared.event.Event.TheVariants.{Key, Tick, PrinterDone, ReaderDone, PunchDone, DiskDone, Switches, Continue}
@@ -66,17 +66,19 @@ after_due r tape f p goes true since = goes since
 after_due r tape f p goes false since = since
 
 after_all : (r : Reader) (tape : List ℕ) (es : List Event) (p : Progress) → SinceAt r tape p
-    → SinceAt r tape (punch_due (reader_due (printer_due (tick_due (after_events es p)))))
+    → SinceAt r tape (disk_due (punch_due (reader_due (printer_due (tick_due (after_events es p))))))
 after_all r tape es p since =
     let events = after_events es p in
     let ticked = tick_due events in
     let printed = printer_due ticked in
     let read = reader_due printed in
-    after_due r tape punch_done read (λ s. s) (is_due read.bus.turn read.bus.board.paper_tape.punch.operation)
+    let punched = punch_due read in
+    after_due r tape disk_done punched (λ s. s) (is_due punched.bus.turn punched.bus.board.disk.operation)
+    (after_due r tape punch_done read (λ s. s) (is_due read.bus.turn read.bus.board.paper_tape.punch.operation)
     (after_due r tape reader_done printed (reading_done r tape printed) (is_due printed.bus.turn printed.bus.board.paper_tape.reader.operation)
     (after_due r tape printer_done ticked (λ s. s) (is_due ticked.bus.turn ticked.bus.board.console.printer.operation)
     (after_due r tape clock_ticked events (λ s. s) (is_tick events.bus.turn events.bus.board.delays.clock)
-    (after_each r tape es p since))))
+    (after_each r tape es p since)))))
 
 not_both : (busy : Bool) → (busy && not busy) ≡ true → ⊥
 not_both true is = cc
@@ -94,6 +96,6 @@ told r now tape left (Over busy idle read rest) = (λ _. (read, rest), λ goes_o
   never goes_on = let ended : has_ended r.operation now.operation ≡ true = rw (busy, idle) refl in cc
 
 pub reads_take_the_next : ReadsTakeTheNextByte
-unfolding begun
+unfolding begun before_disk
 reads_take_the_next t events w =
     told (reader_of w) _ w.tape _ (after_all (reader_of w) w.tape events (at_start (in_turn t w)) (Still refl refl))

@@ -1,12 +1,12 @@
 -- Turns in which nothing happens but by events.
-use Rattle.std.proofs.Common.{◌≡◌, ℕ, ◌+◌, ◌-◌, ◌*◌, ◌%◌, ◌/◌, ◌<◌, ◌≤◌, ◌==◌, nat_lt, ◌&&◌, Bool, true, false, [], refl, subst, min, unwrap_or, arith}
+use Rattle.std.proofs.Common.{◌≡◌, ℕ, ◌+◌, ◌-◌, ◌*◌, ◌%◌, ◌/◌, ◌<◌, ◌≤◌, ◌==◌, nat_lt, ◌&&◌, Bool, true, false, [], refl, ap, ◌∙◌, subst, min, unwrap_or, arith}
 use Rattle.std.proofs.Math.Nat.{div-eq_of_lt-le, div-mul-le_self, mod-eq-sub-div-mul}
 use Rattle.std.proofs.lemmas.Bool.{and_parts}
 use Rattle.std.proofs.lemmas.Bool.Decides.{nat_tests}
 use Rattle.pdp_device.specs.Operation.{due_after, is_due}
 use Rattle.pdp_device.specs.declared.operation.Operation.{Operation}
 use Rattle.pdp_device.specs.declared.operation.Operation.TheVariants.{Idle, ByEvent, At}
-use Rattle.pdp_unibus.specs.Beginning.{at_start, begun, in_turn, is_tick}
+use Rattle.pdp_unibus.specs.Beginning.{Progress, at_start, before_disk, begun, clock_ticked, disk_done, disk_due, in_turn, is_tick, printer_done, printer_due, punch_done, punch_due, reader_done, reader_due, where_due}
 use Rattle.pdp_unibus.specs.BusWorld.{BusWorld}
 use Rattle.pdp_unibus.specs.Source.{has_request}
 use Rattle.pdp_unibus.specs.Watch.{IsQuiet, IsWatched}
@@ -23,9 +23,10 @@ due_later turn most t (At due) after before = grind (arith, nat_tests)
 pub board_is_watched : (b : Board) (turn tick most : ℕ) (requested : Bool)
     → ((t : ℕ) → turn < t → t < tick → is_tick t b.delays.clock ≡ false) → requested ≡ has_request b
     → IsWatched turn b (record {
-      wake = min (min (min tick (unwrap_or (due_after turn b.console.printer.operation) most))
+      wake = min (min (min (min tick (unwrap_or (due_after turn b.console.printer.operation) most))
           (unwrap_or (due_after turn b.paper_tape.reader.operation) most))
-          (unwrap_or (due_after turn b.paper_tape.punch.operation) most);
+          (unwrap_or (due_after turn b.paper_tape.punch.operation) most))
+          (unwrap_or (due_after turn b.disk.operation) most);
       requested = requested;
     })
 board_is_watched b turn tick most requested ticks asks = record {
@@ -34,6 +35,7 @@ board_is_watched b turn tick most requested ticks asks = record {
     printer = due_later turn most t b.console.printer.operation after (omega (arith, before));
     reader = due_later turn most t b.paper_tape.reader.operation after (omega (arith, before));
     punch = due_later turn most t b.paper_tape.punch.operation after (omega (arith, before));
+    disk = due_later turn most t b.disk.operation after (omega (arith, before));
   };
   silent = λ none. cc;
 }
@@ -51,9 +53,18 @@ ticks_later turn t p above after before =
 
 -- a turn in which nothing happens but by events, and has none, begins and nothing more
 begun_quietly : (t : ℕ) (w : BusWorld) → IsQuiet t w.board → begun t [] w ≡ at_start (in_turn t w)
-unfolding begun
+unfolding begun before_disk
 begun_quietly t w quiet =
-    rw quiet.clock (rw quiet.printer (rw quiet.reader (rw quiet.punch refl)))
+    ap (λ (p : Progress). disk_due (punch_due (reader_due (printer_due p)))) (none clock_ticked quiet.clock)
+    ∙ ap (λ (p : Progress). disk_due (punch_due (reader_due p))) (none printer_done quiet.printer)
+    ∙ ap (λ (p : Progress). disk_due (punch_due p)) (none reader_done quiet.reader)
+    ∙ ap disk_due (none punch_done quiet.punch)
+    ∙ none disk_done quiet.disk where
+      start : Progress
+      start = at_start (in_turn t w)
+
+      none : (step : Progress → Progress) {due : Bool} → due ≡ false → where_due due step start ≡ start
+      none step is = ap (λ holds. where_due holds step start) is
 
 pub quietly_begun : (t asked : ℕ) (v w : BusWorld) (watch : Watch) → v ≡ w → asked ≡ t → IsWatched v.turn v.board watch
     → (nat_lt v.turn t && nat_lt asked watch.wake) ≡ true → begun t [] w ≡ at_start (in_turn t v)

@@ -5,7 +5,8 @@ use Rattle.pdp_console.specs.Kl.{kl_completed, kl_printed, struck}
 use Rattle.pdp_console.specs.Kw.{ticked}
 use Rattle.pdp_tape.specs.Pc.{pc_punch_completed, pc_punched, pc_reader_completed}
 use Rattle.pdp_tape.specs.Reader.{takes_byte}
-use Rattle.pdp_unibus.specs.BusWorld.{BusWorld, with_board}
+use Rattle.pdp_rk11.specs.Completion.{completed}
+use Rattle.pdp_unibus.specs.BusWorld.{BusWorld, disk_world_of, with_board, with_disk_world}
 use Rattle.pdp_unibus.specs.declared.beginning.Output.{Output}
 use Rattle.pdp_unibus.specs.declared.board.Board.{Board}
 use Rattle.pdp_unibus.specs.declared.event.Event.{Event}
@@ -75,14 +76,18 @@ punch_done p = record (on_board p (record p.bus.board { paper_tape = pc_punch_co
 abbrev pub switches_set : ℕ → Progress → Progress
 switches_set word p = on_board p (record p.bus.board { switches = word })
 
--- what an event does to the bus; the disk is to come, and Continue is the processor's
+-- the disk completes: its function is done, to core and the drives
+abbrev pub disk_done : Progress → Progress
+disk_done p = record p { bus = with_disk_world p.bus (completed p.bus.turn (disk_world_of p.bus)) }
+
+-- what an event does to the bus; Continue is the processor's
 abbrev pub after_event : Event → Progress → Progress
 after_event (Key key) p = after_key key p
 after_event Tick p = clock_ticked p
 after_event PrinterDone p = printer_done p
 after_event ReaderDone p = reader_done p
 after_event PunchDone p = punch_done p
-after_event DiskDone p = p
+after_event DiskDone p = disk_done p
 after_event (Switches word) p = switches_set word p
 after_event Continue p = p
 
@@ -111,6 +116,15 @@ reader_due p = where_due (is_due p.bus.turn p.bus.board.paper_tape.reader.operat
 abbrev pub punch_due : Progress → Progress
 punch_due p = where_due (is_due p.bus.turn p.bus.board.paper_tape.punch.operation) punch_done p
 
--- the beginning of turn t: its events in their order, a tick, and the completions that are due: printer, reader, punch
+abbrev pub disk_due : Progress → Progress
+disk_due p = where_due (is_due p.bus.turn p.bus.board.disk.operation) disk_done p
+
+-- the beginning of turn t until the disk's completion, if it is due: its events in their order, a tick, and the
+-- completions that are due of the printer, the reader and the punch
+unfoldable pub before_disk : ℕ → List Event → BusWorld → Progress
+before_disk t events w = punch_due (reader_due (printer_due (tick_due (after_events events (at_start (in_turn t w))))))
+
+-- the beginning of turn t: its events in their order, a tick, and the completions that are due: printer, reader, punch,
+-- disk
 unfoldable pub begun : ℕ → List Event → BusWorld → Progress
-begun t events w = punch_due (reader_due (printer_due (tick_due (after_events events (at_start (in_turn t w))))))
+begun t events w = disk_due (before_disk t events w)

@@ -4,6 +4,8 @@ use Rattle.std.specs.Prelude.{ℕ, List, Option, false}
 use Rattle.pdp_console.specs.Kl.{kl_reset, quiet_kl}
 use Rattle.pdp_console.specs.Kw.{quiet_kw}
 use Rattle.pdp_tape.specs.Pc.{pc_reset, quiet_pc}
+use Rattle.pdp_rk11.specs.Completion.{DiskWorld, disk_world}
+use Rattle.pdp_rk11.specs.Rk.{quiet_rk, rk_reset}
 use Rattle.pdp_kt11.specs.Kt.{kt_reset, powered_kt}
 use Rattle.pdp_kt11.specs.declared.kt.Kt.{Kt}
 use Rattle.pdp_kt11.specs.declared.mode.Mode.TheVariants.{Kernel}
@@ -22,6 +24,8 @@ pub record BusWorld : Type 0 where
   pub core : List ℕ
   -- for each word of core the stamp of its last write, if it was written; no list at all where core keeps no stamps
   pub lasts : List (Option Stamp)
+  -- the words of each drive
+  pub drives : List (List ℕ)
   -- the bytes of the paper tape that the reader hasn't read
   pub tape : List ℕ
   -- the turn of its cycles
@@ -42,13 +46,15 @@ powered_board delays = record {
   console = quiet_kl;
   clock = quiet_kw;
   paper_tape = quiet_pc;
+  disk = quiet_rk;
   delays = delays;
   switches = 0;
 }
 
--- the bus as of power-up, over this core and this tape
-abbrev pub powered : List ℕ → List (Option Stamp) → List ℕ → Delays → BusWorld
-powered words lasts tape delays = record { board = powered_board delays; core = words; lasts = lasts; tape = tape; turn = 0 }
+-- the bus as of power-up, over this core, these drives and this tape
+abbrev pub powered : List ℕ → List (Option Stamp) → List (List ℕ) → List ℕ → Delays → BusWorld
+powered words lasts drives tape delays =
+    record { board = powered_board delays; core = words; lasts = lasts; drives = drives; tape = tape; turn = 0 }
 
 abbrev pub with_board : BusWorld → Board → BusWorld
 with_board w board = record w { board = board }
@@ -65,6 +71,19 @@ with_codes w codes = with_status w (record w.board.status { codes = codes })
 abbrev pub with_mapping : BusWorld → Kt → BusWorld
 with_mapping w mapping = with_board w (record w.board { mapping = mapping })
 
+-- what the disk's controller sees: itself, core with its stamps, and the drives
+abbrev pub disk_world_of : BusWorld → DiskWorld
+disk_world_of w = disk_world w.board.disk w.core w.lasts w.drives
+
+-- the bus with what the controller left of them
+abbrev pub with_disk_world : BusWorld → DiskWorld → BusWorld
+with_disk_world w d = record w {
+  board = record w.board { disk = d.rk };
+  core = d.core;
+  lasts = d.lasts;
+  drives = d.drives;
+}
+
 -- RESET: each device is initialised, and SR0 is cleared, so mapping is off; the program status, the pages, SR2, the
 -- delays and the switches stay
 unfoldable pub board_reset : Board → Board
@@ -73,4 +92,5 @@ board_reset b = record b {
   console = kl_reset b.console;
   clock = quiet_kw;
   paper_tape = pc_reset b.paper_tape;
+  disk = rk_reset b.disk;
 }

@@ -12,7 +12,7 @@ use Rattle.pdp_unibus.specs.BusWorld.{BusWorld}
 use Rattle.pdp_unibus.specs.Laws.{Use, after_uses}
 use Rattle.pdp_unibus.specs.declared.board.Board.{Board}
 use Rattle.pdp_unibus.specs.declared.event.Event.{Event}
-use Rattle.pdp_unibus.specs.declared.event.Event.TheVariants.{PrinterDone, ReaderDone, PunchDone}
+use Rattle.pdp_unibus.specs.declared.event.Event.TheVariants.{DiskDone, PrinterDone, ReaderDone, PunchDone}
 
 -- the board when turn t has begun, with these events
 abbrev pub board_begun : ℕ → List Event → BusWorld → Board
@@ -59,6 +59,11 @@ abbrev pub PunchingEndsWhenDue : Type 0
 PunchingEndsWhenDue = (t : ℕ) (events : List Event) (w : BusWorld) → Without PunchDone events
     → (board_begun t events w).paper_tape.punch.operation ≡ left_at t w.board.paper_tape.punch.operation
 
+-- and with the disk
+abbrev pub DiskEndsWhenDue : Type 0
+DiskEndsWhenDue = (t : ℕ) (events : List Event) (w : BusWorld) → Without DiskDone events
+    → (board_begun t events w).disk.operation ≡ left_at t w.board.disk.operation
+
 -- whichever registers are read and written meanwhile, an operation that is under way stays as it was begun
 abbrev pub PrintingOutlivesUses : Type 0
 PrintingOutlivesUses = (uses : List Use) (b : Board) → is_under_way b.console.printer.operation ≡ true
@@ -71,6 +76,11 @@ ReadingOutlivesUses = (uses : List Use) (b : Board) → is_under_way b.paper_tap
 abbrev pub PunchingOutlivesUses : Type 0
 PunchingOutlivesUses = (uses : List Use) (b : Board) → is_under_way b.paper_tape.punch.operation ≡ true
     → (after_uses uses b).paper_tape.punch.operation ≡ b.paper_tape.punch.operation
+
+-- the disk's, while its controller isn't ready
+abbrev pub DiskOutlivesUses : Type 0
+DiskOutlivesUses = (uses : List Use) (b : Board) → b.disk.channel.ready ≡ false
+    → (after_uses uses b).disk.operation ≡ b.disk.operation
 
 abbrev pub reader_of : BusWorld → Reader
 reader_of w = w.board.paper_tape.reader

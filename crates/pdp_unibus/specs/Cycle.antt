@@ -52,7 +52,7 @@ timed_out w = record { value = Err (record {}); after = w }
 
 abbrev pub read_from : Slave → BusWorld → Answer
 read_from (Core k) w = record { value = Ok (slice_index w.core k); after = core_read w k }
-read_from (Device r) w = record { value = Ok (value_in r w.board); after = with_board w (after_read r w.board) }
+read_from (Device r) w = record { value = Ok (value_in r (length w.drives) w.board); after = with_board w (after_read r w.board) }
 read_from Nobody w = timed_out w
 
 abbrev pub write_to : Slave → ℕ → BusWorld → Answer
@@ -64,7 +64,7 @@ abbrev pub write_byte_to : Slave → ℕ → ℕ → BusWorld → Answer
 write_byte_to (Core k) address byte w =
     record { value = Ok 0; after = core_written w k (word_with_byte (slice_index w.core k) address byte) }
 write_byte_to (Device r) address byte w =
-    record { value = Ok 0; after = with_board w (after_byte r address byte w.turn w.board) }
+    record { value = Ok 0; after = with_board w (after_byte r (length w.drives) address byte w.turn w.board) }
 write_byte_to Nobody address byte w = timed_out w
 
 -- one bus cycle: who answers, and what
@@ -79,9 +79,9 @@ done (Ok value) = Ok tt
 done (Err timeout) = Err timeout
 
 -- a cycle where no word of core answers, register by register: what the master is told, and the board after it
-abbrev pub value_at : Option Register → Board → Result ℕ Timeout
-value_at None b = Err (record {})
-value_at (Some r) b = Ok (value_in r b)
+abbrev pub value_at : Option Register → ℕ → Board → Result ℕ Timeout
+value_at None drives b = Err (record {})
+value_at (Some r) drives b = Ok (value_in r drives b)
 
 abbrev pub told_at : Option Register → Result ℕ Timeout
 told_at None = Err (record {})
@@ -95,6 +95,6 @@ abbrev pub left_by_write : Option Register → ℕ → ℕ → Board → Board
 left_by_write None word turn b = b
 left_by_write (Some r) word turn b = after_write r word turn b
 
-abbrev pub left_by_byte : Option Register → ℕ → ℕ → ℕ → Board → Board
-left_by_byte None address byte turn b = b
-left_by_byte (Some r) address byte turn b = after_byte r address byte turn b
+abbrev pub left_by_byte : Option Register → ℕ → ℕ → ℕ → ℕ → Board → Board
+left_by_byte None drives address byte turn b = b
+left_by_byte (Some r) drives address byte turn b = after_byte r drives address byte turn b

@@ -35,8 +35,8 @@ WrittenStatusReadsBack = (s : Status) (word : ℕ) → word < 0o200000
 
 -- the same through its register
 abbrev pub WrittenRegisterReadsBack : Type 0
-WrittenRegisterReadsBack = (b : Board) (word turn : ℕ) → word < 0o200000
-    → value_in ProgramStatus (after_write ProgramStatus word turn b) ≡ writable_part word + bit_of b.status.trace_bit * 0o20
+WrittenRegisterReadsBack = (b : Board) (word turn drives : ℕ) → word < 0o200000
+    → value_in ProgramStatus drives (after_write ProgramStatus word turn b) ≡ writable_part word + bit_of b.status.trace_bit * 0o20
 
 -- what was read from the program status word changes nothing when it is written
 abbrev pub ReadStatusWritesBack : Type 0
@@ -63,11 +63,11 @@ NeverReading register (Writing other word turn ∷ uses) = NeverReading register
 
 -- a key that was struck waits until the buffer is read: done, bit 7 of the status, is set, and the buffer holds the key
 abbrev pub KeysWaitUntilRead : Type 0
-KeysWaitUntilRead = (w : BusWorld) (key : ℕ) (uses : List Use) → NeverReading (Console KeyboardBuffer) uses
-    → (field 7 1 (value_in (Console KeyboardStatus) (after_uses uses (after_key key (at_start w)).bus.board)) ≡ 1)
-    × (value_in (Console KeyboardBuffer) (after_uses uses (after_key key (at_start w)).bus.board) ≡ key)
+KeysWaitUntilRead = (w : BusWorld) (key drives : ℕ) (uses : List Use) → NeverReading (Console KeyboardBuffer) uses
+    → (field 7 1 (value_in (Console KeyboardStatus) drives (after_uses uses (after_key key (at_start w)).bus.board)) ≡ 1)
+    × (value_in (Console KeyboardBuffer) drives (after_uses uses (after_key key (at_start w)).bus.board) ≡ key)
 
 -- a read of the buffer clears done, and no register that is then read or written sets it
 abbrev pub KeysAreReadOnce : Type 0
-KeysAreReadOnce = (b : Board) (uses : List Use)
-    → field 7 1 (value_in (Console KeyboardStatus) (after_uses uses (after_read (Console KeyboardBuffer) b))) ≡ 0
+KeysAreReadOnce = (b : Board) (drives : ℕ) (uses : List Use)
+    → field 7 1 (value_in (Console KeyboardStatus) drives (after_uses uses (after_read (Console KeyboardBuffer) b))) ≡ 0

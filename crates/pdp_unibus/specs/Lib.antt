@@ -13,3 +13,6 @@ pub mod Placed
 pub mod RequestLaws
 pub mod RuleLaws
 pub mod ByteLaws
+pub mod Trace
+pub mod Page
+pub mod Touched

@@ -1,4 +1,4 @@
--- Registers on the bus, and who owns them: PDP-11 Peripherals Handbook, KL11, KW11-L and PC11; DEC PDP-11/40 Processor
+-- Registers on the bus, and who owns them: PDP-11 Peripherals Handbook, KL11, KW11-L, PC11 and RK11; DEC PDP-11/40 Processor
 -- Handbook (1972), Switch register, Processor status word and Memory management. How bytes are written is this
 -- project's profile.
 use Rattle.std.specs.Prelude.{ℕ, ◌+◌, ◌-◌, ◌*◌, ◌%◌, ◌==◌, ◌&&◌, nat_le, Bool, true, Option, Some, option_map, if◌then◌else◌}
@@ -8,14 +8,16 @@ use Rattle.pdp_console.specs.Kw.{kw_value, kw_written}
 use Rattle.pdp_console.specs.declared.kl.KlRegister.TheVariants.{PrinterBuffer}
 use Rattle.pdp_tape.specs.Pc.{pc_read, pc_register_at, pc_value, pc_written}
 use Rattle.pdp_tape.specs.declared.pc.PcRegister.TheVariants.{PunchBuffer}
+use Rattle.pdp_rk11.specs.Rk.{rk_register_at, rk_value, rk_written}
 use Rattle.pdp_unibus.specs.Status.{status_word, status_written}
 use Rattle.pdp_unibus.specs.declared.board.Board.{Board}
 use Rattle.pdp_unibus.specs.declared.register.Register.{Register}
-use Rattle.pdp_unibus.specs.declared.register.Register.TheVariants.{Clock, Console, Mapping, PaperTape, Switches, ProgramStatus}
+use Rattle.pdp_unibus.specs.declared.register.Register.TheVariants.{Clock, Console, Disk, Mapping, PaperTape, Switches, ProgramStatus}
 
 -- the owners: a device has its registers from its first address on
 abbrev pub register_of_word : ℕ → Option Register
 register_of_word address = (
+    if nat_le 0o777400 address && nat_le address 0o777412 then option_map Disk (rk_register_at (address - 0o777400)) else
     if address == 0o777546 then Some Clock else
     if nat_le 0o777550 address && nat_le address 0o777556 then option_map PaperTape (pc_register_at (address - 0o777550)) else
     if nat_le 0o777560 address && nat_le address 0o777566 then option_map Console (kl_register_at (address - 0o777560)) else
@@ -26,20 +28,22 @@ register_of_word address = (
 unfoldable pub register_at : ℕ → Option Register
 register_at address = register_of_word (address - address % 2)
 
--- what a read gives
-unfoldable pub value_in : Register → Board → ℕ
-value_in (Console r) b = kl_value r b.console
-value_in Clock b = kw_value b.clock
-value_in (PaperTape r) b = pc_value r b.paper_tape
-value_in Switches b = b.switches
-value_in (Mapping r) b = kt_value r b.mapping
-value_in ProgramStatus b = status_word b.status
+-- what a read gives, with so many drives
+unfoldable pub value_in : Register → ℕ → Board → ℕ
+value_in (Console r) drives b = kl_value r b.console
+value_in Clock drives b = kw_value b.clock
+value_in (PaperTape r) drives b = pc_value r b.paper_tape
+value_in (Disk r) drives b = rk_value r drives b.disk
+value_in Switches drives b = b.switches
+value_in (Mapping r) drives b = kt_value r b.mapping
+value_in ProgramStatus drives b = status_word b.status
 
 -- what a read does
 unfoldable pub after_read : Register → Board → Board
 after_read (Console r) b = record b { console = kl_read r b.console }
 after_read Clock b = b
 after_read (PaperTape r) b = record b { paper_tape = pc_read r b.paper_tape }
+after_read (Disk r) b = b
 after_read Switches b = b
 after_read (Mapping r) b = b
 after_read ProgramStatus b = b
@@ -50,6 +54,7 @@ after_write (Console r) word turn b = record b { console = kl_written r word tur
 after_write Clock word turn b = record b { clock = kw_written word b.clock }
 after_write (PaperTape r) word turn b =
     record b { paper_tape = pc_written r word turn b.delays.reader b.delays.punch b.paper_tape }
+after_write (Disk r) word turn b = record b { disk = rk_written r word turn b.delays.disk b.disk }
 after_write Switches word turn b = b
 after_write (Mapping r) word turn b = record b { mapping = kt_written r word b.mapping }
 after_write ProgramStatus word turn b = record b { status = status_written word b.status }
@@ -67,7 +72,7 @@ is_byte_written (PaperTape PunchBuffer) address = address % 2 == 0
 is_byte_written _ address = true
 
 -- what a write of a byte does: the word is written with the other half as a read would give it, without the effect of a
--- read
-unfoldable pub after_byte : Register → ℕ → ℕ → ℕ → Board → Board
-after_byte register address byte turn b =
-    if is_byte_written register address then after_write register (word_with_byte (value_in register b) address byte) turn b else b
+-- read, with so many drives
+unfoldable pub after_byte : Register → ℕ → ℕ → ℕ → ℕ → Board → Board
+after_byte register drives address byte turn b =
+    if is_byte_written register address then after_write register (word_with_byte (value_in register drives b) address byte) turn b else b

@@ -28,7 +28,7 @@ pub record RequestsGoByTheRule (channel : Board → Channel) : Type 0 where
       → GoesByTheRule (channel p.bus.board) (channel (after_event e p).bus.board)
   pub power : (delays : Delays) → IsSound (channel (powered_board delays))
 
--- of the keyboard, the printer and the punch
+-- of the keyboard, the printer, the punch and the disk
 abbrev pub keyboard_channel : Board → Channel
 keyboard_channel b = b.console.keyboard.channel
 
@@ -37,3 +37,6 @@ printer_channel b = b.console.printer.channel
 
 abbrev pub punch_channel : Board → Channel
 punch_channel b = b.paper_tape.punch.channel
+
+abbrev pub disk_channel : Board → Channel
+disk_channel b = b.disk.channel

@@ -1,10 +1,11 @@
 -- What can interrupt the processor: PDP-11 Peripherals Handbook, KL11, KW11-L, PC11 and RK11 (which of two at one level
 -- goes first is this project's profile).
-use Rattle.std.specs.Prelude.{ℕ, Bool, false, ◌&&◌, Option, Some, None, List, [], ◌∷◌, if◌then◌else◌}
+use Rattle.std.specs.Prelude.{ℕ, Bool, ◌&&◌, Option, Some, None, List, [], ◌∷◌, if◌then◌else◌}
 use Rattle.std.specs.List.{find, list_any}
 use Rattle.pdp_console.specs.Kl.{keyboard_served, printer_served}
 use Rattle.pdp_console.specs.Kw.{kw_served}
 use Rattle.pdp_tape.specs.Pc.{punch_served, reader_served}
+use Rattle.pdp_rk11.specs.Rk.{rk_served}
 use Rattle.pdp_unibus.specs.Status.{is_above}
 use Rattle.pdp_unibus.specs.declared.board.Board.{Board}
 use Rattle.pdp_unibus.specs.declared.priority.Priority.{Priority}
@@ -39,10 +40,10 @@ alone_above is_requesting priority s = if is_requesting s && is_above (level_of 
 abbrev pub first_above : (Source → Bool) → Priority → Option Source
 first_above is_requesting priority = find (λ s. is_requesting s && is_above (level_of s) priority) order
 
--- whether a source requests; the disk is to come
+-- whether a source requests
 unfoldable pub requests : Board → Source → Bool
 requests b Clock = b.clock.request
-requests b Disk = false
+requests b Disk = b.disk.channel.request
 requests b Keyboard = b.console.keyboard.channel.request
 requests b Printer = b.console.printer.channel.request
 requests b Reader = b.paper_tape.reader.request
@@ -59,7 +60,7 @@ chosen priority b = first_above (requests b) priority
 -- the source's request is served: that request goes, and nothing else changes
 unfoldable pub served : Source → Board → Board
 served Clock b = record b { clock = kw_served b.clock }
-served Disk b = b
+served Disk b = record b { disk = rk_served b.disk }
 served Keyboard b = record b { console = keyboard_served b.console }
 served Printer b = record b { console = printer_served b.console }
 served Reader b = record b { paper_tape = reader_served b.paper_tape }

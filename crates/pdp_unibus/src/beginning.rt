@@ -1,7 +1,7 @@
 //! The beginning of a turn: its events, a tick of the clock, and the operations that are due.
 
 ghost use Rattle.std.specs.Prelude.{◌≡◌, true, false, []};
-ghost use Rattle.pdp_unibus.specs.Beginning.{after_event, after_events, at_start, begun, printer_done, printer_due, progress, punch_done, punch_due, reader_done, reader_due, tick_due};
+ghost use Rattle.pdp_unibus.specs.Beginning.{after_event, after_events, at_start, begun, disk_done, disk_due, printer_done, printer_due, progress, punch_done, punch_due, reader_done, reader_due, tick_due};
 ghost use Rattle.pdp_unibus.specs.SingleBytes.{IsSingle};
 ghost use Rattle.pdp_unibus.specs.declared.beginning.Output.{Output};
 
@@ -20,13 +20,14 @@ pub struct Output {
 
 impl<S: Store> Bus<S> {
     /// A turn begins: its events in their order, a tick where the clock's period is above 0 and the turn is a positive
-    /// multiple of it, and the completions that are due, of the printer, the reader and the punch in this order. The
-    /// cycles from now on are those of the turn. It answers the byte that was printed and the byte that was punched.
+    /// multiple of it, and the completions that are due, of the printer, the reader, the punch and the disk in this
+    /// order. The cycles from now on are those of the turn, and so are the stamps of words that the disk reads into
+    /// core. It answers the byte that was printed and the byte that was punched.
     ///
-    /// `Continue` is the processor's and does nothing here; `DiskDone` has no disk yet. An event for an operation that
-    /// isn't under way does nothing. (This project's profile.)
+    /// `Continue` is the processor's and does nothing here. An event for an operation that isn't under way does nothing.
+    /// (This project's profile.)
     #[inline(never)]
-    #[tactic(auto, unfolding(crate::specs::Beginning::begun))]
+    #[tactic(auto, unfolding(crate::specs::Beginning::begun, crate::specs::Beginning::before_disk))]
     pub fn events(&mut self, turn: u32, events: &[Event]) -> Output
         ensures { progress self.new result ≡ begun turn events.now self.old }
     {
@@ -38,6 +39,7 @@ impl<S: Store> Bus<S> {
         self.take_printer(&mut output);
         self.take_reader();
         self.take_punch(&mut output);
+        self.take_disk();
         self.watch = self.board.watch(self.turn);
         output
     }
@@ -79,8 +81,9 @@ impl<S: Store> Bus<S> {
             Event::PrinterDone => self.print(output),
             Event::ReaderDone => self.read_tape(),
             Event::PunchDone => self.punch(output),
+            Event::DiskDone => self.complete_disk(),
             Event::Switches(word) => self.board.switches = word,
-            Event::DiskDone | Event::Continue => {}
+            Event::Continue => {}
         }
     }
 
@@ -128,6 +131,16 @@ impl<S: Store> Bus<S> {
         }
     }
 
+    // The disk completes, where it is due.
+    fn take_disk(&mut self)
+        ensures after { (o : Output) → progress self.new o ≡ disk_due (progress self.old o) }
+        ensures single { (o : Output) → IsSingle self.old.board o → IsSingle self.new.board o }
+    {
+        if self.board.disk.operation.is_due(self.turn) {
+            self.complete_disk();
+        }
+    }
+
     // The printer completes.
     fn print(&mut self, output: &mut Output)
         requires { IsSingle self.old.board output.old }
@@ -150,6 +163,17 @@ impl<S: Store> Bus<S> {
         if let Some(byte) = self.board.paper_tape.complete_punch() {
             output.punched = Some(byte);
         }
+    }
+
+    // The disk completes: its function is done, to core and the drives.
+    fn complete_disk(&mut self)
+        ensures after { (o : Output) → progress self.new o ≡ disk_done (progress self.old o) }
+        ensures single { (o : Output) → IsSingle self.old.board o → IsSingle self.new.board o }
+    {
+        self.watch = Watch::unknown();
+        self.board
+            .disk
+            .complete(&mut self.words, &mut self.drives, self.turn);
     }
 
     // The reader completes: where it was reading, the next byte of the tape is taken.

@@ -7,6 +7,7 @@ use crate::register::Register;
 use crate::status::Status;
 use pdp_console::{Kl, KlRegister, Kw};
 use pdp_kt11::Kt;
+use pdp_rk11::Rk;
 use pdp_tape::{Pc, PcRegister};
 
 /// What the bus holds besides the lists of words, the tape and the turn: the program status word, the mapping
@@ -21,6 +22,8 @@ pub struct Board {
     pub clock: Kw,
     /// The paper tape reader and punch.
     pub paper_tape: Pc,
+    /// The disk's controller.
+    pub disk: Rk,
     /// How long operations take.
     pub delays: Delays,
     /// The switch register.
@@ -39,36 +42,39 @@ impl Board {
             console: Kl::quiet(),
             clock: Kw::quiet(),
             paper_tape: Pc::quiet(),
+            disk: Rk::quiet(),
             delays,
             switches: 0,
         }
     }
 
-    /// What a read of the register gives, without the effect of a read.
+    /// What a read of the register gives, with so many drives on the disk, without the effect of a read.
     #[tactic(auto, unfolding(crate::specs::Register::value_in))]
-    pub fn value(&self, register: Register) -> u16
-        ensures { result ≡ value_in register self.now }
+    pub fn value(&self, register: Register, drives: usize) -> u16
+        ensures { result ≡ value_in register drives self.now }
     {
         match register {
             Register::Console(register) => self.console.value(register),
             Register::Clock => self.clock.value(),
             Register::PaperTape(register) => self.paper_tape.value(register),
+            Register::Disk(register) => self.disk.read_reg(register, drives),
             Register::Switches => self.switches,
             Register::Mapping(register) => self.mapping.read_reg(register),
             Register::ProgramStatus => self.status.word(),
         }
     }
 
-    /// A read of the register.
+    /// A read of the register, with so many drives on the disk.
     #[tactic(auto, unfolding(crate::specs::Register::value_in, crate::specs::Register::after_read))]
-    pub fn read(&mut self, register: Register) -> u16
-        ensures value { result ≡ value_in register self.old }
+    pub fn read(&mut self, register: Register, drives: usize) -> u16
+        ensures value { result ≡ value_in register drives self.old }
         ensures after { self.new ≡ after_read register self.old }
     {
         match register {
             Register::Console(register) => self.console.read_reg(register),
             Register::Clock => self.clock.value(),
             Register::PaperTape(register) => self.paper_tape.read_reg(register),
+            Register::Disk(register) => self.disk.read_reg(register, drives),
             Register::Switches => self.switches,
             Register::Mapping(register) => self.mapping.read_reg(register),
             Register::ProgramStatus => self.status.word(),
@@ -91,27 +97,37 @@ impl Board {
                 self.paper_tape
                     .write_reg(register, word, turn, reader, punch)
             }
+            Register::Disk(register) => {
+                self.disk.write_reg(register, word, turn, self.delays.disk)
+            }
             Register::Switches => {}
             Register::Mapping(register) => self.mapping.write_reg(register, word),
             Register::ProgramStatus => self.status = self.status.written(word),
         }
     }
 
-    /// A write of a byte to the register, at an address in its word, in this turn: the other half is written as a read
-    /// would give it, without the effect of a read. At the odd address of the printer's and the punch's buffer it does
-    /// nothing. (This project's profile.)
+    /// A write of a byte to the register, at an address in its word, in this turn, with so many drives: the other half
+    /// is written as a read would give it, without the effect of a read. At the odd address of the printer's and the
+    /// punch's buffer it does nothing. (This project's profile.)
     #[tactic(auto, unfolding(crate::specs::Register::after_byte))]
-    pub fn write_byte(&mut self, register: Register, address: u32, byte: u8, turn: u32)
-        ensures { self.new ≡ after_byte register address byte turn self.old }
+    pub fn write_byte(
+        &mut self,
+        register: Register,
+        drives: usize,
+        address: u32,
+        byte: u8,
+        turn: u32,
+    )
+        ensures { self.new ≡ after_byte register drives address byte turn self.old }
     {
         if is_byte_written(register, address) {
-            let word = with_byte(self.value(register), address, byte);
+            let word = with_byte(self.value(register, drives), address, byte);
             self.write(register, word, turn);
         }
     }
 
-    /// RESET of all devices and of SR0, so mapping is off. The program status, the pages, SR2, the delays and the switches
-    /// stay.
+    /// RESET of all devices and of SR0, so mapping is off. The program status, the pages, SR2, the delays, the switches
+    /// and which drives are locked stay.
     #[tactic(auto, unfolding(crate::specs::BusWorld::board_reset))]
     pub(crate) fn reset(&mut self)
         ensures { self.new ≡ board_reset self.old }
@@ -120,6 +136,7 @@ impl Board {
         self.console.reset();
         self.clock.reset();
         self.paper_tape.reset();
+        self.disk.reset();
     }
 }
 

@@ -6,13 +6,14 @@ ghost use Rattle.pdp_unibus.specs.Laws.{ReadStatusWritesBack, WrittenRegisterRea
 ghost use Rattle.pdp_unibus.specs.Laws.{StatusIsItsWord, WholeStatusReadsBack};
 ghost use Rattle.pdp_unibus.specs.RequestLaws.{NoneIsChosenWhereNoneIsAbove, RequestsAreTold, TheFirstIsChosen};
 ghost use Rattle.pdp_unibus.specs.RequestLaws.{OthersGoOnRequesting, ResetDropsRequests, ServedSourcesAreSilent};
-ghost use Rattle.pdp_unibus.specs.RuleLaws.{RequestsGoByTheRule, keyboard_channel, printer_channel, punch_channel};
+ghost use Rattle.pdp_unibus.specs.RuleLaws.{RequestsGoByTheRule, disk_channel, keyboard_channel, printer_channel, punch_channel};
 ghost use Rattle.pdp_unibus.specs.ByteLaws.{BytesArePrintedAsOperationsEnd, BytesArePunchedAsOperationsEnd, ReadsTakeTheNextByte};
-ghost use Rattle.pdp_unibus.specs.ByteLaws.{PrintingEndsWhenDue, PunchingEndsWhenDue, ReadingEndsWhenDue};
+ghost use Rattle.pdp_unibus.specs.ByteLaws.{DiskEndsWhenDue, DiskOutlivesUses, PrintingEndsWhenDue, PunchingEndsWhenDue, ReadingEndsWhenDue};
 ghost use Rattle.pdp_unibus.specs.ByteLaws.{PrintingOutlivesUses, PunchingOutlivesUses, ReadingOutlivesUses};
 ghost use Rattle.pdp_unibus.specs.declared.bus.Timeout.{Timeout};
 
-/// A law of the bus: a cycle that times out leaves core, its stamps, the board, the tape and the turn as they were.
+/// A law of the bus: a cycle that times out leaves core, its stamps, the drives, the board, the tape and the turn as
+/// they were.
 ///
 /// This project's profile.
 pub fn timeouts_change_nothing()
@@ -49,16 +50,17 @@ pub fn the_first_request_is_chosen()
     ensures none { NoneIsChosenWhereNoneIsAbove }
 {}
 
-/// A law of the one rule of requests, of the keyboard, the printer and the punch: whichever register is read or written
-/// and whatever event happens, where a request stands on its condition, as at power-up, it does so afterwards, and is
-/// there exactly where the condition holds and it was there, or the condition has just come to hold. So none is lost,
-/// and none comes twice.
+/// A law of the one rule of requests, of the keyboard, the printer, the punch and the disk: whichever register is read
+/// or written and whatever event happens, where a request stands on its condition, as at power-up, it does so
+/// afterwards, and is there exactly where the condition holds and it was there, or the condition has just come to hold.
+/// So none is lost, and none comes twice.
 ///
 /// This project's profile.
 pub fn requests_go_by_the_rule()
     ensures keyboard { RequestsGoByTheRule keyboard_channel }
     ensures printer { RequestsGoByTheRule printer_channel }
     ensures punch { RequestsGoByTheRule punch_channel }
+    ensures disk { RequestsGoByTheRule disk_channel }
 {}
 
 /// A law of requests: whether there is any is told, a source that was served doesn't request, the others go on as
@@ -81,18 +83,20 @@ pub fn bytes_come_out_as_operations_end()
     ensures punched { BytesArePunchedAsOperationsEnd }
 {}
 
-/// A law of completions: without its event an operation of the printer, the reader or the punch ends in the beginning
-/// of the turn in which it is due, and of no other; and whichever registers are read and written meanwhile, it stays as
-/// it was begun.
+/// A law of completions: without its event an operation of the printer, the reader, the punch or the disk ends in the
+/// beginning of the turn in which it is due, and of no other; and whichever registers are read and written meanwhile, it
+/// stays as it was begun, the disk's where its controller isn't ready.
 ///
 /// This project's profile.
 pub fn operations_end_when_due()
     ensures printing { PrintingEndsWhenDue }
     ensures reading { ReadingEndsWhenDue }
     ensures punching { PunchingEndsWhenDue }
+    ensures disk { DiskEndsWhenDue }
     ensures printing_outlives { PrintingOutlivesUses }
     ensures reading_outlives { ReadingOutlivesUses }
     ensures punching_outlives { PunchingOutlivesUses }
+    ensures disk_outlives { DiskOutlivesUses }
 {}
 
 /// A law of the paper tape: in the beginning of a turn a read that ends takes the tape's next byte, or finds its end,

@@ -1,11 +1,12 @@
 //! The Unibus of the PDP-11/40: bus cycles over core and the registers of devices and of memory management, the
 //! beginning of a turn with its events, ticks and completions, requests for interrupts, and the program status word.
 //!
-//! It stands on pdp_word, pdp_store, pdp_kt11, pdp_device, pdp_console and pdp_tape. The contracts of `Bus` give each
-//! cycle its value and the bus after it, or a timeout that changes nothing, for every store of core, and say what the
-//! beginning of a turn does, which bytes come out of it, and which request is chosen. It says who owns an address; what
-//! a register does, when a device requests, and where a virtual address goes, it leaves to pdp_console, pdp_tape and
-//! pdp_kt11, references and their traps to pdp_operand, interrupts and `Continue` to pdp_cpu.
+//! It stands on pdp_word, pdp_store, pdp_kt11, pdp_device, pdp_console, pdp_tape and pdp_rk11. The contracts of `Bus`
+//! give each cycle its value and the bus after it, or a timeout that changes nothing, for every store of core and of
+//! the disk's drives, and say what the beginning of a turn does, which bytes come out of it, and which request is
+//! chosen. It says who owns an address; what a register does, when a device requests, what a function of the disk does
+//! when it completes, and where a virtual address goes, it leaves to pdp_console, pdp_tape, pdp_rk11 and pdp_kt11,
+//! references and their traps to pdp_operand, interrupts and `Continue` to pdp_cpu.
 #![tactic(auto)]
 
 mod beginning;

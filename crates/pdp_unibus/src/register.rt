@@ -3,11 +3,14 @@ ghost use Rattle.pdp_unibus.specs.Register.{register_at};
 
 use pdp_console::KlRegister;
 use pdp_kt11::KtRegister;
+use pdp_rk11::RkRegister;
 use pdp_tape::PcRegister;
 
 /// A register on the bus, of a device, of memory management or of the processor.
 #[derive(Clone, Copy, Debug, PartialEq, Eq)]
 pub enum Register {
+    /// 777400 to 777413: the disk's.
+    Disk(RkRegister),
     /// 777546: the line clock's.
     Clock,
     /// 777550 to 777557: the paper tape reader's and punch's.
@@ -25,7 +28,7 @@ pub enum Register {
 
 /// The register whose word has this physical address (bytes), if there is one.
 ///
-/// PDP-11 Peripherals Handbook, KL11, KW11-L and PC11; DEC PDP-11/40 Processor Handbook (1972), Switch register,
+/// PDP-11 Peripherals Handbook, KL11, KW11-L, PC11 and RK11; DEC PDP-11/40 Processor Handbook (1972), Switch register,
 /// Processor status word and Memory management.
 #[tactic(auto, unfolding(crate::specs::Register::register_at))]
 pub fn register_at_address(address: u32) -> Option<Register>
@@ -33,6 +36,7 @@ pub fn register_at_address(address: u32) -> Option<Register>
 {
     let word = address - address % 2;
     match word {
+        0o777400..=0o777412 => RkRegister::at(word - 0o777400).map(Register::Disk),
         0o777546 => Some(Register::Clock),
         0o777550..=0o777556 => PcRegister::at(word - 0o777550).map(Register::PaperTape),
         0o777560..=0o777566 => KlRegister::at(word - 0o777560).map(Register::Console),

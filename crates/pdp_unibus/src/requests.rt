@@ -8,14 +8,14 @@ use crate::priority::Priority;
 use crate::source::Source;
 
 impl Board {
-    /// Whether the source requests; the disk is to come.
+    /// Whether the source requests.
     #[tactic(auto, unfolding(crate::specs::Source::requests))]
     pub(crate) fn requests(&self, source: Source) -> bool
         ensures { result ≡ requests self.now source }
     {
         match source {
             Source::Clock => self.clock.request,
-            Source::Disk => false,
+            Source::Disk => self.disk.request(),
             Source::Keyboard => self.console.keyboard.channel.request,
             Source::Printer => self.console.printer.channel.request,
             Source::Reader => self.paper_tape.reader.request,
@@ -69,7 +69,7 @@ impl Board {
     {
         match source {
             Source::Clock => self.clock.serve(),
-            Source::Disk => {}
+            Source::Disk => self.disk.serve(),
             Source::Keyboard => self.console.serve_keyboard(),
             Source::Printer => self.console.serve_printer(),
             Source::Reader => self.paper_tape.serve_reader(),

@@ -1,5 +1,5 @@
-//! Bus cycles over a page of core, and what the tests of registers, of memory management, of the beginnings of turns, of
-//! requests and of the program status word share.
+//! Bus cycles over a page of core, and what the tests of registers, of memory management, of the beginnings of turns,
+//! of the disk, of requests and of the program status word share.
 
 use crate::{Aborted, Bus, Delays, Event, Priority, Source, Timeout, timeouts_change_nothing};
 use pdp_kt11::{Access, Mode};
@@ -10,11 +10,24 @@ use std::process::Abort;
 
 mod beginnings;
 mod devices;
+mod disk;
 mod mapping;
 mod requests;
 mod status;
 
 // The registers of these tests, by their addresses.
+const RKDS: u32 = 0o777400;
+
+const RKER: u32 = 0o777402;
+
+const RKCS: u32 = 0o777404;
+
+const RKWC: u32 = 0o777406;
+
+const RKBA: u32 = 0o777410;
+
+const RKDA: u32 = 0o777412;
+
 const LKS: u32 = 0o777546;
 
 const PRS: u32 = 0o777550;
@@ -35,10 +48,10 @@ const TPB: u32 = 0o777566;
 
 const SWITCHES: u32 = 0o777570;
 
-// A bus at power-up with 256 words of core, this tape in the reader and these delays.
+// A bus at power-up with 256 words of core, no drive, this tape in the reader and these delays.
 fn bus(alloc: Global, tape: &[u8], delays: Delays) -> Result<Bus<Flat>, NoMemory> {
     let core = Flat::new(alloc, 256, true)?;
-    Ok(Bus::new(core, tape.to_vec(alloc)?, delays))
+    Ok(Bus::new(core, Vec::new(alloc), tape.to_vec(alloc)?, delays))
 }
 
 // What is done with a bus, and what it answers.
@@ -155,8 +168,8 @@ fn times_out_where_nothing_answers(rt: HostRuntime) -> Result<(), NoMemory> {
     assert_eq!(rt; bus.read(0o000777), Ok(0o177777));
     for address in [
         0o001000, 0o001001, 0o757776, 0o760000, 0o772276, 0o772320, 0o772336, 0o772337, 0o772360,
-        0o777414, 0o777540, 0o777544, 0o777545, 0o777620, 0o777636, 0o777660, 0o777700, 0o777774,
-        0o777775,
+        0o777376, 0o777414, 0o777416, 0o777540, 0o777544, 0o777545, 0o777620, 0o777636, 0o777660,
+        0o777700, 0o777774, 0o777775,
     ] {
         assert_eq!(rt; bus.read(address), Err(Timeout), "at {address:06o}");
         assert_eq!(rt; bus.write(address, 1), Err(Timeout), "at {address:06o}");

@@ -1,15 +1,27 @@
 //! The registers of devices on the bus: where they are, and what bytes that are written to them do.
 
 use super::Step::{Begin, Choose, Read, Write, WriteByte};
-use super::{LKS, PPB, PPS, PRB, PRS, SWITCHES, TKB, TKS, TPB, TPS, bus, take_steps};
+use super::{
+    LKS, PPB, PPS, PRB, PRS, RKBA, RKCS, RKDA, RKDS, RKER, RKWC, SWITCHES, TKB, TKS, TPB, TPS, bus,
+    take_steps,
+};
 use crate::{Delays, Event, Line, Priority, Register, Source, register_at_address};
 use pdp_console::KlRegister;
+use pdp_rk11::RkRegister;
 use pdp_tape::PcRegister;
 use pdp_word::NoMemory;
 
 #[test]
 fn finds_registers_by_either_address_of_their_words(rt: HostRuntime) {
     for (address, register) in [
+        (0o777376, None),
+        (0o777400, Some(Register::Disk(RkRegister::DriveStatus))),
+        (0o777402, Some(Register::Disk(RkRegister::Error))),
+        (0o777404, Some(Register::Disk(RkRegister::Control))),
+        (0o777406, Some(Register::Disk(RkRegister::WordCount))),
+        (0o777410, Some(Register::Disk(RkRegister::BusAddress))),
+        (0o777412, Some(Register::Disk(RkRegister::DiskAddress))),
+        (0o777414, None),
         (0o777540, None),
         (0o777544, None),
         (0o777546, Some(Register::Clock)),
@@ -50,6 +62,14 @@ fn finds_registers_by_either_address_of_their_words(rt: HostRuntime) {
 #[test]
 fn reads_registers_at_power_up_and_after_a_write(rt: HostRuntime) -> Result<(), NoMemory> {
     for (address, before, after) in [
+        // There is no drive.
+        (RKDS, 0o000000, 0o000000),
+        (RKER, 0o000000, 0o000000),
+        // Go: write lock is under way.
+        (RKCS, 0o000200, 0o004176),
+        (RKWC, 0o000000, 0o177777),
+        (RKBA, 0o000000, 0o177777),
+        (RKDA, 0o000000, 0o177777),
         (LKS, 0o000200, 0o000300),
         // Go: the reader is busy.
         (PRS, 0o000000, 0o004100),

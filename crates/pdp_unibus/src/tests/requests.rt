@@ -1,7 +1,7 @@
 //! Requests over the bus: when each source requests, who is chosen and served, and RESET.
 
 use super::Step::{Begin, Choose, Read, Reset, Serve, Write};
-use super::{LKS, PPB, PPS, PRS, SWITCHES, TKB, TKS, TPB, TPS, bus, take_steps};
+use super::{LKS, PPB, PPS, PRS, RKCS, SWITCHES, TKB, TKS, TPB, TPS, bus, take_steps};
 use crate::{
     Delays, Event, Line, Priority, Source, requests_go_one_by_one_or_by_reset,
     the_first_request_is_chosen,
@@ -61,7 +61,7 @@ fn chooses_and_serves_the_keyboard(rt: HostRuntime) -> Result<(), NoMemory> {
     Ok(())
 }
 
-// All sources request at once: the clock goes first, and the others at one level in their order.
+// All sources request at once: the clock goes first, then the disk, and the others at one level in their order.
 #[test]
 fn chooses_by_level_and_then_by_place(rt: HostRuntime) -> Result<(), NoMemory> {
     let mut bus = bus(rt.alloc(), &[0o101], Delays::standard())?;
@@ -72,13 +72,15 @@ fn chooses_by_level_and_then_by_place(rt: HostRuntime) -> Result<(), NoMemory> {
         Write(TKS, 0o100),
         Write(LKS, 0o300),
         Write(PRS, 0o101),
+        Write(RKCS, 0o100),
         Begin(5, &[Event::Key(0o102), Event::Tick], None, None),
         Choose(Priority::Level0, Some(Source::Clock)),
         Choose(Priority::Level5, Some(Source::Clock)),
         Choose(Priority::Level6, None),
-        Serve(Source::Disk),
-        Choose(Priority::Level4, Some(Source::Clock)),
         Serve(Source::Clock),
+        Choose(Priority::Level5, None),
+        Choose(Priority::Level4, Some(Source::Disk)),
+        Serve(Source::Disk),
         Choose(Priority::Level4, None),
         Choose(Priority::Level3, Some(Source::Keyboard)),
         Serve(Source::Keyboard),

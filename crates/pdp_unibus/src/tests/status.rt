@@ -186,14 +186,14 @@ fn writes_bytes_of_the_status_word(rt: HostRuntime) -> Result<(), NoMemory> {
 fn keeps_trace_in_writes_of_the_status_word(rt: HostRuntime) {
     let mut board = Board::power(Delays::standard());
     board.status.trace_bit = true;
-    assert_eq!(rt; board.value(Register::ProgramStatus), 0o000020);
+    assert_eq!(rt; board.value(Register::ProgramStatus, 0), 0o000020);
     board.write(Register::ProgramStatus, 0o177757, 1);
-    assert_eq!(rt; board.value(Register::ProgramStatus), 0o170377);
-    assert_eq!(rt; board.read(Register::ProgramStatus), 0o170377);
+    assert_eq!(rt; board.value(Register::ProgramStatus, 0), 0o170377);
+    assert_eq!(rt; board.read(Register::ProgramStatus, 0), 0o170377);
     // A read leaves it.
-    assert_eq!(rt; board.read(Register::ProgramStatus), 0o170377);
+    assert_eq!(rt; board.read(Register::ProgramStatus, 0), 0o170377);
     board.write(Register::ProgramStatus, 0, 1);
-    assert_eq!(rt; board.read(Register::ProgramStatus), 0o000020);
+    assert_eq!(rt; board.read(Register::ProgramStatus, 0), 0o000020);
 }
 
 #[test]

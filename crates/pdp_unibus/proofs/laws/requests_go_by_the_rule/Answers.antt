@@ -1,4 +1,4 @@
-use Rattle.pdp_unibus.proofs.RuleLaws.{keyboard_goes, printer_goes, punch_goes}
+use Rattle.pdp_unibus.proofs.RuleLaws.{disk_goes, keyboard_goes, printer_goes, punch_goes}
 use Rattle.pdp_unibus.proofs.laws.requests_go_by_the_rule.Goals as goal
 
 -- src/laws.rt
@@ -10,3 +10,6 @@ returns-clause-printer c = printer_goes
 
 pub returns-clause-punch : goal.returns-clause-punch
 returns-clause-punch c = punch_goes
+
+pub returns-clause-disk : goal.returns-clause-disk
+returns-clause-disk c = disk_goes
