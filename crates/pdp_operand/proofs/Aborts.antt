@@ -22,6 +22,7 @@ apart_fails r b status trap is = record {
   told = rw (perform_is r b, is) refl;
   core = rw (perform_is r b, is) refl;
   lasts = rw (perform_is r b, is) refl;
+  drives = rw (perform_is r b, is) refl;
   tape = rw (perform_is r b, is) refl;
   turn = rw (perform_is r b, is) refl;
   board = rw (perform_is r b, is) refl;
@@ -37,32 +38,32 @@ unplaced_fails r b even aborts =
     (rw (even, aborts.aborts.1) (ap (λ (kt : Kt). Apart (record b.board { mapping = kt }) (Err MappingAbort)) aborts.leaves))
 
 -- what has a physical address isn't aborted
-placed_answers : (kind : Kind) (physical turn : ℕ) (board : Board) (slave : Slave) (b : BusWorld)
-    → (reply_by (shape_at kind physical turn board slave) b).value ≡ Err MappingAbort → ⊥
-placed_answers ReadWord physical turn board (Core k) b is = cc
-placed_answers ReadWord physical turn board (Device register) b is = cc
-placed_answers ReadByte physical turn board (Core k) b is = cc
-placed_answers ReadByte physical turn board (Device register) b is = cc
-placed_answers (WriteWord word) physical turn board (Core k) b is = cc
-placed_answers (WriteWord word) physical turn board (Device register) b is = cc
-placed_answers (WriteByte byte) physical turn board (Core k) b is = cc
-placed_answers (WriteByte byte) physical turn board (Device register) b is = cc
-placed_answers ReadWord physical turn board Nobody b is = cc
-placed_answers ReadByte physical turn board Nobody b is = cc
-placed_answers (WriteWord word) physical turn board Nobody b is = cc
-placed_answers (WriteByte byte) physical turn board Nobody b is = cc
+placed_answers : (kind : Kind) (physical turn drives : ℕ) (board : Board) (slave : Slave) (b : BusWorld)
+    → (reply_by (shape_at kind physical turn drives board slave) b).value ≡ Err MappingAbort → ⊥
+placed_answers ReadWord physical turn drives board (Core k) b is = cc
+placed_answers ReadWord physical turn drives board (Device register) b is = cc
+placed_answers ReadByte physical turn drives board (Core k) b is = cc
+placed_answers ReadByte physical turn drives board (Device register) b is = cc
+placed_answers (WriteWord word) physical turn drives board (Core k) b is = cc
+placed_answers (WriteWord word) physical turn drives board (Device register) b is = cc
+placed_answers (WriteByte byte) physical turn drives board (Core k) b is = cc
+placed_answers (WriteByte byte) physical turn drives board (Device register) b is = cc
+placed_answers ReadWord physical turn drives board Nobody b is = cc
+placed_answers ReadByte physical turn drives board Nobody b is = cc
+placed_answers (WriteWord word) physical turn drives board Nobody b is = cc
+placed_answers (WriteByte byte) physical turn drives board Nobody b is = cc
 
-unplaced_at : (kind : Kind) (words turn : ℕ) (board : Board) (place : Result ℕ Abort) (b : BusWorld)
-    → (reply_by (shape_by kind words turn board place) b).value ≡ Err MappingAbort → (abort : Abort) × (place ≡ Err abort)
-unplaced_at kind words turn board (Err abort) b is = (abort, refl)
-unplaced_at kind words turn board (Ok physical) b is =
-    absurd (placed_answers kind physical turn board (slave_at words physical) b is)
+unplaced_at : (kind : Kind) (words turn drives : ℕ) (board : Board) (place : Result ℕ Abort) (b : BusWorld)
+    → (reply_by (shape_by kind words turn drives board place) b).value ≡ Err MappingAbort → (abort : Abort) × (place ≡ Err abort)
+unplaced_at kind words turn drives board (Err abort) b is = (abort, refl)
+unplaced_at kind words turn drives board (Ok physical) b is =
+    absurd (placed_answers kind physical turn drives board (slave_at words physical) b is)
 
 unplaced_if : (odd : Bool) (r : Reference) (b : BusWorld) → (reply_by (shape_if odd r b) b).value ≡ Err MappingAbort
     → (odd ≡ false) × ((abort : Abort) × ((translation r b).address ≡ Err abort))
 unplaced_if true r b is = cc
 unplaced_if false r b is =
-    (refl, unplaced_at r.kind (length b.core) b.turn (with_mapping b (translation r b).after).board (translation r b).address b is)
+    (refl, unplaced_at r.kind (length b.core) b.turn (length b.drives) (with_mapping b (translation r b).after).board (translation r b).address b is)
 
 pub aborts_leave : AbortsLeaveCore
 aborts_leave r b abort even is = unplaced_fails r b even (abort_leaves_the_rest r.mode r.address (access_of r.kind) b.board.mapping abort is)

@@ -1,14 +1,15 @@
 -- What holds of each reference and of each change of the board holds along a whole course.
-use Rattle.std.proofs.Common.{ℕ, ◌<◌, List, [], ◌∷◌, ◌++◌, Ok, Err, Result, length, append-nil}
-use Rattle.pdp_kt11.specs.declared.place.Access.TheVariants.{Read, Write}
+use Rattle.std.proofs.Common.{ℕ, ◌<◌, true, false, List, [], ◌∷◌, ◌++◌, Ok, Err, Result, length, append-nil}
+use Rattle.pdp_store.specs.Touch.{Touch}
 use Rattle.pdp_unibus.specs.BusWorld.{BusWorld, with_board}
 use Rattle.pdp_unibus.specs.declared.board.Board.{Board}
-use Rattle.pdp_unibus.specs.Cycle.{Core, core_written}
+use Rattle.pdp_unibus.specs.Cycle.{core_written}
+use Rattle.pdp_unibus.specs.Trace.{processor_touch}
 use Rattle.pdp_operand.specs.Handbook.Reference.{Reference, perform}
 use Rattle.pdp_operand.specs.Phases.Phase.{Phase, Inner, State, Stop, Request, Nothing, Ask, Raise, Latch, run, step, and_then, by_request, settled, inner_of, state_of}
 use Rattle.pdp_operand.specs.Phases.Plan.{Plan, phases_of, run_plan}
 use Rattle.pdp_operand.specs.Phases.Course.{Course, End, Go, follow, go_on, caught_in}
-use Rattle.pdp_operand.specs.Laws.Trace.{Touch, touch_at, touches, requested, trace, traced_next, trace_of, traced_on}
+use Rattle.pdp_operand.specs.Laws.Trace.{touches, requested, trace, traced_next, trace_of, traced_on}
 use Rattle.pdp_operand.specs.declared.trap.Trap.{Trap}
 use Rattle.pdp_operand.proofs.Flattening.{run_phases_of}
 use Rattle.pdp_operand.proofs.Shape.{Shape, reply_by, touches_by, InCore, shape_of, perform_is, touches_is, shape_in_core}
@@ -23,8 +24,8 @@ bus_after (Err stop) = stop.world.bus
 pub record Goes (K : List Touch → BusWorld → BusWorld → Type 0) : Type 0 where
   pub stays : (b : BusWorld) → K [] b b
   pub changes : (xs : List Touch) (b c : BusWorld) (board : Board) → K xs b c → K xs b (with_board c board)
-  pub looks : (b : BusWorld) (k : ℕ) → k < length b.core → K (touch_at Read b (Core k)) b b
-  pub writes : (b : BusWorld) (k word : ℕ) → k < length b.core → K (touch_at Write b (Core k)) b (core_written b k word)
+  pub looks : (b : BusWorld) (k : ℕ) → k < length b.core → K (processor_touch false b k ∷ []) b b
+  pub writes : (b : BusWorld) (k word : ℕ) → k < length b.core → K (processor_touch true b k ∷ []) b (core_written b k word)
   pub joins : (xs ys : List Touch) (b c d : BusWorld) → K xs b c → K ys c d → K (xs ++ ys) b d
 
 module _ (K : List Touch → BusWorld → BusWorld → Type 0) (goes : Goes K) where

@@ -1,10 +1,12 @@
 ghost use Rattle.std.specs.Prelude.{◌≡◌, ◌<◌, ℕ, All, None, length, slice_index_or};
+ghost use Rattle.pdp_store.specs.Touch.{Avoids, Part, last_write};
 ghost use Rattle.pdp_unibus.specs.BusWorld.{BusWorld};
+ghost use Rattle.pdp_unibus.specs.Page.{AlikeOutside};
 ghost use Rattle.pdp_operand.specs.Laws.Aborted.{AbortsLeaveCore, ReadOnlyPagesKeepTheirWords, ToldAbortsLeaveCore};
-ghost use Rattle.pdp_operand.specs.Laws.Page.{AlikeOutside, UndisturbedCourse};
-ghost use Rattle.pdp_operand.specs.Laws.Touched.{IsOfTurn};
+ghost use Rattle.pdp_operand.specs.Laws.Page.{UndisturbedCourse};
+ghost use Rattle.pdp_operand.specs.Laws.Touched.{IsByProcessor};
 ghost use Rattle.pdp_operand.specs.Phases.Course.{Course, follow};
-ghost use Rattle.pdp_operand.specs.Laws.Trace.{Avoids, last_write, trace_of};
+ghost use Rattle.pdp_operand.specs.Laws.Trace.{trace_of};
 ghost use Rattle.pdp_operand.specs.Phases.Phase.{State, run};
 ghost use Rattle.pdp_operand.specs.Phases.Plan.{Plan, phases_of, run_plan};
 
@@ -19,7 +21,7 @@ pub fn plan_is_its_phases()
 #[tactic(auto, using(crate::proofs::Kept::course_touches))]
 pub fn touches_of_courses_are_of_their_turn()
     ensures { (course : Course) (s : State) →
-        All (IsOfTurn s.world.bus.turn (length s.world.bus.core)) (trace_of course s) }
+        All (IsByProcessor s.world.bus.turn (length s.world.bus.core)) (trace_of course s) }
 {}
 
 /// A law of courses: after one, the last stamp of each word is that of its last write in the course, or the one from
@@ -31,11 +33,12 @@ pub fn stamps_of_courses_are_last_writes()
         ≡ last_write (trace_of course s) k (slice_index_or s.world.bus.lasts k None) }
 {}
 
-/// A law of courses: one that never touches a page of 256 words leaves it, and goes on in the same way whatever is in
-/// it.
+/// A law of courses: one that never touches a page of 256 words, of core or of a drive, leaves it, and goes on in the
+/// same way whatever is in it.
 pub fn courses_leave_what_they_never_touch()
-    ensures { (page : ℕ) (course : Course) (s : State) (c : BusWorld) → AlikeOutside page s.world.bus c →
-        Avoids page (trace_of course s) → UndisturbedCourse page course s c }
+    ensures { (part : Part) (page : ℕ) (course : Course) (s : State) (c : BusWorld) →
+        AlikeOutside part page s.world.bus c → Avoids part page (trace_of course s) →
+        UndisturbedCourse part page course s c }
 {}
 
 /// A law of references: one whose address isn't odd, and that memory management aborts, whyever, fails with a mapping

@@ -25,7 +25,7 @@ fn page(alloc: Global) -> Result<Bus<Flat>, NoMemory> {
     core.set(0o000076 / 2, 0o000400);
     core.set(0o000100 / 2, 0o000200);
     core.set(0o000110 / 2, 0o000300);
-    Ok(Bus::new(core, Vec::new(alloc), Delays::standard()))
+    Ok(Bus::new(core, Vec::new(alloc), Vec::new(alloc), Delays::standard()))
 }
 
 // A processor with PC at 000040 and these two registers.

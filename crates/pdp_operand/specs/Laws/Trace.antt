@@ -1,12 +1,11 @@
--- The trace: every access to a word of core, in order. No rule of the handbook is here.
-use Rattle.std.specs.Prelude.{ℕ, ◌/◌, ◌≢◌, ◌==◌, ◌&&◌, Bool, true, false, List, [], ◌∷◌, ◌++◌, Option, Some, Result, Ok, Err, length, if◌then◌else◌}
+-- The trace of a course: every access to a word of core, in order. No rule of the handbook is here.
+use Rattle.std.specs.Prelude.{ℕ, Bool, true, false, List, [], ◌∷◌, ◌++◌, Result, Ok, Err, length, if◌then◌else◌}
 use Rattle.pdp_kt11.specs.declared.place.Access.{Access}
 use Rattle.pdp_kt11.specs.declared.place.Access.TheVariants.{Read, Write}
-use Rattle.pdp_store.specs.declared.Agent.{Agent}
-use Rattle.pdp_store.specs.declared.Agent.TheVariants.{Cpu}
-use Rattle.pdp_store.specs.declared.Stamp.{Stamp}
+use Rattle.pdp_store.specs.Touch.{Touch}
 use Rattle.pdp_unibus.specs.BusWorld.{BusWorld}
 use Rattle.pdp_unibus.specs.Cycle.{Slave, Core, Device, Nobody, slave_at}
+use Rattle.pdp_unibus.specs.Trace.{processor_touch}
 use Rattle.pdp_operand.specs.Handbook.Reference.{Kind, Reference, access_of, is_odd, translation}
 use Rattle.pdp_kt11.specs.declared.place.Abort.{Abort}
 use Rattle.pdp_operand.specs.Phases.Phase.{Phase, State, Stop, Request, Nothing, Ask, Raise, Latch, step, inner_of}
@@ -14,16 +13,13 @@ use Rattle.pdp_operand.specs.Phases.Plan.{phases_of, run_plan}
 use Rattle.pdp_operand.specs.Phases.Course.{Course, End, Go, caught_in}
 use Rattle.pdp_operand.specs.declared.trap.Trap.{Trap}
 
--- one access to a word of core: when, by whom, of what kind, and the word's number
-pub record Touch : Type 0 where
-  pub turn : ℕ
-  pub agent : Agent
-  pub access : Access
-  pub word : ℕ
+abbrev pub is_write : Access → Bool
+is_write Read = false
+is_write Write = true
 
 -- a reference touches the word of core that answers it, if one does
 abbrev pub touch_at : Access → BusWorld → Slave → List Touch
-touch_at access w (Core k) = record { turn = w.turn; agent = Cpu; access = access; word = k } ∷ []
+touch_at access w (Core k) = processor_touch (is_write access) w k ∷ []
 touch_at access w (Device register) = []
 touch_at access w Nobody = []
 
@@ -59,21 +55,3 @@ trace_of End s = []
 trace_of (Go plan next caught) s =
     trace (phases_of plan) s
     ++ traced_on (λ t. trace_of (next (inner_of t)) t) (λ trap t. trace_of (caught trap (inner_of t)) t) s.latch (run_plan plan s)
-
-abbrev pub is_write : Access → Bool
-is_write Read = false
-is_write Write = true
-
-abbrev pub stamp_of : Touch → Stamp
-stamp_of touch = record { turn = touch.turn; agent = touch.agent }
-
--- the last write to a word in a trace, or the one before the trace where it has none
-abbrev pub last_write : List Touch → ℕ → Option Stamp → Option Stamp
-last_write [] word before = before
-last_write (x ∷ xs) word before =
-    last_write xs word (if is_write x.access && x.word == word then Some (stamp_of x) else before)
-
--- no access of the trace is to this page of 256 words
-abbrev pub Avoids : ℕ → List Touch → Type 0
-Avoids page [] = Unit {0}
-Avoids page (x ∷ xs) = (x.word / 256 ≢ page) × Avoids page xs

@@ -13,6 +13,7 @@ fn short_page(alloc: Global) -> Result<Bus<Flat>, NoMemory> {
     Ok(Bus::new(
         Flat::new(alloc, 0o000340 / 2, true)?,
         Vec::new(alloc),
+        Vec::new(alloc),
         Delays::standard(),
     ))
 }
