@@ -89,7 +89,7 @@ Unanswered board (Ok value) after = Unit {0}
 Unanswered board (Err trap) after = after.status ≡ board.status
 
 unanswered_at : (kind : Kind) (physical : ℕ) (b : BusWorld) (board : Board) (slave : Slave) → board.status ≡ b.board.status
-    → Unanswered b.board (reply_by (shape_at kind physical b.turn board slave) b).value (reply_by (shape_at kind physical b.turn board slave) b).after.board
+    → Unanswered b.board (reply_by (shape_at kind physical b.turn (length b.drives) board slave) b).value (reply_by (shape_at kind physical b.turn (length b.drives) board slave) b).after.board
 unanswered_at ReadWord physical b board (Core k) same = tt
 unanswered_at ReadByte physical b board (Core k) same = tt
 unanswered_at (WriteWord word) physical b board (Core k) same = tt
@@ -104,7 +104,7 @@ unanswered_at (WriteWord word) physical b board Nobody same = same
 unanswered_at (WriteByte byte) physical b board Nobody same = same
 
 unanswered_by : (kind : Kind) (b : BusWorld) (board : Board) (place : Result ℕ Abort) → board.status ≡ b.board.status
-    → Unanswered b.board (reply_by (shape_by kind (length b.core) b.turn board place) b).value (reply_by (shape_by kind (length b.core) b.turn board place) b).after.board
+    → Unanswered b.board (reply_by (shape_by kind (length b.core) b.turn (length b.drives) board place) b).value (reply_by (shape_by kind (length b.core) b.turn (length b.drives) board place) b).after.board
 unanswered_by kind b board (Ok physical) same = unanswered_at kind physical b board (slave_at (length b.core) physical) same
 unanswered_by kind b board (Err abort) same = same
 
@@ -123,12 +123,13 @@ unfolding after_read
 read_leaves (register.Console r) board = refl
 read_leaves register.Clock board = refl
 read_leaves (register.PaperTape r) board = refl
+read_leaves (register.Disk r) board = refl
 read_leaves register.Switches board = refl
 read_leaves (register.Mapping r) board = refl
 read_leaves register.ProgramStatus board = refl
 
 read_at : (kind : Kind) (physical : ℕ) (b : BusWorld) (board : Board) (slave : Slave) → access_of kind ≡ Read
-    → (reply_by (shape_at kind physical b.turn board slave) b).after.board.status ≡ board.status
+    → (reply_by (shape_at kind physical b.turn (length b.drives) board slave) b).after.board.status ≡ board.status
 read_at ReadWord physical b board (Core k) reads = refl
 read_at ReadByte physical b board (Core k) reads = refl
 read_at ReadWord physical b board (Device r) reads = read_leaves r board
@@ -139,7 +140,7 @@ read_at (WriteWord word) physical b board slave reads = absurd (cc reads)
 read_at (WriteByte byte) physical b board slave reads = absurd (cc reads)
 
 read_by : (kind : Kind) (b : BusWorld) (board : Board) (place : Result ℕ Abort) → access_of kind ≡ Read
-    → (reply_by (shape_by kind (length b.core) b.turn board place) b).after.board.status ≡ board.status
+    → (reply_by (shape_by kind (length b.core) b.turn (length b.drives) board place) b).after.board.status ≡ board.status
 read_by kind b board (Ok physical) reads = read_at kind physical b board (slave_at (length b.core) physical) reads
 read_by kind b board (Err abort) reads = refl
 

@@ -1,12 +1,19 @@
 -- The laws of turns, as instances of those of courses.
-use Rattle.std.proofs.Common.{◌≡◌, ◌∙◌, ℕ, ◌<◌, ◌≤◌, None, All, List, ap, refl, subst, sym, Bool, true, false, arith, length, slice_index, slice_index_or}
+use Rattle.std.proofs.Common.{◌≡◌, ◌∙◌, ◌++◌, ℕ, ◌<◌, ◌≤◌, None, All, List, ap, ap₂, refl, subst, sym, Bool, true, false, arith, length, slice_index, slice_index_or}
+use Rattle.std.proofs.lemmas.List.Elements.{All-append}
 use Rattle.pdp_unibus.specs.BusWorld.{BusWorld}
-use Rattle.pdp_unibus.proofs.Beginnings.{Keeps, begun_keeps}
-use Rattle.pdp_unibus.specs.Beginning.{begun}
+use Rattle.pdp_store.proofs.Traces.{Avoids-first, Avoids-second}
+use Rattle.pdp_store.specs.Parts.{AlikeWords}
+use Rattle.pdp_store.specs.Touch.{Avoids, Part, Touch, is_core, last_write}
+use Rattle.pdp_unibus.proofs.Kept.{KeepsStamps, begun_keeps_page, begun_keeps_stamps, begun_keeps_turn, keeps_stamps}
+use Rattle.pdp_unibus.proofs.Pairs.{begun_alike}
+use Rattle.pdp_unibus.specs.Beginning.{begun, in_turn}
+use Rattle.pdp_unibus.specs.Page.{AlikeOutside, SamePage, words_of, with_words}
+use Rattle.pdp_unibus.specs.Touched.{IsOfTurn}
+use Rattle.pdp_unibus.specs.Trace.{begun_touches}
 use Rattle.pdp_unibus.specs.declared.event.Event.{Event}
-use Rattle.pdp_operand.specs.Laws.Page.{AlikeOutside, SamePage}
-use Rattle.pdp_operand.specs.Laws.Touched.{IsOfTurn}
-use Rattle.pdp_operand.specs.Laws.Trace.{Touch, last_write, trace_of, Avoids}
+use Rattle.pdp_operand.specs.Laws.Touched.{IsByProcessor}
+use Rattle.pdp_operand.specs.Laws.Trace.{trace_of}
 use Rattle.pdp_operand.specs.declared.processor.Processor.{Processor}
 use Rattle.pdp_operand.specs.declared.trap.Trap.{Trap}
 use Rattle.pdp_operand.specs.Phases.Phase.{Inner, Phase, inner_of}
@@ -19,7 +26,6 @@ use Rattle.pdp_cpu.specs.Handbook.TrapSequence.{handled, origin_of, push_plan, r
 use Rattle.pdp_cpu.specs.Turns.Due.{course_of, due_of, serve, serving, take_stack, take_trace}
 use Rattle.pdp_operand.specs.Phases.World.{World, world}
 use Rattle.pdp_cpu.specs.Turns.Turn.{beginning, clear_latch, course_at, started, act_end, at_turn, one_turn, printed_in, punched_in, turn_trace}
-use Rattle.pdp_cpu.proofs.Events.{AlikeWorlds, begun_alike}
 use Rattle.pdp_cpu.specs.Laws.TurnLaws.{turn_phases, Undisturbed}
 use Rattle.pdp_cpu.specs.declared.due.Due.{Due}
 use Rattle.pdp_cpu.specs.declared.due.Due.TheVariants as due
@@ -89,56 +95,62 @@ pub turn_at_most_32 : (t : ℕ) (events : List Event) (w : World) → turn_phase
 unfolding turn_phases
 turn_at_most_32 t events w = course_length_le (course_at (at_turn t events w)) 32 (at_turn t events w) (course_at_most (due_of (inner_of (at_turn t events w))))
 
-abbrev kept : (t : ℕ) (events : List Event) (w : World) → Keeps t w.bus (begun t events w.bus).bus
-kept t events w = begun_keeps t events w.bus
-
 abbrev act_trace : ℕ → List Event → World → List Touch
 act_trace t events w = trace_of (course_at (at_turn t events w)) (at_turn t events w)
+
+of_turn : (turn words : ℕ) (x : Touch) → IsByProcessor turn words x → IsOfTurn turn words x
+of_turn turn words x so = record {
+  turn_is = so.turn_is;
+  in_core = λ _. so.in_core;
+  by_disk = λ elsewhere. let no : true ≡ false = sym (ap is_core so.of_core) ∙ elsewhere in cc;
+}
 
 pub turn_touches : (t : ℕ) (events : List Event) (w : World) → All (IsOfTurn t (length w.bus.core)) (turn_trace t events w)
 unfolding turn_trace
 turn_touches t events w =
-    subst (λ turn. All (IsOfTurn turn (length w.bus.core)) (act_trace t events w)) (kept t events w).turn
-    (subst (λ core. All (IsOfTurn (beginning t events w).bus.turn (length core)) (act_trace t events w)) (kept t events w).core
-    (course_touches (course_at (at_turn t events w)) (at_turn t events w)))
+    let begun = begun_keeps_turn t events w.bus in
+    let course = course_touches (course_at (at_turn t events w)) (at_turn t events w) in
+    All-append (IsOfTurn t (length w.bus.core)) (begun_touches t events w.bus) (act_trace t events w) begun.touches
+    (λ k d below. of_turn t (length w.bus.core) _ (rw (begun.turn, begun.words) at (course k d below)))
+
+turn_keeps_stamps : (t : ℕ) (events : List Event) (w : World)
+    → KeepsStamps (turn_trace t events w) (in_turn t w.bus) (one_turn t events w).bus
+unfolding one_turn turn_trace
+turn_keeps_stamps t events w =
+    keeps_stamps.joins (begun_touches t events w.bus) (act_trace t events w) (in_turn t w.bus) (beginning t events w).bus
+    (act_end (beginning t events w)).bus (begun_keeps_stamps t events w.bus)
+    (course_keeps_stamps (course_at (at_turn t events w)) (at_turn t events w))
 
 pub turn_lasts : (t : ℕ) (events : List Event) (w : World) (k : ℕ) → k < length w.bus.lasts
     → slice_index_or (one_turn t events w).bus.lasts k None ≡ last_write (turn_trace t events w) k (slice_index_or w.bus.lasts k None)
-unfolding one_turn turn_trace
-turn_lasts t events w k within =
-    subst (λ lasts. slice_index_or (act_end (beginning t events w)).bus.lasts k None
-    ≡ last_write (act_trace t events w) k (slice_index_or lasts k None)) (kept t events w).lasts
-    (course_lasts (course_at (at_turn t events w)) (at_turn t events w) k
-    (subst (λ lasts. k < length lasts) (sym (kept t events w).lasts) within))
+turn_lasts t events w = (turn_keeps_stamps t events w).lasts
 
 pub turn_keeps_words : (t : ℕ) (events : List Event) (w : World) → length (one_turn t events w).bus.core ≡ length w.bus.core
 unfolding one_turn
 turn_keeps_words t events w =
-    (course_keeps_turn (course_at (at_turn t events w)) (at_turn t events w)).words ∙ ap length (kept t events w).core
+    (course_keeps_turn (course_at (at_turn t events w)) (at_turn t events w)).words ∙ (begun_keeps_turn t events w.bus).words
 
 pub turn_keeps_lasts : (t : ℕ) (events : List Event) (w : World) → length (one_turn t events w).bus.lasts ≡ length w.bus.lasts
-unfolding one_turn
-turn_keeps_lasts t events w =
-    (course_keeps_stamps (course_at (at_turn t events w)) (at_turn t events w)).size ∙ ap length (kept t events w).lasts
+turn_keeps_lasts t events w = (turn_keeps_stamps t events w).size
 
 -- the act of a turn in world v, and a course on the same processor and bus c: they end in the same way, with the same
 -- trace, and leave each its own words of the page
-record UndisturbedAct (page : ℕ) (v w : World) (course : Course) : Type 0 where
+record UndisturbedAct (part : Part) (page : ℕ) (v w : World) (course : Course) : Type 0 where
   processor : (act_end v).processor ≡ (follow course (started w)).world.processor
-  bus : AlikeOutside page (act_end v).bus (follow course (started w)).world.bus
+  bus : AlikeOutside part page (act_end v).bus (follow course (started w)).world.bus
   trace : trace_of (course_at (started v)) (started v) ≡ trace_of course (started w)
-  page_of_one : SamePage page v.bus (act_end v).bus
-  page_of_other : SamePage page w.bus (follow course (started w)).world.bus
+  page_of_one : SamePage part page v.bus (act_end v).bus
+  page_of_other : SamePage part page w.bus (follow course (started w)).world.bus
 
 same_course : (v : World) (c : BusWorld) → v.bus.board ≡ c.board → course_at (started v) ≡ course_at (started (world v.processor c))
 same_course v c is = ap (λ board. course_of (due_of (record { processor = v.processor; board = board; latch = clear_latch }))) is
 
-undisturbed_on : (page : ℕ) (v : World) (c : BusWorld) → AlikeOutside page v.bus c
-    → Avoids page (trace_of (course_at (started v)) (started v))
-    → UndisturbedAct page v (world v.processor c) (course_at (started (world v.processor c)))
-undisturbed_on page v c alike avoids =
-    let so = course_undisturbed page (course_at (started v)) (started v) c alike avoids in
-    subst (UndisturbedAct page v (world v.processor c)) (same_course v c alike.board) (record {
+undisturbed_act : (part : Part) (page : ℕ) (v : World) (c : BusWorld) → AlikeOutside part page v.bus c
+    → Avoids part page (trace_of (course_at (started v)) (started v))
+    → UndisturbedAct part page v (world v.processor c) (course_at (started (world v.processor c)))
+undisturbed_act part page v c alike avoids =
+    let so = course_undisturbed part page (course_at (started v)) (started v) c alike avoids in
+    subst (UndisturbedAct part page v (world v.processor c)) (same_course v c (ap (λ b. b.board) (sym alike.is))) (record {
       processor = so.processor;
       bus = so.bus;
       trace = so.trace;
@@ -146,32 +158,32 @@ undisturbed_on page v c alike avoids =
       page_of_other = so.page_of_other;
     })
 
-undisturbed_act : (page : ℕ) (v w : World) → AlikeWorlds page v w
-    → Avoids page (trace_of (course_at (started v)) (started v)) → UndisturbedAct page v w (course_at (started w))
-undisturbed_act page v w alike avoids =
-    subst (λ p. UndisturbedAct page v (world p w.bus) (course_at (started (world p w.bus)))) alike.processor
-    (undisturbed_on page v w.bus alike.bus avoids)
-
-same_page_from : (page : ℕ) (b c d : BusWorld) → c.core ≡ b.core → SamePage page c d → SamePage page b d
-same_page_from page b c d is same = λ k within. subst (λ core. slice_index core k ≡ slice_index d.core k) is (same k within)
-
-pub turn_undisturbed : (page t : ℕ) (events : List Event) (p : Processor) (b c : BusWorld) → AlikeOutside page b c
-    → Avoids page (turn_trace t events (world p b)) → Undisturbed page t events p b c
+undisturbed_by : (part : Part) (page t : ℕ) (events : List Event) (p : Processor) (b : BusWorld) (words : List ℕ)
+    → AlikeWords page (words_of part b) words → Avoids part page (turn_trace t events (world p b))
+    → Undisturbed part page t events p b (with_words part words b)
 unfolding one_turn turn_trace printed_in punched_in
-turn_undisturbed page t events p b c alike avoids =
-    let both = begun_alike page t events b c alike in
+undisturbed_by part page t events p b words alike avoids =
+    let v = beginning t events (world p b) in
+    let begun_avoids = Avoids-first part page (begun_touches t events b) _ avoids in
+    let pair = begun_alike part page t events b words alike begun_avoids in
     let so =
-    undisturbed_act page (beginning t events (world p b)) (beginning t events (world p c))
-    (record { processor = refl; bus = both.bus }) avoids
+    undisturbed_act part page v (begun t events (with_words part words b)).bus
+    (record { words = pair.words; is = ap (λ q. q.bus) pair.is; alike = pair.alike })
+    (Avoids-second part page (begun_touches t events b) _ avoids)
     in
     record {
       processor = so.processor;
       bus = so.bus;
-      trace = so.trace;
-      printed = both.printed;
-      punched = both.punched;
-      page_of_one = same_page_from page b (beginning t events (world p b)).bus (act_end (beginning t events (world p b))).bus
-          (kept t events (world p b)).core so.page_of_one;
-      page_of_other = same_page_from page c (beginning t events (world p c)).bus (act_end (beginning t events (world p c))).bus
-          (kept t events (world p c)).core so.page_of_other;
+      trace = ap₂ ◌++◌ (sym pair.trace) so.trace;
+      printed = sym (ap (λ q. q.printed) pair.is);
+      punched = sym (ap (λ q. q.punched) pair.is);
+      page_of_one = λ k inside. begun_keeps_page part page t events b begun_avoids k inside ∙ so.page_of_one k inside;
+      page_of_other = λ k inside.
+          begun_keeps_page part page t events (with_words part words b) (rw pair.trace begun_avoids) k inside
+          ∙ so.page_of_other k inside;
     }
+
+pub turn_undisturbed : (part : Part) (page t : ℕ) (events : List Event) (p : Processor) (b c : BusWorld) → AlikeOutside part page b c
+    → Avoids part page (turn_trace t events (world p b)) → Undisturbed part page t events p b c
+turn_undisturbed part page t events p b c alike avoids =
+    subst (Undisturbed part page t events p b) (sym alike.is) (undisturbed_by part page t events p b alike.words alike.alike avoids)

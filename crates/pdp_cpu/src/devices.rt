@@ -1,5 +1,5 @@
 /// The registers of the devices, as reads would give them without the effect of a read (PDP-11 Peripherals Handbook,
-/// KL11, KW11-L and PC11; DEC PDP-11/40 Processor Handbook (1972), Switch register).
+/// KL11, KW11-L, PC11 and RK11; DEC PDP-11/40 Processor Handbook (1972), Switch register).
 #[derive(Clone, Copy, Debug, PartialEq, Eq)]
 pub struct DeviceRegisters {
     /// TKS, 777560.
@@ -16,6 +16,18 @@ pub struct DeviceRegisters {
     pub reader_buffer: u16,
     /// PPS, 777554.
     pub punch_status: u16,
+    /// RKDS, 777400.
+    pub drive_status: u16,
+    /// RKER, 777402.
+    pub disk_error: u16,
+    /// RKCS, 777404.
+    pub disk_control: u16,
+    /// RKWC, 777406.
+    pub disk_word_count: u16,
+    /// RKBA, 777410.
+    pub disk_bus_address: u16,
+    /// RKDA, 777412.
+    pub disk_address: u16,
     /// The switch register, 777570.
     pub switches: u16,
 }

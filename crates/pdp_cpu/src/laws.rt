@@ -1,6 +1,6 @@
 //! Laws of turns, for every turn, its events and every world.
 
-ghost use Rattle.std.specs.Prelude.{◌≡◌, ◌<◌, ◌≤◌, ℕ, All, Err, List, None, length, slice_index_or};
+ghost use Rattle.std.specs.Prelude.{◌≡◌, ◌<◌, ◌≤◌, ℕ, All, Err, List, None, false, length, slice_index_or};
 ghost use Rattle.pdp_unibus.specs.BusWorld.{BusWorld};
 ghost use Rattle.pdp_unibus.specs.declared.event.Event.{Event};
 ghost use Rattle.pdp_decode.specs.declared.instruction.Instr.{Instr};
@@ -8,12 +8,13 @@ ghost use Rattle.pdp_operand.specs.Phases.Phase.{State, Stop};
 ghost use Rattle.pdp_operand.specs.Phases.Plan.{one, run_plan};
 ghost use Rattle.pdp_cpu.specs.Handbook.Action.{plan_of};
 ghost use Rattle.pdp_cpu.specs.Handbook.Instruction.{fetch_instruction};
-ghost use Rattle.pdp_operand.specs.Laws.Page.{AlikeOutside};
-ghost use Rattle.pdp_operand.specs.Laws.Touched.{IsOfTurn};
-ghost use Rattle.pdp_operand.specs.Laws.Trace.{Avoids, last_write};
+ghost use Rattle.pdp_device.specs.Operation.{is_under_way};
+ghost use Rattle.pdp_store.specs.Touch.{Avoids, Part, last_write};
+ghost use Rattle.pdp_unibus.specs.Page.{AlikeOutside};
+ghost use Rattle.pdp_unibus.specs.Touched.{IsOfTurn};
 ghost use Rattle.pdp_operand.specs.declared.processor.Processor.{Processor};
 ghost use Rattle.pdp_operand.specs.declared.processor.RunState.TheVariants.{Halted};
-ghost use Rattle.pdp_cpu.specs.Laws.TurnLaws.{LeavesStatus, NoneContinues, Stays, Undisturbed, turn_phases, world_after};
+ghost use Rattle.pdp_cpu.specs.Laws.TurnLaws.{LeavesStatus, NoneContinues, Stays, Undisturbed, WordsStay, turn_phases, world_after};
 ghost use Rattle.pdp_cpu.specs.Turns.Turn.{one_turn, turn_trace};
 ghost use Rattle.pdp_operand.specs.Phases.World.{World, world};
 
@@ -32,7 +33,8 @@ pub fn stamps_are_last_writes()
         ≡ last_write (turn_trace t events w) k (slice_index_or w.bus.lasts k None) }
 {}
 
-/// A law of turns: every access in the trace of a turn is by the processor, in that turn, to a word that core has.
+/// A law of turns: every access in the trace of a turn is in that turn; one of core is of a word that core has, and one
+/// of a drive is by the disk.
 #[tactic(auto, using(crate::proofs::TurnLaws::turn_touches))]
 pub fn touches_are_of_their_turn()
     ensures { (t : ℕ) (events : List Event) (w : World) →
@@ -48,11 +50,12 @@ pub fn turns_keep_the_size_of_core()
         length (one_turn t events w).bus.lasts ≡ length w.bus.lasts }
 {}
 
-/// A law of turns: a turn whose trace avoids a page of 256 words leaves the page as it was, and does the same in every
-/// other way whatever words the page holds.
+/// A law of turns: a turn whose trace avoids a page of 256 words, of core or of a drive, leaves the page as it was, and
+/// does the same in every other way whatever words the page holds.
 pub fn turns_leave_what_they_never_touch()
-    ensures { (page t : ℕ) (events : List Event) (p : Processor) (b c : BusWorld) → AlikeOutside page b c →
-        Avoids page (turn_trace t events (world p b)) → Undisturbed page t events p b c }
+    ensures { (part : Part) (page t : ℕ) (events : List Event) (p : Processor) (b c : BusWorld) →
+        AlikeOutside part page b c → Avoids part page (turn_trace t events (world p b)) →
+        Undisturbed part page t events p b c }
 {}
 
 /// A law of instructions: where the fetch or a phase of any plan can't go on, the program status word, and with it the
@@ -65,9 +68,13 @@ pub fn what_cannot_go_on_leaves_the_codes()
         run_plan (plan_of instr) s ≡ Err stop → LeavesStatus s stop }
 {}
 
-/// A law of turns: a halted machine stays. Without `Continue` its processor, the program status, the mapping registers and
-/// its core are the same after any number of turns, whatever other events come.
+/// A law of turns: a halted machine stays. Without `Continue` its processor, the program status and the mapping
+/// registers are the same after any number of turns, whatever other events come; and where nothing is under way on the
+/// disk, so are core, its stamps and the drives.
 pub fn halted_machines_stay()
-    ensures { (events : ℕ → List Event) (t n : ℕ) (w : World) → w.processor.run ≡ Halted →
+    ensures stays { (events : ℕ → List Event) (t n : ℕ) (w : World) → w.processor.run ≡ Halted →
         ((k : ℕ) → NoneContinues (events k)) → Stays w (world_after events t n w) }
+    ensures words { (events : ℕ → List Event) (t n : ℕ) (w : World) → w.processor.run ≡ Halted →
+        ((k : ℕ) → NoneContinues (events k)) → is_under_way w.bus.board.disk.operation ≡ false →
+        WordsStay w (world_after events t n w) }
 {}

@@ -1,4 +1,4 @@
-ghost use Rattle.std.specs.Prelude.{◌≡◌, ◌+◌, ◌-◌, ◌^◌, ◌<◌, ◌≤◌, length, min, slice_index, slice_index_or, None, Ok, OnOk};
+ghost use Rattle.std.specs.Prelude.{◌≡◌, ◌+◌, ◌-◌, ◌^◌, ◌<◌, ◌≤◌, length, map, min, slice_index, slice_index_or, [], None, Ok, OnOk};
 ghost use Rattle.pdp_unibus.specs.BusWorld.{powered};
 ghost use Rattle.pdp_cpu.specs.Turns.Devices.{devices_of};
 ghost use Rattle.pdp_cpu.specs.Turns.MachineState.{IsReady, powered_machine, after_turn};
@@ -20,6 +20,7 @@ use crate::serving::take_what_is_due;
 use pdp_console::KlRegister;
 use pdp_kt11::{KtRegister, PageNumber, Space};
 use pdp_operand::{Processor, RunState, Slot};
+use pdp_rk11::RkRegister;
 use pdp_store::{Stamp, Store};
 use pdp_tape::PcRegister;
 use pdp_unibus::{Bus, Delays, Event, LAST_TURN, Register};
@@ -27,7 +28,7 @@ use pdp_word::NoMemory;
 use std::alloc::Global;
 use std::marker::Model;
 
-/// The machine: processor, bus and core, for any store of core.
+/// The machine: processor, bus, core and drives, for any store of words.
 ///
 /// A contract sees it as a `MachineWithRoom`: the turns that it has run, its world, what was printed and punched, and
 /// for how many more bytes there is room.
@@ -56,15 +57,23 @@ impl<S: Store> Model for Machine<S> {
 }
 
 impl<S: Store> Machine<S> {
-    /// The machine as of power-up over this core, with this paper tape in the reader and these delays (turns): PC is
-    /// the start address (octal, bytes), every other register and the program status word 0, the devices as after RESET
-    /// (this project's profile). It has run no turn, and printed and punched nothing. Takes no memory.
-    pub fn power(alloc: Global, start: u16, words: S, tape: Vec<u8>, delays: Delays) -> Self
-        ensures { result.state ≡ powered_machine start (S.words words) (S.lasts words) tape.items delays }
+    /// The machine as of power-up over this core and these drives, with this paper tape in the reader and these delays
+    /// (turns): PC is the start address (octal, bytes), every other register and the program status word 0, the devices
+    /// as after RESET, no drive locked (this project's profile). It has run no turn, and printed and punched nothing.
+    /// Takes no memory.
+    pub fn power(
+        alloc: Global,
+        start: u16,
+        words: S,
+        drives: Vec<S>,
+        tape: Vec<u8>,
+        delays: Delays,
+    ) -> Self
+        ensures { result.state ≡ powered_machine start (S.words words) (S.lasts words) (map S.words drives.items) tape.items delays }
     {
         Machine {
             processor: Processor::power(start),
-            bus: Bus::new(words, tape, delays),
+            bus: Bus::new(words, drives, tape, delays),
             turn: 0,
             text: Vec::new(alloc),
             punched: Vec::new(alloc),
@@ -171,6 +180,14 @@ impl<S: Store> Machine<S> {
         self.bus.last(number)
     }
 
+    /// The word of this number on the drive of this number, both from 0 on, without a transfer.
+    pub fn disk_word(&self, drive: usize, number: usize) -> u16
+        requires { number < length (slice_index_or self.now.state.world.bus.drives drive []) }
+        ensures { result ≡ slice_index (slice_index_or self.now.state.world.bus.drives drive []) number }
+    {
+        self.bus.disk_word(drive, number)
+    }
+
     /// The bytes that were printed on the console since power-up, in their order (PDP-11 Peripherals Handbook, KL11).
     pub fn text(&self) -> &[u8]
         ensures { result.now ≡ self.now.state.text }
@@ -186,7 +203,7 @@ impl<S: Store> Machine<S> {
     }
 
     /// The registers of the devices as reads would give them, without the effect of a read (PDP-11 Peripherals
-    /// Handbook, KL11, KW11-L and PC11).
+    /// Handbook, KL11, KW11-L, PC11 and RK11).
     #[tactic(auto, unfolding(crate::specs::Turns::Devices::devices_of))]
     pub fn devices(&self) -> DeviceRegisters
         ensures { result ≡ devices_of self.now.state.world }
@@ -207,6 +224,12 @@ impl<S: Store> Machine<S> {
                 .bus
                 .value(Register::PaperTape(PcRegister::ReaderBuffer)),
             punch_status: self.bus.value(Register::PaperTape(PcRegister::PunchStatus)),
+            drive_status: self.bus.value(Register::Disk(RkRegister::DriveStatus)),
+            disk_error: self.bus.value(Register::Disk(RkRegister::Error)),
+            disk_control: self.bus.value(Register::Disk(RkRegister::Control)),
+            disk_word_count: self.bus.value(Register::Disk(RkRegister::WordCount)),
+            disk_bus_address: self.bus.value(Register::Disk(RkRegister::BusAddress)),
+            disk_address: self.bus.value(Register::Disk(RkRegister::DiskAddress)),
             switches: self.bus.value(Register::Switches),
         }
     }
@@ -229,14 +252,14 @@ impl<S: Store> Machine<S> {
 
     // What a read of a register of memory management would give.
     fn mapping(&self, register: KtRegister) -> u16
-        ensures { result ≡ value_in (Mapping register) self.now.state.world.bus.board }
+        ensures { result ≡ value_in (Mapping register) (length self.now.state.world.bus.drives) self.now.state.world.bus.board }
     {
         self.bus.value(Register::Mapping(register))
     }
 
     // The page descriptor registers of a space.
     fn descriptors(&self, space: Space) -> [u16; 8]
-        ensures { result ≡ of_each_page (Descriptor space) self.now.state.world.bus.board }
+        ensures { result ≡ of_each_page (Descriptor space) (length self.now.state.world.bus.drives) self.now.state.world.bus.board }
     {
         [
             self.mapping(KtRegister::Descriptor(space, PageNumber::P0)),
@@ -252,7 +275,7 @@ impl<S: Store> Machine<S> {
 
     // The page address registers of a space.
     fn addresses(&self, space: Space) -> [u16; 8]
-        ensures { result ≡ of_each_page (Address space) self.now.state.world.bus.board }
+        ensures { result ≡ of_each_page (Address space) (length self.now.state.world.bus.drives) self.now.state.world.bus.board }
     {
         [
             self.mapping(KtRegister::Address(space, PageNumber::P0)),

@@ -55,7 +55,14 @@ fn machine_over(alloc: Global, start: u16, program: &[u16]) -> Result<Machine<Fl
 {
     let mut core = Flat::new(alloc, WORDS, true)?;
     place(&mut core, 0o001000, program);
-    Ok(Machine::power(alloc, start, core, Vec::new(alloc), Delays::standard()))
+    Ok(Machine::power(
+        alloc,
+        start,
+        core,
+        Vec::new(alloc),
+        Vec::new(alloc),
+        Delays::standard(),
+    ))
 }
 
 // Runs so many turns, and answers the act of the last.
@@ -112,7 +119,7 @@ fn operated(
     let (line, delay) = outside.delay;
     let delays = Delays::standard().with(line, delay);
     let tape = outside.tape.to_vec(alloc)?;
-    let mut machine = Machine::power(alloc, 0o001000, core, tape, delays);
+    let mut machine = Machine::power(alloc, 0o001000, core, Vec::new(alloc), tape, delays);
     let mut meter = Meter::new();
     match outside.event {
         Some((turn, event)) if turn < turns => {
@@ -201,7 +208,14 @@ fn machine_at(alloc: Global, start: Start, program: &[u16]) -> Result<Machine<Fl
     place(&mut core, 0o001000, program);
     let (address, words) = start.words;
     place(&mut core, address, &words);
-    Ok(Machine::power(alloc, 0o000754, core, Vec::new(alloc), Delays::standard()))
+    Ok(Machine::power(
+        alloc,
+        0o000754,
+        core,
+        Vec::new(alloc),
+        Vec::new(alloc),
+        Delays::standard(),
+    ))
 }
 
 // How so many turns of this program end: the act of the last, the registers, and the two words at the top of the

@@ -5,7 +5,8 @@ use Rattle.pdp_unibus.specs.declared.event.Event.TheVariants.{Continue}
 use Rattle.pdp_unibus.specs.BusWorld.{BusWorld}
 use Rattle.pdp_operand.specs.Laws.Count.{course_length}
 use Rattle.pdp_operand.specs.Phases.Phase.{State, Stop}
-use Rattle.pdp_operand.specs.Laws.Page.{AlikeOutside, SamePage}
+use Rattle.pdp_store.specs.Touch.{Part}
+use Rattle.pdp_unibus.specs.Page.{AlikeOutside, SamePage}
 use Rattle.pdp_operand.specs.declared.processor.Processor.{Processor}
 use Rattle.pdp_operand.specs.Phases.World.{World, world}
 use Rattle.pdp_cpu.specs.Turns.Turn.{course_at, at_turn, one_turn, printed_in, punched_in, turn_trace}
@@ -16,14 +17,14 @@ turn_phases t events w = course_length (course_at (at_turn t events w)) (at_turn
 
 -- turn t with these events, of the processor p on bus b, and on bus c: it ends in the same way on both, with the same
 -- trace and the same bytes printed and punched, and leaves each its own words of the page
-pub record Undisturbed (page t : ℕ) (events : List Event) (p : Processor) (b c : BusWorld) : Type 0 where
+pub record Undisturbed (part : Part) (page t : ℕ) (events : List Event) (p : Processor) (b c : BusWorld) : Type 0 where
   pub processor : (one_turn t events (world p b)).processor ≡ (one_turn t events (world p c)).processor
-  pub bus : AlikeOutside page (one_turn t events (world p b)).bus (one_turn t events (world p c)).bus
+  pub bus : AlikeOutside part page (one_turn t events (world p b)).bus (one_turn t events (world p c)).bus
   pub trace : turn_trace t events (world p b) ≡ turn_trace t events (world p c)
   pub printed : printed_in t events (world p b) ≡ printed_in t events (world p c)
   pub punched : punched_in t events (world p b) ≡ punched_in t events (world p c)
-  pub page_of_one : SamePage page b (one_turn t events (world p b)).bus
-  pub page_of_other : SamePage page c (one_turn t events (world p c)).bus
+  pub page_of_one : SamePage part page b (one_turn t events (world p b)).bus
+  pub page_of_other : SamePage part page c (one_turn t events (world p c)).bus
 
 -- the program status word, codes and all, is as it was in the state before
 abbrev pub LeavesStatus : State → Stop → Type 0
@@ -38,10 +39,15 @@ abbrev pub world_after : (ℕ → List Event) → ℕ → ℕ → World → Worl
 world_after events t zero w = w
 world_after events t (suc n) w = one_turn (t + n) (events (t + n)) (world_after events t n w)
 
--- the processor, its status, the mapping registers, the words of core and their stamps are those of the first world
+-- the processor, its status and the mapping registers are those of the first world
 pub record Stays (v w : World) : Type 0 where
   pub processor : w.processor ≡ v.processor
   pub status : w.bus.board.status ≡ v.bus.board.status
   pub mapping : w.bus.board.mapping ≡ v.bus.board.mapping
+
+-- the disk, the words of core with their stamps, and the words of the drives are those of the first world
+pub record WordsStay (v w : World) : Type 0 where
+  pub disk : w.bus.board.disk ≡ v.bus.board.disk
   pub core : w.bus.core ≡ v.bus.core
   pub lasts : w.bus.lasts ≡ v.bus.lasts
+  pub drives : w.bus.drives ≡ v.bus.drives

@@ -22,14 +22,15 @@ pub record MachineWithRoom : Type 0 where
   pub punched_room : ℕ
 
 -- the world as of power-up
-abbrev pub powered_world : ℕ → List ℕ → List (Option Stamp) → List ℕ → Delays → World
-powered_world start words lasts tape delays = world (powered_processor start) (powered words lasts tape delays)
+abbrev pub powered_world : ℕ → List ℕ → List (Option Stamp) → List (List ℕ) → List ℕ → Delays → World
+powered_world start words lasts drives tape delays =
+    world (powered_processor start) (powered words lasts drives tape delays)
 
 -- the machine as of power-up: no byte was printed or punched
-abbrev pub powered_machine : ℕ → List ℕ → List (Option Stamp) → List ℕ → Delays → MachineState
-powered_machine start words lasts tape delays = record {
+abbrev pub powered_machine : ℕ → List ℕ → List (Option Stamp) → List (List ℕ) → List ℕ → Delays → MachineState
+powered_machine start words lasts drives tape delays = record {
   turn = 0;
-  world = powered_world start words lasts tape delays;
+  world = powered_world start words lasts drives tape delays;
   text = [];
   punched = [];
 }

@@ -1,12 +1,13 @@
 //! Interrupts of each source through whole turns, and the registers of the devices.
 
-use super::{KERNEL, Outside, STANDARD, Start, ended_with, operated};
-use crate::{Act, DeviceRegisters, RunState};
-use pdp_unibus::{Event, Line};
+use super::{KERNEL, Outside, STANDARD, Start, WORDS, ended_with, operated, place, run_turns};
+use crate::{Act, DeviceRegisters, Machine, Meter, RunState};
+use pdp_store::{Agent, Flat, Stamp, Store};
+use pdp_unibus::{Delays, Event, Line};
 use pdp_word::NoMemory;
 
-// Each source is enabled (and the reader told to go), and then BR to itself: with its event, where it has one, it
-// interrupts below its level, through its vector.
+// Each source is enabled (and the reader told to go, and the disk to seek), and then BR to itself: with its event, where
+// it has one, it interrupts below its level, through its vector.
 #[test]
 fn interrupts_by_vector_and_level(rt: HostRuntime) -> Result<(), NoMemory> {
     for (register, event, vector, below, level) in [
@@ -15,8 +16,9 @@ fn interrupts_by_vector_and_level(rt: HostRuntime) -> Result<(), NoMemory> {
         (0o177550, Event::ReaderDone, 0o70, 0o140, 0o200),
         (0o177554, Event::Continue, 0o74, 0o140, 0o200),
         (0o177546, Event::Tick, 0o100, 0o240, 0o300),
+        (0o177404, Event::DiskDone, 0o220, 0o200, 0o240),
     ] {
-        let program = [0o012737, 0o000101, register, 0o000777];
+        let program = [0o012737, 0o000111, register, 0o000777];
         let pc = 0o001400 | vector;
         let words = (vector, [pc, 0o000340]);
         for (ps, want) in [
@@ -132,6 +134,12 @@ const QUIET: DeviceRegisters = DeviceRegisters {
     reader_status: 0,
     reader_buffer: 0,
     punch_status: 0o000200,
+    drive_status: 0,
+    disk_error: 0,
+    disk_control: 0o000200,
+    disk_word_count: 0,
+    disk_bus_address: 0,
+    disk_address: 0,
     switches: 0,
 };
 
@@ -209,6 +217,30 @@ fn shows_each_device(rt: HostRuntime) -> Result<(), NoMemory> {
             },
         ),
         (
+            idle,
+            0o177406,
+            DeviceRegisters {
+                disk_word_count: 0o000101,
+                ..QUIET
+            },
+        ),
+        (
+            idle,
+            0o177410,
+            DeviceRegisters {
+                disk_bus_address: 0o000101,
+                ..QUIET
+            },
+        ),
+        (
+            idle,
+            0o177412,
+            DeviceRegisters {
+                disk_address: 0o000101,
+                ..QUIET
+            },
+        ),
+        (
             Event::Switches(0o123456),
             0o177570,
             DeviceRegisters {
@@ -245,5 +277,34 @@ fn shows_a_key_until_it_is_read(rt: HostRuntime) -> Result<(), NoMemory> {
             );
         }
     }
+    Ok(())
+}
+
+// A program reads a word of the drive into core: it is there, with the disk's stamp, in the turn in which the disk is due.
+#[test]
+fn reads_a_word_of_the_drive(rt: HostRuntime) -> Result<(), NoMemory> {
+    let alloc = rt.alloc();
+    let mut core = Flat::new(alloc, WORDS, true)?;
+    // MOV #-1,@#177406; MOV #5,@#177404; BR to itself
+    let program = [
+        0o012737, 0o177777, 0o177406, 0o012737, 0o000005, 0o177404, 0o000777,
+    ];
+    place(&mut core, 0o001000, &program);
+    let mut drive = Flat::new(alloc, 256, false)?;
+    drive.set(0, 0o123456);
+    let drives = Vec::from_array(alloc, [drive])?;
+    let delays = Delays::standard();
+    let mut machine = Machine::power(alloc, 0o001000, core, drives, Vec::new(alloc), delays);
+    assert_eq!(rt; machine.disk_word(0, 0), 0o123456);
+
+    let mut meter = Meter::new();
+    run_turns(&mut machine, &mut meter, 11)?;
+    assert_eq!(rt; (machine.word(0), machine.last(0)), (0, None));
+    run_turns(&mut machine, &mut meter, 1)?;
+    let stamp = Stamp {
+        turn: 11,
+        agent: Agent::Disk,
+    };
+    assert_eq!(rt; (machine.word(0), machine.last(0)), (0o123456, Some(stamp)));
     Ok(())
 }

@@ -41,7 +41,14 @@ fn mapped(
         let at = start + 4 + 6 * number as u16;
         place(&mut core, at, &[0o012737, *word, *address]);
     }
-    let mut machine = Machine::power(alloc, start, core, Vec::new(alloc), Delays::standard());
+    let mut machine = Machine::power(
+        alloc,
+        start,
+        core,
+        Vec::new(alloc),
+        Vec::new(alloc),
+        Delays::standard(),
+    );
     run_turns(
         &mut machine,
         &mut Meter::new(),

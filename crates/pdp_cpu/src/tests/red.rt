@@ -88,6 +88,7 @@ fn halts_where_the_red_sequence_faults(rt: HostRuntime) -> Result<(), NoMemory> 
             0,
             core,
             Vec::new(rt.alloc()),
+            Vec::new(rt.alloc()),
             Delays::standard(),
         );
         let act = run_turns(&mut machine, &mut Meter::new(), 2)?;
