@@ -5,7 +5,7 @@ use Rattle.pdp_script.specs.Entries.{events_at}
 use Rattle.pdp_replay.specs.Past.{Past}
 use Rattle.pdp_replay.specs.Setup.{core_size}
 use Rattle.pdp_replay.specs.States.{power, state_at}
-use Rattle.pdp_replay.proofs.CoreWords.{core_has_size}
+use Rattle.pdp_replay.proofs.FirstWords.{core_has_size}
 
 pub core_keeps_size : (p : Past) (n : ℕ) → length (state_at p n).bus.core ≡ core_size p.setup
 unfolding state_at power

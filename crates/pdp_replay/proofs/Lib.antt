@@ -1,8 +1,11 @@
+pub mod LastWrites
 pub mod Lists
 pub mod Memory
 pub mod CoreSizes
-pub mod CoreWords
+pub mod DriveSizes
+pub mod FirstWords
 pub mod Patches
 pub mod Setups
 pub mod States
 pub mod Texts
+pub mod Trails

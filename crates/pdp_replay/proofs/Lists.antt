@@ -1,9 +1,12 @@
--- Lists of words as they are filled.
-use Rattle.std.proofs.Common.{◌≡◌, ℕ, suc, zero, ◌+◌, ◌<◌, ◌≤◌, List, [], ◌∷◌, ◌++◌, length, ◌-◌, take, drop, get_or, refl, sym, ◌∙◌, ap, append_assoc, replicate, slice_set, slice_get, option_to_list, add-one}
+-- Lists of words as they are filled, and lists compared item by item.
+use Rattle.std.proofs.Common.{◌≡◌, ℕ, suc, zero, ◌+◌, ◌<◌, ◌≤◌, List, [], ◌∷◌, ◌++◌, ◌&&◌, Bool, true, false, None, length, ◌-◌, take, drop, get_or, refl, sym, ◌∙◌, ap, append_assoc, replicate, slice_set, slice_get, option_to_list, add-one}
 use Rattle.std.proofs.Math.Seq.{set-append_seam, take-suc}
 use Rattle.std.proofs.lemmas.List.{length-take-le, length-drop, get_or-drop}
+use Rattle.std.specs.Cmp.Lexicographic.{pointwise}
+use Rattle.std.specs.Option.{option_eq}
 use Rattle.std.specs.Prelude.{slice_index}
 use Rattle.std.proofs.Common.{arith}
+use Rattle.pdp_replay.specs.Image.{blank_lasts}
 
 -- one more word of an image over a list of zeros
 filled : (image : List ℕ) (i rest word : ℕ) → i < length image → word ≡ get_or image i 0
@@ -29,6 +32,11 @@ blank_stays zero i x = refl
 blank_stays (suc n) zero x = refl
 blank_stays (suc n) (suc i) x = ap (λ xs. x ∷ xs) (blank_stays n i x)
 
+pub blank_lasts_stay : (stamped : Bool) (n i : ℕ) → slice_set (blank_lasts stamped n) i None ≡ blank_lasts stamped n
+unfolding blank_lasts
+blank_lasts_stay true n i = blank_stays n i None
+blank_lasts_stay false n i = refl
+
 pub take_one_more : {X : Type 0} (xs : List X) (i : ℕ) → take (suc i) xs ≡ take i xs ++ option_to_list (slice_get xs i)
 take_one_more [] zero = refl
 take_one_more [] (suc i) = refl
@@ -41,3 +49,15 @@ pub words_one_more : (words : List ℕ) (first i : ℕ) → first + i < length w
 words_one_more words first i below =
     let within : i < length (drop first words) = rw length-drop (omega arith) in
     sym (rw add-one (take-suc (drop first words) i 0 within) ∙ ap (λ word. take i (drop first words) ++ word ∷ []) (get_or-drop first words i 0))
+
+compared : {X : Type 0} (same : X → X → Bool) (xs ys : List X) (i : ℕ) → length xs ≡ length ys → i < length xs
+    → pointwise same (drop i xs) (drop i ys) ≡ (option_eq same (slice_get xs i) (slice_get ys i) && pointwise same (drop (suc i) xs) (drop (suc i) ys))
+compared same [] ys i long below = absurd (omega arith)
+compared same (x ∷ xs) [] i long below = absurd (omega arith)
+compared same (x ∷ xs) (y ∷ ys) zero long below = refl
+compared same (x ∷ xs) (y ∷ ys) (suc i) long below = compared same xs ys i (omega arith) (omega arith)
+
+-- two lists are alike from an item on where that item is, and from the next on
+pub compared_next : {X : Type 0} (same : X → X → Bool) (xs ys : List X) (i : ℕ) → length xs ≡ length ys → i < length xs
+    → pointwise same (drop i xs) (drop i ys) ≡ (option_eq same (slice_get xs i) (slice_get ys i) && pointwise same (drop (i + 1) xs) (drop (i + 1) ys))
+compared_next same xs ys i long below = rw add-one (compared same xs ys i long below)

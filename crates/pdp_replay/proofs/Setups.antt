@@ -20,6 +20,7 @@ good_by s true true numbers images is = record {
   units = grind (arith, common_steps);
   stride = grind (arith, common_steps);
   core = grind (arith, common_steps);
+  disk = grind (arith, common_steps);
 }
 good_by s true false numbers images is = absurd cc
 good_by s false images_are numbers images is = absurd cc

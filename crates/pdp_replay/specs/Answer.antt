@@ -1,5 +1,5 @@
 -- What a question must be answered, from the run from power-up alone (this project's profile).
-use Rattle.std.specs.Prelude.{ℕ, ◌≡◌, ◌+◌, ◌/◌, ◌%◌, ◌==◌, ◌≤◌, ◌&&◌, List, take, drop, Result, Ok, Err, nat_le, if◌then◌else◌}
+use Rattle.std.specs.Prelude.{ℕ, ◌≡◌, ◌+◌, ◌-◌, ◌/◌, ◌%◌, ◌==◌, ◌<◌, ◌≤◌, ◌&&◌, List, take, drop, Result, Ok, Err, nat_le, if◌then◌else◌}
 use Rattle.pdp_cpu.specs.Turns.Devices.{devices_of}
 use Rattle.pdp_cpu.specs.Turns.MachineState.{MachineState}
 use Rattle.pdp_cpu.specs.Turns.Pages.{page_registers_of}
@@ -7,10 +7,14 @@ use Rattle.pdp_cpu.specs.Turns.Regs.{regs_of}
 use Rattle.pdp_script.specs.Refusal.{result_map}
 use Rattle.pdp_unibus.specs.LastTurn.{last_turn}
 use Rattle.pdp_script.specs.declared.faults.Fault.{Fault}
-use Rattle.pdp_script.specs.declared.faults.Fault.TheVariants.{OutsideCore, OddAddress, TurnTooLarge, CountOutOfRange}
+use Rattle.pdp_script.specs.declared.faults.Fault.TheVariants.{OutsideCore, OddAddress, OutsideDisk, TurnTooLarge, CountOutOfRange}
+use Rattle.pdp_script.specs.Script.{ScriptData}
+use Rattle.pdp_replay.specs.Edit.{core_word_at}
+use Rattle.pdp_replay.specs.LastWrites.{last_write_at}
 use Rattle.pdp_replay.specs.Past.{Past}
-use Rattle.pdp_replay.specs.Setup.{SetupData, core_size}
-use Rattle.pdp_replay.specs.States.{at, punched_at, state_at, text_at}
+use Rattle.pdp_replay.specs.Setup.{SetupData, core_size, drive_words}
+use Rattle.pdp_replay.specs.States.{at, disk_of, punched_at, state_at, text_at}
+use Rattle.pdp_replay.specs.Trails.{trail_of}
 use Rattle.pdp_replay.specs.declared.question.Answer.{Answer}
 use Rattle.pdp_replay.specs.declared.question.Question.{Question}
 use Rattle.pdp_replay.specs.declared.question.Question.TheVariants as question
@@ -21,27 +25,34 @@ use Rattle.pdp_replay.specs.declared.question.Value.TheVariants as value
 abbrev pub turn_asked : Question → ℕ
 turn_asked (question.Regs turn) = turn
 turn_asked (question.Core turn address count) = turn
+turn_asked (question.Disk turn first count) = turn
 turn_asked (question.Text turn) = turn
 turn_asked (question.Punched turn) = turn
 turn_asked (question.Devices turn) = turn
 turn_asked (question.Pages turn) = turn
+turn_asked (question.Last turn address) = turn
+turn_asked (question.Trail turn count) = turn
 
--- the first turn whose state the answer needs: that of every question so far
+-- the first turn whose state the answer needs: that of the first turn listed for a trail, else the one asked about
 abbrev pub first_turn_needed : Question → ℕ
+first_turn_needed (question.Trail turn count) = turn - count
 first_turn_needed q = turn_asked q
 
--- so many words of core, from the word of this number on
+-- so many words of core or of the drive, from the word of this number on
 abbrev pub words_from : ℕ → ℕ → List ℕ → List ℕ
-words_from first count core = take count (drop first core)
+words_from first count words = take count (drop first words)
 
 -- the answer
 unfoldable pub answer : Question → Past → Value
 answer (question.Regs turn) p = value.Regs (regs_of (state_at p turn))
 answer (question.Core turn address count) p = value.Core (words_from (address / 2) count (state_at p turn).bus.core)
+answer (question.Disk turn first count) p = value.Disk (words_from first count (disk_of (state_at p turn)))
 answer (question.Text turn) p = value.Text (text_at p turn)
 answer (question.Punched turn) p = value.Punched (punched_at p turn)
 answer (question.Devices turn) p = value.Devices (devices_of (state_at p turn))
 answer (question.Pages turn) p = value.Pages (page_registers_of (state_at p turn))
+answer (question.Last turn address) p = value.Last (last_write_at p turn (address / 2))
+answer (question.Trail turn count) p = value.Trail (trail_of p (turn - count) count)
 
 -- the most words that a question asks for
 abbrev pub most_words : ℕ
@@ -57,27 +68,52 @@ range_checked address count s = (
     else Err OutsideCore
     else Err CountOutOfRange)
 
+-- can so many words of the drive from this number on be asked for? From one to the most, each on the drive
+unfoldable pub disk_range_checked : ℕ → ℕ → Result (Unit {0}) Fault
+disk_range_checked first count = (
+    if nat_le 1 count && nat_le count most_words then
+    if nat_le (first + count) drive_words then Ok tt
+    else Err OutsideDisk
+    else Err CountOutOfRange)
+
+-- the most turns that a trail lists
+abbrev pub most_turns_listed : ℕ
+most_turns_listed = 64
+
+-- can so many turns before this one be listed? From one to the most, and no more than there were
+abbrev pub trail_checked : ℕ → ℕ → Result (Unit {0}) Fault
+trail_checked turn count = (
+    if nat_le 1 count && nat_le count most_turns_listed && nat_le count turn then Ok tt
+    else Err CountOutOfRange)
+
 -- the range rule of a question, where it has one
-abbrev pub words_checked : Question → SetupData → Result (Unit {0}) Fault
-words_checked (question.Core turn address count) s = range_checked address count s
-words_checked _ s = Ok tt
+abbrev pub range_rule : Question → SetupData → Result (Unit {0}) Fault
+range_rule (question.Core turn address count) s = range_checked address count s
+range_rule (question.Disk turn first count) s = disk_range_checked first count
+range_rule (question.Last turn address) s = result_map (λ _. tt) (core_word_at address s)
+range_rule (question.Trail turn count) s = trail_checked turn count
+range_rule _ s = Ok tt
 
 -- can the question be asked? Its turn is told first
 unfoldable pub question_checked : Question → Past → Result (Unit {0}) Fault
-question_checked q p = (if nat_le (turn_asked q) last_turn then words_checked q p.setup else Err TurnTooLarge)
+question_checked q p = (if nat_le (turn_asked q) last_turn then range_rule q p.setup else Err TurnTooLarge)
 
 -- the answer, or why there is none
 unfoldable pub answer_to : Question → Past → Result Value Fault
 answer_to q p = result_map (λ _. answer q p) (question_checked q p)
 
--- the words that a question asks for are within a core of so many words
+-- what a question asks for is there: its words in a core of so many words or on the drive, and its turns before the one
+-- asked about
 abbrev pub IsWithin : Question → ℕ → Type 0
 IsWithin (question.Core turn address count) size = address / 2 + count ≤ size
+IsWithin (question.Disk turn first count) size = first + count ≤ drive_words
+IsWithin (question.Last turn address) size = address / 2 < size
+IsWithin (question.Trail turn count) size = count ≤ turn
 IsWithin _ size = Unit {0}
 
--- the answer, of every past whose machine before the turn asked about is this one
-abbrev pub IsAnswerIn : MachineState → Question → Value → Type 0
-IsAnswerIn machine q value = (p : Past) → machine ≡ at p (turn_asked q) → value ≡ answer q p
+-- the answer, of every past with this script whose machine before the first turn needed is this one
+abbrev pub IsAnswerIn : MachineState → ScriptData → Question → Value → Type 0
+IsAnswerIn machine script q value = (p : Past) → p.script ≡ script → machine ≡ at p (first_turn_needed q) → value ≡ answer q p
 
 -- the value of an answer
 abbrev pub value_answered : Result Answer Fault → Result Value Fault

@@ -6,17 +6,18 @@ use Rattle.pdp_script.specs.Entries.{entry_of}
 use Rattle.pdp_script.specs.Refusal.{edit_answer, for_memory}
 use Rattle.pdp_script.specs.Script.{insert_edit, alter_edit, drop_edit}
 use Rattle.pdp_script.specs.declared.faults.Fault.{Fault}
-use Rattle.pdp_script.specs.declared.faults.Fault.TheVariants.{BadImage, OutsideCore, OddAddress, NoSuchPatch, TurnTooLarge}
+use Rattle.pdp_script.specs.declared.faults.Fault.TheVariants.{BadImage, OutsideCore, OddAddress, OutsideDisk, NoSuchPatch, TurnTooLarge}
 use Rattle.pdp_unibus.specs.Delays.{with_delay}
 use Rattle.pdp_unibus.specs.LastTurn.{last_turn}
 use Rattle.pdp_unibus.specs.declared.delays.Line.{Line}
 use Rattle.pdp_unibus.specs.declared.event.Event.{Event}
-use Rattle.pdp_replay.specs.PatchedWords.{core_key, core_number, is_same_word, patch_of}
-use Rattle.pdp_replay.specs.Setup.{SetupData, core_size, tape_bytes}
+use Rattle.pdp_replay.specs.PatchedWords.{core_key, disk_key, is_same_word, patch_of}
+use Rattle.pdp_replay.specs.Setup.{SetupData, core_size, drive_words, tape_bytes}
 use Rattle.pdp_replay.specs.Past.{Past, of_setup, of_script}
 use Rattle.pdp_replay.specs.declared.patch.Patch.{Patch}
-use Rattle.pdp_replay.specs.declared.patch.Patch.TheVariants.{Core}
+use Rattle.pdp_replay.specs.declared.patch.Patch.TheVariants as patch
 use Rattle.pdp_replay.specs.declared.patch.PatchKey.{PatchKey}
+use Rattle.pdp_replay.specs.declared.patch.PatchKey.TheVariants as key
 
 -- the number of the core word at an address: refused outside core, and then at an odd address
 unfoldable pub core_word_at : ℕ → SetupData → Result ℕ Fault
@@ -26,9 +27,13 @@ core_word_at address s = (
     else Err OddAddress
     else Err OutsideCore)
 
--- an edit of the core word of this number, or the refusal where there is no such word
-abbrev pub edited_at : Result ℕ Fault → (PatchKey → Result SetupData Fault) → Result SetupData Fault
-edited_at (Ok number) edited = edited (core_key number)
+-- the number of a word of the drive: refused past its last word
+unfoldable pub disk_word_at : ℕ → Result ℕ Fault
+disk_word_at number = (if nat_lt number drive_words then Ok number else Err OutsideDisk)
+
+-- an edit of the word of this number, or the refusal where there is no such word
+abbrev pub edited_at : Result ℕ Fault → (ℕ → Result SetupData Fault) → Result SetupData Fault
+edited_at (Ok number) edited = edited number
 edited_at (Err fault) edited = Err fault
 
 -- a word is patched: one that has a patch keeps its place among the patches, a new one comes last
@@ -36,7 +41,10 @@ abbrev pub with_patch : ℕ → SetupData → PatchKey → Result SetupData Faul
 with_patch word s key = Ok (record s { patches = insert_entry is_same_word s.patches key word })
 
 unfoldable pub core_edit : ℕ → ℕ → Past → Result Past Fault
-core_edit address word p = of_setup p (edited_at (core_word_at address p.setup) (with_patch word p.setup))
+core_edit address word p = of_setup p (edited_at (core_word_at address p.setup) (λ number. with_patch word p.setup (core_key number)))
+
+unfoldable pub disk_edit : ℕ → ℕ → Past → Result Past Fault
+disk_edit number word p = of_setup p (edited_at (disk_word_at number) (λ number. with_patch word p.setup (disk_key number)))
 
 -- a word loses its patch, if it has one; the other patches keep their order
 abbrev pub without_patch : SetupData → PatchKey → Result SetupData Fault
@@ -45,7 +53,7 @@ without_patch s key = (
     else Err NoSuchPatch)
 
 unfoldable pub revert_edit : ℕ → Past → Result Past Fault
-revert_edit address p = of_setup p (edited_at (core_word_at address p.setup) (without_patch p.setup))
+revert_edit address p = of_setup p (edited_at (core_word_at address p.setup) (λ number. without_patch p.setup (core_key number)))
 
 -- another paper tape is put into the reader, which is there from power-up on
 abbrev pub with_tape : List ℕ → SetupData → Result SetupData Fault
@@ -99,12 +107,13 @@ abbrev pub lesser_turn : Option ℕ → ℕ → ℕ
 lesser_turn (Some old) turn = min old turn
 lesser_turn None turn = turn
 
--- how many patches there are, and the one of this index: its address and its word
+-- how many patches there are, and the one of this index: of core its address and its word, of the drive its number
 abbrev pub patch_count : Past → ℕ
 patch_count p = length p.setup.patches
 
-abbrev pub patch_shown : PatchKey × ℕ → Patch
-patch_shown entry = Core (core_number entry.0 * 2) entry.1
+abbrev pub patch_shown : PatchKey → ℕ → Patch
+patch_shown (key.Core number) word = patch.Core (number * 2) word
+patch_shown (key.Disk number) word = patch.Disk number word
 
 abbrev pub patch_at : Past → ℕ → Option Patch
-patch_at p index = option_map patch_shown (slice_get p.setup.patches index)
+patch_at p index = option_map (λ p. patch_shown p.0 p.1) (slice_get p.setup.patches index)

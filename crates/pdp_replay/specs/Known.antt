@@ -8,8 +8,8 @@ use Rattle.pdp_replay.specs.declared.question.Question.{Question}
 abbrev pub known_after : Question → ℕ → ℕ
 known_after q known = max known (turn_asked q)
 
--- A question about this timeline ran at most one stride of turns more than those past what was known, where `turns` is
--- the count of turns after it.
+-- A question about this timeline ran at most one stride of turns more than those that a trail lists or that are past
+-- what was known, where `turns` is the count of turns after it.
 abbrev pub IsWithinBound : Question → Timeline → ℕ → Type 0
 IsWithinBound q t turns = turns + min (first_turn_needed q) t.known + 1 ≤ t.turns + turn_asked q + t.stride
 

@@ -1,11 +1,13 @@
 -- Setups, edits and questions, and the run that they are of (this project's profile).
 pub mod PatchedWords
 pub mod Setup
-pub mod Core
+pub mod FirstWords
 pub mod Image
 pub mod Past
 pub mod States
 pub mod Quiet
+pub mod LastWrites
+pub mod Trails
 pub mod Answer
 pub mod Edit
 pub mod Timeline

@@ -1,24 +1,25 @@
--- The words that can have a patch, by which patches are kept (this project's profile): those of core so far.
-use Rattle.std.specs.Prelude.{ℕ, Bool, Option, List, nat_eq}
+-- The words that can have a patch, by which patches are kept (this project's profile): those of core and of the drive.
+use Rattle.std.specs.Prelude.{ℕ, Bool, false, Option, List, nat_eq}
 use Rattle.std.specs.Map.{lookup}
 use Rattle.pdp_replay.specs.declared.patch.PatchKey.{PatchKey}
-use Rattle.pdp_replay.specs.declared.patch.PatchKey.TheVariants.{Core}
+use Rattle.pdp_replay.specs.declared.patch.PatchKey.TheVariants.{Core, Disk}
 
 -- patched words with their values, in the order in which they were first given one
 abbrev pub Patches : Type 0
 Patches = List (PatchKey × ℕ)
 
--- the core word of this number
+-- the core word of this number, and the word of the drive
 abbrev pub core_key : ℕ → PatchKey
 core_key number = Core number
 
--- the number of a core word
-abbrev pub core_number : PatchKey → ℕ
-core_number (Core number) = number
+abbrev pub disk_key : ℕ → PatchKey
+disk_key number = Disk number
 
 -- are these the same word?
 abbrev pub is_same_word : PatchKey → PatchKey → Bool
 is_same_word (Core number) (Core other) = nat_eq number other
+is_same_word (Disk number) (Disk other) = nat_eq number other
+is_same_word _ _ = false
 
 -- the value that a word is patched to, where it is
 abbrev pub patch_of : Patches → PatchKey → Option ℕ

@@ -31,8 +31,8 @@ most_units = 31
 abbrev pub unit_words : ℕ
 unit_words = 4096
 
-abbrev pub disk_words : ℕ
-disk_words = 1247232
+abbrev pub drive_words : ℕ
+drive_words = 1247232
 
 abbrev pub tape_bytes : ℕ
 tape_bytes = 1048576
@@ -70,7 +70,7 @@ has_good_numbers s = nat_le 1 s.units && nat_le s.units most_units && s.start % 
 
 -- core's image within core, a drive's image within the drive, a tape within its limit
 abbrev pub has_good_images : SetupData → Bool
-has_good_images s = nat_le (length s.core) (core_size s) && nat_le (length s.disk) disk_words && nat_le (length s.tape) tape_bytes
+has_good_images s = nat_le (length s.core) (core_size s) && nat_le (length s.disk) drive_words && nat_le (length s.tape) tape_bytes
 
 -- what a run can start from, or why not
 unfoldable pub setup_checked : SetupData → Result SetupData Fault
@@ -81,3 +81,4 @@ pub record IsGood (s : SetupData) : Type 0 where
   pub units : s.units ≤ most_units
   pub stride : s.stride ≡ only_stride
   pub core : length s.core ≤ core_size s
+  pub disk : length s.disk ≤ drive_words

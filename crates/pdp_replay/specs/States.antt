@@ -1,17 +1,18 @@
--- The states of a run, and its texts (this project's profile).
-use Rattle.std.specs.Prelude.{ℕ, ◌≡◌, zero, suc, ◌+◌, ◌++◌, List, [], length, take, None, replicate}
+-- The states of a run, its texts and its trace (this project's profile).
+use Rattle.std.specs.Prelude.{ℕ, ◌≡◌, zero, suc, ◌+◌, ◌++◌, List, [], ◌∷◌, length, slice_index_or, take, None, replicate}
+use Rattle.pdp_store.specs.Touch.{Touch}
 use Rattle.pdp_operand.specs.Phases.World.{World}
-use Rattle.pdp_cpu.specs.Turns.Turn.{one_turn, printed_in, punched_in}
+use Rattle.pdp_cpu.specs.Turns.Turn.{one_turn, printed_in, punched_in, turn_trace}
 use Rattle.pdp_cpu.specs.Turns.MachineState.{MachineState, powered_world}
 use Rattle.pdp_script.specs.Entries.{events_at}
 use Rattle.pdp_script.specs.Script.{ScriptData}
 use Rattle.pdp_replay.specs.Setup.{SetupData, core_size}
-use Rattle.pdp_replay.specs.Core.{core_words}
+use Rattle.pdp_replay.specs.FirstWords.{core_words, disk_words}
 use Rattle.pdp_replay.specs.Past.{Past}
 
--- power-up: core with the patches, the tape in the reader, and the delays
+-- power-up: core and the drive with the patches, the tape in the reader, and the delays
 unfoldable pub power : SetupData → World
-power s = powered_world s.start (core_words s) (replicate (core_size s) None) s.tape s.delays
+power s = powered_world s.start (core_words s) (replicate (core_size s) None) (disk_words s ∷ []) s.tape s.delays
 
 -- the state before turn n: that of power-up, taken through the turns 0 to n - 1, each with its events of the script
 unfoldable pub state_at : Past → ℕ → World
@@ -27,6 +28,15 @@ text_at p (suc n) = text_at p n ++ printed_in n (events_at p.script.entries n) (
 unfoldable pub punched_at : Past → ℕ → List ℕ
 punched_at p zero = []
 punched_at p (suc n) = punched_at p n ++ punched_in n (events_at p.script.entries n) (state_at p n)
+
+-- all accesses to words in the turns before turn n, in their order: those of the turns 0 to n - 1
+unfoldable pub trace_at : Past → ℕ → List Touch
+trace_at p zero = []
+trace_at p (suc n) = trace_at p n ++ turn_trace n (events_at p.script.entries n) (state_at p n)
+
+-- the words of the drive
+abbrev pub disk_of : World → List ℕ
+disk_of w = slice_index_or w.bus.drives 0 []
 
 -- the machine as of power-up: no byte was printed or punched
 abbrev pub powered_up : SetupData → MachineState

@@ -5,10 +5,10 @@ use Rattle.pdp_unibus.specs.LastTurn.{last_turn}
 use Rattle.pdp_script.specs.declared.faults.Fault.{Fault}
 use Rattle.pdp_unibus.specs.declared.delays.Line.{Line}
 use Rattle.pdp_unibus.specs.declared.event.Event.{Event}
-use Rattle.pdp_replay.specs.Edit.{core_edit, revert_edit, tape_edit, delay_edit, event_insertion, event_alteration, event_drop, turn_of_event, lesser_turn}
+use Rattle.pdp_replay.specs.Edit.{core_edit, disk_edit, revert_edit, tape_edit, delay_edit, event_insertion, event_alteration, event_drop, turn_of_event, lesser_turn}
 use Rattle.pdp_replay.specs.Past.{Past, unscripted}
 use Rattle.pdp_replay.specs.Setup.{SetupData, IsGood, core_size}
-use Rattle.pdp_replay.specs.Core.{AllBelow}
+use Rattle.pdp_replay.specs.FirstWords.{AllThere}
 
 -- the past, the known turn, the highest that it has been, the stride, and the turns run so far
 pub record Timeline : Type 0 where
@@ -39,6 +39,9 @@ after_edit reached due refused t = record t {
 abbrev pub core_edited : ℕ → ℕ → Bool → Timeline → Timeline
 core_edited address word refused t = after_edit 0 (core_edit address word t.past) refused t
 
+abbrev pub disk_edited : ℕ → ℕ → Bool → Timeline → Timeline
+disk_edited number word refused t = after_edit 0 (disk_edit number word t.past) refused t
+
 abbrev pub core_reverted : ℕ → Bool → Timeline → Timeline
 core_reverted address refused t = after_edit 0 (revert_edit address t.past) refused t
 
@@ -61,7 +64,7 @@ event_dropped number t = after_edit (unwrap_or (turn_of_event number t.past) 0) 
 -- what every engine keeps
 pub record IsTimeline (setup : SetupData) (known highest stride : ℕ) : Type 0 where
   pub good : IsGood setup
-  pub below : AllBelow (core_size setup) setup.patches
+  pub there : AllThere (core_size setup) setup.patches
   pub reached : known ≤ highest
   pub limit : highest ≤ last_turn
   pub same_stride : stride ≡ setup.stride

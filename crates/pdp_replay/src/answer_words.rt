@@ -2,13 +2,17 @@ ghost use Rattle.std.specs.Prelude.{◌≡◌, ◌+◌, ◌≤◌, length, IfOk,
 ghost use Rattle.std.specs.Cmp.{partial_equiv_from_equiv};
 ghost use Rattle.std.specs.Cmp.Lexicographic.{nat_list_eq_equiv, pointwise};
 ghost use Rattle.pdp_replay.specs.Answer.{words_from};
+ghost use Rattle.pdp_replay.specs.States.{disk_of};
 
 use crate::travel::FlatMachine;
 use pdp_word::NoMemory;
 use std::alloc::Global;
 use std::marker::Model;
 
-/// Words of the machine, one after another (this project's profile). A contract sees the list of them.
+/// The number of the one drive.
+const DRIVE: usize = 0;
+
+/// Words of core or of the drive, one after another (this project's profile). A contract sees the list of them.
 #[derive(Debug, Drop)]
 pub struct Words {
     items: Vec<u16>,
@@ -23,7 +27,7 @@ impl Model for Words {
 }
 
 impl Words {
-    /// The words, in the order of their addresses (this project's profile).
+    /// The words, in the order of their addresses or numbers (this project's profile).
     pub fn words(&self) -> &[u16]
         ensures { result.now ≡ self.now }
     {
@@ -34,7 +38,7 @@ impl Words {
     ///
     /// Err where there is no memory for them.
     #[tactic(auto, using(crate::proofs::Lists::words_one_more))]
-    pub(crate) fn read(
+    pub(crate) fn read_core(
         alloc: Global,
         machine: &FlatMachine,
         first: u32,
@@ -48,6 +52,28 @@ impl Words {
         let mut items = Vec::with_capacity(alloc, count)?;
         for index in 0..count {
             items.push(machine.word(first + index))?;
+        }
+        Ok(Words { items })
+    }
+
+    /// So many words of the machine's drive, from the word of this number on.
+    ///
+    /// Err where there is no memory for them.
+    #[tactic(auto, using(crate::proofs::Lists::words_one_more))]
+    pub(crate) fn read_disk(
+        alloc: Global,
+        machine: &FlatMachine,
+        first: u32,
+        count: u32,
+    ) -> Result<Words, NoMemory>
+        requires { first + count ≤ length (disk_of machine.now.state.world) }
+        ensures { IfOk result (λ words. words ≡ words_from first count (disk_of machine.now.state.world)) }
+    {
+        let first = first as usize;
+        let count = count as usize;
+        let mut items = Vec::with_capacity(alloc, count)?;
+        for index in 0..count {
+            items.push(machine.disk_word(DRIVE, first + index))?;
         }
         Ok(Words { items })
     }

@@ -6,10 +6,10 @@ use std::test::Fail;
 fn words_as_of_power_up(rt: HostRuntime) -> Result<(), Fail> {
     let engine = engine_with(rt.alloc(), 31, &[0o12700, 5, 0]);
     let steps = [
-        Step::Core(core(0, 0o1000, 3), &[0o12700, 5, 0]),
-        Step::Core(core(0, 0o776, 2), &[0, 0o12700]),
+        Step::Words(core(0, 0o1000, 3), &[0o12700, 5, 0]),
+        Step::Words(core(0, 0o776, 2), &[0, 0o12700]),
         Step::Edit(Edit::Patch(0o1002, 6), Ok(0)),
-        Step::Core(core(0, 0o1002, 1), &[6]),
+        Step::Words(core(0, 0o1002, 1), &[6]),
     ];
     follow(&rt, rt.alloc(), engine, &steps)
 }
@@ -19,15 +19,15 @@ fn word_before_and_after_its_write(rt: HostRuntime) -> Result<(), Fail> {
     // MOV #101,@#2000; HALT.
     let engine = engine_with(rt.alloc(), 31, &[0o12737, 0o101, 0o2000, 0]);
     let steps = [
-        Step::Core(core(0, 0o2000, 1), &[0]),
-        Step::Core(core(1, 0o2000, 1), &[0o101]),
-        Step::Core(core(2, 0o2000, 1), &[0o101]),
-        Step::Core(core(1, 0o2000, 1), &[0o101]),
-        Step::Core(core(0, 0o2000, 1), &[0]),
+        Step::Words(core(0, 0o2000, 1), &[0]),
+        Step::Words(core(1, 0o2000, 1), &[0o101]),
+        Step::Words(core(2, 0o2000, 1), &[0o101]),
+        Step::Words(core(1, 0o2000, 1), &[0o101]),
+        Step::Words(core(0, 0o2000, 1), &[0]),
         // A patch of the word is there before the write, and lost after it.
         Step::Edit(Edit::Patch(0o2000, 7), Ok(0)),
-        Step::Core(core(0, 0o2000, 2), &[7, 0]),
-        Step::Core(core(1, 0o2000, 2), &[0o101, 0]),
+        Step::Words(core(0, 0o2000, 2), &[7, 0]),
+        Step::Words(core(1, 0o2000, 2), &[0o101, 0]),
     ];
     follow(&rt, rt.alloc(), engine, &steps)
 }
@@ -56,7 +56,7 @@ fn ends_of_core(rt: HostRuntime) -> Result<(), Fail> {
     let steps = [
         Step::Edit(Edit::Patch(0o17000, 1), Ok(0)),
         Step::Edit(Edit::Patch(0o17776, 2), Ok(0)),
-        Step::Core(core(0, 0o17000, 256), &words),
+        Step::Words(core(0, 0o17000, 256), &words),
         Step::Refused(core(0, 0o17002, 256), Fault::OutsideCore),
     ];
     follow(&rt, rt.alloc(), engine, &steps)

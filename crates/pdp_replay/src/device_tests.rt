@@ -11,6 +11,12 @@ const QUIET: DeviceRegisters = DeviceRegisters {
     reader_status: 0,
     reader_buffer: 0,
     punch_status: 0o200,
+    drive_status: 0o4700,
+    disk_error: 0,
+    disk_control: 0o200,
+    disk_word_count: 0,
+    disk_bus_address: 0,
+    disk_address: 0,
     switches: 0,
 };
 

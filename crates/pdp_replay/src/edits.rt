@@ -1,6 +1,5 @@
-ghost use Rattle.std.specs.Prelude.{◌≡◌, ◌*◌, ◌<◌, Ok, IfOk, OnErr, false, min};
+ghost use Rattle.std.specs.Prelude.{◌≡◌, ◌*◌, ◌/◌, ◌<◌, Ok, IfOk, OnErr, false, min};
 ghost use Rattle.pdp_script.specs.Refusal.{for_memory, edit_answer, result_map};
-ghost use Rattle.pdp_replay.specs.PatchedWords.{core_number};
 ghost use Rattle.pdp_replay.specs.Setup.{SetupData};
 ghost use Rattle.pdp_replay.specs.Edit.{core_word_at, core_edit, revert_edit, insertion_answer, event_alteration, event_drop, patch_at, patch_count};
 ghost use Rattle.pdp_replay.specs.Timeline.{core_edited, core_reverted, event_inserted, event_altered, event_dropped};
@@ -113,7 +112,10 @@ impl Engine {
         ensures { result ≡ patch_at self.now.past index }
     {
         let (key, word) = self.patches.get_index(index)?;
-        Some(Patch::Core(key.core_number() * 2, *word))
+        Some(match key {
+            PatchKey::Core(number) => Patch::Core(number * 2, *word),
+            PatchKey::Disk(number) => Patch::Disk(*number, *word),
+        })
     }
 }
 
@@ -128,8 +130,9 @@ pub(crate) fn lower_known(known: &mut u32, turn: u32)
 ///
 /// Err(OutsideCore) where the address is not in core; else Err(OddAddress) where it is odd.
 #[tactic(auto, unfolding(crate::specs::Edit::core_word_at))]
-fn core_word(units: u8, address: u32) -> Result<u32, Fault>
+pub(crate) fn core_word(units: u8, address: u32) -> Result<u32, Fault>
     ensures number { (s : SetupData) → s.units ≡ units → core_word_at address s ≡ result }
+    ensures half { IfOk result (λ number. number ≡ address / 2) }
     ensures below { IfOk result (λ number. number < units * UNIT_WORDS) }
 {
     let number = address / 2;

@@ -69,17 +69,20 @@ impl Engine {
     /// Answers a question about the run from power-up of the past as it is now. Once answered, the known turn is the
     /// larger of what it was and the turn asked about.
     ///
-    /// Err(TurnTooLarge) where its turn is above 1,000,000,000; else, of words of core, Err(CountOutOfRange) where
-    /// their count is not 1 to 256, else Err(OutsideCore) where one of them is not in core, else Err(OddAddress) where
-    /// the address is odd; else Err(NoMemory) where a growth was refused. No refusal changes the past, and one for
-    /// another cause than memory changes nothing. (This project's profile.)
+    /// Err(TurnTooLarge) where its turn is above 1,000,000,000; else Err(CountOutOfRange) where a count of words is not
+    /// 1 to 256, or one of turns of a trail not 1 to 64 or above the turn asked about; else Err(OutsideCore) where a
+    /// word of core that is asked for is not in core, else Err(OddAddress) where its address is odd; else
+    /// Err(OutsideDisk) where the number of a word of the drive that is asked for is 4604000 (octal; 1,247,232) or
+    /// above; else Err(NoMemory) where a growth was refused. No refusal changes the past, and one for another cause
+    /// than memory changes nothing. (This project's profile.)
     #[tactic(auto, unfolding(crate::specs::Answer::answer_to))]
     pub fn ask(&mut self, alloc: Global, question: Question) -> Result<Answer, Fault>
         // The answer is that of the run from power-up, and out of memory is the last refusal.
         ensures value { value_answered result ≡ question_answer (answer_to question self.old.past) (for_memory result) }
         ensures past { self.new.past ≡ self.old.past }
 
-        // It ran at most one stride of turns more than those past what was known, also where it is then refused.
+        // It ran at most one stride of turns more than those that a trail lists or that are past what was known, also
+        // where it is then refused.
         ensures bound { IsWithinBound question self.old self.new.turns }
         ensures ran { IfOk result (λ a. self.new.turns ≡ self.old.turns + a.ran) }
         ensures counted { self.old.turns ≤ self.new.turns }
@@ -99,16 +102,16 @@ impl Engine {
         let before = self.meter.count();
         let turn = question.turn();
         question.check(self.setup.units)?;
-        let machine = machine_at(
+        let mut machine = machine_at(
             alloc,
             &self.setup,
             self.delays,
             &self.patches,
             &self.script,
             &mut self.meter,
-            turn,
+            question.first_turn(),
         )?;
-        let value = question.answer(alloc, &machine)?;
+        let value = question.answer(alloc, &mut machine, &self.script, &mut self.meter)?;
         self.known = self.known.max(turn);
         self.highest = self.highest.max(self.known);
         Ok(Answer {

@@ -1,13 +1,25 @@
-ghost use Rattle.pdp_replay.specs.Core.{CoreHasItsSize, CoreWordsAreFirstWords};
+ghost use Rattle.pdp_replay.specs.FirstWords.{CoreHasItsSize, DriveHasItsSize, CoreWordsAreFirstWords, DiskWordsAreFirstWords};
 ghost use Rattle.pdp_replay.specs.Edit.{AlterationNeedsNoMemory, DropNeedsNoMemory, TapeNeedsNoMemory, DelayNeedsNoMemory};
 ghost use Rattle.pdp_replay.specs.States.{TextOnlyGrows, PunchedOnlyGrows};
 
 /// A law of setups: core as of power-up has the words of its units, each of which is its patch, else its image's word,
 /// else 0.
-#[tactic(auto, using(crate::proofs::CoreWords::core_word_is, crate::proofs::CoreWords::core_has_size))]
+///
+/// This project's profile.
+#[tactic(auto, using(crate::proofs::FirstWords::core_word_is, crate::proofs::FirstWords::core_has_size))]
 pub fn core_words_are_first_words()
     ensures size { CoreHasItsSize }
     ensures words { CoreWordsAreFirstWords }
+{}
+
+/// A law of setups: the drive as of power-up has 1,247,232 words, each of which is its patch, else its image's word,
+/// else 0.
+///
+/// This project's profile.
+#[tactic(auto, using(crate::proofs::FirstWords::disk_word_is, crate::proofs::FirstWords::drive_has_size))]
+pub fn disk_words_are_first_words()
+    ensures size { DriveHasItsSize }
+    ensures words { DiskWordsAreFirstWords }
 {}
 
 /// A law of edits: no alteration and no drop of an event is refused as out of memory, and no edit of the tape or of a

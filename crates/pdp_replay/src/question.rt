@@ -1,20 +1,27 @@
 ghost use Rattle.std.specs.Prelude.{◌≡◌, ◌+◌, ◌*◌, ◌/◌, ◌≤◌, length, IfOk, OnOk};
 ghost use Rattle.pdp_replay.specs.Past.{Past};
 ghost use Rattle.pdp_replay.specs.Setup.{SetupData};
-ghost use Rattle.pdp_replay.specs.Answer.{question_checked, range_checked, turn_asked, IsWithin, IsAnswerIn};
+ghost use Rattle.pdp_replay.specs.States.{disk_of};
+ghost use Rattle.pdp_replay.specs.Answer.{question_checked, range_checked, disk_range_checked, trail_checked, first_turn_needed, turn_asked, IsWithin, IsAnswerIn};
 
 use crate::answer_bytes::Bytes;
 use crate::answer_words::Words;
-use crate::setup::UNIT_WORDS;
+use crate::edits::core_word;
+use crate::last_write::LastWrite;
+use crate::setup::{DRIVE_WORDS, UNIT_WORDS};
+use crate::trail::Trail;
 use crate::travel::FlatMachine;
-use pdp_cpu::{DeviceRegisters, PageRegisters, Regs};
-use pdp_script::Fault;
+use pdp_cpu::{DeviceRegisters, Meter, PageRegisters, Regs};
+use pdp_script::{Fault, Script};
 use pdp_unibus::LAST_TURN;
 use pdp_word::NoMemory;
 use std::alloc::Global;
 
-/// The most words of core that a question may ask for.
+/// The most words of core or of the drive that a question may ask for.
 const MOST_WORDS: u32 = 256;
+
+/// The most turns that a trail lists.
+const MOST_TURNS_LISTED: u32 = 64;
 
 /// What can be asked of a run (this project's profile); each question names the turn before which the machine is
 /// looked at.
@@ -24,6 +31,8 @@ pub enum Question {
     Regs(u32),
     /// Words of core before this turn: from this address (octal, bytes, even) on, so many (1 to 256).
     Core(u32, u32, u32),
+    /// Words of the drive before this turn: from the word of this number (counted from 0) on, so many (1 to 256).
+    Disk(u32, u32, u32),
     /// The bytes printed on the console before this turn.
     Text(u32),
     /// The bytes punched before this turn.
@@ -32,6 +41,10 @@ pub enum Question {
     Devices(u32),
     /// The registers of memory management before this turn.
     Pages(u32),
+    /// The last write before this turn to the word of core at this address (octal, bytes, even).
+    Last(u32, u32),
+    /// The last turns before this turn: so many (1 to 64, and no more than there were).
+    Trail(u32, u32),
 }
 
 impl Question {
@@ -42,16 +55,33 @@ impl Question {
         match self {
             Question::Regs(turn)
             | Question::Core(turn, _, _)
+            | Question::Disk(turn, _, _)
             | Question::Text(turn)
             | Question::Punched(turn)
             | Question::Devices(turn)
-            | Question::Pages(turn) => turn,
+            | Question::Pages(turn)
+            | Question::Last(turn, _)
+            | Question::Trail(turn, _) => turn,
+        }
+    }
+
+    /// The first turn whose state the answer needs: that of the first turn listed for a trail, else the one asked
+    /// about.
+    pub(crate) fn first_turn(self) -> u32
+        ensures first { result ≡ first_turn_needed self }
+        ensures most { result ≤ turn_asked self }
+    {
+        match self {
+            Question::Trail(turn, count) => turn.saturating_sub(count),
+            _ => self.turn(),
         }
     }
 
     /// Whether the question can be asked of a run over a core of so many units.
     ///
-    /// Err(TurnTooLarge) where its turn is above 1,000,000,000; else of words of core what `check_range` refuses.
+    /// Err(TurnTooLarge) where its turn is above 1,000,000,000; else of words of core what `check_range` refuses, of
+    /// words of the drive what `check_disk_range` does, of a last write what `core_word` does, and of a trail what
+    /// `check_trail` does.
     #[tactic(auto, unfolding(crate::specs::Answer::question_checked))]
     pub(crate) fn check(self, units: u8) -> Result<(), Fault>
         ensures refusal { (p : Past) → p.setup.units ≡ units → question_checked self p ≡ result }
@@ -63,6 +93,12 @@ impl Question {
         }
         match self {
             Question::Core(_, address, count) => check_range(units, address, count),
+            Question::Disk(_, first, count) => check_disk_range(first, count),
+            Question::Last(_, address) => {
+                core_word(units, address)?;
+                Ok(())
+            }
+            Question::Trail(turn, count) => check_trail(turn, count),
             Question::Regs(_)
             | Question::Text(_)
             | Question::Punched(_)
@@ -71,24 +107,49 @@ impl Question {
         }
     }
 
-    /// The answer, read off the machine before the turn that is asked about.
+    /// The answer, read off the machine before the first turn that is needed; a trail's turns are run, with the events
+    /// of the script, and the meter counts each.
     ///
     /// Err where there is no memory for it.
     #[tactic(auto, unfolding(crate::specs::Answer::answer))]
-    pub(crate) fn answer(self, alloc: Global, machine: &FlatMachine) -> Result<Value, NoMemory>
-        requires within { IsWithin self (length machine.now.state.world.bus.core) }
-        ensures { IfOk result (IsAnswerIn machine.now.state self) }
+    pub(crate) fn answer(
+        self,
+        alloc: Global,
+        machine: &mut FlatMachine,
+        script: &Script,
+        meter: &mut Meter,
+    ) -> Result<Value, NoMemory>
+        requires within { IsWithin self (length machine.old.state.world.bus.core) }
+        requires drive { length (disk_of machine.old.state.world) ≡ DRIVE_WORDS }
+        requires here { machine.old.state.turn ≡ first_turn_needed self }
+        requires limit { turn_asked self ≤ LAST_TURN }
+        ensures value { IfOk result (IsAnswerIn machine.old.state script.now self) }
+        ensures least { meter.old ≤ meter.new }
+        ensures most { meter.new + first_turn_needed self ≤ meter.old + turn_asked self }
     {
         match self {
             Question::Regs(_) => Ok(Value::Regs(machine.regs())),
             Question::Core(_, address, count) => {
-                let words = Words::read(alloc, machine, address / 2, count)?;
+                let words = Words::read_core(alloc, machine, address / 2, count)?;
                 Ok(Value::Core(words))
+            }
+            Question::Disk(_, first, count) => {
+                let words = Words::read_disk(alloc, machine, first, count)?;
+                Ok(Value::Disk(words))
             }
             Question::Text(_) => Ok(Value::Text(Bytes::read(alloc, machine.text())?)),
             Question::Punched(_) => Ok(Value::Punched(Bytes::read(alloc, machine.punched())?)),
             Question::Devices(_) => Ok(Value::Devices(machine.devices())),
             Question::Pages(_) => Ok(Value::Pages(machine.pages())),
+            Question::Last(_, address) => {
+                let number = address as usize / 2;
+                Ok(Value::Last(LastWrite::read(machine, number)))
+            }
+            Question::Trail(turn, count) => {
+                let first = turn - count;
+                let trail = Trail::record(alloc, machine, script, meter, first, count)?;
+                Ok(Value::Trail(trail))
+            }
         }
     }
 }
@@ -115,6 +176,38 @@ fn check_range(units: u8, address: u32, count: u32) -> Result<(), Fault>
     Ok(())
 }
 
+/// Whether so many words of the drive from the word of this number on can be asked for.
+///
+/// Err(CountOutOfRange) where the count is not 1 to 256; else Err(OutsideDisk) where a word of the range is past the
+/// drive's last.
+#[tactic(auto, unfolding(crate::specs::Answer::disk_range_checked))]
+fn check_disk_range(first: u32, count: u32) -> Result<(), Fault>
+    ensures refusal { disk_range_checked first count ≡ result }
+    ensures within { OnOk result (first + count ≤ DRIVE_WORDS) }
+{
+    if count < 1 || count > MOST_WORDS {
+        return Err(Fault::CountOutOfRange);
+    }
+    let end = first as usize + count as usize;
+    if end > DRIVE_WORDS {
+        return Err(Fault::OutsideDisk);
+    }
+    Ok(())
+}
+
+/// Whether so many turns before this turn can be listed.
+///
+/// Err(CountOutOfRange) where the count is not 1 to 64, or is above the turn.
+fn check_trail(turn: u32, count: u32) -> Result<(), Fault>
+    ensures refusal { trail_checked turn count ≡ result }
+    ensures within { OnOk result (count ≤ turn) }
+{
+    if count < 1 || count > MOST_TURNS_LISTED || count > turn {
+        return Err(Fault::CountOutOfRange);
+    }
+    Ok(())
+}
+
 /// What a question is answered.
 #[derive(Debug, PartialEq, Eq, Drop)]
 pub enum Value {
@@ -122,6 +215,8 @@ pub enum Value {
     Regs(Regs),
     /// The words of core that were asked for.
     Core(Words),
+    /// The words of the drive that were asked for.
+    Disk(Words),
     /// The bytes printed on the console since power-up, in their order.
     Text(Bytes),
     /// The bytes punched since power-up, in their order.
@@ -130,6 +225,10 @@ pub enum Value {
     Devices(DeviceRegisters),
     /// The registers of memory management, as reads would give them.
     Pages(PageRegisters),
+    /// The last write to a word of core; None where there was none since power-up.
+    Last(Option<LastWrite>),
+    /// The turns that were asked for, each with PC before it and its act.
+    Trail(Trail),
 }
 
 /// A question's answer, with what it took.
@@ -138,7 +237,7 @@ pub struct Answer {
     pub value: Value,
     /// How many turns were run for it.
     pub ran: u64,
-    /// The known turn after it: states up to here need no turns to be run again.
+    /// The known turn after it: the turns before it were run, and no edit since then reaches back before it.
     pub known: u32,
     /// The stride after it, in turns.
     pub stride: u32,

@@ -11,7 +11,7 @@ const MOST_UNITS: u8 = 31;
 pub(crate) const UNIT_WORDS: usize = 4_096;
 
 /// The words of a drive: 203 cylinders of 2 surfaces of 12 sectors of 256 words.
-const DISK_WORDS: usize = 1_247_232;
+pub(crate) const DRIVE_WORDS: usize = 1_247_232;
 
 /// The most bytes of a paper tape.
 pub(crate) const TAPE_BYTES: usize = 1_048_576;
@@ -26,9 +26,9 @@ pub struct Setup {
     pub units: u8,
     /// The address of the first instruction (octal, bytes, even).
     pub start: u16,
-    /// The words of core from address 0 on; core past them is 0.
+    /// The words of core from address 0 on, at most those of its units; core past them is 0.
     pub core: Vec<u16>,
-    /// The words of the drive from its first word on; the drive past them is 0.
+    /// The words of the drive from its first word on, at most 1,247,232; the drive past them is 0.
     pub disk: Vec<u16>,
     /// The bytes of the paper tape: at most 1,048,576.
     pub tape: Vec<u8>,
@@ -50,7 +50,10 @@ impl Setup {
             return Err(Fault::BadSetup);
         }
         let words = usize::from(units) * UNIT_WORDS;
-        if self.core.len() > words || self.disk.len() > DISK_WORDS || self.tape.len() > TAPE_BYTES {
+        if self.core.len() > words
+            || self.disk.len() > DRIVE_WORDS
+            || self.tape.len() > TAPE_BYTES
+        {
             return Err(Fault::BadImage);
         }
         Ok(())

@@ -34,14 +34,18 @@ pub fn engine_with(alloc: Global, units: u8, words: &[u16]) -> Result<Engine, Fa
 pub enum Step<'a> {
     /// The registers before this turn.
     Regs(u32, Regs),
-    /// The words that this question is answered.
-    Core(Question, &'a [u16]),
+    /// The words, of core or of the drive, that this question is answered.
+    Words(Question, &'a [u16]),
     /// The bytes, printed or punched, that this question is answered.
     Bytes(Question, &'a [u8]),
     /// The registers of the devices before this turn.
     Devices(u32, DeviceRegisters),
     /// The registers of memory management before this turn.
     Pages(u32, PageRegisters),
+    /// The last write before this turn to the word of core at this address.
+    Last(u32, u32, Option<LastWrite>),
+    /// The turns that this question is answered.
+    Trail(Question, &'a [TrailEntry]),
     /// Whether these two questions are answered the same.
     Alike(Question, Question, bool),
     /// How many turns are run for this question, and the known turn after it.
@@ -61,6 +65,8 @@ pub enum Step<'a> {
 pub enum Edit<'a> {
     /// Makes the core word at this address this word.
     Patch(u32, u16),
+    /// Makes the word of the drive of this number this word.
+    PatchDisk(u32, u16),
     /// Takes back the patch at this address.
     Revert(u32),
     /// Puts an event into the script at this turn.
@@ -80,6 +86,11 @@ pub enum Edit<'a> {
 /// The question before this turn for so many words of core from this address on.
 pub const fn core(turn: u32, address: u32, count: u32) -> Question {
     Question::Core(turn, address, count)
+}
+
+/// The question before this turn for so many words of the drive from the word of this number on.
+pub const fn disk(turn: u32, first: u32, count: u32) -> Question {
+    Question::Disk(turn, first, count)
 }
 
 /// Asserts that these steps, taken in turn with this engine, give what they say. A failure names a step, counted from
@@ -105,17 +116,6 @@ fn take(
     step: Step,
 ) -> Result<(), Fail> {
     match step {
-        Step::Regs(turn, want) => assert_same(rt, number, &regs_at(engine, alloc, turn)?, &want),
-        Step::Core(asked, want) => {
-            assert_same(rt, number, &words_of(engine, alloc, asked)?.words(), &want);
-        }
-        Step::Bytes(asked, want) => {
-            assert_same(rt, number, &bytes_of(engine, alloc, asked)?.bytes(), &want);
-        }
-        Step::Devices(turn, want) => {
-            assert_same(rt, number, &devices_at(engine, alloc, turn)?, &want);
-        }
-        Step::Pages(turn, want) => assert_same(rt, number, &pages_at(engine, alloc, turn)?, &want),
         Step::Alike(one, other, want) => {
             assert_same(rt, number, &are_alike(engine, alloc, one, other)?, &want);
         }
@@ -133,6 +133,40 @@ fn take(
             let patches = (engine.patch_count(), engine.patches(0));
             assert_same(rt, number, &patches, &(count, first));
         }
+        _ => return ask_value(rt, alloc, engine, number, step),
+    }
+    Ok(())
+}
+
+/// Asserts that the question of this step has the value that it says.
+fn ask_value(
+    rt: &impl Abort,
+    alloc: Global,
+    engine: &mut Engine,
+    number: usize,
+    step: Step,
+) -> Result<(), Fail> {
+    match step {
+        Step::Regs(turn, want) => assert_same(rt, number, &regs_at(engine, alloc, turn)?, &want),
+        Step::Words(asked, want) => {
+            assert_same(rt, number, &words_of(engine, alloc, asked)?.words(), &want);
+        }
+        Step::Bytes(asked, want) => {
+            assert_same(rt, number, &bytes_of(engine, alloc, asked)?.bytes(), &want);
+        }
+        Step::Devices(turn, want) => {
+            assert_same(rt, number, &devices_at(engine, alloc, turn)?, &want);
+        }
+        Step::Pages(turn, want) => assert_same(rt, number, &pages_at(engine, alloc, turn)?, &want),
+        Step::Last(turn, address, want) => {
+            let last = last_write(engine, alloc, turn, address)?;
+            assert_same(rt, number, &last, &want);
+        }
+        Step::Trail(asked, want) => {
+            let entries = trail_of(engine, alloc, asked)?;
+            assert_same(rt, number, &entries.as_slice(), &want);
+        }
+        _ => return Err(Fail::new("a step that asks for no value")),
     }
     Ok(())
 }
@@ -150,8 +184,8 @@ fn regs_at(engine: &mut Engine, alloc: Global, turn: u32) -> Result<Regs, Fail> 
 
 fn words_of(engine: &mut Engine, alloc: Global, question: Question) -> Result<Words, Fail> {
     match engine.ask(alloc, question)?.value {
-        Value::Core(words) => Ok(words),
-        _ => Err(Fail::new("another value in place of words of core")),
+        Value::Core(words) | Value::Disk(words) => Ok(words),
+        _ => Err(Fail::new("another value in place of words")),
     }
 }
 
@@ -176,6 +210,39 @@ fn pages_at(engine: &mut Engine, alloc: Global, turn: u32) -> Result<PageRegiste
     }
 }
 
+fn last_write(
+    engine: &mut Engine,
+    alloc: Global,
+    turn: u32,
+    address: u32,
+) -> Result<Option<LastWrite>, Fail> {
+    match engine.ask(alloc, Question::Last(turn, address))?.value {
+        Value::Last(last) => Ok(last),
+        _ => Err(Fail::new("another value in place of a last write")),
+    }
+}
+
+fn trail_of(
+    engine: &mut Engine,
+    alloc: Global,
+    question: Question,
+) -> Result<Vec<TrailEntry>, Fail> {
+    match engine.ask(alloc, question)?.value {
+        Value::Trail(trail) => entries_of(alloc, &trail),
+        _ => Err(Fail::new("another value in place of a trail")),
+    }
+}
+
+fn entries_of(alloc: Global, trail: &Trail) -> Result<Vec<TrailEntry>, Fail> {
+    let mut entries = Vec::new(alloc);
+    for index in 0..trail.len() {
+        if let Some(entry) = trail.entry(index) {
+            entries.push(entry)?;
+        }
+    }
+    Ok(entries)
+}
+
 fn value_of(engine: &mut Engine, alloc: Global, question: Question) -> Result<Value, Fault> {
     Ok(engine.ask(alloc, question)?.value)
 }
@@ -198,6 +265,7 @@ fn took(engine: &mut Engine, alloc: Global, question: Question) -> Result<(u64, 
 fn make(engine: &mut Engine, alloc: Global, edit: Edit) -> Result<u32, Fault> {
     match edit {
         Edit::Patch(address, word) => engine.set_core(address, word)?,
+        Edit::PatchDisk(number, word) => engine.set_disk(number, word)?,
         Edit::Revert(address) => engine.revert_core(address)?,
         Edit::Insert(turn, event) => return engine.insert(turn, event),
         Edit::Alter(number, turn, event) => engine.alter(number, turn, event)?,

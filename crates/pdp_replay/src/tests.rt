@@ -146,8 +146,11 @@ fn refused_images(rt: HostRuntime) -> Result<(), Fail> {
 fn turn_of_a_question(rt: HostRuntime) {
     assert_eq!(rt; Question::Regs(300).turn(), 300);
     assert_eq!(rt; core(7, 0o1000, 3).turn(), 7);
+    assert_eq!(rt; Question::Disk(6, 0, 3).turn(), 6);
     assert_eq!(rt; Question::Text(8).turn(), 8);
     assert_eq!(rt; Question::Punched(9).turn(), 9);
     assert_eq!(rt; Question::Devices(10).turn(), 10);
     assert_eq!(rt; Question::Pages(11).turn(), 11);
+    assert_eq!(rt; Question::Last(12, 0o1000).turn(), 12);
+    assert_eq!(rt; Question::Trail(13, 4).turn(), 13);
 }

@@ -1,14 +1,14 @@
 ghost use Rattle.std.specs.Prelude.{◌≡◌, ◌+◌, ◌-◌, ◌≤◌, ◌<◌, ◌*◌, [], ℕ, length, IfOk, OnOk};
 ghost use Rattle.pdp_script.specs.Entries.{events_at};
 ghost use Rattle.pdp_replay.specs.Setup.{setup_from, IsGood};
-ghost use Rattle.pdp_replay.specs.Core.{AllBelow};
+ghost use Rattle.pdp_replay.specs.FirstWords.{AllThere};
 ghost use Rattle.pdp_replay.specs.Past.{past_from};
 ghost use Rattle.pdp_replay.specs.Quiet.{quiet_turns};
-ghost use Rattle.pdp_replay.specs.States.{powered_up, state_at, at, RunsTo};
+ghost use Rattle.pdp_replay.specs.States.{powered_up, disk_of, state_at, at, RunsTo};
 
-use crate::image::{image_store, put_patches};
+use crate::image::{core_store, drive_store};
 use crate::patch::PatchKey;
-use crate::setup::{Setup, UNIT_WORDS};
+use crate::setup::{DRIVE_WORDS, Setup, UNIT_WORDS};
 use indexmap::IndexMap;
 use pdp_cpu::{Machine, Meter};
 use pdp_script::Script;
@@ -22,8 +22,8 @@ pub type FlatMachine = Machine<Flat>;
 
 /// The machine as of power-up of this setup with its delays and patches.
 ///
-/// Err where there is no memory for its core or its tape.
-#[tactic(auto, using(crate::proofs::CoreWords::length_padded, crate::proofs::CoreWords::core_is_filled), unfolding(crate::specs::States::power))]
+/// Err where there is no memory for its core, its drive or its tape.
+#[tactic(auto, unfolding(crate::specs::States::power))]
 fn powered(
     alloc: Global,
     setup: &Setup,
@@ -31,14 +31,13 @@ fn powered(
     patches: &IndexMap<PatchKey, u16>,
 ) -> Result<FlatMachine, NoMemory>
     requires good { IsGood (setup_from setup.now delays patches.now) }
-    requires below { AllBelow (setup.now.units * UNIT_WORDS) patches.now.entries }
+    requires there { AllThere (setup.now.units * UNIT_WORDS) patches.now.entries }
     ensures { IfOk result (λ m. m.state ≡ powered_up (setup_from setup.now delays patches.now)) }
 {
-    let words = usize::from(setup.units) * UNIT_WORDS;
-    let mut store = image_store(alloc, words, &setup.core)?;
-    put_patches(&mut store, patches);
+    let core = core_store(alloc, setup, patches)?;
+    let drives = vec![in alloc; drive_store(alloc, setup, patches)?]?;
     let tape = setup.tape.to_vec(alloc)?;
-    Ok(Machine::power(alloc, setup.start, store, tape, delays))
+    Ok(Machine::power(alloc, setup.start, core, drives, tape, delays))
 }
 
 /// The machine before this turn, run there from power-up with the events of the script; the meter counts each turn.
@@ -55,10 +54,12 @@ pub fn machine_at(
     turn: u32,
 ) -> Result<FlatMachine, NoMemory>
     requires good { IsGood (setup_from setup.now delays patches.now) }
-    requires below { AllBelow (setup.now.units * UNIT_WORDS) patches.now.entries }
+    requires there { AllThere (setup.now.units * UNIT_WORDS) patches.now.entries }
     requires limit { turn ≤ LAST_TURN }
     ensures machine { IfOk result (λ m. m.state ≡ at (past_from setup.now delays patches.now script.now) turn) }
+    ensures turn { IfOk result (λ m. m.state.turn ≡ turn) }
     ensures size { IfOk result (λ m. length m.state.world.bus.core ≡ setup.now.units * UNIT_WORDS) }
+    ensures drive { IfOk result (λ m. length (disk_of m.state.world) ≡ DRIVE_WORDS) }
     ensures least { meter.old ≤ meter.new }
     ensures most { meter.new ≤ meter.old + turn }
 {

@@ -1,13 +1,13 @@
 use Rattle.std.proofs.Common.{◌≡◌, ◌∙◌, arith, rules}
 use Rattle.pdp_replay.specs.Edit.{revert_edit}
 use Rattle.pdp_replay.specs.PatchedWords.{core_key, patch_of}
-use Rattle.pdp_replay.proofs.Patches.{below_removed}
+use Rattle.pdp_replay.proofs.Patches.{there_removed}
 use Rattle.pdp_replay.proofs.engine.Engine.revert_core.Goals as goal
 
 pub invariant_of-self-2 : goal.invariant_of-self-2
 invariant_of-self-2 c = record {
-  good = record { units = c.self.invariant.good.units; stride = c.self.invariant.good.stride; core = c.self.invariant.good.core };
-  below = rw c.shift_remove.ensures.entries (below_removed _ _ _ c.self.invariant.below);
+  good = record { units = c.self.invariant.good.units; stride = c.self.invariant.good.stride; core = c.self.invariant.good.core; disk = c.self.invariant.good.disk };
+  there = rw c.shift_remove.ensures.entries (there_removed _ _ _ c.self.invariant.there);
   reached = omega arith;
   limit = c.self.invariant.limit;
   same_stride = c.self.invariant.same_stride;

@@ -1,0 +1,40 @@
+-- The last stamps of core are those of the last writes in the trace.
+use Rattle.std.proofs.Common.{◌≡◌, ◌∙◌, ℕ, zero, suc, ◌<◌, None, refl, ap, length, slice_index, slice_index_or, replicate}
+use Rattle.std.proofs.lemmas.List.{length-replicate}
+use Rattle.pdp_store.proofs.Traces.{last_write-append}
+use Rattle.pdp_store.specs.Touch.{last_write}
+use Rattle.pdp_cpu.proofs.TurnLaws.{turn_keeps_lasts, turn_lasts}
+use Rattle.pdp_cpu.specs.Turns.MachineState.{MachineState}
+use Rattle.pdp_cpu.specs.Turns.Turn.{turn_trace}
+use Rattle.pdp_script.specs.Entries.{events_at}
+use Rattle.pdp_replay.specs.LastWrites.{written, last_write_at}
+use Rattle.pdp_replay.specs.Past.{Past}
+use Rattle.pdp_replay.specs.Setup.{core_size}
+use Rattle.pdp_replay.specs.States.{at, power, state_at, trace_at}
+use Rattle.pdp_replay.proofs.CoreSizes.{core_keeps_size}
+
+lasts_keep_size : (p : Past) (n : ℕ) → length (state_at p n).bus.lasts ≡ core_size p.setup
+unfolding state_at power
+lasts_keep_size p zero = length-replicate (core_size p.setup) None
+lasts_keep_size p (suc n) = turn_keeps_lasts n (events_at p.script.entries n) (state_at p n) ∙ lasts_keep_size p n
+
+all_the_same : {X : Type 0} (size k : ℕ) (x : X) → slice_index_or (replicate size x) k x ≡ x
+all_the_same zero k x = refl
+all_the_same (suc size) zero x = refl
+all_the_same (suc size) (suc k) x = all_the_same size k x
+
+lasts_are : (p : Past) (n k : ℕ) → k < core_size p.setup
+    → slice_index_or (state_at p n).bus.lasts k None ≡ last_write (trace_at p n) k None
+unfolding state_at trace_at power
+lasts_are p zero k below = all_the_same (core_size p.setup) k None
+lasts_are p (suc n) k below =
+    turn_lasts n (events_at p.script.entries n) (state_at p n) k (rw (lasts_keep_size p n) below)
+    ∙ ap (last_write (turn_trace n (events_at p.script.entries n) (state_at p n)) k) (lasts_are p n k below)
+    ∙ rw (last_write-append (trace_at p n) (turn_trace n (events_at p.script.entries n) (state_at p n)) k None) refl
+
+-- what a machine tells of a word's last write
+pub last_is : (p : Past) (n k : ℕ) (machine : MachineState) → machine ≡ at p n → k < length machine.world.bus.core
+    → written (slice_index_or machine.world.bus.lasts k None) (slice_index machine.world.bus.core k) ≡ last_write_at p n k
+last_is p n k machine here below =
+    let within : k < core_size p.setup = rw (here, core_keeps_size p n) at below in
+    rw (here, lasts_are p n k within) refl
