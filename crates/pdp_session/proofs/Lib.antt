@@ -1,10 +1,11 @@
 pub mod ByteLines
-pub mod CoreLines
+pub mod WordLines
 pub mod SessionEnds
 pub mod HeldLines
+pub mod ImageWords
 pub mod LineLists
 pub mod NamedBytes
-pub mod PatchLines
+pub mod ListedLines
 pub mod Pieces
 pub mod Pulls
 pub mod Reaching

@@ -5,11 +5,11 @@ use Rattle.pdp_script.specs.Refusal.{edit_answer, question_answer, past_left}
 use Rattle.pdp_script.specs.declared.faults.Fault.{Fault}
 use Rattle.pdp_script.specs.declared.faults.Fault.TheVariants.{NoMemory}
 use Rattle.pdp_replay.specs.Answer.{answer_to}
-use Rattle.pdp_replay.specs.Edit.{core_edit, revert_edit, tape_edit, delay_edit, event_insertion, event_alteration, event_drop}
+use Rattle.pdp_replay.specs.Edit.{core_edit, revert_edit, disk_edit, tape_edit, delay_edit, event_insertion, event_alteration, event_drop}
 use Rattle.pdp_replay.specs.Past.{Past}
 use Rattle.pdp_replay.specs.declared.question.Value.{Value}
 use Rattle.pdp_session.specs.declared.command.Command.{Command}
-use Rattle.pdp_session.specs.declared.command.Command.TheVariants.{SetCore, RevertCore, SetTape, SetDelay, Insert, Alter, DropEvent, ListPatches, Ask}
+use Rattle.pdp_session.specs.declared.command.Command.TheVariants.{SetCore, RevertCore, SetDisk, SetTape, SetDelay, Insert, Alter, DropEvent, ListPatches, Ask}
 use Rattle.pdp_session.specs.declared.reply.Reply.{Reply}
 use Rattle.pdp_session.specs.declared.reply.Reply.TheVariants.{Nothing, Done, Inserted, Shown, Listed, Refused}
 use Rattle.pdp_session.specs.Grammar.{line_means}
@@ -32,6 +32,7 @@ ask_reply (Err fault) = Refused fault
 abbrev pub command_reply : Command → Bool → Past → Reply
 command_reply (SetCore address word) refused past = edit_reply {X = Unit {0}} (edit_answer (core_edit address word past) refused tt)
 command_reply (RevertCore address) refused past = edit_reply {X = Unit {0}} (edit_answer (revert_edit address past) refused tt)
+command_reply (SetDisk number word) refused past = edit_reply {X = Unit {0}} (edit_answer (disk_edit number word past) refused tt)
 command_reply (SetTape tape) refused past = edit_reply {X = Unit {0}} (edit_answer (tape_edit tape.items past) refused tt)
 command_reply (SetDelay line turns) refused past = edit_reply (delay_edit line turns past)
 command_reply (Insert turn event) refused past = insertion_reply (edit_answer (event_insertion turn event past) refused (past.script.given + 1))
@@ -43,6 +44,7 @@ command_reply (Ask question) refused past = ask_reply (question_answer (answer_t
 abbrev pub command_leaves : Command → Bool → Past → Past
 command_leaves (SetCore address word) refused past = past_left (core_edit address word past) refused past
 command_leaves (RevertCore address) refused past = past_left (revert_edit address past) refused past
+command_leaves (SetDisk number word) refused past = past_left (disk_edit number word past) refused past
 command_leaves (SetTape tape) refused past = past_left (tape_edit tape.items past) refused past
 command_leaves (SetDelay line turns) refused past = past_left (delay_edit line turns past) false past
 command_leaves (Insert turn event) refused past = past_left (event_insertion turn event past) refused past

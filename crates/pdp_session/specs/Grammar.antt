@@ -8,7 +8,7 @@ use Rattle.pdp_word.specs.Number.{number_of}
 use Rattle.pdp_script.specs.declared.faults.Fault.{Fault}
 use Rattle.pdp_script.specs.declared.faults.Fault.TheVariants.{BadLine, LineTooLong}
 use Rattle.pdp_session.specs.declared.command.Command.{Command}
-use Rattle.pdp_session.specs.declared.command.Command.TheVariants.{SetCore, RevertCore, SetTape, SetDelay, Insert, Alter, DropEvent, ListPatches, Ask}
+use Rattle.pdp_session.specs.declared.command.Command.TheVariants.{SetCore, RevertCore, SetDisk, SetTape, SetDelay, Insert, Alter, DropEvent, ListPatches, Ask}
 use Rattle.pdp_session.specs.Grammar.Arguments.{◌>>=◌, first_of, one_of, two_of, word_named, bytes_named, line_named, event_named, turn_named}
 use Rattle.pdp_session.specs.Grammar.Events.{event_of}
 use Rattle.pdp_session.specs.Grammar.Questions.{question_with}
@@ -26,6 +26,14 @@ core_form arguments = do
   a ← number_of 8 address
   w ← word_named word
   Some (SetCore a w)
+
+-- `disk I W`: the number of a word of the drive and a word, in octal
+abbrev pub disk_form : List (List ℕ) → Option Command
+disk_form arguments = do
+  (number, word) ← two_of arguments
+  i ← number_of 8 number
+  w ← word_named word
+  Some (SetDisk i w)
 
 -- `uncore A`: an address, in octal
 abbrev pub uncore_form : List (List ℕ) → Option Command
@@ -84,6 +92,7 @@ unfoldable pub command_with : List ℕ → List (List ℕ) → Option Command
 command_with name arguments =
     if bytes_eq name (codes "core") then core_form arguments
     else if bytes_eq name (codes "uncore") then uncore_form arguments
+    else if bytes_eq name (codes "disk") then disk_form arguments
     else if bytes_eq name (codes "tape") then tape_form arguments
     else if bytes_eq name (codes "delay") then delay_form arguments
     else if bytes_eq name (codes "at") then at_form arguments

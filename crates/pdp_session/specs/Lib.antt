@@ -4,6 +4,8 @@ pub mod Lines
 pub mod Grammar
 pub mod Command
 pub mod Reply
+-- The words of an image.
+pub mod Image
 -- A session: from the bytes of its input to the bytes of its output.
 pub mod Streams
 pub mod Session

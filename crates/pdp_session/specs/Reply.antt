@@ -1,20 +1,27 @@
 -- What a reply is as text: lines that each end in LF (this project's profile).
-use Rattle.std.specs.Prelude.{ℕ, Bool, ◌==◌, ◌&&◌, not, nat_le, if◌then◌else◌, length, List, [], ◌∷◌, ◌++◌, codes, decimal, option_to_list, slice_get, slice_index}
+use Rattle.std.specs.Prelude.{ℕ, Bool, ◌==◌, ◌&&◌, not, nat_le, if◌then◌else◌, length, List, [], ◌∷◌, ◌++◌, codes, decimal, Option, None, Some, option_to_list, slice_get, slice_index}
+use Rattle.std.specs.List.{flat_map}
 use Rattle.pdp_word.specs.Number.{octal_digits}
 use Rattle.pdp_script.specs.Fault.{number_of_fault, name_of_fault}
 use Rattle.pdp_script.specs.declared.faults.Fault.{Fault}
+use Rattle.pdp_store.specs.declared.Agent.{Agent}
+use Rattle.pdp_store.specs.declared.Agent.TheVariants.{Cpu as ByProcessor, Disk as ByDisk}
+use Rattle.pdp_cpu.specs.declared.act.Act.{Act}
+use Rattle.pdp_cpu.specs.declared.act.Act.TheVariants.{Instr, Trace, Stack, Irq, Idle}
 use Rattle.pdp_cpu.specs.declared.regs.Regs.{Regs}
 use Rattle.pdp_cpu.specs.declared.devices.DeviceRegisters.{DeviceRegisters}
 use Rattle.pdp_cpu.specs.declared.pages.PageRegisters.{PageRegisters}
 use Rattle.pdp_operand.specs.declared.processor.RunState.{RunState}
 use Rattle.pdp_operand.specs.declared.processor.RunState.TheVariants.{Run, Wait, Halted}
-use Rattle.pdp_replay.specs.Edit.{patch_shown, patch_count}
+use Rattle.pdp_replay.specs.Edit.{patch_shown}
 use Rattle.pdp_replay.specs.Past.{Past}
-use Rattle.pdp_replay.specs.PatchedWords.{Patches}
 use Rattle.pdp_replay.specs.declared.patch.Patch.{Patch}
-use Rattle.pdp_replay.specs.declared.patch.Patch.TheVariants.{Core}
+use Rattle.pdp_replay.specs.declared.patch.Patch.TheVariants.{Core, Disk}
+use Rattle.pdp_replay.specs.declared.patch.PatchKey.{PatchKey}
+use Rattle.pdp_replay.specs.declared.last_write.LastWrite.{LastWrite}
 use Rattle.pdp_replay.specs.declared.question.Value.{Value}
-use Rattle.pdp_replay.specs.declared.question.Value.TheVariants.{Regs as RegsAre, Core as CoreIs, Text as TextIs, Punched as PunchedAre, Devices as DevicesAre, Pages as PagesAre}
+use Rattle.pdp_replay.specs.declared.question.Value.TheVariants.{Regs as RegsAre, Core as CoreIs, Text as TextIs, Punched as PunchedAre, Devices as DevicesAre, Pages as PagesAre, Last as LastIs, Trail as TrailIs, Disk as DiskIs}
+use Rattle.pdp_replay.specs.declared.trail.TrailEntry.{TrailEntry}
 use Rattle.pdp_session.specs.declared.reply.Reply.{Reply}
 use Rattle.pdp_session.specs.declared.reply.Reply.TheVariants.{Nothing, Done, Inserted, Shown, Listed, Refused}
 use Rattle.pdp_session.specs.Command.{reply_to, past_after}
@@ -51,21 +58,26 @@ refusal_text fault = refusal_line fault ++ codes "\n"
 -- a patch as the line that makes it
 abbrev pub patch_line : Patch → List ℕ
 patch_line (Core address word) = codes "core " ++ octal_digits 6 address ++ codes " " ++ octal_digits 6 word ++ codes "\n"
+patch_line (Disk number word) = codes "disk " ++ octal_digits 7 number ++ codes " " ++ octal_digits 6 word ++ codes "\n"
 
-abbrev pub patch_lines : Patches → List ℕ
-patch_lines [] = []
-patch_lines (entry ∷ entries) = patch_line (patch_shown entry) ++ patch_lines entries
+abbrev pub kept_patch_line : PatchKey × ℕ → List ℕ
+kept_patch_line entry = patch_line (patch_shown entry.0 entry.1)
 
--- the line of the patch of this index, where there is one
-abbrev pub patch_line_at : ℕ → Past → List ℕ
-patch_line_at index past = patch_lines (option_to_list (slice_get past.setup.patches index))
+-- what a list is of, and how many lines follow
+abbrev pub count_line : List ℕ → ℕ → List ℕ
+count_line name count = name ++ codes " " ++ decimal count ++ codes "\n"
 
-abbrev pub count_line : ℕ → List ℕ
-count_line count = codes "patches " ++ decimal count ++ codes "\n"
+-- how many items there are, and a line for each
+unfoldable pub list_text : {X : Type 0} → List ℕ → (X → List ℕ) → List X → List ℕ
+list_text name line items = count_line name (length items) ++ flat_map line items
 
--- how many patches there are, and a line for each
-unfoldable pub patches_text : Past → List ℕ
-patches_text past = count_line (patch_count past) ++ patch_lines past.setup.patches
+-- the line of the item of this index, where there is one
+abbrev pub line_at : {X : Type 0} → (X → List ℕ) → List X → ℕ → List ℕ
+line_at line items index = flat_map line (option_to_list (slice_get items index))
+
+-- the patches
+abbrev pub patches_text : Past → List ℕ
+patches_text past = list_text (codes "patches") kept_patch_line past.setup.patches
 
 -- a word in six octal digits, after a space
 abbrev pub word_text : ℕ → List ℕ
@@ -75,9 +87,9 @@ abbrev pub word_texts : List ℕ → List ℕ
 word_texts [] = []
 word_texts (word ∷ words) = word_text word ++ word_texts words
 
--- words of core, in one line
-unfoldable pub mem_line : List ℕ → List ℕ
-mem_line words = codes "mem" ++ word_texts words ++ codes "\n"
+-- words, in one line after a name
+unfoldable pub words_line : List ℕ → List ℕ → List ℕ
+words_line name words = name ++ word_texts words ++ codes "\n"
 
 -- a printing byte, 040 to 176, but no backslash
 abbrev pub stands_for_itself : ℕ → Bool
@@ -103,15 +115,15 @@ bytes_line name bytes = bytes_head name (length bytes) ++ byte_texts bytes ++ co
 abbrev pub named_word_text : List ℕ → ℕ → List ℕ
 named_word_text name word = codes " " ++ name ++ word_text word
 
--- the disk is to come: until then each of its registers is shown as 0
-abbrev pub disk_register_texts : List ℕ
-disk_register_texts =
-    named_word_text (codes "RKDS") 0
-    ++ named_word_text (codes "RKER") 0
-    ++ named_word_text (codes "RKCS") 0
-    ++ named_word_text (codes "RKWC") 0
-    ++ named_word_text (codes "RKBA") 0
-    ++ named_word_text (codes "RKDA") 0
+-- the registers of the disk
+abbrev pub disk_register_texts : DeviceRegisters → List ℕ
+disk_register_texts devices =
+    named_word_text (codes "RKDS") devices.drive_status
+    ++ named_word_text (codes "RKER") devices.disk_error
+    ++ named_word_text (codes "RKCS") devices.disk_control
+    ++ named_word_text (codes "RKWC") devices.disk_word_count
+    ++ named_word_text (codes "RKBA") devices.disk_bus_address
+    ++ named_word_text (codes "RKDA") devices.disk_address
 
 -- the registers of the devices, in one line
 unfoldable pub devices_line : DeviceRegisters → List ℕ
@@ -124,7 +136,7 @@ devices_line devices =
     ++ named_word_text (codes "PRS") devices.reader_status
     ++ named_word_text (codes "PRB") devices.reader_buffer
     ++ named_word_text (codes "PPS") devices.punch_status
-    ++ disk_register_texts
+    ++ disk_register_texts devices
     ++ named_word_text (codes "SWR") devices.switches
     ++ codes "\n"
 
@@ -144,14 +156,43 @@ pages_line pages =
     ++ page_words_text (codes "UPAR") pages.user_addresses
     ++ codes "\n"
 
+abbrev pub agent_name : Agent → List ℕ
+agent_name ByProcessor = codes "cpu"
+agent_name ByDisk = codes "disk"
+
+-- a last write, in one line, or that there was none
+abbrev pub last_line : Option LastWrite → List ℕ
+last_line None = codes "last never\n"
+last_line (Some write) =
+    codes "last " ++ decimal write.turn ++ codes " " ++ agent_name write.agent ++ word_text write.word ++ codes "\n"
+
+-- the act of a turn; a vector has three octal digits
+abbrev pub act_text : Act → List ℕ
+act_text Instr = codes "instr"
+act_text Trace = codes "trace"
+act_text Stack = codes "stack"
+act_text (Irq vector) = codes "irq " ++ octal_digits 3 vector
+act_text Idle = codes "idle"
+
+-- a turn, PC before it, and its act
+abbrev pub entry_line : TrailEntry → List ℕ
+entry_line entry = decimal entry.turn ++ word_text entry.pc ++ codes " " ++ act_text entry.act ++ codes "\n"
+
+-- the turns of a trail
+abbrev pub trail_text : List TrailEntry → List ℕ
+trail_text entries = list_text (codes "trail") entry_line entries
+
 -- the answer to a question as text: one row for each kind of question
 abbrev pub value_text : Value → List ℕ
 value_text (RegsAre regs) = regs_line regs ++ codes "\n"
-value_text (CoreIs words) = mem_line words
+value_text (CoreIs words) = words_line (codes "mem") words
+value_text (DiskIs words) = words_line (codes "dsk") words
 value_text (TextIs bytes) = bytes_line (codes "text") bytes
 value_text (PunchedAre bytes) = bytes_line (codes "punched") bytes
 value_text (DevicesAre devices) = devices_line devices
 value_text (PagesAre pages) = pages_line pages
+value_text (LastIs last) = last_line last
+value_text (TrailIs trail) = trail_text trail
 
 -- a reply as text; a list of patches is that of the past as it is then
 unfoldable pub text_of : Reply → Past → List ℕ

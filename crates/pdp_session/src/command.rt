@@ -22,6 +22,10 @@ pub enum Command {
     RevertCore {
         address: u32,
     },
+    SetDisk {
+        number: u32,
+        word: u16,
+    },
     SetTape(TapeBytes),
     SetDelay {
         line: Line,
@@ -64,6 +68,7 @@ fn run_command(alloc: Global, engine: &mut Engine, command: Command) -> Reply
     match command {
         Command::SetCore { address, word } => edit_reply(engine.set_core(address, word)),
         Command::RevertCore { address } => edit_reply(engine.revert_core(address)),
+        Command::SetDisk { number, word } => edit_reply(engine.set_disk(number, word)),
         Command::SetTape(tape) => edit_reply(set_tape(alloc, engine, &tape)),
         Command::SetDelay { line, delay } => edit_reply(engine.set_delay(line, delay)),
         Command::Insert { turn, event } => match engine.insert(turn, event) {

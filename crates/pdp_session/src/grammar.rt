@@ -2,7 +2,7 @@
 //! it; a question is one row of `read_question` and one form below that.
 
 ghost use Rattle.std.specs.Prelude.{◌≡◌, ◌≤◌, length};
-ghost use Rattle.pdp_session.specs.Grammar.{core_form, uncore_form, at_form, alter_form, drop_form, patches_form, tape_form, delay_form, command_with, line_means};
+ghost use Rattle.pdp_session.specs.Grammar.{core_form, uncore_form, disk_form, at_form, alter_form, drop_form, patches_form, tape_form, delay_form, command_with, line_means};
 ghost use Rattle.pdp_session.specs.Lines.{longest_line};
 ghost use Rattle.pdp_session.specs.Grammar.Words.{words_of};
 
@@ -55,6 +55,8 @@ fn read_command(name: &[u8], arguments: &[u8]) -> Option<Command>
         read_core(arguments)
     } else if name == b"uncore".as_slice() {
         read_uncore(arguments)
+    } else if name == b"disk".as_slice() {
+        read_disk(arguments)
     } else if name == b"tape".as_slice() {
         read_tape(arguments)
     } else if name == b"delay".as_slice() {
@@ -89,6 +91,16 @@ fn read_uncore(arguments: &[u8]) -> Option<Command>
 {
     let address = read_octal(one_word(arguments)?)?;
     Some(Command::RevertCore { address })
+}
+
+// `disk I W`
+fn read_disk(arguments: &[u8]) -> Option<Command>
+    ensures { result ≡ disk_form (words_of arguments.now) }
+{
+    let (number, word) = two_words(arguments)?;
+    let number = read_octal(number)?;
+    let word = read_word(word)?;
+    Some(Command::SetDisk { number, word })
 }
 
 // `tape B B ..`

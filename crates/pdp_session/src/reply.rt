@@ -1,12 +1,14 @@
 ghost use Rattle.std.specs.Prelude.{◌≡◌, ◌||◌, is_err};
-ghost use Rattle.pdp_session.specs.Reply.{text_of, value_text, patches_text, patch_line_at, mem_line};
+ghost use Rattle.pdp_session.specs.Reply.{text_of, value_text, patches_text, kept_patch_line, line_at, words_line};
 ghost use Rattle.pdp_session.specs.Inside.Sends.{Sends};
 
 mod bytes;
+mod history;
 mod texts;
 
 use crate::streams::{Drain, Failed, send};
 use bytes::send_bytes;
+use history::{last_text, send_trail};
 use pdp_replay::{Engine, Fault, Value};
 use texts::{
     Text, count_text, devices_text, done_text, insertion_text, pages_text, patch_text,
@@ -49,11 +51,14 @@ fn send_value<W: Drain>(value: &Value, writer: &mut W) -> Result<(), Failed>
 {
     match value {
         Value::Regs(regs) => send(writer, regs_text(*regs).as_slice()),
-        Value::Core(words) => send_core(words.words(), writer),
+        Value::Core(words) => send_words("mem", words.words(), writer),
+        Value::Disk(words) => send_words("dsk", words.words(), writer),
         Value::Text(bytes) => send_bytes("text", bytes.bytes(), writer),
         Value::Punched(bytes) => send_bytes("punched", bytes.bytes(), writer),
         Value::Devices(devices) => send(writer, devices_text(*devices).as_slice()),
         Value::Pages(pages) => send(writer, pages_text(*pages).as_slice()),
+        Value::Last(last) => send(writer, last_text(*last).as_slice()),
+        Value::Trail(trail) => send_trail(trail, writer),
     }
 }
 
@@ -63,7 +68,7 @@ fn send_patches<W: Drain>(engine: &Engine, writer: &mut W) -> Result<(), Failed>
     ensures fails { W.has_failed writer.new ≡ (W.has_failed writer.old || is_err result) }
 {
     let count = engine.patch_count();
-    match send(writer, count_text(count).as_slice()) {
+    match send(writer, count_text("patches", count).as_slice()) {
         Ok(()) => {}
         Err(failed) => return Err(failed),
     }
@@ -78,7 +83,7 @@ fn send_patches<W: Drain>(engine: &Engine, writer: &mut W) -> Result<(), Failed>
 
 // Writes the line of the patch of this index, where there is one.
 fn send_patch<W: Drain>(engine: &Engine, index: usize, writer: &mut W) -> Result<(), Failed>
-    ensures sends { Sends (patch_line_at index engine.now.past) (W.written writer.old) (W.written writer.new) result }
+    ensures sends { Sends (line_at kept_patch_line engine.now.past.setup.patches index) (W.written writer.old) (W.written writer.new) result }
     ensures fails { W.has_failed writer.new ≡ (W.has_failed writer.old || is_err result) }
 {
     let text = match engine.patches(index) {
@@ -88,12 +93,12 @@ fn send_patch<W: Drain>(engine: &Engine, index: usize, writer: &mut W) -> Result
     send(writer, text.as_slice())
 }
 
-// Writes words of core, in one line.
-fn send_core<W: Drain>(words: &[u16], writer: &mut W) -> Result<(), Failed>
-    ensures sends { Sends (mem_line words.now) (W.written writer.old) (W.written writer.new) result }
+// Writes words, in one line after a name.
+fn send_words<W: Drain>(name: &str, words: &[u16], writer: &mut W) -> Result<(), Failed>
+    ensures sends { Sends (words_line name.now words.now) (W.written writer.old) (W.written writer.new) result }
     ensures fails { W.has_failed writer.new ≡ (W.has_failed writer.old || is_err result) }
 {
-    match send(writer, b"mem") {
+    match send(writer, name.as_bytes()) {
         Ok(()) => {}
         Err(failed) => return Err(failed),
     }

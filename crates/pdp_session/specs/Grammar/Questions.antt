@@ -4,18 +4,42 @@ use Rattle.std.specs.Option.{option_map}
 use Rattle.std.specs.Str.{bytes_eq}
 use Rattle.pdp_word.specs.Number.{number_of}
 use Rattle.pdp_replay.specs.declared.question.Question.{Question}
-use Rattle.pdp_replay.specs.declared.question.Question.TheVariants.{Regs, Core, Text, Punched, Devices, Pages}
+use Rattle.pdp_replay.specs.declared.question.Question.TheVariants.{Regs, Core, Text, Punched, Devices, Pages, Last, Trail, Disk}
 use Rattle.pdp_session.specs.Grammar.Arguments.{◌>>=◌, first_of, one_of, two_of, turn_named, count_named}
 
--- `mem N A C`: a turn, in decimal, an address, in octal, and a count, in decimal
-abbrev pub mem_form : List (List ℕ) → Option Question
-mem_form arguments = do
+-- a turn, in decimal, the first of some words, in octal, and their count, in decimal
+abbrev pub range_named : List (List ℕ) → Option (ℕ × ℕ × ℕ)
+range_named arguments = do
   (turn, others) ← first_of arguments
-  (address, count) ← two_of others
+  (first, count) ← two_of others
+  n ← turn_named turn
+  i ← number_of 8 first
+  c ← count_named count
+  Some (n, i, c)
+
+-- `mem N A C`: the first word by its address
+abbrev pub mem_form : List (List ℕ) → Option Question
+mem_form arguments = option_map (λ range. Core range.0 range.1 range.2) (range_named arguments)
+
+-- `dsk N I C`: the first word by its number
+abbrev pub dsk_form : List (List ℕ) → Option Question
+dsk_form arguments = option_map (λ range. Disk range.0 range.1 range.2) (range_named arguments)
+
+-- `last N A`: a turn, in decimal, and an address, in octal
+abbrev pub last_form : List (List ℕ) → Option Question
+last_form arguments = do
+  (turn, address) ← two_of arguments
   n ← turn_named turn
   a ← number_of 8 address
+  Some (Last n a)
+
+-- `trail N C`: a turn and a count of turns, in decimal
+abbrev pub trail_form : List (List ℕ) → Option Question
+trail_form arguments = do
+  (turn, count) ← two_of arguments
+  n ← turn_named turn
   c ← count_named count
-  Some (Core n a c)
+  Some (Trail n c)
 
 -- `regs N`, `text N`, `punched N`, `devices N` and `pages N`: a turn, in decimal
 abbrev pub only_turn : List (List ℕ) → Option ℕ
@@ -28,8 +52,11 @@ unfoldable pub question_with : List ℕ → List (List ℕ) → Option Question
 question_with name arguments =
     if bytes_eq name (codes "regs") then option_map Regs (only_turn arguments)
     else if bytes_eq name (codes "mem") then mem_form arguments
+    else if bytes_eq name (codes "dsk") then dsk_form arguments
     else if bytes_eq name (codes "text") then option_map Text (only_turn arguments)
     else if bytes_eq name (codes "punched") then option_map Punched (only_turn arguments)
     else if bytes_eq name (codes "devices") then option_map Devices (only_turn arguments)
     else if bytes_eq name (codes "pages") then option_map Pages (only_turn arguments)
+    else if bytes_eq name (codes "last") then last_form arguments
+    else if bytes_eq name (codes "trail") then trail_form arguments
     else None

@@ -1,5 +1,5 @@
 ghost use Rattle.std.specs.Prelude.{◌≡◌};
-ghost use Rattle.pdp_session.specs.Grammar.Questions.{only_turn, mem_form, question_with};
+ghost use Rattle.pdp_session.specs.Grammar.Questions.{only_turn, range_named, mem_form, dsk_form, last_form, trail_form, question_with};
 ghost use Rattle.pdp_session.specs.Grammar.Words.{words_of};
 
 use super::arguments::{one_word, read_count, read_turn, two_words};
@@ -16,6 +16,8 @@ pub fn read_question(name: &[u8], arguments: &[u8]) -> Option<Question>
         Some(Question::Regs(read_only_turn(arguments)?))
     } else if name == b"mem".as_slice() {
         read_mem(arguments)
+    } else if name == b"dsk".as_slice() {
+        read_dsk(arguments)
     } else if name == b"text".as_slice() {
         Some(Question::Text(read_only_turn(arguments)?))
     } else if name == b"punched".as_slice() {
@@ -24,6 +26,10 @@ pub fn read_question(name: &[u8], arguments: &[u8]) -> Option<Question>
         Some(Question::Devices(read_only_turn(arguments)?))
     } else if name == b"pages".as_slice() {
         Some(Question::Pages(read_only_turn(arguments)?))
+    } else if name == b"last".as_slice() {
+        read_last(arguments)
+    } else if name == b"trail".as_slice() {
+        read_trail(arguments)
     } else {
         None
     }
@@ -40,10 +46,46 @@ fn read_only_turn(arguments: &[u8]) -> Option<u32>
 fn read_mem(arguments: &[u8]) -> Option<Question>
     ensures { result ≡ mem_form (words_of arguments.now) }
 {
+    let (turn, address, count) = read_range(arguments)?;
+    Some(Question::Core(turn, address, count))
+}
+
+// `dsk N I C`
+fn read_dsk(arguments: &[u8]) -> Option<Question>
+    ensures { result ≡ dsk_form (words_of arguments.now) }
+{
+    let (turn, number, count) = read_range(arguments)?;
+    Some(Question::Disk(turn, number, count))
+}
+
+// A turn, the number of the first of some words, and how many.
+fn read_range(arguments: &[u8]) -> Option<(u32, u32, u32)>
+    ensures { result ≡ range_named (words_of arguments.now) }
+{
     let (turn, others) = next_word(arguments)?;
-    let (address, count) = two_words(others)?;
+    let (first, count) = two_words(others)?;
+    let turn = read_turn(turn)?;
+    let first = read_octal(first)?;
+    let count = read_count(count)?;
+    Some((turn, first, count))
+}
+
+// `last N A`
+fn read_last(arguments: &[u8]) -> Option<Question>
+    ensures { result ≡ last_form (words_of arguments.now) }
+{
+    let (turn, address) = two_words(arguments)?;
     let turn = read_turn(turn)?;
     let address = read_octal(address)?;
-    let count = read_count(count)?;
-    Some(Question::Core(turn, address, count))
+    Some(Question::Last(turn, address))
+}
+
+// `trail N C`
+fn read_trail(arguments: &[u8]) -> Option<Question>
+    ensures { result ≡ trail_form (words_of arguments.now) }
+{
+    let (turn, turns) = two_words(arguments)?;
+    let turn = read_turn(turn)?;
+    let turns = read_count(turns)?;
+    Some(Question::Trail(turn, turns))
 }

@@ -143,3 +143,50 @@ fn questions_about_a_turn(rt: HostRuntime) {
     assert_eq!(rt; read_line(b"devices 0x1"), Err(Fault::BadLine));
     assert_eq!(rt; read_line(b"pages"), Err(Fault::BadLine));
 }
+
+#[test]
+fn last_writes_and_trails(rt: HostRuntime) {
+    for (line, question) in [
+        (b"last 9 2000".as_slice(), Question::Last(9, 0o2000)),
+        (b"last 9999999999 1".as_slice(), Question::Last(u32::MAX, 1)),
+        (b"trail 8 4".as_slice(), Question::Trail(8, 4)),
+        (
+            b"trail 8 4294967296".as_slice(),
+            Question::Trail(8, u32::MAX),
+        ),
+    ] {
+        assert_eq!(rt; read_line(line), Ok(Some(Command::Ask(question))));
+    }
+    for line in [
+        b"last 9".as_slice(),
+        b"last 9 8".as_slice(),
+        b"last 9 2000 1".as_slice(),
+        b"trail 8".as_slice(),
+        b"trail 8 x".as_slice(),
+        b"trail 8 4 2".as_slice(),
+    ] {
+        assert_eq!(rt; read_line(line), Err(Fault::BadLine), "{line:?}");
+    }
+}
+
+#[test]
+fn words_of_the_disk(rt: HostRuntime) {
+    let set = Command::SetDisk {
+        number: 0o4603777,
+        word: 0o177777,
+    };
+    assert_eq!(rt; read_line(b"disk 4603777 177777"), Ok(Some(set)));
+    assert_eq!(rt;
+        read_line(b"dsk 9999999999 7777777777 4294967296"),
+        Ok(Some(Command::Ask(Question::Disk(u32::MAX, 0o7777777777, u32::MAX))))
+    );
+    for line in [
+        b"disk 0".as_slice(),
+        b"disk 0 200000".as_slice(),
+        b"disk 8 0".as_slice(),
+        b"dsk 0 0".as_slice(),
+        b"dsk 0 0 1 1".as_slice(),
+    ] {
+        assert_eq!(rt; read_line(line), Err(Fault::BadLine), "{line:?}");
+    }
+}

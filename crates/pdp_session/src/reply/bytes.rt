@@ -1,12 +1,10 @@
 ghost use Rattle.std.specs.Prelude.{◌≡◌, ◌+◌, ◌≤◌, ◌++◌, ◌||◌, length, is_err};
-ghost use Rattle.pdp_word.specs.Number.{octal_digits};
 ghost use Rattle.pdp_session.specs.Reply.{stands_for_itself, byte_text, byte_texts, bytes_head, bytes_line};
 ghost use Rattle.pdp_session.specs.Inside.Sends.{Sends};
 
-use super::texts::{LONGEST_TEXT, Text, add};
+use super::texts::{LONGEST_TEXT, Text, add, octal3};
 use crate::streams::{Drain, Failed, send};
 use itoa::Buffer;
-use pdp_word::write_octal6;
 
 // The most bytes that are written out at once: with their escapes they have room in a text.
 const MOST_BYTES: usize = 64;
@@ -68,7 +66,7 @@ fn add_byte(text: &mut Text, byte: u8)
         text.push(byte);
     } else {
         add(text, b"\\");
-        add(text, &octal3(byte));
+        add(text, &octal3(u16::from(byte)));
     }
 }
 
@@ -77,15 +75,6 @@ fn stands_for_itself(byte: u8) -> bool
     ensures { result ≡ stands_for_itself byte }
 {
     (b' '..=b'~').contains(&byte) && byte != b'\\'
-}
-
-// A byte in three octal digits.
-#[tactic(auto, unfolding(pdp_word::specs::Number::octal_digits))]
-fn octal3(byte: u8) -> [u8; 3]
-    ensures { result ≡ octal_digits 3 byte }
-{
-    let [_, _, _, sixty_fours, eights, ones] = write_octal6(u32::from(byte));
-    [sixty_fours, eights, ones]
 }
 
 #[cfg(test)]

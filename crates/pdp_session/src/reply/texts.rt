@@ -1,4 +1,5 @@
 ghost use Rattle.std.specs.Prelude.{◌≡◌, ◌+◌, ◌*◌, ◌≤◌, ◌++◌, length, codes, decimal};
+ghost use Rattle.pdp_word.specs.Number.{octal_digits};
 ghost use Rattle.pdp_session.specs.Reply.{register_text, regs_line, state_name, refusal_text, count_line, patch_line, word_text, word_texts, named_word_text, disk_register_texts, devices_line, page_words_text, pages_line};
 
 use arrayvec::ArrayVec;
@@ -12,6 +13,15 @@ pub const LONGEST_TEXT: usize = 272;
 
 // A line of a reply, with its LF, or a piece of one. It takes no memory.
 pub type Text = ArrayVec<u8, LONGEST_TEXT>;
+
+// The last three octal digits of a number: all of those of a byte or of a vector.
+#[tactic(auto, unfolding(pdp_word::specs::Number::octal_digits))]
+pub fn octal3(number: u16) -> [u8; 3]
+    ensures { result ≡ octal_digits 3 number }
+{
+    let [_, _, _, sixty_fours, eights, ones] = write_octal6(u32::from(number));
+    [sixty_fours, eights, ones]
+}
 
 // Adds `bytes` at the end.
 pub fn add(text: &mut Text, bytes: &[u8])
@@ -54,13 +64,15 @@ pub fn insertion_text(number: u32) -> Text
     text
 }
 
-// The first line of a list of so many patches.
-pub fn count_text(count: usize) -> Text
-    ensures { result.items ≡ count_line count }
+// The first line of a list: its name, and how many lines follow.
+pub fn count_text(name: &str, count: usize) -> Text
+    requires { length name.now ≤ 7 }
+    ensures { result.items ≡ count_line name.now count }
 {
     let mut text = Text::new();
     let mut buffer = Buffer::new();
-    add(&mut text, b"patches ");
+    add(&mut text, name.as_bytes());
+    add(&mut text, b" ");
     add(&mut text, buffer.format(count).as_bytes());
     add(&mut text, b"\n");
     text
@@ -70,14 +82,33 @@ pub fn count_text(count: usize) -> Text
 pub fn patch_text(patch: Patch) -> Text
     ensures { result.items ≡ patch_line patch }
 {
-    let Patch::Core(address, word) = patch;
     let mut text = Text::new();
-    add(&mut text, b"core ");
-    add(&mut text, &write_octal6(address));
-    add(&mut text, b" ");
-    add(&mut text, &write_octal6(u32::from(word)));
+    let word = match patch {
+        Patch::Core(address, word) => {
+            add(&mut text, b"core ");
+            add(&mut text, &write_octal6(address));
+            word
+        }
+        Patch::Disk(number, word) => {
+            add(&mut text, b"disk ");
+            add_octal7(&mut text, number);
+            word
+        }
+    };
+    add_word(&mut text, word);
     add(&mut text, b"\n");
     text
+}
+
+// The last seven octal digits of a number: all of those of the number of a word of the drive.
+#[tactic(auto, unfolding(pdp_word::specs::Number::octal_digits))]
+fn add_octal7(text: &mut Text, number: u32)
+    requires { length text.old.items + 7 ≤ LONGEST_TEXT }
+    ensures octal_digits { text.new.items ≡ text.old.items ++ octal_digits 7 number }
+    ensures length { length text.new.items ≡ length text.old.items + 7 }
+{
+    text.push(b'0' + (number / 0o1000000 % 8) as u8);
+    add(text, &write_octal6(number));
 }
 
 // A word in six octal digits, after a space.
@@ -90,7 +121,7 @@ pub fn word_text(word: u16) -> Text
 }
 
 // Adds a word in six octal digits, after a space.
-fn add_word(text: &mut Text, word: u16)
+pub fn add_word(text: &mut Text, word: u16)
     requires { length text.old.items + 7 ≤ LONGEST_TEXT }
     ensures word_text { text.new.items ≡ text.old.items ++ word_text word }
     ensures length { length text.new.items ≡ length text.old.items + 7 }
@@ -124,28 +155,28 @@ pub fn devices_text(devices: DeviceRegisters) -> Text
     add_named_word(&mut text, "PRS", devices.reader_status);
     add_named_word(&mut text, "PRB", devices.reader_buffer);
     add_named_word(&mut text, "PPS", devices.punch_status);
-    add_disk(&mut text);
+    add_disk(&mut text, devices);
     add_named_word(&mut text, "SWR", devices.switches);
     add(&mut text, b"\n");
     text
 }
 
-// The registers of the disk, which is to come: each is shown as 0.
-fn add_disk(text: &mut Text)
+// The registers of the disk.
+fn add_disk(text: &mut Text, devices: DeviceRegisters)
     requires { length text.old.items + 72 ≤ LONGEST_TEXT }
-    ensures disk_register_texts { text.new.items ≡ text.old.items ++ disk_register_texts }
+    ensures disk_register_texts { text.new.items ≡ text.old.items ++ disk_register_texts devices }
     ensures length { length text.new.items ≡ length text.old.items + 72 }
 {
-    add_named_word(text, "RKDS", 0);
-    add_named_word(text, "RKER", 0);
-    add_named_word(text, "RKCS", 0);
-    add_named_word(text, "RKWC", 0);
-    add_named_word(text, "RKBA", 0);
-    add_named_word(text, "RKDA", 0);
+    add_named_word(text, "RKDS", devices.drive_status);
+    add_named_word(text, "RKER", devices.disk_error);
+    add_named_word(text, "RKCS", devices.disk_control);
+    add_named_word(text, "RKWC", devices.disk_word_count);
+    add_named_word(text, "RKBA", devices.disk_bus_address);
+    add_named_word(text, "RKDA", devices.disk_address);
 }
 
 // Words in six octal digits, each after a space.
-#[tactic(auto, using(crate::proofs::CoreLines::one_more_word))]
+#[tactic(auto, using(crate::proofs::WordLines::one_more_word))]
 fn add_words(text: &mut Text, words: &[u16])
     requires { length text.old.items + 7 * length words.now ≤ LONGEST_TEXT }
     ensures word_texts { text.new.items ≡ text.old.items ++ word_texts words.now }

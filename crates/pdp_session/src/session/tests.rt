@@ -150,6 +150,36 @@ fn texts_devices_and_pages(rt: HostRuntime) -> Result<(), Fail> {
 }
 
 #[test]
+fn last_writes_and_trails(rt: HostRuntime) -> Result<(), Fail> {
+    let input = b"core 1000 012737\ncore 1002 7\ncore 1004 2000\ncore 1006 0\n\
+        last 1 2000\nlast 0 2000\ntrail 2 2\ntrail 3 4\nlast 0 1001\nlast 0 760000\ntrail 9999999999 0\n";
+    let output = replies(rt.alloc(), input)?;
+    assert_eq!(rt;
+        output.as_slice(),
+        b"ok\nok\nok\nok\n\
+        last 0 cpu 000007\nlast never\ntrail 2\n0 001000 instr\n1 001006 instr\n\
+        refused 8 CountOutOfRange\nrefused 3 OddAddress\nrefused 2 OutsideCore\nrefused 7 TurnTooLarge\n"
+            .as_slice()
+    );
+    Ok(())
+}
+
+#[test]
+fn words_of_the_disk(rt: HostRuntime) -> Result<(), Fail> {
+    let input =
+        b"disk 4603777 1\ncore 1000 2\ndisk 4604000 0\npatches\ndsk 0 4603776 2\ndsk 0 4603777 2\n";
+    let output = replies(rt.alloc(), input)?;
+    assert_eq!(rt;
+        output.as_slice(),
+        b"ok\nok\nrefused 4 OutsideDisk\n\
+        patches 2\ndisk 4603777 000001\ncore 001000 000002\n\
+        dsk 000000 000001\nrefused 4 OutsideDisk\n"
+            .as_slice()
+    );
+    Ok(())
+}
+
+#[test]
 fn refusals(rt: HostRuntime) -> Result<(), Fail> {
     let input = b"regs\nregs 9x\npage 0\nregs 1000000001\nregs 9999999999\nregs 00000000001\n\
         core 1001 0\ncore 777560 0\ncore 777561 0\ncore 1000 200000\nCORE 1000 0\nregs 0 0\n";

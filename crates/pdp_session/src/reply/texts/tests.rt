@@ -11,12 +11,18 @@ fn devices(rt: HostRuntime) {
         reader_status: 0o100200,
         reader_buffer: 0o377,
         punch_status: 0o1,
+        drive_status: 0o4700,
+        disk_error: 0o100,
+        disk_control: 0o140204,
+        disk_word_count: 0o177777,
+        disk_bus_address: 0o1024,
+        disk_address: 0o14540,
         switches: 0o177777,
     };
     assert_eq!(rt;
         devices_text(devices).as_slice(),
         b"devices TKS 000200 TKB 000101 TPS 000300 LKS 000100 PRS 100200 PRB 000377 PPS 000001 \
-        RKDS 000000 RKER 000000 RKCS 000000 RKWC 000000 RKBA 000000 RKDA 000000 SWR 177777\n"
+        RKDS 004700 RKER 000100 RKCS 140204 RKWC 177777 RKBA 001024 RKDA 014540 SWR 177777\n"
             .as_slice()
     );
 }
