@@ -1,6 +1,6 @@
 -- What the words of the command line ask for (this project's profile).
 use Rattle.std.specs.Prelude.{◌≡◌, ◌≢◌, List, [], Option, Some, None, Result, Ok, Err, ◌⊎◌, codes, option_map, string_bytes}
-use Rattle.clap.specs.Words.{App, Kinds, IsAmong, Rule, Text, first_of, matches_of, new_app, new_rule, with_rule}
+use Rattle.clap.specs.Words.{App, Kinds, IsAmong, Row, Rule, Text, first_of, matches_of, new_app, new_rule, with_rule}
 use Rattle.clap.specs.declared.builder.action.ArgAction.TheVariants.{Set}
 use Rattle.clap.specs.declared.error.kind.ErrorKind.{ErrorKind}
 use Rattle.clap.specs.declared.error.kind.ErrorKind.TheVariants.{DisplayHelp}
@@ -8,6 +8,7 @@ use Rattle.pdp11.specs.Numbers.{options_given}
 use Rattle.pdp11.specs.declared.exit.Exit.{Exit}
 use Rattle.pdp11.specs.declared.exit.Exit.TheVariants.{BadArguments, NoMemory}
 use Rattle.pdp11.specs.declared.options.Options.{Options}
+use Rattle.pdp11.specs.declared.command_line.FileNames.{FileNames}
 use Rattle.pdp11.specs.declared.command_line.Request.{Request}
 use Rattle.pdp11.specs.declared.command_line.Request.TheVariants.{Help, Session}
 
@@ -15,11 +16,16 @@ use Rattle.pdp11.specs.declared.command_line.Request.TheVariants.{Help, Session}
 abbrev pub option_rule : Text → Rule
 option_rule name = record (new_rule name) { long = Some name; action = Some Set; value_names = 1 }
 
+-- the options that name files, and those that are numbers
+abbrev pub with_files : App → App
+with_files app = with_rule (with_rule (with_rule app (option_rule (codes "core"))) (option_rule (codes "disk"))) (option_rule (codes "tape"))
+
+abbrev pub with_numbers : App → App
+with_numbers app = with_rule (with_rule (with_rule app (option_rule (codes "units"))) (option_rule (codes "start"))) (option_rule (codes "stride"))
+
 -- the program's options, beside which clap knows -h and --help
 abbrev pub command_line : App
-command_line =
-    with_rule (with_rule (with_rule (with_rule (new_app (codes "pdp11"))
-    (option_rule (codes "tape"))) (option_rule (codes "units"))) (option_rule (codes "start"))) (option_rule (codes "stride"))
+command_line = with_numbers (with_files (new_app (codes "pdp11")))
 
 -- the options that these words give, by clap's rules, where it refuses nothing
 abbrev pub options_in : List Text → Option Options
@@ -27,9 +33,11 @@ options_in words =
     let rows = matches_of command_line words in
     options_given (first_of (codes "units") rows) (first_of (codes "start") rows) (first_of (codes "stride") rows)
 
--- the name of the tape's file that these words give, if they give one
-abbrev pub tape_in : List Text → Option Text
-tape_in words = first_of (codes "tape") (matches_of command_line words)
+-- the names of the files that the words of these rows give, each where its option is given
+pub record AreNamesIn (rows : List Row) (names : FileNames) : Type 0 where
+  pub core : option_map string_bytes names.core ≡ first_of (codes "core") rows
+  pub disk : option_map string_bytes names.disk ≡ first_of (codes "disk") rows
+  pub tape : option_map string_bytes names.tape ≡ first_of (codes "tape") rows
 
 -- a fault that is not asking for help
 abbrev pub IsRefused : Kinds → Type 0
@@ -39,8 +47,8 @@ IsRefused faults = (kind : ErrorKind) × (kind ≢ DisplayHelp) × IsAmong kind 
 -- number that can't be read, which is looked at where there is no fault.
 abbrev pub Asks : Kinds → List Text → Result Request Exit → Type 0
 Asks faults words (Ok (Help text)) = IsAmong DisplayHelp faults
-Asks faults words (Ok (Session options tape)) =
-    (faults ≡ []) × (options_in words ≡ Some options) × (option_map string_bytes tape ≡ tape_in words)
+Asks faults words (Ok (Session options names)) =
+    (faults ≡ []) × (options_in words ≡ Some options) × AreNamesIn (matches_of command_line words) names
 Asks faults words (Err BadArguments) = IsRefused faults ⊎ ((faults ≡ []) × (options_in words ≡ None))
 Asks faults words (Err NoMemory) = Unit {0}
 Asks faults words (Err _) = ⊥

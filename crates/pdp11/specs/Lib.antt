@@ -1,6 +1,7 @@
--- The program: its exit, its files, the words of its command line and its whole run (this project's profile).
+-- The program: its exit, its files, the words of its command line, what its files hold and its whole run (this project's profile).
 pub mod Exit
 pub mod Files
 pub mod Numbers
 pub mod CommandLine
+pub mod Media
 pub mod ProgramRun

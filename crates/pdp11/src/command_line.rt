@@ -1,6 +1,6 @@
 ghost use Rattle.std.specs.Prelude.{◌≡◌, false, map, option_map, string_bytes, IfOk};
 ghost use Rattle.clap.specs.Words.{FailsBy, app_of, fault_of, found_of, matches_of, rows_of, rule_of};
-ghost use Rattle.pdp11.specs.CommandLine.{Asks, command_line, option_rule};
+ghost use Rattle.pdp11.specs.CommandLine.{AreNamesIn, Asks, command_line, option_rule, with_files, with_numbers};
 
 use crate::exit::Exit;
 use crate::options::{Options, read_options};
@@ -9,16 +9,54 @@ use clap::{Arg, ArgAction, ArgMatches, Command, Error};
 use std::alloc::{AllocError, Global};
 use std::convert::AsStr;
 
+const ABOUT: &str = "A PDP-11/40 whose past can be edited: session lines in, replies out";
+
+// The lines of the session language, a few words on each.
+const LINES: &str = "\
+An image file holds words of two bytes each, the low byte first.
+
+Lines of a session (A, I, W and B are octal; N, T, C and E are decimal):
+  core A W         the core word at address A is W as of power-up
+  uncore A         take that back
+  disk I W         word I of the drive is W as of power-up
+  patches          list these words
+  tape B B ..      these bytes are the tape in the reader as of power-up
+  delay L N        an operation of L takes N turns, the clock ticks each N turns
+                   (0: by events alone); L is printer, reader, punch, disk or
+                   clock
+  at T EVENT       put an event at turn T
+  alter E T EVENT  give event E this turn and this event
+  drop E           take event E out
+  regs N           the registers before turn N
+  mem N A C        C words of core from address A on, before turn N
+  dsk N I C        C words of the drive from word I on, before turn N
+  text N           what was printed on the console before turn N
+  punched N        what was punched before turn N
+  last N A         who last wrote the core word at A before turn N, and when
+  devices N        the registers of the devices before turn N
+  pages N          the registers of memory management before turn N
+  trail N C        the last C turns before turn N: PC and act of each
+
+EVENT is key B, tick, printer, reader, punch, disk, switches W or continue.";
+
 /// What the words of the command line ask for.
 #[derive(Drop)]
 pub enum Request {
     /// This text of help.
     Help(String),
-    /// A session with these options, and with the tape that the file of this name holds, where one is named.
-    Session {
-        options: Options,
-        tape: Option<String>,
-    },
+    /// A session with these options, and with the images and the tape that the files of these names hold.
+    Session { options: Options, names: FileNames },
+}
+
+/// The names of the files that a session starts from, where they are named.
+#[derive(Drop)]
+pub struct FileNames {
+    /// The image of core.
+    pub core: Option<String>,
+    /// The image of the drive.
+    pub disk: Option<String>,
+    /// The paper tape.
+    pub tape: Option<String>,
 }
 
 /// What these words ask for, the program's name first. `BadArguments`: an option is unknown, is given twice or
@@ -34,8 +72,8 @@ pub fn read_words<S: AsStr>(alloc: Global, words: &[S]) -> Result<Request, Exit>
             let stride = matches.get_str("stride");
             match read_options(units, start, stride) {
                 Some(options) => {
-                    let tape = owned_name(alloc, matches.get_str("tape"))?;
-                    Ok(Request::Session { options, tape })
+                    let names = names_of(alloc, &matches)?;
+                    Ok(Request::Session { options, names })
                 }
                 None => Err(Exit::BadArguments),
             }
@@ -46,6 +84,15 @@ pub fn read_words<S: AsStr>(alloc: Global, words: &[S]) -> Result<Request, Exit>
             _ => Err(Exit::BadArguments),
         },
     }
+}
+
+fn names_of(alloc: Global, matches: &ArgMatches<'_>) -> Result<FileNames, AllocError>
+    ensures { IfOk result (λ names. AreNamesIn (rows_of (found_of matches.now)) names) }
+{
+    let core = owned_name(alloc, matches.get_str("core"))?;
+    let disk = owned_name(alloc, matches.get_str("disk"))?;
+    let tape = owned_name(alloc, matches.get_str("tape"))?;
+    Ok(FileNames { core, disk, tape })
 }
 
 fn owned_name(alloc: Global, name: Option<&str>) -> Result<Option<String>, AllocError>
@@ -69,17 +116,44 @@ fn matches_of<'a, S: AsStr>(alloc: Global, words: &'a [S]) -> Result<ArgMatches<
 fn command<'a>(alloc: Global) -> Result<Command<'a>, AllocError>
     ensures { IfOk result (λ command. app_of command ≡ command_line) }
 {
+    let command = Command::new(alloc, "pdp11").about(ABOUT).after_help(LINES);
+    with_numbers(alloc, with_files(alloc, command)?)
+}
+
+// With the options that name files.
+fn with_files<'a>(alloc: Global, command: Command<'a>) -> Result<Command<'a>, AllocError>
+    ensures { IfOk result (λ more. app_of more ≡ with_files (app_of command.entry)) }
+{
+    let core = option(
+        alloc,
+        "core",
+        "FILE",
+        "Words of core from address 0 on [default: zeros]",
+    );
+    let disk = option(
+        alloc,
+        "disk",
+        "FILE",
+        "Words of the drive from word 0 on [default: zeros]",
+    );
     let tape = option(
         alloc,
         "tape",
         "FILE",
-        "Paper tape, a file of plain bytes [default: an empty tape]",
+        "Paper tape, a file of plain bytes [default: empty]",
     );
+    command.arg(core)?.arg(disk)?.arg(tape)
+}
+
+// With the options that are numbers.
+fn with_numbers<'a>(alloc: Global, command: Command<'a>) -> Result<Command<'a>, AllocError>
+    ensures { IfOk result (λ more. app_of more ≡ with_numbers (app_of command.entry)) }
+{
     let units = option(
         alloc,
         "units",
         "N",
-        "Units of core, of 4096 words each, 1 to 31 [default: 31]",
+        "Units of core of 4096 words, 1 to 31 [default: 31]",
     );
     let start = option(
         alloc,
@@ -91,16 +165,9 @@ fn command<'a>(alloc: Global) -> Result<Command<'a>, AllocError>
         alloc,
         "stride",
         "N",
-        "Stride in turns, 2000000000 for now [default: 2000000000]",
+        "Stride in turns, 2000000000 alone for now",
     );
-    Command::new(alloc, "pdp11")
-        .about(
-            "A PDP-11/40 whose past can be edited: it reads the lines of a session and writes their replies",
-        )
-        .arg(tape)?
-        .arg(units)?
-        .arg(start)?
-        .arg(stride)
+    command.arg(units)?.arg(start)?.arg(stride)
 }
 
 // An option of one value.

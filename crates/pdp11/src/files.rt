@@ -24,7 +24,8 @@ pub trait Files {
     /// All bytes of the file of this name, or why there are none.
     fn bytes(&mut self, alloc: Global, name: &str) -> Result<Vec<u8>, FileFailure>
         ensures whole { IfOk result (λ bytes. IfSome (contents self.old name.now) (λ known. bytes.items ≡ known)) }
-        ensures fails { has_failed self.new ≡ (has_failed self.old || is_unreadable result) };
+        ensures fails { has_failed self.new ≡ (has_failed self.old || is_unreadable result) }
+        ensures same { contents self.new ≡ contents self.old };
 
     /// Whether a file couldn't be read since these were made.
     fn failed(&self) -> bool

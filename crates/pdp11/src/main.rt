@@ -10,6 +10,7 @@
 mod command_line;
 mod exit;
 mod files;
+mod media;
 mod options;
 mod program;
 

@@ -1,12 +1,13 @@
-ghost use Rattle.std.specs.Prelude.{◌≡◌, ◌≢◌, ◌⊎◌, true, false, map, option_map, string_bytes, Err};
-ghost use Rattle.pdp_script.specs.Refusal.{result_map};
+ghost use Rattle.std.specs.Prelude.{◌≡◌, ◌≢◌, ◌⊎◌, true, false, map};
 ghost use Rattle.pdp11.specs.Exit.{IsListed};
-ghost use Rattle.pdp11.specs.ProgramRun.{IsTapeOf, RunsSession, Shows, Starts, Tells, setup_with};
+ghost use Rattle.pdp11.specs.Media.{contents_of};
+ghost use Rattle.pdp11.specs.ProgramRun.{RunsSession, Shows, Starts, Tells, setup_with};
 ghost use Rattle.pdp_replay.specs.Setup.{given};
 
-use crate::command_line::{Request, read_words};
+use crate::command_line::{FileNames, Request, read_words};
 use crate::exit::Exit;
-use crate::files::{FileFailure, Files};
+use crate::files::Files;
+use crate::media::{Media, read_media};
 use crate::options::Options;
 use pdp_session::{Drain, Feed, Setup, run};
 use std::alloc::Global;
@@ -21,7 +22,7 @@ use std::convert::AsStr;
 /// | 2 | `pdp11: bad arguments` | the words are wrong, or a number can't be read |
 /// | 3 | `pdp11: input or output` | a file can't be read, or the reader or the writer failed |
 /// | 4 | `pdp11: refused 1 NoMemory` | no memory before the first line |
-/// | 5 | `pdp11: refused 14 BadImage`, `pdp11: refused 15 BadSetup` | the setup is refused |
+/// | 5 | `pdp11: refused 14 BadImage`, `pdp11: refused 15 BadSetup` | an image has an odd number of bytes, or the setup is refused |
 ///
 /// Out of memory is told as soon as it is met; of several other causes the first in the order of docs/LANGUAGE.md.
 pub fn outcome<R: Feed, W: Drain, F: Files, S: AsStr>(
@@ -41,8 +42,8 @@ pub fn outcome<R: Feed, W: Drain, F: Files, S: AsStr>(
 {
     let exit = match read_words(alloc, words) {
         Ok(Request::Help(text)) => show(text.as_bytes(), writer),
-        Ok(Request::Session { options, tape }) => start_session(
-            alloc, options, tape, files, reader, writer,
+        Ok(Request::Session { options, names }) => start_session(
+            alloc, options, names, files, reader, writer,
         ),
         Err(exit) => exit,
     };
@@ -65,11 +66,11 @@ fn show<W: Drain>(text: &[u8], writer: &mut W) -> Exit
     Exit::Done
 }
 
-// Reads the tape's file, and then answers the reader's lines on the writer.
+// Reads the files, and then answers the reader's lines on the writer.
 fn start_session<R: Feed, W: Drain, F: Files>(
     alloc: Global,
     options: Options,
-    tape: Option<String>,
+    names: FileNames,
     files: &mut F,
     reader: &mut R,
     writer: &mut W,
@@ -78,27 +79,12 @@ fn start_session<R: Feed, W: Drain, F: Files>(
     requires drains { W.has_failed writer.old ≡ false }
     ensures failed { result ≡ Exit.InputOrOutput →
         (R.has_failed reader.new ≡ true) ⊎ ((W.has_failed writer.new ≡ true) ⊎ (F.has_failed files.new ≡ true)) }
-    ensures starts { Starts (F.contents files.old) options (option_map string_bytes tape) (R.remaining reader.old) (R.remaining reader.new)
+    ensures starts { Starts (F.contents files.old) options names (R.remaining reader.old) (R.remaining reader.new)
         (R.pulls reader.old) (R.pulls reader.new) (W.written writer.old) (W.written writer.new) result }
 {
-    match read_tape(alloc, tape, files) {
-        Ok(tape) => answer_lines(alloc, options, tape, reader, writer),
+    match read_media(alloc, names, files) {
+        Ok(media) => answer_lines(alloc, options, media, reader, writer),
         Err(cause) => cause,
-    }
-}
-
-// The bytes of the tape's file, or no bytes where no file is named.
-fn read_tape<F: Files>(alloc: Global, name: Option<String>, files: &mut F) -> Result<Vec<u8>, Exit>
-    ensures tape { IsTapeOf (F.contents files.old) (option_map string_bytes name) (result_map (λ tape. tape.items) result) }
-    ensures failed { result ≡ Err Exit.InputOrOutput → F.has_failed files.new ≡ true }
-{
-    let Some(name) = name else {
-        return Ok(Vec::new(alloc))
-    };
-    match files.bytes(alloc, name.as_str()) {
-        Ok(bytes) => Ok(bytes),
-        Err(FileFailure::NoMemory) => Err(Exit::NoMemory),
-        Err(FileFailure::Unreadable) => Err(Exit::InputOrOutput),
     }
 }
 
@@ -106,7 +92,7 @@ fn read_tape<F: Files>(alloc: Global, name: Option<String>, files: &mut F) -> Re
 fn answer_lines<R: Feed, W: Drain>(
     alloc: Global,
     options: Options,
-    tape: Vec<u8>,
+    media: Media,
     reader: &mut R,
     writer: &mut W,
 ) -> Exit
@@ -114,23 +100,23 @@ fn answer_lines<R: Feed, W: Drain>(
     requires drains { W.has_failed writer.old ≡ false }
     ensures failed { result ≡ Exit.InputOrOutput →
         (R.has_failed reader.new ≡ true) ⊎ (W.has_failed writer.new ≡ true) }
-    ensures answers { RunsSession options tape.items (R.remaining reader.old) (R.remaining reader.new)
+    ensures answers { RunsSession options (contents_of media) (R.remaining reader.old) (R.remaining reader.new)
         (R.pulls reader.old) (R.pulls reader.new) (W.written writer.old) (W.written writer.new) result }
 {
-    let setup = setup_of(alloc, options, tape);
+    let setup = setup_of(options, media);
     Exit::of_session(run(alloc, setup, reader, writer))
 }
 
-// The setup of these options and this tape, without images.
-fn setup_of(alloc: Global, options: Options, tape: Vec<u8>) -> Setup
-    ensures { given result ≡ setup_with options tape.items }
+// The setup of these options, images and tape.
+fn setup_of(options: Options, media: Media) -> Setup
+    ensures { given result ≡ setup_with options (contents_of media) }
 {
     Setup {
         units: options.units,
         start: options.start,
-        core: Vec::new(alloc),
-        disk: Vec::new(alloc),
-        tape,
+        core: media.core,
+        disk: media.disk,
+        tape: media.tape,
         stride: options.stride,
     }
 }

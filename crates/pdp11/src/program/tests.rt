@@ -9,16 +9,44 @@ use std::io::Read;
 use std::test::Fail;
 
 const HELP: &str = "\
-A PDP-11/40 whose past can be edited: it reads the lines of a session and writes their replies
+A PDP-11/40 whose past can be edited: session lines in, replies out
 
 Usage: pdp11 [OPTIONS]
 
 Options:
-      --tape <FILE>  Paper tape, a file of plain bytes [default: an empty tape]
-      --units <N>    Units of core, of 4096 words each, 1 to 31 [default: 31]
+      --core <FILE>  Words of core from address 0 on [default: zeros]
+      --disk <FILE>  Words of the drive from word 0 on [default: zeros]
+      --tape <FILE>  Paper tape, a file of plain bytes [default: empty]
+      --units <N>    Units of core of 4096 words, 1 to 31 [default: 31]
       --start <A>    Start address, octal and even [default: 1000]
-      --stride <N>   Stride in turns, 2000000000 for now [default: 2000000000]
+      --stride <N>   Stride in turns, 2000000000 alone for now
   -h, --help         Print help
+
+An image file holds words of two bytes each, the low byte first.
+
+Lines of a session (A, I, W and B are octal; N, T, C and E are decimal):
+  core A W         the core word at address A is W as of power-up
+  uncore A         take that back
+  disk I W         word I of the drive is W as of power-up
+  patches          list these words
+  tape B B ..      these bytes are the tape in the reader as of power-up
+  delay L N        an operation of L takes N turns, the clock ticks each N turns
+                   (0: by events alone); L is printer, reader, punch, disk or
+                   clock
+  at T EVENT       put an event at turn T
+  alter E T EVENT  give event E this turn and this event
+  drop E           take event E out
+  regs N           the registers before turn N
+  mem N A C        C words of core from address A on, before turn N
+  dsk N I C        C words of the drive from word I on, before turn N
+  text N           what was printed on the console before turn N
+  punched N        what was punched before turn N
+  last N A         who last wrote the core word at A before turn N, and when
+  devices N        the registers of the devices before turn N
+  pages N          the registers of memory management before turn N
+  trail N C        the last C turns before turn N: PC and act of each
+
+EVENT is key B, tick, printer, reader, punch, disk, switches W or continue.
 ";
 
 #[derive(Drop)]
@@ -189,20 +217,20 @@ fn tells_of_refused_setups(rt: HostRuntime) {
 
 // One file, in memory.
 #[derive(Drop)]
-struct TapeFile {
+struct OneFile {
     bytes: Vec<u8>,
     failed: bool,
 }
 
-const TAPE_NAME: &str = "tape.bin";
+const NAME: &str = "file.bin";
 
-impl Files for TapeFile {
+impl Files for OneFile {
     ghost has_failed = { λ s. s.failed };
 
     ghost contents = { λ s name. Some s.bytes.items };
 
     fn bytes(&mut self, alloc: Global, name: &str) -> Result<Vec<u8>, FileFailure> {
-        if name != TAPE_NAME {
+        if name != NAME {
             self.failed = true;
             return Err(FileFailure::Unreadable);
         }
@@ -217,59 +245,77 @@ impl Files for TapeFile {
     }
 }
 
-// So many bytes of leader.
-fn leader(alloc: Global, count: usize) -> Result<Vec<u8>, Fail> {
-    let mut bytes = Vec::with_capacity(alloc, count)?;
-    for _ in 0..count {
-        bytes.push(0)?;
-    }
-    Ok(bytes)
-}
-
-// The outcome of these words on an empty input, where there is the one file.
-fn outcome_with(alloc: Global, words: &[&str], tape: Vec<u8>) -> (u8, &'static str) {
-    let mut files = TapeFile {
-        bytes: tape,
+// The outcome of these words on an empty input, where there is the one file, of so many zeros.
+fn outcome_with(alloc: Global, words: &[&str], length: usize) -> Result<(u8, &'static str), Fail> {
+    let mut files = OneFile {
+        bytes: vec![in alloc; 0; length]?,
         failed: false,
     };
     let mut written = Vec::new(alloc);
     let mut reader = FromRead::new(b"".as_slice());
     let mut writer = ToWrite::new(&mut written);
-    outcome(alloc, words, &mut files, &mut reader, &mut writer)
+    Ok(outcome(alloc, words, &mut files, &mut reader, &mut writer))
 }
 
 #[test]
-fn reads_tape_file(rt: HostRuntime) -> Result<(), Fail> {
-    let rows: [(&[&str], usize, (u8, &str)); 9] = [
-        (&["pdp11", "--tape", "tape.bin"], 0, DONE),
-        (&["pdp11", "--tape=tape.bin"], 3, DONE),
-        (&["pdp11", "--tape", "tape.bin"], 1_048_576, DONE),
-        (&["pdp11", "--tape", "tape.bin"], 1_048_577, BAD_IMAGE),
+fn reads_files(rt: HostRuntime) -> Result<(), Fail> {
+    let rows: [(&[&str], usize, (u8, &str)); 19] = [
+        (&["pdp11", "--tape", "file.bin"], 0, DONE),
+        (&["pdp11", "--tape=file.bin"], 3, DONE),
+        (&["pdp11", "--tape", "file.bin"], 1_048_577, BAD_IMAGE),
+        (&["pdp11", "--core", "file.bin"], 6, DONE),
+        (&["pdp11", "--core", "file.bin"], 3, BAD_IMAGE),
+        (&["pdp11", "--core", "file.bin"], 253_952, DONE),
+        (&["pdp11", "--core", "file.bin"], 253_954, BAD_IMAGE),
+        (&["pdp11", "--disk", "file.bin"], 2_494_464, DONE),
+        (&["pdp11", "--disk", "file.bin"], 2_494_466, BAD_IMAGE),
+        (&["pdp11", "--disk", "file.bin"], 1, BAD_IMAGE),
         (
-            &["pdp11", "--tape", "tape.bin", "--units", "32"],
-            1_048_577,
+            &[
+                "pdp11", "--core", "file.bin", "--disk", "file.bin", "--tape", "file.bin",
+            ],
+            2,
+            DONE,
+        ),
+        (
+            &["pdp11", "--disk", "file.bin", "--core", "missing"],
+            3,
+            INPUT_OR_OUTPUT,
+        ),
+        (
+            &["pdp11", "--core", "file.bin", "--tape", "missing"],
+            3,
+            INPUT_OR_OUTPUT,
+        ),
+        (
+            &["pdp11", "--core", "file.bin", "--units", "32"],
+            3,
+            BAD_IMAGE,
+        ),
+        (
+            &["pdp11", "--core", "file.bin", "--units", "32"],
+            253_954,
             BAD_SETUP,
         ),
         (
             &["pdp11", "--tape", "missing", "--units", "32"],
-            1_048_577,
+            0,
             INPUT_OR_OUTPUT,
         ),
         (
-            &["pdp11", "--tape", "missing", "--units", "x"],
+            &["pdp11", "--core", "missing", "--units", "x"],
             0,
             BAD_ARGUMENTS,
         ),
-        (&["pdp11", "--tape"], 0, BAD_ARGUMENTS),
+        (&["pdp11", "--core"], 0, BAD_ARGUMENTS),
         (
-            &["pdp11", "--tape", "tape.bin", "--tape", "tape.bin"],
+            &["pdp11", "--disk", "file.bin", "--disk", "file.bin"],
             0,
             BAD_ARGUMENTS,
         ),
     ];
     for (words, length, told) in rows {
-        let tape = leader(rt.alloc(), length)?;
-        assert_eq!(rt; outcome_with(rt.alloc(), words, tape), told, "{words:?}");
+        assert_eq!(rt; outcome_with(rt.alloc(), words, length)?, told, "{words:?}");
     }
     Ok(())
 }

@@ -4,7 +4,7 @@ use Rattle.clap.specs.Words.{Text, first_of, first_value, found_of, matches_of, 
 use Rattle.clap.specs.declared.parser.matches.ArgMatches.{ArgMatches}
 use Rattle.clap.proofs.WalkLemmas.{first_value-rows}
 use Rattle.pdp11.specs.Numbers.{options_given}
-use Rattle.pdp11.specs.CommandLine.{command_line, options_in, tape_in}
+use Rattle.pdp11.specs.CommandLine.{command_line, options_in}
 use Rattle.pdp11.proofs.command_line.read_words.Goals as goal
 
 given_in : (m : ArgMatches) (words : List Text) (name : Text) → rows_of (found_of m) ≡ matches_of command_line words
@@ -16,14 +16,11 @@ options_are : (m : ArgMatches) (words : List Text) → rows_of (found_of m) ≡ 
 options_are m words e =
     rw (given_in m words (codes "units") e, given_in m words (codes "start") e, given_in m words (codes "stride") e) refl
 
-tape_is : (m : ArgMatches) (words : List Text) → rows_of (found_of m) ≡ matches_of command_line words → first_value (found_of m) (codes "tape") ≡ tape_in words
-tape_is m words e = given_in m words (codes "tape") e
-
 pub returns-in-Some : goal.returns-in-Some
 returns-in-Some g c =
-    let t = tape_is c.in-Ok.matches (map g.S.AsStr.text c.args.words.now) c.in-Ok.ensures.rows in
     let e = options_are c.in-Ok.matches (map g.S.AsStr.text c.args.words.now) c.in-Ok.ensures.rows in
-    (c.in-Ok.ensures.faults, cc (e, c.get_str-units.ensures, c.get_str-start.ensures, c.get_str-stride.ensures, c.read_options.ensures, c.in-Some.is), c.in_ok-tape-in-Some.ensures ∙ c.get_str.ensures ∙ t)
+    let names = rw c.in-Ok.ensures.rows at c.in_ok-names-in-Some.ensures in
+    (c.in-Ok.ensures.faults, cc (e, c.get_str-units.ensures, c.get_str-start.ensures, c.get_str-stride.ensures, c.read_options.ensures, c.in-Some.is), names)
 
 pub returns-in-Ok : goal.returns-in-Ok
 returns-in-Ok g c =
