@@ -12,10 +12,6 @@ sectors_of_track = 12
 abbrev pub words_of_sector : ℕ
 words_of_sector = 256
 
--- all the words of a drive
-abbrev pub drive_words : ℕ
-drive_words = 1247232
-
 -- the parts of a disk address, RKDA: 15-13 drive, 12-5 cylinder, 4 surface, 3-0 sector
 abbrev pub drive_in : ℕ → ℕ
 drive_in address = field 13 3 address
