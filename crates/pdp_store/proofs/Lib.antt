@@ -1,1 +1,9 @@
 pub mod Traces
+pub mod Pages
+pub mod PagedFields
+pub mod DrivePlaces
+pub mod DriveTaken
+pub mod PageRuns
+pub mod PagedTakes
+pub mod SerialLaws
+pub mod ChangedWord

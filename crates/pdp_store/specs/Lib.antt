@@ -1,3 +1,9 @@
 pub mod Stored
 pub mod Touch
 pub mod Parts
+pub mod Pages
+pub mod Pieces
+pub mod Bases
+pub mod DrivePlaces
+pub mod PageLaws
+pub mod ChangedWord

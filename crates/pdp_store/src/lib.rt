@@ -1,18 +1,39 @@
-//! Stores: lists of 16-bit words, each with the stamp of the last write to it.
+//! Stores: lists of 16-bit words, each with the stamp of the last write to it, and shared pages of such words.
 //!
 //! It stands on pdp_word. The contract of [`Store`] says what each call answers and what it does to the list of
 //! words and to their last stamps; [`Flat`] keeps that contract in two arrays. Core is a store, and so is each drive.
-//! Addresses, and which turn and agent a stamp names, it leaves to pdp_unibus and pdp_rk11.
+//! The contract of [`Paging`] says what is taken of a store as pages of 256 words ([`Page`], [`Pages`]), and what a
+//! load of them leaves: [`Paged`], for core, keeps it in flat arrays, and [`PagedDrive`], for drives, reads a place
+//! from its page until a word there is written. Addresses, and which turn and agent a stamp names, it leaves to pdp_unibus
+//! and pdp_rk11.
 #![tactic(auto)]
 
 ghost use Rattle.std.specs.Prelude.{◌≡◌, ◌<◌, length, slice_index, slice_index_or, slice_set};
 ghost use Rattle.pdp_store.specs.Stored.{HasLastOfEachOrNone};
 
+mod base;
+mod changed_word;
+#[cfg(test)]
+mod drive_tests;
 mod flat_store;
+mod laws;
+mod page;
+mod page_runs;
+#[cfg(test)]
+mod page_tests;
+mod paged_drive;
+mod paged_store;
+mod paging;
 #[cfg(test)]
 mod tests;
 
+pub use changed_word::change_word;
 pub use flat_store::Flat;
+pub use laws::serials_are_given_once;
+pub use page::{PAGE_WORDS, Page, Pages};
+pub use paged_drive::PagedDrive;
+pub use paged_store::Paged;
+pub use paging::Paging;
 
 /// Who made an access to a word: the processor, or the disk in a transfer of its own.
 #[derive(Clone, Copy, Debug, PartialEq, Eq)]

@@ -1,0 +1,6 @@
+-- Lists of words cut into pieces of 256, one for each page. No rule of the handbook is here.
+use Rattle.std.specs.Prelude.{ℕ, ◌*◌, List, drop, take}
+
+-- the 256 items at this place
+unfoldable pub piece : {X : Type 0} → ℕ → List X → List X
+piece place xs = take 256 (drop (place * 256) xs)

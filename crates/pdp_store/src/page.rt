@@ -1,0 +1,77 @@
+//! Pages: 256 words with their last stamps, which several stores and states may share.
+
+ghost use Rattle.std.specs.Prelude.{◌≡◌, ◌<◌, length, slice_set, IfOk};
+
+use crate::Stamp;
+use pdp_word::NoMemory;
+use std::alloc::Global;
+use std::rc::Rc;
+
+/// How many words a page has.
+pub const PAGE_WORDS: usize = 256;
+
+/// A list of shared pages, itself shared: the words of a store, 256 at each place.
+pub type Pages = Rc<Vec<Rc<Page>>>;
+
+/// 256 words with their last stamps, as a store had them at a place when they were taken. (This project's profile.)
+#[derive(Drop)]
+pub struct Page {
+    /// The number that the store gave it when it was made: from 1 up, each number once; 0 where they were used up.
+    pub serial: u64,
+    pub words: Vec<u16>,
+    /// As many as the words; or none, where the store is without stamps.
+    pub stamps: Vec<Option<Stamp>>,
+    ghost full: { length words.items ≡ 256 },
+    ghost stamped: { 0 < length stamps.items → length stamps.items ≡ 256 },
+}
+
+impl Page {
+    /// A page of these words and these stamps under this serial.
+    ///
+    /// Err(NoMemory) where a growth was refused.
+    pub(crate) fn copied(
+        alloc: Global,
+        serial: u64,
+        words: &[u16],
+        stamps: &[Option<Stamp>],
+    ) -> Result<Page, NoMemory>
+        requires full { length words.now ≡ 256 }
+        requires stamped { 0 < length stamps.now → length stamps.now ≡ 256 }
+        ensures serial { IfOk result (λ page. page.serial ≡ serial) }
+        ensures words { IfOk result (λ page. page.words.items ≡ words.now) }
+        ensures stamps { IfOk result (λ page. page.stamps.items ≡ stamps.now) }
+    {
+        let words = words.to_vec(alloc)?;
+        let stamps = stamps.to_vec(alloc)?;
+        Ok(Page {
+            serial,
+            words,
+            stamps,
+        })
+    }
+
+    /// The page with its word `i` (0 to 255) changed to `w`, its stamps kept, under this serial.
+    ///
+    /// Err(NoMemory) where a growth was refused.
+    pub(crate) fn changed(
+        &self,
+        alloc: Global,
+        serial: u64,
+        i: usize,
+        w: u16,
+    ) -> Result<Page, NoMemory>
+        requires { i < 256 }
+        ensures serial { IfOk result (λ page. page.serial ≡ serial) }
+        ensures words { IfOk result (λ page. page.words.items ≡ slice_set self.now.words.items i w) }
+        ensures stamps { IfOk result (λ page. page.stamps.items ≡ self.now.stamps.items) }
+    {
+        let mut words = self.words.to_vec(alloc)?;
+        words[i] = w;
+        let stamps = self.stamps.to_vec(alloc)?;
+        Ok(Page {
+            serial,
+            words,
+            stamps,
+        })
+    }
+}

@@ -1,0 +1,63 @@
+//! Pages in a row, and the arrays that they are taken from and put into.
+
+ghost use Rattle.std.specs.Prelude.{◌≡◌, ◌<◌, ◌≤◌, ◌+◌, ◌*◌, length};
+ghost use Rattle.pdp_store.specs.Bases.{AreBases};
+ghost use Rattle.pdp_store.specs.Pages.{lasts_of, words_of};
+ghost use Rattle.pdp_store.specs.Pieces.{piece};
+
+use crate::Stamp;
+use crate::base::Base;
+use crate::page::{PAGE_WORDS, Page};
+use std::rc::Rc;
+
+// The 256 items at this place, or none, where there are none at all.
+pub(crate) fn piece_at<T>(items: &[T], place: usize) -> &[T]
+    requires { 0 < length items.now → place * 256 + 256 ≤ length items.now }
+    ensures piece { result.now ≡ piece place items.now }
+    ensures count { 0 < length items.now → length result.now ≡ 256 }
+    ensures none { 0 < length result.now → 0 < length items.now }
+{
+    if items.is_empty() {
+        return items;
+    }
+    let start = place * PAGE_WORDS;
+    &items[start..start + PAGE_WORDS]
+}
+
+// Puts the words of these pages, one page after the other, in place of the words that are there.
+pub(crate) fn put_words(words: &mut [u16], pages: &[Rc<Page>])
+    requires { length (words_of pages.now) ≡ length words.old }
+    ensures { words.new ≡ words_of pages.now }
+{
+    let mut at = 0;
+    for page in pages {
+        let end = at + page.words.len();
+        words[at..end].copy_from_slice(&page.words);
+        at = end;
+    }
+}
+
+// Puts the last stamps of these pages, one page after the other, in place of the stamps that are there.
+pub(crate) fn put_stamps(stamps: &mut [Option<Stamp>], pages: &[Rc<Page>])
+    requires { length (lasts_of pages.now) ≡ length stamps.old }
+    ensures { stamps.new ≡ lasts_of pages.now }
+{
+    let mut at = 0;
+    for page in pages {
+        let end = at + page.stamps.len();
+        stamps[at..end].copy_from_slice(&page.stamps);
+        at = end;
+    }
+}
+
+// Makes each page the base of its place, and takes its mark away.
+pub(crate) fn put_bases(bases: &mut Vec<Base>, written: &mut Vec<bool>, pages: &[Rc<Page>])
+    requires bases { length bases.old.items ≡ length pages.now }
+    requires written { length written.old.items ≡ length pages.now }
+    ensures { AreBases pages.now bases.new.items written.new.items }
+{
+    for place in 0..pages.len() {
+        bases[place] = Base::of(&pages[place]);
+        written[place] = false;
+    }
+}

@@ -1,0 +1,359 @@
+//! A store for a drive: read through shared pages, and from words of its own once a place was written.
+
+ghost use Rattle.std.specs.Prelude.{◌≡◌, ◌<◌, ◌≤◌, ◌+◌, ◌*◌, ◌/◌, ◌%◌, [], Some, None, length, map, slice_get, slice_index, slice_index_or, slice_set, replicate, IfOk, IfSome, false};
+ghost use Rattle.pdp_store.specs.Pages.{blank_words, without_base, next_given, next_serial, words_of, lasts_of, serials, serials_taken, given_after};
+ghost use Rattle.pdp_store.specs.declared.paged_drive.Place.TheVariants.{Shared};
+ghost use Rattle.pdp_store.specs.DrivePlaces.{AreTaken, base_from, copied_from, loaded, unshared, with_part};
+ghost use Rattle.pdp_store.specs.Bases.{IsPageOf, given_there, serial_there};
+ghost use Rattle.pdp_store.specs.Pieces.{piece};
+
+use crate::base::new_page;
+use crate::page::{PAGE_WORDS, Page, Pages};
+use crate::paging::Paging;
+use crate::{Stamp, Store};
+use pdp_word::NoMemory;
+use std::alloc::Global;
+use std::marker::Model;
+use std::rc::Rc;
+
+/// What the words of a place are read from.
+#[derive(Clone, Copy, Drop)]
+enum Place {
+    /// Its page of the list.
+    Shared,
+
+    /// The drive's own words; it has no base.
+    Written,
+
+    /// The drive's own words, which are those of the base of this serial.
+    Copied(u64),
+}
+
+/// A store without stamps which reads each place of 256 words from a page that it shares, until a word there is written.
+/// (This project's profile.)
+///
+/// So to load pages is to share their list, whose words stay where they are.
+#[derive(Drop)]
+pub struct PagedDrive {
+    // The pages last taken or loaded.
+    pages: Pages,
+
+    places: Vec<Place>,
+
+    // The words of each place that isn't shared, and what was there before of each place that is.
+    own: Vec<u16>,
+
+    // How many serials were given.
+    given: u64,
+
+    // Whether some place may not be shared.
+    changed: bool,
+}
+
+impl Model for PagedDrive {
+    ghost use Rattle.std.specs.Prelude.{[]};
+    ghost use Rattle.pdp_store.specs.Pages.{PagedWords};
+
+    ghost Value = { PagedWords };
+
+    ghost use Rattle.pdp_store.specs.DrivePlaces.{AreDriveFields, bases_held, words_read};
+
+    ghost view = { λ s. record {
+      words = words_read s.pages.value.items s.places.items s.own.items;
+      bases = bases_held s.pages.value.items s.places.items;
+      given = s.given;
+    } };
+
+    ghost invariant = { λ s. AreDriveFields s.pages.value.items s.places.items s.own.items s.given s.changed };
+}
+
+impl PagedDrive {
+    /// A drive of `len` words, a whole number of pages: all zero, and nothing taken or loaded.
+    ///
+    /// Err(NoMemory) where a growth was refused.
+    pub fn new(alloc: Global, len: usize) -> Result<PagedDrive, NoMemory>
+        requires { (len / 256) * 256 ≡ len }
+        ensures { IfOk result (λ drive. drive ≡ blank_words len) }
+    {
+        let list = Vec::new(alloc);
+        let pages = Rc::new(alloc, list)?;
+        let places = vec![in alloc; Place::Written; len / PAGE_WORDS]?;
+        let own = vec![in alloc; 0; len]?;
+        Ok(PagedDrive {
+            pages,
+            places,
+            own,
+            given: 0,
+            changed: true,
+        })
+    }
+}
+
+impl Store for PagedDrive {
+    ghost words = { λ s. s.words };
+
+    ghost lasts = { λ s. [] };
+
+    #[inline(always)]
+    fn len(&self) -> usize {
+        self.own.len()
+    }
+
+    #[inline(always)]
+    fn read(&self, i: usize) -> u16 {
+        let place = i / PAGE_WORDS;
+        match self.places[place] {
+            Place::Shared => self.pages[place].words[i % PAGE_WORDS],
+            _ => self.own[i],
+        }
+    }
+
+    #[inline(always)]
+    fn write(&mut self, i: usize, w: u16, _stamp: Stamp)
+        requires { i < length self.old.words }
+        ensures words { self.new.words ≡ slice_set self.old.words i w }
+        ensures bases { self.new.bases ≡ without_base self.old.bases i }
+        ensures given { self.new.given ≡ self.old.given }
+    {
+        self.replace(i, w);
+    }
+
+    #[inline(always)]
+    fn last(&self, i: usize) -> Option<Stamp> {
+        let _given = self.given;
+        None
+    }
+
+    #[inline(always)]
+    fn set(&mut self, i: usize, w: u16)
+        requires { i < length self.old.words }
+        ensures words { self.new.words ≡ slice_set self.old.words i w }
+        ensures bases { self.new.bases ≡ without_base self.old.bases i }
+        ensures given { self.new.given ≡ self.old.given }
+    {
+        self.replace(i, w);
+    }
+}
+
+impl PagedDrive {
+    // Makes word `i` equal to `w`, in words of the drive's own.
+    #[inline(always)]
+    fn replace(&mut self, i: usize, w: u16)
+        requires { i < length self.old.words }
+        ensures words { self.new.words ≡ slice_set self.old.words i w }
+        ensures bases { self.new.bases ≡ without_base self.old.bases i }
+        ensures given { self.new.given ≡ self.old.given }
+    {
+        let place = i / PAGE_WORDS;
+        let held = self.places[place];
+        unshare(&mut self.own, place, held, &self.pages);
+        self.places[place] = Place::Written;
+        self.changed = true;
+        self.own[i] = w;
+    }
+}
+
+// Copies the words of this place from its page into `own`, where it is shared.
+#[inline(always)]
+fn unshare(own: &mut Vec<u16>, place: usize, held: Place, pages: &[Rc<Page>])
+    requires shared { held ≡ Shared → place < length pages.now }
+    requires place { place * 256 + 256 ≤ length own.old.items }
+    ensures { own.new.items ≡ unshared held (slice_get pages.now place) place own.old.items }
+{
+    if let Place::Shared = held {
+        put_part(own, place, &pages[place].words);
+    }
+}
+
+// Puts the words of a page into this place of `own`.
+#[cold]
+#[inline(never)]
+fn put_part(own: &mut Vec<u16>, place: usize, part: &[u16])
+    requires part { length part.now ≡ 256 }
+    requires place { place * 256 + 256 ≤ length own.old.items }
+    ensures { own.new.items ≡ with_part place part.now own.old.items }
+{
+    let from = place * PAGE_WORDS;
+    own[from..from + PAGE_WORDS].copy_from_slice(part);
+}
+
+impl Paging for PagedDrive {
+    ghost bases = { λ s. s.bases };
+
+    ghost given = { λ s. s.given };
+
+    fn take_pages(&mut self, alloc: Global) -> Result<Pages, NoMemory> {
+        if let Some(pages) = self.kept() {
+            return Ok(pages);
+        }
+        let (list, given) = self.listed(alloc)?;
+        let pages = Rc::new(alloc, list)?;
+        let kept = pages.clone()?;
+        self.renew(kept, given);
+        Ok(pages)
+    }
+
+    fn load_pages(&mut self, pages: &Pages) {
+        let given = self.given;
+        match pages.clone() {
+            Ok(pages) => self.renew(pages, given),
+            Err(_) => self.copy_all(pages),
+        }
+    }
+
+    fn patched(&mut self, alloc: Global, page: &Page, i: usize, w: u16) -> Result<Page, NoMemory> {
+        let patched = page.changed(alloc, next_serial(self.given), i, w)?;
+        self.given = next_given(self.given);
+        Ok(patched)
+    }
+}
+
+impl PagedDrive {
+    // How many places there are.
+    fn count(&self) -> usize
+        ensures bases { result ≡ length self.now.bases }
+        ensures words { result * 256 ≡ length self.now.words }
+    {
+        let _own = self.own.len();
+        self.places.len()
+    }
+
+    // The list of the pages, where each place is read from it; None too where it has as many owners as can be counted.
+    fn kept(&self) -> Option<Pages>
+        ensures kept { IfSome result (λ pages. self.now ≡ loaded pages.value.items self.now.given) }
+        ensures lasts { IfSome result (λ pages. lasts_of pages.value.items ≡ []) }
+    {
+        if self.changed {
+            return None;
+        }
+        match self.pages.clone() {
+            Ok(pages) => Some(pages),
+            Err(_) => None,
+        }
+    }
+
+    // The places as pages, and how many serials are given then.
+    //
+    // Err(NoMemory) where a growth was refused.
+    fn listed(&self, alloc: Global) -> Result<(Vec<Rc<Page>>, u64), NoMemory>
+        ensures { IfOk result (λ taken. AreTaken taken.0.items taken.1 self.now.words self.now.bases self.now.given) }
+    {
+        let mut list = Vec::new(alloc);
+        let mut given = self.given;
+        for place in 0..self.count() {
+            let page = self.page_of(alloc, place, given)?;
+            given = self.given_past(place, given);
+            list.push(page)?;
+        }
+        Ok((list, given))
+    }
+
+    // A place as a page: its own where it is shared, else a new one.
+    //
+    // Err(NoMemory) where a growth was refused.
+    fn page_of(&self, alloc: Global, place: usize, given: u64) -> Result<Rc<Page>, NoMemory>
+        requires { place < length self.now.bases }
+        ensures { IfOk result (λ page. IsPageOf page (piece place self.now.words) [] (serial_there (slice_index_or self.now.bases place None) given)) }
+    {
+        let held = self.places[place];
+        if let Place::Shared = held {
+            let page = self.pages[place].clone()?;
+            return Ok(page);
+        }
+        new_page(alloc, serial_for(held, given), part(&self.own, place), &[])
+    }
+
+    // How many serials are given after this place, where so many were before it.
+    fn given_past(&self, place: usize, given: u64) -> u64
+        requires { place < length self.now.bases }
+        ensures { result ≡ given_there (slice_index_or self.now.bases place None) given }
+    {
+        match self.places[place] {
+            Place::Written => next_given(given),
+            _ => given,
+        }
+    }
+
+    // Reads each place from this list from now on.
+    fn renew(&mut self, pages: Pages, given: u64)
+        requires words { length (words_of pages.value.items) ≡ length self.old.words }
+        requires lasts { lasts_of pages.value.items ≡ [] }
+        ensures { self.new ≡ loaded pages.value.items given }
+    {
+        share_all(&mut self.places, self.changed);
+        self.pages = pages;
+        self.given = given;
+        self.changed = false;
+    }
+}
+
+// The words of this place.
+fn part(words: &[u16], place: usize) -> &[u16]
+    requires { place * 256 + 256 ≤ length words.now }
+    ensures { result.now ≡ piece place words.now }
+{
+    let start = place * PAGE_WORDS;
+    &words[start..start + PAGE_WORDS]
+}
+
+// Makes each place shared, where some may not be.
+fn share_all(places: &mut Vec<Place>, changed: bool)
+    requires { changed ≡ false → places.old.items ≡ replicate (length places.old.items) Shared }
+    ensures { places.new.items ≡ replicate (length places.old.items) Shared }
+{
+    if changed {
+        places.fill(Place::Shared);
+    }
+}
+
+// The serial of the page that is made of a place that isn't shared.
+fn serial_for(held: Place, given: u64) -> u64
+    ensures { result ≡ serial_there (base_from held None) given }
+{
+    match held {
+        Place::Copied(serial) => serial,
+        _ => next_serial(given),
+    }
+}
+
+// The serial that is given after so many.
+fn next_serial(given: u64) -> u64
+    ensures { result ≡ next_serial given }
+{
+    if given < u64::MAX { given + 1 } else { 0 }
+}
+
+// How many are given then.
+fn next_given(given: u64) -> u64
+    ensures { result ≡ next_given given }
+{
+    given.saturating_add(1)
+}
+
+impl PagedDrive {
+    // Makes the words equal to those of these pages, in words of the drive's own.
+    #[cold]
+    fn copy_all(&mut self, pages: &[Rc<Page>])
+        requires words { length (words_of pages.now) ≡ length self.old.words }
+        requires lasts { lasts_of pages.now ≡ [] }
+        ensures { self.new ≡ loaded pages.now self.old.given }
+    {
+        let _given = self.given;
+        self.changed = true;
+        copy_each(&mut self.own, &mut self.places, pages);
+    }
+}
+
+// Copies the words and the serials of these pages.
+fn copy_each(own: &mut Vec<u16>, places: &mut Vec<Place>, pages: &[Rc<Page>])
+    requires own { length own.old.items ≡ length pages.now * 256 }
+    requires places { length places.old.items ≡ length pages.now }
+    ensures own { own.new.items ≡ words_of pages.now }
+    ensures places { places.new.items ≡ map copied_from pages.now }
+{
+    for place in 0..pages.len() {
+        let page = &pages[place];
+        put_part(own, place, &page.words);
+        places[place] = Place::Copied(page.serial);
+    }
+}

@@ -1,0 +1,256 @@
+//! A store in flat arrays, with the base of each place of 256 words beside them.
+
+ghost use Rattle.std.specs.Prelude.{◌≡◌, ◌<◌, ◌≤◌, ◌*◌, ◌/◌, ◌+◌, Some, None, length, map, min, replicate, slice_get, slice_set, slice_index_or, true, [], IfOk, IsErr, is_ok, if◌then◌else◌};
+ghost use Rattle.pdp_store.specs.Stored.{HasLastOfEachOrNone};
+ghost use Rattle.pdp_store.specs.Pages.{blank_paged, next_given, next_serial, without_base};
+ghost use Rattle.pdp_store.specs.Bases.{AreAllTaken, IsPageOf, given_there, serial_there};
+ghost use Rattle.pdp_store.specs.Pieces.{piece};
+
+use crate::base::{Base, new_page};
+use crate::page::{PAGE_WORDS, Page, Pages};
+use crate::page_runs::{piece_at, put_bases, put_stamps, put_words};
+use crate::{Paging, Stamp, Store};
+use pdp_word::NoMemory;
+use std::alloc::Global;
+use std::marker::Model;
+use std::rc::Rc;
+
+/// A store of pages that keeps its words in one array and their stamps in another, so that a read costs what it costs
+/// in [`Flat`](crate::Flat), and a write the mark of its place more. Taking copies the places that were written since
+/// they were last taken or loaded; loading copies every place. (This project's profile.)
+#[derive(Drop)]
+pub struct Paged {
+    words: Vec<u16>,
+
+    // As many as the words; or empty, in a store without stamps.
+    stamps: Vec<Option<Stamp>>,
+
+    // The base of each place, which counts only where the place isn't marked as written since.
+    bases: Vec<Base>,
+    written: Vec<bool>,
+
+    // How many serials were given.
+    given: u64,
+}
+
+impl Model for Paged {
+    ghost use Rattle.pdp_store.specs.Pages.{PagedStored};
+    ghost use Rattle.pdp_store.specs.Bases.{AreFields, bases_of};
+
+    ghost Value = { PagedStored };
+
+    ghost view = { λ s. record { words = s.words.items; lasts = s.stamps.items; bases = bases_of s.written.items s.bases.items; given = s.given } };
+
+    ghost invariant = { λ s. AreFields s.words.items s.stamps.items s.bases.items s.written.items };
+}
+
+impl Paged {
+    /// A store of `len` words, a multiple of 256, each of them zero and none written yet; with stamps where `stamped`.
+    ///
+    /// Err(NoMemory) where a growth was refused.
+    pub fn new(alloc: Global, len: usize, stamped: bool) -> Result<Paged, NoMemory>
+        requires { (len / 256) * 256 ≡ len }
+        ensures { IfOk result (λ store. store ≡ blank_paged len stamped) }
+    {
+        let places = len / PAGE_WORDS;
+        let words = vec![in alloc; 0; len]?;
+        let stamps = no_stamps(alloc, len, stamped)?;
+        let bases = no_bases(alloc, places)?;
+        let written = vec![in alloc; true; places]?;
+        Ok(Paged {
+            words,
+            stamps,
+            bases,
+            written,
+            given: 0,
+        })
+    }
+}
+
+// The stamps of so many words that weren't written yet, or none, where not `stamped`.
+//
+// Err(NoMemory) where a growth was refused.
+fn no_stamps(alloc: Global, len: usize, stamped: bool) -> Result<Vec<Option<Stamp>>, NoMemory>
+    ensures { IfOk result (λ stamps. stamps.items ≡ (if stamped then replicate len None else [])) }
+{
+    if stamped {
+        Ok(vec![in alloc; None; len]?)
+    } else {
+        Ok(Vec::new(alloc))
+    }
+}
+
+// So many bases, each to be marked, since there is no page of it.
+//
+// Err(NoMemory) where a growth was refused.
+fn no_bases(alloc: Global, places: usize) -> Result<Vec<Base>, NoMemory>
+    ensures { IfOk result (λ bases. length bases.items ≡ places) }
+{
+    let mut bases = Vec::with_capacity(alloc, places)?;
+    for _ in 0..places {
+        bases.push(Base::Numbered(0))?;
+    }
+    Ok(bases)
+}
+
+// Makes the last stamp of word `i`, where there are stamps, equal to `last`.
+#[inline(always)]
+fn put_last(stamps: &mut Vec<Option<Stamp>>, i: usize, last: Option<Stamp>)
+    ensures { stamps.new.items ≡ slice_set stamps.old.items i last }
+{
+    if let Some(stamp) = stamps.get_mut(i) {
+        *stamp = last;
+    }
+}
+
+impl Paged {
+    // Makes word `i` equal to `w`, and its last stamp, where the store has stamps, equal to `last`.
+    #[inline(always)]
+    fn replace(&mut self, i: usize, w: u16, last: Option<Stamp>)
+        requires { i < length self.old.words }
+        ensures words { self.new.words ≡ slice_set self.old.words i w }
+        ensures lasts { self.new.lasts ≡ slice_set self.old.lasts i last }
+        ensures bases { self.new.bases ≡ without_base self.old.bases i }
+        ensures given { self.new.given ≡ self.old.given }
+    {
+        self.words[i] = w;
+        self.written[i / PAGE_WORDS] = true;
+        put_last(&mut self.stamps, i, last);
+    }
+}
+
+impl Store for Paged {
+    ghost words = { λ s. s.words };
+
+    ghost lasts = { λ s. s.lasts };
+
+    #[inline(always)]
+    fn len(&self) -> usize {
+        self.words.len()
+    }
+
+    #[inline(always)]
+    fn read(&self, i: usize) -> u16 {
+        self.words[i]
+    }
+
+    #[inline(always)]
+    fn write(&mut self, i: usize, w: u16, stamp: Stamp)
+        requires { i < length self.old.words }
+        ensures words { self.new.words ≡ slice_set self.old.words i w }
+        ensures lasts { self.new.lasts ≡ slice_set self.old.lasts i (Some stamp) }
+        ensures bases { self.new.bases ≡ without_base self.old.bases i }
+        ensures given { self.new.given ≡ self.old.given }
+    {
+        self.replace(i, w, Some(stamp));
+    }
+
+    #[inline(always)]
+    fn last(&self, i: usize) -> Option<Stamp> {
+        self.stamps.get(i).copied().flatten()
+    }
+
+    #[inline(always)]
+    fn set(&mut self, i: usize, w: u16)
+        requires { i < length self.old.words }
+        ensures words { self.new.words ≡ slice_set self.old.words i w }
+        ensures lasts { self.new.lasts ≡ slice_set self.old.lasts i None }
+        ensures bases { self.new.bases ≡ without_base self.old.bases i }
+        ensures given { self.new.given ≡ self.old.given }
+    {
+        self.replace(i, w, None);
+    }
+}
+
+// The serial that is given after so many.
+fn next_serial(given: u64) -> u64
+    ensures { result ≡ next_serial given }
+{
+    given.checked_add(1).unwrap_or(0)
+}
+
+// How many serials are given then.
+fn next_given(given: u64) -> u64
+    ensures { result ≡ next_given given }
+{
+    given.saturating_add(1)
+}
+
+// Pages as they were taken, and how many serials are given with theirs.
+#[derive(Drop)]
+struct Taken {
+    pages: Vec<Rc<Page>>,
+    given: u64,
+}
+
+impl Paged {
+    // The page of this place, where so many serials are given before it: its base, or where it has none a new page.
+    //
+    // Err(NoMemory) where a growth was refused.
+    fn page_at(&self, alloc: Global, place: usize, given: u64) -> Result<Rc<Page>, NoMemory>
+        requires { place * 256 < length self.now.words }
+        ensures { IfOk result (λ page. IsPageOf page (piece place self.now.words) (piece place self.now.lasts) (serial_there (slice_index_or self.now.bases place None) given)) }
+    {
+        let words = piece_at(&self.words, place);
+        let stamps = piece_at(&self.stamps, place);
+        if self.written[place] {
+            new_page(alloc, next_serial(given), words, stamps)
+        } else {
+            self.bases[place].page(alloc, words, stamps)
+        }
+    }
+
+    // How many serials are given with that of the page of this place, where so many are given before it.
+    fn given_with(&self, place: usize, given: u64) -> u64
+        requires { place * 256 < length self.now.words }
+        ensures { result ≡ given_there (slice_index_or self.now.bases place None) given }
+    {
+        if self.written[place] {
+            next_given(given)
+        } else {
+            given
+        }
+    }
+
+    // The page of every place, while the store stays as it is.
+    //
+    // Err(NoMemory) where a growth was refused.
+    fn pages(&self, alloc: Global) -> Result<Taken, NoMemory>
+        ensures { IfOk result (λ taken. AreAllTaken taken.pages.items taken.given self.now) }
+    {
+        let places = self.bases.len();
+        let mut pages = Vec::with_capacity(alloc, places)?;
+        let mut given = self.given;
+        for place in 0..places {
+            pages.push(self.page_at(alloc, place, given)?)?;
+            given = self.given_with(place, given);
+        }
+        Ok(Taken { pages, given })
+    }
+}
+
+impl Paging for Paged {
+    ghost bases = { λ s. s.bases };
+
+    ghost given = { λ s. s.given };
+
+    fn take_pages(&mut self, alloc: Global) -> Result<Pages, NoMemory> {
+        let Taken { pages, given } = self.pages(alloc)?;
+        let pages = Rc::new(alloc, pages)?;
+        put_bases(&mut self.bases, &mut self.written, &pages);
+        self.given = given;
+        Ok(pages)
+    }
+
+    fn load_pages(&mut self, pages: &Pages) {
+        put_words(&mut self.words, pages);
+        put_stamps(&mut self.stamps, pages);
+        put_bases(&mut self.bases, &mut self.written, pages);
+    }
+
+    fn patched(&mut self, alloc: Global, page: &Page, i: usize, w: u16) -> Result<Page, NoMemory> {
+        let patched = page.changed(alloc, next_serial(self.given), i, w)?;
+        self.given = next_given(self.given);
+        Ok(patched)
+    }
+}
