@@ -24,6 +24,7 @@ apart_fails r b status trap is = record {
   lasts = rw (perform_is r b, is) refl;
   drives = rw (perform_is r b, is) refl;
   tape = rw (perform_is r b, is) refl;
+  bytes_read = rw (perform_is r b, is) refl;
   turn = rw (perform_is r b, is) refl;
   board = rw (perform_is r b, is) refl;
   touches_none = rw (touches_is r b, is) refl;

@@ -50,10 +50,20 @@ stamped lasts j k stamp false is within = get_or-set_other lasts j k stamp None 
 goes_stamps : Goes KeepsStamps
 goes_stamps = record {
   stays = keeps_stamps.stays;
-  changes = λ xs b c board so. keeps_stamps.changes xs b c board c.tape so;
+  changes = λ xs b c board so. keeps_stamps.changes xs b c board c.bytes_read so;
   looks = λ b k within. record { size = refl; lasts = λ j below. refl };
   writes = λ b k word within. record { size = length-set _ _ _; lasts = λ j below. stamped b.lasts k j _ (k == j) refl below };
   joins = keeps_stamps.joins;
+}
+
+-- the tape stays
+goes_tape : Goes (λ xs b c. c.tape ≡ b.tape)
+goes_tape = record {
+  stays = λ b. refl;
+  changes = λ xs b c board so. so;
+  looks = λ b k within. refl;
+  writes = λ b k word within. refl;
+  joins = λ xs ys b c d so also. also ∙ so;
 }
 
 -- a write leaves the pages of other words of its part, and of all other parts
@@ -66,7 +76,7 @@ written_elsewhere (parts.Drive number) page b k word avoids j inside = refl
 goes_page : (part : Part) (page : ℕ) → Goes (KeepsPage part page)
 goes_page part page = record {
   stays = (keeps_page part page).stays;
-  changes = λ xs b c board so. (keeps_page part page).changes xs b c board c.tape so;
+  changes = λ xs b c board so. (keeps_page part page).changes xs b c board c.bytes_read so;
   looks = λ b k within avoids j inside. refl;
   writes = λ b k word within avoids. written_elsewhere part page b k word avoids;
   joins = (keeps_page part page).joins;
@@ -77,6 +87,9 @@ course_keeps_turn = along_course KeepsTurn goes_turn
 
 pub course_keeps_stamps : (course : Course) (s : State) → KeepsStamps (trace_of course s) s.world.bus (follow course s).world.bus
 course_keeps_stamps = along_course KeepsStamps goes_stamps
+
+pub course_keeps_tape : (course : Course) (s : State) → (follow course s).world.bus.tape ≡ s.world.bus.tape
+course_keeps_tape = along_course (λ xs b c. c.tape ≡ b.tape) goes_tape
 
 pub course_touches : (course : Course) (s : State) → All (IsByProcessor s.world.bus.turn (length s.world.bus.core)) (trace_of course s)
 course_touches course s = (course_keeps_turn course s).touches

@@ -31,7 +31,7 @@ fn cell_at(mode: Mode, address: u16) -> Cell
 
 /// The register that a number names in the mode of now.
 #[inline(always)]
-fn slot<S: Store>(bus: &Bus<S>, register: u8) -> Slot
+fn slot<S: Store, D: Store>(bus: &Bus<S, D>, register: u8) -> Slot
     ensures { result ≡ slot_of bus.now.board.status.mode register }
 {
     Slot::of(bus.status().mode, register)
@@ -40,7 +40,7 @@ fn slot<S: Store>(bus: &Bus<S>, register: u8) -> Slot
 /// (R)
 #[inline(always)]
 #[tactic(auto, unfolding(crate::specs::Phases::Phase::run, crate::specs::Handbook::Operand::point))]
-fn pointed<S: Store>(processor: &Processor, bus: &Bus<S>, register: u8) -> Cell
+fn pointed<S: Store, D: Store>(processor: &Processor, bus: &Bus<S, D>, register: u8) -> Cell
     ensures gives { Gives in_cell (one (point register)) processor.now bus.now (Ok result) processor.now bus.now }
 {
     cell_at(bus.status().mode, processor.register(slot(bus, register)))
@@ -49,7 +49,12 @@ fn pointed<S: Store>(processor: &Processor, bus: &Bus<S>, register: u8) -> Cell
 /// (R)+
 #[inline(always)]
 #[tactic(auto, unfolding(crate::specs::Phases::Phase::run, crate::specs::Handbook::Operand::grow))]
-fn grown<S: Store>(processor: &mut Processor, bus: &Bus<S>, register: u8, step: u16) -> Cell
+fn grown<S: Store, D: Store>(
+    processor: &mut Processor,
+    bus: &Bus<S, D>,
+    register: u8,
+    step: u16,
+) -> Cell
     ensures gives { Gives in_cell (one (grow register step)) processor.old bus.now (Ok result) processor.new bus.now }
 {
     let slot = slot(bus, register);
@@ -89,9 +94,9 @@ pub fn lower(processor: &mut Processor, mode: Mode, register: u8, step: u16) -> 
 /// -(R)
 #[inline(always)]
 #[tactic(auto, unfolding(crate::specs::Phases::Phase::run, crate::specs::Handbook::Operand::lower))]
-fn shrunk<S: Store>(
+fn shrunk<S: Store, D: Store>(
     processor: &mut Processor,
-    bus: &Bus<S>,
+    bus: &Bus<S, D>,
     register: u8,
     step: u16,
 ) -> Result<Cell, Trap>
@@ -104,9 +109,9 @@ fn shrunk<S: Store>(
 /// X(R)
 #[inline(always)]
 #[tactic(auto, unfolding(crate::specs::Phases::Phase::run, crate::specs::Handbook::Operand::index))]
-fn indexed<S: Store>(
+fn indexed<S: Store, D: Store>(
     processor: &mut Processor,
-    bus: &mut Bus<S>,
+    bus: &mut Bus<S, D>,
     register: u8,
 ) -> Result<Cell, Trap>
     ensures gives { Gives in_cell (one (index register)) processor.old bus.old result processor.new bus.new }
@@ -121,7 +126,11 @@ fn indexed<S: Store>(
 /// The cell whose address is the word in this one.
 #[inline(always)]
 #[tactic(auto, unfolding(crate::specs::Phases::Phase::run, crate::specs::Handbook::Operand::indirect))]
-fn deferred<S: Store>(processor: &mut Processor, bus: &mut Bus<S>, cell: Cell) -> Result<Cell, Trap>
+fn deferred<S: Store, D: Store>(
+    processor: &mut Processor,
+    bus: &mut Bus<S, D>,
+    cell: Cell,
+) -> Result<Cell, Trap>
     ensures gives { GivesWhere (IsAt (Mem cell)) in_cell (one indirect)
         processor.old bus.old result processor.new bus.new }
 {
@@ -151,9 +160,9 @@ fn step(size: Size, register: u8) -> u16
 /// [`lower`] has it.
 #[inline(always)]
 #[tactic(auto, unfolding(crate::specs::Handbook::Operand::find), using(crate::proofs::Steps::run_name_register))]
-pub fn address<S: Store>(
+pub fn address<S: Store, D: Store>(
     processor: &mut Processor,
-    bus: &mut Bus<S>,
+    bus: &mut Bus<S, D>,
     operand: Spec,
     size: Size,
 ) -> Result<Place, Trap>
@@ -200,9 +209,9 @@ fn register_operand(processor: &Processor, slot: Slot, size: Size) -> u16
 /// Err where the reference to memory faults; no stack trap is pending by it then.
 #[inline(always)]
 #[tactic(auto, unfolding(crate::specs::Phases::Phase::run, crate::specs::Handbook::Operand::read_operand))]
-pub fn fetch<S: Store>(
+pub fn fetch<S: Store, D: Store>(
     processor: &mut Processor,
-    bus: &mut Bus<S>,
+    bus: &mut Bus<S, D>,
     place: Place,
     size: Size,
 ) -> Result<u16, Trap>
@@ -233,9 +242,9 @@ pub fn fetch<S: Store>(
 /// Err where the reference to memory faults.
 #[inline(always)]
 #[tactic(auto, unfolding(crate::specs::Phases::Phase::run, crate::specs::Handbook::Operand::read_before_write))]
-pub fn fetch_before_store<S: Store>(
+pub fn fetch_before_store<S: Store, D: Store>(
     processor: &Processor,
-    bus: &mut Bus<S>,
+    bus: &mut Bus<S, D>,
     place: Place,
     size: Size,
 ) -> Result<u16, Trap>
@@ -260,9 +269,9 @@ pub fn fetch_before_store<S: Store>(
 /// Err where the reference to memory faults; nothing is written then, and no stack trap is pending by it.
 #[inline(always)]
 #[tactic(auto, unfolding(crate::specs::Phases::Phase::run, crate::specs::Handbook::Operand::write_operand))]
-pub fn store<S: Store>(
+pub fn store<S: Store, D: Store>(
     processor: &mut Processor,
-    bus: &mut Bus<S>,
+    bus: &mut Bus<S, D>,
     place: Place,
     fill: Fill,
     value: u16,

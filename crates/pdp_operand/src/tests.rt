@@ -1,4 +1,4 @@
-//! Operands and references over a page of core, or over less.
+//! Each call over a page of core. What programs make of operands is in the rows and tables of sessions.
 
 use crate::{
     Cell, Place, Processor, Slot, aborts_change_no_core_word, courses_leave_what_they_never_touch,
@@ -13,13 +13,11 @@ use std::alloc::Global;
 mod addressing;
 mod mapping;
 mod operands;
-mod references;
 mod registers;
 mod stack_limit;
-mod stack_traps;
 
 // A bus over a page of core with the words that these tests point at.
-fn page(alloc: Global) -> Result<Bus<Flat>, NoMemory> {
+fn page(alloc: Global) -> Result<Bus<Flat, Flat>, NoMemory> {
     let mut core = Flat::new(alloc, 256, true)?;
     core.set(0o000040 / 2, 0o000010);
     core.set(0o000076 / 2, 0o000400);
@@ -41,15 +39,6 @@ fn memory(address: u16) -> Place {
         mode: Mode::Kernel,
         address,
         near: false,
-    })
-}
-
-// The same place as a reference by the kernel's stack pointer, below 400.
-fn near(address: u16) -> Place {
-    Place::Mem(Cell {
-        mode: Mode::Kernel,
-        address,
-        near: true,
     })
 }
 

@@ -1,9 +1,9 @@
 -- What a completion does to the channel and to the operation.
-use Rattle.std.proofs.Common.{◌≡◌, ℕ, Bool, true, false, Option, Some, None, List, length, refl, ap, ◌∙◌, if◌then◌else◌}
+use Rattle.std.proofs.Common.{◌≡◌, ℕ, true, false, Option, Some, None, length, refl, ap}
 use Rattle.pdp_device.specs.Channel.{with_ready}
 use Rattle.pdp_device.specs.Operation.{is_under_way}
 use Rattle.pdp_device.specs.declared.operation.Operation.TheVariants.{Idle}
-use Rattle.pdp_rk11.specs.Completion.{DiskWorld, completed, finished_world, lists_after, performed, refusal, registers_after, transferred, worked}
+use Rattle.pdp_rk11.specs.Completion.{DiskWorld, completed, performed, refusal, registers_after, transferred, worked}
 use Rattle.pdp_rk11.specs.declared.failure.Failure.{Failure}
 use Rattle.pdp_rk11.specs.declared.function.Function.{Function}
 use Rattle.pdp_rk11.specs.declared.function.Function.TheVariants.{ControlReset, Write, Read, WriteCheck, Seek, ReadCheck, DriveReset, WriteLock}

@@ -34,9 +34,9 @@ impl Rk {
     /// PDP-11 Peripherals Handbook, RK11; that it is one act, the order of the tests, the fill, and where the registers
     /// are left, are this project's profile.
     #[tactic(auto, unfolding(crate::specs::Completion::completed), using(crate::proofs::Names::map_length))]
-    pub fn complete<S: Store>(&mut self, core: &mut S, drives: &mut [S], turn: u32)
-        ensures { disk_world self.new (S.words core.new) (S.lasts core.new) (map S.words drives.new)
-            ≡ completed turn (disk_world self.old (S.words core.old) (S.lasts core.old) (map S.words drives.old)) }
+    pub fn complete<S: Store, D: Store>(&mut self, core: &mut S, drives: &mut [D], turn: u32)
+        ensures { disk_world self.new (S.words core.new) (S.lasts core.new) (map D.words drives.new)
+            ≡ completed turn (disk_world self.old (S.words core.old) (S.lasts core.old) (map D.words drives.old)) }
     {
         if self.operation.is_under_way() {
             self.perform(core, drives, turn);
@@ -53,10 +53,10 @@ impl Rk {
     }
 
     // What is under way, or why it can't be done.
-    fn perform<S: Store>(&mut self, core: &mut S, drives: &mut [S], turn: u32)
-        ensures { disk_world self.new (S.words core.new) (S.lasts core.new) (map S.words drives.new)
+    fn perform<S: Store, D: Store>(&mut self, core: &mut S, drives: &mut [D], turn: u32)
+        ensures { disk_world self.new (S.words core.new) (S.lasts core.new) (map D.words drives.new)
             ≡ performed (refusal self.old (length drives.old)) turn
-            (disk_world self.old (S.words core.old) (S.lasts core.old) (map S.words drives.old)) }
+            (disk_world self.old (S.words core.old) (S.lasts core.old) (map D.words drives.old)) }
     {
         match self.refusal(drives.len()) {
             Some(failure) => self.failure = Some(failure),
@@ -85,12 +85,12 @@ impl Rk {
     }
 
     // What the function does, where nothing forbids it.
-    fn work<S: Store>(&mut self, core: &mut S, drives: &mut [S], turn: u32)
+    fn work<S: Store, D: Store>(&mut self, core: &mut S, drives: &mut [D], turn: u32)
         requires drive { drive_in self.old.disk_address < length drives.old }
         requires sector { names_sector self.old.function ≡ true → sector_number self.old.disk_address < 4872 }
-        ensures { disk_world self.new (S.words core.new) (S.lasts core.new) (map S.words drives.new)
+        ensures { disk_world self.new (S.words core.new) (S.lasts core.new) (map D.words drives.new)
             ≡ worked self.old.function turn
-            (disk_world self.old (S.words core.old) (S.lasts core.old) (map S.words drives.old)) }
+            (disk_world self.old (S.words core.old) (S.lasts core.old) (map D.words drives.old)) }
     {
         match self.function {
             Function::ControlReset => {}
@@ -112,11 +112,11 @@ impl Rk {
 
     // Words are moved or compared.
     #[tactic(auto, unfolding(crate::specs::Completion::transferred), using(crate::proofs::Names::map_get))]
-    fn transfer<S: Store>(&mut self, core: &mut S, drives: &mut [S], turn: u32)
+    fn transfer<S: Store, D: Store>(&mut self, core: &mut S, drives: &mut [D], turn: u32)
         requires drive { drive_in self.old.disk_address < length drives.old }
         requires sector { sector_number self.old.disk_address < 4872 }
-        ensures { disk_world self.new (S.words core.new) (S.lasts core.new) (map S.words drives.new)
-            ≡ transferred turn (disk_world self.old (S.words core.old) (S.lasts core.old) (map S.words drives.old)) }
+        ensures { disk_world self.new (S.words core.new) (S.lasts core.new) (map D.words drives.new)
+            ≡ transferred turn (disk_world self.old (S.words core.old) (S.lasts core.old) (map D.words drives.old)) }
     {
         let size = drives[self.drive()].len();
         let transfer = self.transfer_of(core.len(), size);
@@ -175,24 +175,24 @@ impl Rk {
 
     // Moves or compares the words. Whether a write check found words that differ.
     #[tactic(auto, using(crate::proofs::Names::map_get, crate::proofs::Names::map_with))]
-    fn move_words<S: Store>(
+    fn move_words<S: Store, D: Store>(
         &self,
         transfer: Transfer,
         core: &mut S,
-        drives: &mut [S],
+        drives: &mut [D],
         turn: u32,
     ) -> bool
         requires drive { drive_in self.now.disk_address < length drives.old }
         requires on_disk { (i : ℕ) → i < transfer.count
-            → disk_word transfer i < length (drive_of (disk_world self.now (S.words core.old) (S.lasts core.old) (map S.words drives.old))) }
+            → disk_word transfer i < length (drive_of (disk_world self.now (S.words core.old) (S.lasts core.old) (map D.words drives.old))) }
         requires in_core { is_read_check self.now.function ≡ false → (i : ℕ) → i < transfer.count → core_word transfer i < length (S.words core.old) }
-        ensures words { disk_world self.now (S.words core.new) (S.lasts core.new) (map S.words drives.new)
+        ensures words { disk_world self.now (S.words core.new) (S.lasts core.new) (map D.words drives.new)
             ≡ lists_after self.now.function transfer turn
-            (disk_world self.now (S.words core.old) (S.lasts core.old) (map S.words drives.old)) }
+            (disk_world self.now (S.words core.old) (S.lasts core.old) (map D.words drives.old)) }
         ensures different { result
             ≡ (is_write_check self.now.function
             && is_different transfer (S.words core.old)
-            (drive_of (disk_world self.now (S.words core.old) (S.lasts core.old) (map S.words drives.old)))) }
+            (drive_of (disk_world self.now (S.words core.old) (S.lasts core.old) (map D.words drives.old)))) }
     {
         let drive = self.drive();
         match self.function {

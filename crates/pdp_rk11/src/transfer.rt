@@ -23,10 +23,10 @@ impl Transfer {
     ghost use Rattle.pdp_rk11.specs.Transfer.{moved_to_disk, rest_of_sector};
 
     /// A read: words of the drive go to core, with this stamp.
-    pub(crate) fn read<S: Store>(self, core: &mut S, disk: &S, stamp: Stamp)
-        requires on_disk { (i : ℕ) → i < self.count → disk_word self i < length (S.words disk.now) }
+    pub(crate) fn read<S: Store, D: Store>(self, core: &mut S, disk: &D, stamp: Stamp)
+        requires on_disk { (i : ℕ) → i < self.count → disk_word self i < length (D.words disk.now) }
         requires in_core { (i : ℕ) → i < self.count → core_word self i < length (S.words core.old) }
-        ensures words { S.words core.new ≡ core_read self (S.words disk.now) (S.words core.old) }
+        ensures words { S.words core.new ≡ core_read self (D.words disk.now) (S.words core.old) }
         ensures lasts { S.lasts core.new ≡ lasts_read self stamp (S.lasts core.old) }
     {
         if self.no_increment {
@@ -38,11 +38,11 @@ impl Transfer {
 
     // Each word goes to a word of its own.
     #[tactic(auto, using(crate::proofs::Moves::moved_none, crate::proofs::Moves::moved_more, crate::proofs::Names::moved_length))]
-    fn read_all<S: Store>(self, core: &mut S, disk: &S, stamp: Stamp)
-        requires on_disk { (i : ℕ) → i < self.count → self.disk_start + i < length (S.words disk.now) }
+    fn read_all<S: Store, D: Store>(self, core: &mut S, disk: &D, stamp: Stamp)
+        requires on_disk { (i : ℕ) → i < self.count → self.disk_start + i < length (D.words disk.now) }
         requires in_core { (i : ℕ) → i < self.count → self.core_start + i < length (S.words core.old) }
         ensures words { S.words core.new
-            ≡ moved self.core_start self.count (λ i. slice_index (S.words disk.now) (self.disk_start + i)) (S.words core.old) }
+            ≡ moved self.core_start self.count (λ i. slice_index (D.words disk.now) (self.disk_start + i)) (S.words core.old) }
         ensures lasts { S.lasts core.new ≡ moved self.core_start self.count (λ i. Some stamp) (S.lasts core.old) }
     {
         let core_start = self.core_start as usize;
@@ -54,11 +54,11 @@ impl Transfer {
 
     // All words go to one word of core, where the last stays.
     #[tactic(auto, using(crate::proofs::Moves::moved_to_one_none, crate::proofs::Moves::moved_to_one_last))]
-    fn read_last<S: Store>(self, core: &mut S, disk: &S, stamp: Stamp)
-        requires on_disk { (i : ℕ) → i < self.count → self.disk_start + i < length (S.words disk.now) }
+    fn read_last<S: Store, D: Store>(self, core: &mut S, disk: &D, stamp: Stamp)
+        requires on_disk { (i : ℕ) → i < self.count → self.disk_start + i < length (D.words disk.now) }
         requires in_core { (i : ℕ) → i < self.count → self.core_start < length (S.words core.old) }
         ensures words { S.words core.new
-            ≡ moved_to_one self.core_start self.count (λ i. slice_index (S.words disk.now) (self.disk_start + i)) (S.words core.old) }
+            ≡ moved_to_one self.core_start self.count (λ i. slice_index (D.words disk.now) (self.disk_start + i)) (S.words core.old) }
         ensures lasts { S.lasts core.new ≡ moved_to_one self.core_start self.count (λ i. Some stamp) (S.lasts core.old) }
     {
         if self.count > 0 {
@@ -68,10 +68,10 @@ impl Transfer {
     }
 
     /// A write: words of core go to the drive, and zeros to the rest of the last sector.
-    pub(crate) fn write<S: Store>(self, core: &S, disk: &mut S)
-        requires on_disk { (i : ℕ) → i < self.count → disk_word self i < length (S.words disk.old) }
+    pub(crate) fn write<S: Store, D: Store>(self, core: &S, disk: &mut D)
+        requires on_disk { (i : ℕ) → i < self.count → disk_word self i < length (D.words disk.old) }
         requires in_core { (i : ℕ) → i < self.count → core_word self i < length (S.words core.now) }
-        ensures { S.words disk.new ≡ disk_written self (S.words core.now) (S.words disk.old) }
+        ensures { D.words disk.new ≡ disk_written self (S.words core.now) (D.words disk.old) }
     {
         self.write_all(core, disk);
         self.fill_sector(disk);
@@ -79,10 +79,10 @@ impl Transfer {
 
     // Words of core go to the drive.
     #[tactic(auto, using(crate::proofs::Moves::moved_none, crate::proofs::Moves::moved_more, crate::proofs::Names::moved_length))]
-    fn write_all<S: Store>(self, core: &S, disk: &mut S)
-        requires on_disk { (i : ℕ) → i < self.count → disk_word self i < length (S.words disk.old) }
+    fn write_all<S: Store, D: Store>(self, core: &S, disk: &mut D)
+        requires on_disk { (i : ℕ) → i < self.count → disk_word self i < length (D.words disk.old) }
         requires in_core { (i : ℕ) → i < self.count → core_word self i < length (S.words core.now) }
-        ensures { S.words disk.new ≡ moved_to_disk self (S.words core.now) (S.words disk.old) }
+        ensures { D.words disk.new ≡ moved_to_disk self (S.words core.now) (D.words disk.old) }
     {
         let disk_start = self.disk_start as usize;
         for i in 0..self.count as usize {
@@ -92,8 +92,8 @@ impl Transfer {
 
     // Zeros go to the rest of the last sector.
     #[tactic(auto, using(crate::proofs::Moves::moved_none, crate::proofs::Moves::moved_more, crate::proofs::Names::moved_length))]
-    fn fill_sector<S: Store>(self, disk: &mut S)
-        ensures { S.words disk.new ≡ moved (disk_word self self.count) (rest_of_sector self) (λ i. 0) (S.words disk.old) }
+    fn fill_sector<D: Store>(self, disk: &mut D)
+        ensures { D.words disk.new ≡ moved (disk_word self self.count) (rest_of_sector self) (λ i. 0) (D.words disk.old) }
     {
         let start = self.disk_start as usize + self.count as usize;
         let left = disk.len().saturating_sub(start);
@@ -103,10 +103,10 @@ impl Transfer {
     }
 
     /// Whether any word of core differs from the drive's.
-    pub(crate) fn is_different<S: Store>(self, core: &S, disk: &S) -> bool
-        requires on_disk { (i : ℕ) → i < self.count → disk_word self i < length (S.words disk.now) }
+    pub(crate) fn is_different<S: Store, D: Store>(self, core: &S, disk: &D) -> bool
+        requires on_disk { (i : ℕ) → i < self.count → disk_word self i < length (D.words disk.now) }
         requires in_core { (i : ℕ) → i < self.count → core_word self i < length (S.words core.now) }
-        ensures { result ≡ is_different self (S.words core.now) (S.words disk.now) }
+        ensures { result ≡ is_different self (S.words core.now) (D.words disk.now) }
     {
         let disk_start = self.disk_start as usize;
         let mut different = false;

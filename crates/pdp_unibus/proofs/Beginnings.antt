@@ -29,7 +29,7 @@ over part words p = record p { bus = with_words part words p.bus }
 -- and the mapping registers
 pub record Quiet (step : Progress → Progress) : Type 0 where
   pub commutes : (part : Part) (words : List ℕ) (p : Progress) → step (over part words p) ≡ over part words (step p)
-  pub leaves : (p : Progress) → (step p).bus ≡ record p.bus { board = (step p).bus.board; tape = (step p).bus.tape }
+  pub leaves : (p : Progress) → (step p).bus ≡ record p.bus { board = (step p).bus.board; bytes_read = (step p).bus.bytes_read }
   pub status : (p : Progress) → (step p).bus.board.status ≡ p.bus.board.status
   pub mapping : (p : Progress) → (step p).bus.board.mapping ≡ p.bus.board.mapping
   pub disk : (p : Progress) → (step p).bus.board.disk ≡ p.bus.board.disk
@@ -48,7 +48,7 @@ event_is_quiet Continue other = record { commutes = λ part words p. refl; leave
 both : (f g : Progress → Progress) → Quiet f → Quiet g → Quiet (λ p. g (f p))
 both f g first second = record {
   commutes = λ part words p. ap g (first.commutes part words p) ∙ second.commutes part words (f p);
-  leaves = λ p. second.leaves (f p) ∙ ap {A = BusWorld} (λ bus. record bus { board = (g (f p)).bus.board; tape = (g (f p)).bus.tape }) (first.leaves p);
+  leaves = λ p. second.leaves (f p) ∙ ap {A = BusWorld} (λ bus. record bus { board = (g (f p)).bus.board; bytes_read = (g (f p)).bus.bytes_read }) (first.leaves p);
   status = λ p. second.status (f p) ∙ first.status p;
   mapping = λ p. second.mapping (f p) ∙ first.mapping p;
   disk = λ p. second.disk (f p) ∙ first.disk p;
@@ -70,7 +70,7 @@ where_due_is_quiet due f quiet = record {
   commuted part words p false = refl
 
   left : (p : Progress) (holds : Bool)
-      → (where_due holds f p).bus ≡ record p.bus { board = (where_due holds f p).bus.board; tape = (where_due holds f p).bus.tape }
+      → (where_due holds f p).bus ≡ record p.bus { board = (where_due holds f p).bus.board; bytes_read = (where_due holds f p).bus.bytes_read }
   left p true = quiet.leaves p
   left p false = refl
 
@@ -164,12 +164,12 @@ begun_is_settled t es w =
 
 -- a step while nothing is under way on the disk: core, its stamps and the drives stay, and so does the disk
 pub record Idles (p q : Progress) : Type 0 where
-  pub leaves : q.bus ≡ record p.bus { board = q.bus.board; tape = q.bus.tape }
+  pub leaves : q.bus ≡ record p.bus { board = q.bus.board; bytes_read = q.bus.bytes_read }
   pub disk : q.bus.board.disk ≡ p.bus.board.disk
 
 then_idles : (p q r : Progress) → Idles p q → Idles q r → Idles p r
 then_idles p q r first second = record {
-  leaves = second.leaves ∙ ap {A = BusWorld} (λ bus. record bus { board = r.bus.board; tape = r.bus.tape }) first.leaves;
+  leaves = second.leaves ∙ ap {A = BusWorld} (λ bus. record bus { board = r.bus.board; bytes_read = r.bus.bytes_read }) first.leaves;
   disk = second.disk ∙ first.disk;
 }
 

@@ -8,9 +8,10 @@ use Rattle.pdp_rk11.specs.Rk.{rk_written}
 use Rattle.pdp_rk11.specs.declared.register.RkRegister.TheVariants as rk
 use Rattle.pdp_tape.specs.Reader.{reader_completed}
 use Rattle.pdp_unibus.proofs.Beginnings.{dues, dues_are_quiet, before_is_settled, event_is_quiet, events_are_settled, printer_is_quiet, reader_is_quiet, tick_is_quiet, turn_left}
-use Rattle.pdp_unibus.specs.Beginning.{Progress, after_event, after_events, at_start, before_disk, begun, clock_ticked, disk_done, in_turn, is_tick, next_byte, printer_done, printer_due, punch_done, punch_due, reader_done, reader_due, tick_due, where_due}
+use Rattle.pdp_unibus.specs.Beginning.{Progress, after_event, after_events, at_start, before_disk, begun, clock_ticked, disk_done, in_turn, is_tick, printer_done, printer_due, punch_done, punch_due, reader_done, reader_due, tick_due, where_due}
 use Rattle.pdp_unibus.specs.BusWorld.{BusWorld, disk_world_of}
 use Rattle.pdp_unibus.specs.ByteLaws.{PrintingEndsWhenDue, PunchingEndsWhenDue, DiskEndsWhenDue, DiskOutlivesUses, PrintingOutlivesUses, PunchingOutlivesUses, ReadingEndsWhenDue, ReadingOutlivesUses, Without, left_at}
+use Rattle.pdp_unibus.specs.Tape.{next_byte}
 use Rattle.pdp_unibus.specs.declared.board.Board.{Board}
 use Rattle.pdp_unibus.specs.Laws.{Use, Reading, Writing, after_use, after_uses}
 use Rattle.pdp_unibus.specs.Register.{after_read, after_write}
@@ -140,7 +141,7 @@ printing_ends t events w none =
 pub reading_ends : ReadingEndsWhenDue
 unfolding begun before_disk
 reading_ends t events w none =
-    ends_where part reader_done (λ p busy. read_over (next_byte p.bus.tape) p busy) (printed t events w) t (part w.board) (turn_printed t events w)
+    ends_where part reader_done (λ p busy. read_over (next_byte p.bus.tape p.bus.bytes_read) p busy) (printed t events w) t (part w.board) (turn_printed t events w)
     (left_where part printer_done (ticked t events w) refl (is_due (ticked t events w).bus.turn (ticked t events w).bus.board.console.printer.operation)
     ∙ left_where part clock_ticked (happened t events w) refl (is_tick (happened t events w).bus.turn (happened t events w).bus.board.delays.clock)
     ∙ events_leave part ReaderDone reader_left events none (at_start (in_turn t w))) _

@@ -24,7 +24,7 @@ use Rattle.pdp_unibus.proofs.Beginnings.{Quiet, dues, dues_are_quiet}
 -- a relation of a trace, the bus before it and the bus after it, that goes along the beginning of a turn
 pub record Begins (K : List Touch → BusWorld → BusWorld → Type 0) : Type 0 where
   pub stays : (b : BusWorld) → K [] b b
-  pub changes : (xs : List Touch) (b c : BusWorld) (board : Board) (tape : List ℕ) → K xs b c → K xs b (record c { board = board; tape = tape })
+  pub changes : (xs : List Touch) (b c : BusWorld) (board : Board) (bytes_read : ℕ) → K xs b c → K xs b (record c { board = board; bytes_read = bytes_read })
   pub completes : (b : BusWorld) → K (disk_touches b) b (with_disk_world b (completed b.turn (disk_world_of b)))
   pub joins : (xs ys : List Touch) (b c d : BusWorld) → K xs b c → K ys c d → K (xs ++ ys) b d
 
@@ -75,7 +75,7 @@ of_turn turn words x so = record { turn_is = so.turn_is; in_core = so.in_core; b
 pub keeps_turn : Begins KeepsTurn
 keeps_turn = record {
   stays = λ b. record { turn = refl; words = refl; touches = All-nil (IsOfTurn b.turn (length b.core)) };
-  changes = λ xs b c board tape so. record { turn = so.turn; words = so.words; touches = so.touches };
+  changes = λ xs b c board bytes_read so. record { turn = so.turn; words = so.words; touches = so.touches };
   completes = λ b. record {
     turn = refl;
     words = (completed_sizes b.turn (disk_world_of b)).core;
@@ -96,7 +96,7 @@ pub record KeepsStamps (xs : List Touch) (b c : BusWorld) : Type 0 where
 pub keeps_stamps : Begins KeepsStamps
 keeps_stamps = record {
   stays = λ b. record { size = refl; lasts = λ k within. refl };
-  changes = λ xs b c board tape so. record { size = so.size; lasts = so.lasts };
+  changes = λ xs b c board bytes_read so. record { size = so.size; lasts = so.lasts };
   completes = λ b. record {
     size = (completed_sizes b.turn (disk_world_of b)).lasts;
     lasts = completed_lasts b.turn (disk_world_of b);
@@ -116,10 +116,19 @@ KeepsPage part page xs b c = Avoids part page xs → SamePage part page b c
 pub keeps_page : (part : Part) (page : ℕ) → Begins (KeepsPage part page)
 keeps_page part page = record {
   stays = λ b avoids k inside. refl;
-  changes = λ xs b c board tape so. so;
+  changes = λ xs b c board bytes_read so. so;
   completes = λ b avoids. completion_keeps_page part page b.turn (disk_world_of b) avoids;
   joins = λ xs ys b c d so also avoids k inside.
       so (Avoids-first part page xs ys avoids) k inside ∙ also (Avoids-second part page xs ys avoids) k inside;
+}
+
+-- the tape stays
+pub keeps_tape : Begins (λ xs b c. c.tape ≡ b.tape)
+keeps_tape = record {
+  stays = λ b. refl;
+  changes = λ xs b c board bytes_read so. so;
+  completes = λ b. refl;
+  joins = λ xs ys b c d so also. also ∙ so;
 }
 
 pub begun_keeps_turn : (t : ℕ) (es : List Event) (w : BusWorld) → KeepsTurn (begun_touches t es w) (in_turn t w) (begun t es w).bus
@@ -131,3 +140,6 @@ begun_keeps_stamps = along_begun KeepsStamps keeps_stamps
 pub begun_keeps_page : (part : Part) (page t : ℕ) (es : List Event) (w : BusWorld) → Avoids part page (begun_touches t es w)
     → SamePage part page (in_turn t w) (begun t es w).bus
 begun_keeps_page part page = along_begun (KeepsPage part page) (keeps_page part page)
+
+pub begun_keeps_tape : (t : ℕ) (es : List Event) (w : BusWorld) → (begun t es w).bus.tape ≡ w.tape
+begun_keeps_tape = along_begun (λ xs b c. c.tape ≡ b.tape) keeps_tape

@@ -11,3 +11,4 @@ pub mod Tapes
 pub mod Watching
 pub mod Kept
 pub mod Pairs
+mod SavedDrives

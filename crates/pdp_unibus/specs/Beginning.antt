@@ -1,5 +1,5 @@
 -- The beginning of a turn: its events, a tick of the clock, and the operations that are due (this project's profile).
-use Rattle.std.specs.Prelude.{ℕ, ◌%◌, ◌==◌, ◌&&◌, nat_lt, Bool, List, [], ◌∷◌, ◌++◌, Option, Some, None, option_to_list, if◌then◌else◌}
+use Rattle.std.specs.Prelude.{ℕ, ◌%◌, ◌==◌, ◌&&◌, nat_lt, Bool, List, [], ◌∷◌, ◌++◌, option_to_list, if◌then◌else◌}
 use Rattle.pdp_device.specs.Operation.{is_due}
 use Rattle.pdp_console.specs.Kl.{kl_completed, kl_printed, struck}
 use Rattle.pdp_console.specs.Kw.{ticked}
@@ -7,6 +7,7 @@ use Rattle.pdp_tape.specs.Pc.{pc_punch_completed, pc_punched, pc_reader_complete
 use Rattle.pdp_tape.specs.Reader.{takes_byte}
 use Rattle.pdp_rk11.specs.Completion.{completed}
 use Rattle.pdp_unibus.specs.BusWorld.{BusWorld, disk_world_of, with_board, with_disk_world}
+use Rattle.pdp_unibus.specs.Tape.{next_byte, read_on}
 use Rattle.pdp_unibus.specs.declared.beginning.Output.{Output}
 use Rattle.pdp_unibus.specs.declared.board.Board.{Board}
 use Rattle.pdp_unibus.specs.declared.event.Event.{Event}
@@ -48,21 +49,12 @@ printer_done p = record (on_board p (record p.bus.board { console = kl_completed
   printed = p.printed ++ option_to_list (kl_printed p.bus.board.console);
 }
 
--- the next byte of a tape, and the tape after it
-abbrev pub next_byte : List ℕ → Option ℕ
-next_byte [] = None
-next_byte (byte ∷ rest) = Some byte
-
-abbrev pub after_next : List ℕ → List ℕ
-after_next [] = []
-after_next (byte ∷ rest) = rest
-
 -- the reader completes: where it was reading, the next byte of the tape is taken
 abbrev pub reader_done : Progress → Progress
 reader_done p = record p {
   bus = record p.bus {
-    board = record p.bus.board { paper_tape = pc_reader_completed (next_byte p.bus.tape) p.bus.board.paper_tape };
-    tape = if takes_byte p.bus.board.paper_tape.reader then after_next p.bus.tape else p.bus.tape;
+    board = record p.bus.board { paper_tape = pc_reader_completed (next_byte p.bus.tape p.bus.bytes_read) p.bus.board.paper_tape };
+    bytes_read = if takes_byte p.bus.board.paper_tape.reader then read_on p.bus.tape p.bus.bytes_read else p.bus.bytes_read;
   };
 }
 

@@ -26,8 +26,10 @@ pub record BusWorld : Type 0 where
   pub lasts : List (Option Stamp)
   -- the words of each drive
   pub drives : List (List ℕ)
-  -- the bytes of the paper tape that the reader hasn't read
+  -- the paper tape in the reader: all its bytes
   pub tape : List ℕ
+  -- how many of them have been read
+  pub bytes_read : ℕ
   -- the turn of its cycles
   pub turn : ℕ
 
@@ -54,7 +56,7 @@ powered_board delays = record {
 -- the bus as of power-up, over this core, these drives and this tape
 abbrev pub powered : List ℕ → List (Option Stamp) → List (List ℕ) → List ℕ → Delays → BusWorld
 powered words lasts drives tape delays =
-    record { board = powered_board delays; core = words; lasts = lasts; drives = drives; tape = tape; turn = 0 }
+    record { board = powered_board delays; core = words; lasts = lasts; drives = drives; tape = tape; bytes_read = 0; turn = 0 }
 
 abbrev pub with_board : BusWorld → Board → BusWorld
 with_board w board = record w { board = board }

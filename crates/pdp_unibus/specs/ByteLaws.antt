@@ -7,9 +7,10 @@ use Rattle.pdp_device.specs.declared.operation.Operation.TheVariants.{Idle}
 use Rattle.pdp_device.specs.declared.outlet.Outlet.{Outlet}
 use Rattle.pdp_tape.specs.Reader.{read_over}
 use Rattle.pdp_tape.specs.declared.reader.Reader.{Reader}
-use Rattle.pdp_unibus.specs.Beginning.{after_next, begun, next_byte}
+use Rattle.pdp_unibus.specs.Beginning.{begun}
 use Rattle.pdp_unibus.specs.BusWorld.{BusWorld}
 use Rattle.pdp_unibus.specs.Laws.{Use, after_uses}
+use Rattle.pdp_unibus.specs.Tape.{next_byte, read_on}
 use Rattle.pdp_unibus.specs.declared.board.Board.{Board}
 use Rattle.pdp_unibus.specs.declared.event.Event.{Event}
 use Rattle.pdp_unibus.specs.declared.event.Event.TheVariants.{DiskDone, PrinterDone, ReaderDone, PunchDone}
@@ -85,10 +86,16 @@ DiskOutlivesUses = (uses : List Use) (b : Board) → b.disk.channel.ready ≡ fa
 abbrev pub reader_of : BusWorld → Reader
 reader_of w = w.board.paper_tape.reader
 
--- a read that ends takes the next byte of the tape, or finds its end; else reader and tape are as they were
+-- a read that ends takes the next byte of the tape, or finds its end; else the reader, and how many bytes were read, are as
+-- they were
 abbrev pub ReadsTakeTheNextByte : Type 0
 ReadsTakeTheNextByte = (t : ℕ) (events : List Event) (w : BusWorld)
     → (has_ended (reader_of w).operation (reader_of (begun t events w).bus).operation ≡ true
-    → (reader_of (begun t events w).bus ≡ read_over (next_byte w.tape) (reader_of w)) × ((begun t events w).bus.tape ≡ after_next w.tape))
+    → (reader_of (begun t events w).bus ≡ read_over (next_byte w.tape w.bytes_read) (reader_of w))
+    × ((begun t events w).bus.bytes_read ≡ read_on w.tape w.bytes_read))
     × (has_ended (reader_of w).operation (reader_of (begun t events w).bus).operation ≡ false
-    → (reader_of (begun t events w).bus ≡ reader_of w) × ((begun t events w).bus.tape ≡ w.tape))
+    → (reader_of (begun t events w).bus ≡ reader_of w) × ((begun t events w).bus.bytes_read ≡ w.bytes_read))
+
+-- the tape's bytes are as they were
+abbrev pub TapesStay : Type 0
+TapesStay = (t : ℕ) (events : List Event) (w : BusWorld) → (begun t events w).bus.tape ≡ w.tape

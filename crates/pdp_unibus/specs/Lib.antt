@@ -4,6 +4,7 @@ pub mod BusWorld
 pub mod Register
 pub mod Cycle
 pub mod Delays
+pub mod Tape
 pub mod Beginning
 pub mod SingleBytes
 pub mod Watch
@@ -16,3 +17,5 @@ pub mod ByteLaws
 pub mod Trace
 pub mod Page
 pub mod Touched
+pub mod BusContent
+pub mod SavedDrives

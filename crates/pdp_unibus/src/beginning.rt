@@ -18,7 +18,7 @@ pub struct Output {
     pub punched: Option<u8>,
 }
 
-impl<S: Store> Bus<S> {
+impl<S: Store, D: Store> Bus<S, D> {
     /// A turn begins: its events in their order, a tick where the clock's period is above 0 and the turn is a positive
     /// multiple of it, and the completions that are due, of the printer, the reader, the punch and the disk in this
     /// order. The cycles from now on are those of the turn, and so are the stamps of words that the disk reads into

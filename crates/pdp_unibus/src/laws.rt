@@ -7,7 +7,7 @@ ghost use Rattle.pdp_unibus.specs.Laws.{StatusIsItsWord, WholeStatusReadsBack};
 ghost use Rattle.pdp_unibus.specs.RequestLaws.{NoneIsChosenWhereNoneIsAbove, RequestsAreTold, TheFirstIsChosen};
 ghost use Rattle.pdp_unibus.specs.RequestLaws.{OthersGoOnRequesting, ResetDropsRequests, ServedSourcesAreSilent};
 ghost use Rattle.pdp_unibus.specs.RuleLaws.{RequestsGoByTheRule, disk_channel, keyboard_channel, printer_channel, punch_channel};
-ghost use Rattle.pdp_unibus.specs.ByteLaws.{BytesArePrintedAsOperationsEnd, BytesArePunchedAsOperationsEnd, ReadsTakeTheNextByte};
+ghost use Rattle.pdp_unibus.specs.ByteLaws.{BytesArePrintedAsOperationsEnd, BytesArePunchedAsOperationsEnd, ReadsTakeTheNextByte, TapesStay};
 ghost use Rattle.pdp_unibus.specs.ByteLaws.{DiskEndsWhenDue, DiskOutlivesUses, PrintingEndsWhenDue, PunchingEndsWhenDue, ReadingEndsWhenDue};
 ghost use Rattle.pdp_unibus.specs.ByteLaws.{PrintingOutlivesUses, PunchingOutlivesUses, ReadingOutlivesUses};
 ghost use Rattle.pdp_unibus.specs.declared.bus.Timeout.{Timeout};
@@ -100,9 +100,10 @@ pub fn operations_end_when_due()
 {}
 
 /// A law of the paper tape: in the beginning of a turn a read that ends takes the tape's next byte, or finds its end,
-/// and nothing else moves the tape.
+/// and nothing else moves the tape; the bytes on it stay.
 ///
 /// PDP-11 Peripherals Handbook, PC11; when an operation ends is this project's profile.
 pub fn reads_take_the_next_byte()
-    ensures { ReadsTakeTheNextByte }
+    ensures next { ReadsTakeTheNextByte }
+    ensures tape { TapesStay }
 {}

@@ -4,9 +4,10 @@
 //! It stands on pdp_word, pdp_store, pdp_kt11, pdp_device, pdp_console, pdp_tape and pdp_rk11. The contracts of `Bus`
 //! give each cycle its value and the bus after it, or a timeout that changes nothing, for every store of core and of
 //! the disk's drives, and say what the beginning of a turn does, which bytes come out of it, and which request is
-//! chosen. It says who owns an address; what a register does, when a device requests, what a function of the disk does
-//! when it completes, and where a virtual address goes, it leaves to pdp_console, pdp_tape, pdp_rk11 and pdp_kt11,
-//! references and their traps to pdp_operand, interrupts and `Continue` to pdp_cpu.
+//! chosen; and what is saved of a bus over stores of pages (`SavedBus`), and what a load of it leaves. It says who owns
+//! an address; what a register does, when a device requests, what a function of the disk does when it completes, and
+//! where a virtual address goes, it leaves to pdp_console, pdp_tape, pdp_rk11 and pdp_kt11, references and their traps
+//! to pdp_operand, interrupts and `Continue` to pdp_cpu.
 #![tactic(auto)]
 
 mod beginning;
@@ -19,6 +20,8 @@ mod laws;
 mod priority;
 mod register;
 mod requests;
+mod saved_bus;
+mod saved_drives;
 mod source;
 mod status;
 mod tape;
@@ -39,5 +42,6 @@ pub use laws::{
 };
 pub use priority::Priority;
 pub use register::{Register, register_at_address};
+pub use saved_bus::SavedBus;
 pub use source::Source;
 pub use status::Status;

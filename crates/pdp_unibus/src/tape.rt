@@ -1,9 +1,10 @@
 ghost use Rattle.std.specs.Prelude.{◌≡◌};
-ghost use Rattle.pdp_unibus.specs.Beginning.{after_next, next_byte};
+ghost use Rattle.pdp_unibus.specs.Tape.{next_byte, read_on};
 
 use std::marker::Model;
 
-/// The paper tape in the reader (PDP-11 Peripherals Handbook, PC11). A contract sees the bytes that haven't been read.
+/// The paper tape in the reader (PDP-11 Peripherals Handbook, PC11). A contract sees all its bytes, and how many of them
+/// have been read.
 #[derive(Drop)]
 pub(crate) struct Tape {
     bytes: Vec<u8>,
@@ -12,29 +13,54 @@ pub(crate) struct Tape {
 }
 
 impl Model for Tape {
-    ghost use Rattle.std.specs.Prelude.{ℕ, List, drop};
+    ghost use Rattle.pdp_unibus.specs.Tape.{Reel};
 
-    ghost Value = { List ℕ };
+    ghost Value = { Reel };
 
-    ghost view = { λ t. drop t.taken t.bytes.items };
+    ghost view = { λ t. record { bytes = t.bytes.items; read = t.taken } };
 }
 
 impl Tape {
-    /// A tape with these bytes.
+    /// A tape with these bytes, none of which has been read.
     pub(crate) fn new(bytes: Vec<u8>) -> Self
-        ensures { result ≡ bytes.items }
+        ensures bytes { result.bytes ≡ bytes.items }
+        ensures read { result.read ≡ 0 }
     {
         Tape { bytes, taken: 0 }
     }
 
     /// Takes the next byte, if there is one.
-    #[tactic(auto, using(crate::proofs::Tapes::next_is, crate::proofs::Tapes::none_is_next, crate::proofs::Tapes::rest_is, crate::proofs::Tapes::nothing_rests))]
+    #[tactic(auto, using(crate::proofs::Tapes::read_on_is, crate::proofs::Tapes::nothing_read_on))]
     pub(crate) fn take_byte(&mut self) -> Option<u8>
-        ensures byte { result ≡ next_byte self.old }
-        ensures rest { self.new ≡ after_next self.old }
+        ensures byte { result ≡ next_byte self.old.bytes self.old.read }
+        ensures bytes { self.new.bytes ≡ self.old.bytes }
+        ensures read { self.new.read ≡ read_on self.old.bytes self.old.read }
     {
         let byte = *self.bytes.get(self.taken)?;
         self.taken += 1;
         Some(byte)
+    }
+
+    /// How many of the bytes have been read.
+    pub(crate) fn taken(&self) -> usize
+        ensures { result ≡ self.now.read }
+    {
+        self.taken
+    }
+
+    /// So many of the bytes count as read.
+    pub(crate) fn go_to(&mut self, read: usize)
+        ensures bytes { self.new.bytes ≡ self.old.bytes }
+        ensures read { self.new.read ≡ read }
+    {
+        self.taken = read;
+    }
+
+    /// Other bytes, of which as many count as read.
+    pub(crate) fn replace(&mut self, bytes: Vec<u8>)
+        ensures bytes { self.new.bytes ≡ bytes.items }
+        ensures read { self.new.read ≡ self.old.read }
+    {
+        self.bytes = bytes;
     }
 }

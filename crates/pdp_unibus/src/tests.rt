@@ -1,5 +1,4 @@
-//! Bus cycles over a page of core, and what the tests of registers, of memory management, of the beginnings of turns,
-//! of the disk, of requests and of the program status word share.
+//! Each call of the bus over a page of core. What programs make of registers is in the rows and tables of sessions.
 
 use crate::{Aborted, Bus, Delays, Event, Priority, Source, Timeout, timeouts_change_nothing};
 use pdp_kt11::{Access, Mode};
@@ -49,7 +48,7 @@ const TPB: u32 = 0o777566;
 const SWITCHES: u32 = 0o777570;
 
 // A bus at power-up with 256 words of core, no drive, this tape in the reader and these delays.
-fn bus(alloc: Global, tape: &[u8], delays: Delays) -> Result<Bus<Flat>, NoMemory> {
+fn bus(alloc: Global, tape: &[u8], delays: Delays) -> Result<Bus<Flat, Flat>, NoMemory> {
     let core = Flat::new(alloc, 256, true)?;
     Ok(Bus::new(core, Vec::new(alloc), tape.to_vec(alloc)?, delays))
 }
@@ -76,7 +75,7 @@ enum Step<'a> {
 }
 
 // Takes the steps in their order.
-fn take_steps(rt: &impl Abort, bus: &mut Bus<Flat>, steps: &[Step]) {
+fn take_steps(rt: &impl Abort, bus: &mut Bus<Flat, Flat>, steps: &[Step]) {
     for step in steps {
         match *step {
             Step::Begin(turn, events, printed, punched) => {
@@ -113,7 +112,7 @@ fn take_steps(rt: &impl Abort, bus: &mut Bus<Flat>, steps: &[Step]) {
 }
 
 // The word of core with this number, and its last stamp.
-fn word_and_last(rt: &impl Abort, bus: &Bus<Flat>, number: usize) -> (u16, Option<Stamp>) {
+fn word_and_last(rt: &impl Abort, bus: &Bus<Flat, Flat>, number: usize) -> (u16, Option<Stamp>) {
     assert!(rt; number < bus.words());
     (bus.word(number), bus.last(number))
 }

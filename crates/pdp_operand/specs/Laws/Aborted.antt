@@ -18,14 +18,15 @@ use Rattle.pdp_operand.specs.declared.trap.Trap.TheVariants.{MappingAbort, OddAd
 abbrev pub with_mapping_status : MappingStatus → Board → Board
 with_mapping_status status board = record board { mapping = record board.mapping { status = status } }
 
--- a reference fails with this trap, and leaves core, its stamps, the drives, the tape and the turn, and all of the board but SR0 of
--- memory management; no word of core answers it
+-- a reference fails with this trap, and leaves core, its stamps, the drives, the tape, how far it is read and the turn, and
+-- all of the board but SR0 of memory management; no word of core answers it
 pub record FailsWith (trap : Trap) (r : Reference) (b : BusWorld) : Type 0 where
   pub told : (perform r b).value ≡ Err trap
   pub core : (perform r b).after.core ≡ b.core
   pub lasts : (perform r b).after.lasts ≡ b.lasts
   pub drives : (perform r b).after.drives ≡ b.drives
   pub tape : (perform r b).after.tape ≡ b.tape
+  pub bytes_read : (perform r b).after.bytes_read ≡ b.bytes_read
   pub turn : (perform r b).after.turn ≡ b.turn
   pub board : (perform r b).after.board ≡ with_mapping_status (perform r b).after.board.mapping.status b.board
   pub touches_none : touches r b ≡ []

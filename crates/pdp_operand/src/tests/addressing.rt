@@ -1,7 +1,7 @@
 //! Where the eight addressing modes find an operand, and what they leave in the registers.
 
 use super::{memory, page, processor_with};
-use crate::{Place, Slot, Trap, address};
+use crate::{Place, Slot, address};
 use pdp_decode::Spec;
 use pdp_word::{NoMemory, Size};
 
@@ -28,37 +28,6 @@ fn finds_operands_of_all_modes(rt: HostRuntime) -> Result<(), NoMemory> {
             pc,
             "PC in mode {mode}"
         );
-    }
-    Ok(())
-}
-
-#[test]
-fn steps_by_size(rt: HostRuntime) -> Result<(), NoMemory> {
-    let mut bus = page(rt.alloc())?;
-    for (reg, slot, word, byte) in [
-        (1, Slot::R1, 0o000102, 0o000101),
-        (6, Slot::KernelStack, 0o000402, 0o000402),
-        (7, Slot::ProgramCounter, 0o000042, 0o000042),
-    ] {
-        let operand = Spec { mode: 2, reg };
-        for (size, want) in [(Size::Word, word), (Size::Byte, byte)] {
-            let mut processor = processor_with(0o000100, 0o000400);
-            assert!(rt; address(&mut processor, &mut bus, operand, size).is_ok());
-            assert_eq!(rt; processor.register(slot), want, "register {reg}");
-        }
-    }
-    Ok(())
-}
-
-#[test]
-fn keeps_register_changes_of_a_fault(rt: HostRuntime) -> Result<(), NoMemory> {
-    let mut bus = page(rt.alloc())?;
-    for (r1, trap) in [(0o000101, Trap::OddAddress), (0o001000, Trap::BusTimeout)] {
-        let mut processor = processor_with(r1, 0);
-        let operand = Spec { mode: 3, reg: 1 };
-        let found = address(&mut processor, &mut bus, operand, Size::Word);
-        assert_eq!(rt; found, Err(trap));
-        assert_eq!(rt; processor.register(Slot::R1), r1.wrapping_add(2));
     }
     Ok(())
 }

@@ -1,16 +1,16 @@
 //! The disk on the bus: functions that are begun by its registers and complete in their turn or by the event, the words
 //! of core and of the drive, and the disk's request.
 
-use super::Step::{Begin, BeginQuietly, Choose, Read, Reset, Serve, Write, WriteByte};
+use super::Step::{Begin, BeginQuietly, Choose, Read, Serve, Write};
 use super::{RKBA, RKCS, RKDA, RKDS, RKER, RKWC, Step, take_steps, word_and_last};
-use crate::{Bus, Delays, Event, Line, Priority, Source};
+use crate::{Bus, Delays, Line, Priority, Source};
 use pdp_store::{Agent, Flat, Stamp, Store};
 use pdp_word::NoMemory;
 use std::alloc::Global;
 
 // A bus at power-up with 256 words of core and a drive of four sectors, which has a word in its sector 1; the disk's
 // functions take so many turns.
-fn bus_with_drive(alloc: Global, delay: u32) -> Result<Bus<Flat>, NoMemory> {
+fn bus_with_drive(alloc: Global, delay: u32) -> Result<Bus<Flat, Flat>, NoMemory> {
     let core = Flat::new(alloc, 256, true)?;
     let mut drive = Flat::new(alloc, 1024, false)?;
     drive.set(256, 0o111111);
@@ -75,78 +75,6 @@ fn reads_words_into_core_when_it_is_due(rt: HostRuntime) -> Result<(), NoMemory>
     assert_eq!(rt; word_and_last(&rt, &bus, 0o41), (0o022222, stamp));
     assert_eq!(rt; word_and_last(&rt, &bus, 0o42), (0, stamp));
     assert_eq!(rt; word_and_last(&rt, &bus, 0o43), (0, None));
-    Ok(())
-}
-
-// The event completes a function before its turn, or where it has none, and once; where none is under way it does
-// nothing. What was written is on the drive, with zeros behind it to the end of the sector.
-#[test]
-fn completes_by_its_event(rt: HostRuntime) -> Result<(), NoMemory> {
-    for delay in [0, 10] {
-        let mut bus = bus_with_drive(rt.alloc(), delay)?;
-        let steps = [
-            Begin(1, &[Event::DiskDone], None, None),
-            Read(RKCS, 0o000200),
-            Write(0o000100, 0o012345),
-        ];
-        take_steps(&rt, &mut bus, &steps);
-        take_steps(&rt, &mut bus, &begin(0o000003, 1, 1));
-        let steps = [
-            BeginQuietly(2, true),
-            Read(RKCS, 0o000002),
-            Begin(3, &[Event::DiskDone], None, None),
-            Read(RKCS, 0o000202),
-            Choose(Priority::Level0, None),
-            Write(0o000100, 0),
-        ];
-        take_steps(&rt, &mut bus, &steps);
-        take_steps(&rt, &mut bus, &begin(0o000005, 2, 1));
-        let steps = [
-            Begin(5, &[Event::DiskDone, Event::DiskDone], None, None),
-            Read(0o000100, 0o012345),
-            Read(0o000102, 0),
-            Write(0o000100, 0o177777),
-            Begin(13, &[Event::DiskDone], None, None),
-            Read(0o000100, 0o177777),
-        ];
-        take_steps(&rt, &mut bus, &steps);
-    }
-    Ok(())
-}
-
-// The odd byte of RKCS sets bit 11 alone and begins nothing. A drive that isn't there reads 0, and a function with it
-// fails. RESET drops what is under way.
-#[test]
-fn writes_bytes_and_resets(rt: HostRuntime) -> Result<(), NoMemory> {
-    let mut bus = bus_with_drive(rt.alloc(), 10)?;
-    let steps = [
-        Begin(1, &[], None, None),
-        WriteByte(RKCS + 1, 0o377),
-        Read(RKCS, 0o004200),
-        WriteByte(RKCS, 0o064),
-        Read(RKCS, 0o004264),
-        WriteByte(RKCS + 1, 0),
-        Read(RKCS, 0o000264),
-        WriteByte(RKDA + 1, 0o040),
-        Read(RKDA, 0o020000),
-        Read(RKDS, 0),
-        WriteByte(RKCS, 0o005),
-        Begin(11, &[], None, None),
-        Read(RKER, 0o000200),
-        Read(RKCS, 0o140204),
-        WriteByte(RKCS, 0o101),
-        Read(RKCS, 0o000200),
-        Read(RKER, 0),
-        Read(RKDS, 0o004700),
-        Write(RKCS, 0o000105),
-        Reset,
-        Read(RKCS, 0o000200),
-        Begin(21, &[Event::DiskDone], None, None),
-        Choose(Priority::Level0, None),
-        Read(0o000000, 0),
-    ];
-    take_steps(&rt, &mut bus, &steps);
-    assert_eq!(rt; word_and_last(&rt, &bus, 0), (0, None));
     Ok(())
 }
 

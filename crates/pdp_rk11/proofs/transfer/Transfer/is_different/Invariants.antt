@@ -8,4 +8,4 @@ abbrev pub invariant-loop-i : goal.invariant-loop-i
 invariant-loop-i g l =
     l.different
     ≡ any_below l.i (λ i.
-    not (slice_index (g.S.Store.words l.core) (core_word l.self i) == slice_index (g.S.Store.words l.disk) (disk_word l.self i)))
+    not (slice_index (g.S.Store.words l.core) (core_word l.self i) == slice_index (g.D.Store.words l.disk) (disk_word l.self i)))

@@ -6,5 +6,5 @@ use Rattle.pdp_rk11.proofs.transfer.Transfer.write_all.Given as goal
 
 abbrev pub invariant-loop-i : goal.invariant-loop-i
 invariant-loop-i g l =
-    g.S.Store.words l.disk
-    ≡ moved l.disk_start l.i (λ i. slice_index (g.S.Store.words l.core) (core_word l.self i)) (g.S.Store.words l.initial.disk)
+    g.D.Store.words l.disk
+    ≡ moved l.disk_start l.i (λ i. slice_index (g.S.Store.words l.core) (core_word l.self i)) (g.D.Store.words l.initial.disk)

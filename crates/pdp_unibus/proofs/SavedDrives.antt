@@ -1,0 +1,182 @@
+-- Drives that are taken, or loaded, one after the other.
+use Rattle.std.proofs.Common.{◌≡◌, ◌∙◌, ℕ, zero, suc, ◌+◌, ◌<◌, ◌≤◌, List, [], ◌∷◌, ◌++◌, Vec, ap, ap₂, arith, add-one, drop, get_or, length, length-set, map, refl, slice_set, sym, take, append_assoc, append-nil}
+use Rattle.std.proofs.Math.Seq.{map-set_same, set-append_seam, take-suc, drop-cons}
+use Rattle.std.proofs.Math.ListN.{drop_of_length-le}
+use Rattle.std.proofs.lemmas.List.{get_or-map, take_all, length-map, length-take-le, map-append, map-set}
+use Rattle.std.specs.Prelude.{Option, slice_index_or}
+use Rattle.std.specs.declared.alloc.Global.{Global}
+use Rattle.pdp_store.specs.declared.Stamp.{Stamp}
+use Rattle.pdp_store.specs.Pages.{SharedPage, lasts_of, words_of}
+use Rattle.pdp_unibus.specs.BusContent.{BusContent}
+use Rattle.pdp_unibus.specs.SavedDrives.{AreUnstamped, PageList, lists_shared, pages_lasts, pages_words}
+
+-- what is seen of the drive of a number
+pub seen : {X Z : Type 0} (f : X → List Z) (xs : List X) (i : ℕ) (d : X) → i < length xs → f (get_or xs i d) ≡ slice_index_or (map f xs) i []
+seen f xs i d below = sym (get_or-map f xs i d [] below)
+
+-- a drive takes the place of one that is seen alike
+pub same_for_one : {X Z : Type 0} (f : X → List Z) (xs : List X) (i : ℕ) (x d : X) → f x ≡ f (get_or xs i d) → map f (slice_set xs i x) ≡ map f xs
+same_for_one f xs i x d is = map-set_same f xs i x d is
+
+pub put_one : {X Z : Type 0} (f : X → List Z) (xs : List X) (i : ℕ) (x : X) (ys : List Z) → f x ≡ ys → map f (slice_set xs i x) ≡ slice_set (map f xs) i ys
+put_one f xs i x ys is = map-set f xs i x ∙ ap (slice_set (map f xs) i) is
+
+-- one more is taken of a list, as it is seen through g
+pub one_more : {Y Z : Type 0} (g : Y → List Z) (all : List (List Z)) (taken : List Y) (i : ℕ) (p : Y)
+    → map g taken ≡ take i all → i < length all → g p ≡ slice_index_or all i [] → map g (taken ++ p ∷ []) ≡ take (i + 1) all
+one_more g all taken i p is below gives =
+    map-append g taken (p ∷ []) ∙ ap₂ (λ xs x. xs ++ x ∷ []) is gives ∙ sym (rw add-one (take-suc all i [] below))
+
+-- the first i of a list are loaded from another, whose items are of the same lengths; the others are as they were
+pub record Loaded {Z : Type 0} (pages first now : List (List Z)) (i : ℕ) : Type 0 where
+  pub sizes : map length pages ≡ map length now
+  pub items : now ≡ take i pages ++ drop i first
+
+pub none_loaded : {Z : Type 0} (pages first : List (List Z)) → map length pages ≡ map length first → Loaded pages first first 0
+none_loaded pages first sizes = record { sizes = sizes; items = refl }
+
+sizes_at : {Z : Type 0} (pages first now : List (List Z)) (i k : ℕ) → Loaded pages first now k → i < length now
+    → length (slice_index_or pages i []) ≡ length (slice_index_or now i [])
+sizes_at pages first now i k so below = at pages now i so.sizes where
+  at : {Z : Type 0} (xs ys : List (List Z)) (j : ℕ) → map length xs ≡ map length ys → length (get_or xs j []) ≡ length (get_or ys j [])
+  at [] [] j is = refl
+  at [] (y ∷ ys) j is = absurd (cc is)
+  at (x ∷ xs) [] j is = absurd (cc is)
+  at (x ∷ xs) (y ∷ ys) zero is = cc is
+  at (x ∷ xs) (y ∷ ys) (suc j) is = at xs ys j (cc is)
+
+set_next : {Z : Type 0} (front rest : List Z) (i : ℕ) (old new : Z) → length front ≡ i → slice_set (front ++ old ∷ rest) i new ≡ (front ++ new ∷ []) ++ rest
+set_next front rest i old new is =
+    ap (λ k. slice_set (front ++ old ∷ rest) k new) (sym is) ∙ set-append_seam front old rest new ∙ sym (append_assoc front (new ∷ []) rest)
+
+moved : {Z : Type 0} (pages first : List (List Z)) (i : ℕ) → i < length pages → i < length first
+    → slice_set (take i pages ++ drop i first) i (slice_index_or pages i []) ≡ take (i + 1) pages ++ drop (i + 1) first
+moved pages first i within below = rw add-one (
+    ap (λ xs. slice_set (take i pages ++ xs) i (slice_index_or pages i [])) (drop-cons first i [] below)
+    ∙ set_next (take i pages) (drop (suc i) first) i (get_or first i []) (slice_index_or pages i []) (length-take-le i pages (omega (arith, within)))
+    ∙ ap (λ xs. xs ++ drop (suc i) first) (sym (take-suc pages i [] within)))
+
+one_more_loaded : {Z : Type 0} (pages first now : List (List Z)) (i : ℕ) → Loaded pages first now i → i < length now → i < length pages
+    → i < length first → Loaded pages first (slice_set now i (slice_index_or pages i [])) (i + 1)
+one_more_loaded pages first now i so below within inside = record {
+  sizes = so.sizes ∙ sym (map-set_same length now i (slice_index_or pages i []) [] (sizes_at pages first now i i so below));
+  items = ap (λ xs. slice_set xs i (slice_index_or pages i [])) so.items ∙ moved pages first i within inside;
+}
+
+count_of : {X Z : Type 0} (f : X → List Z) (xs : List X) (i : ℕ) → i < length xs → i < length (map f xs)
+count_of f xs i below = rw length-map below
+
+pub size_at : {X Z : Type 0} (f : X → List Z) (pages first : List (List Z)) (xs : List X) (i : ℕ) → Loaded pages first (map f xs) i → i < length xs
+    → length (slice_index_or pages i []) ≡ length (slice_index_or (map f xs) i [])
+size_at f pages first xs i so below = sizes_at pages first (map f xs) i i so (count_of f xs i below)
+
+pub one_loaded : {X Y Z : Type 0} (f : X → List Z) (g : Y → List Z) (ps : List Y) (zs xs ys : List X) (i : ℕ)
+    → Loaded (map g ps) (map f zs) (map f xs) i → i < length xs → i < length ps → i < length zs
+    → map f ys ≡ slice_set (map f xs) i (slice_index_or (map g ps) i [])
+    → Loaded (map g ps) (map f zs) (map f ys) (i + 1)
+one_loaded f g ps zs xs ys i so below within inside is =
+    rw is (one_more_loaded (map g ps) (map f zs) (map f xs) i so (count_of f xs i below) (count_of g ps i within) (count_of f zs i inside))
+
+pub all_loaded : {Z : Type 0} (pages first now : List (List Z)) (i : ℕ) → Loaded pages first now i → length pages ≤ i → length first ≤ i → now ≡ pages
+all_loaded pages first now i so over past =
+    so.items ∙ ap₂ ◌++◌ (take_all i pages over) (drop_of_length-le first past) ∙ append-nil pages
+
+-- drives that keep no stamps
+same_constant : {X Y Z : Type 0} (z : Z) (xs : List X) (ys : List Y) → length xs ≡ length ys → map (λ _. z) xs ≡ map (λ _. z) ys
+same_constant z [] [] as_many = refl
+same_constant z [] (y ∷ ys) as_many = absurd (cc as_many)
+same_constant z (x ∷ xs) [] as_many = absurd (cc as_many)
+same_constant z (x ∷ xs) (y ∷ ys) as_many = ap (λ zs. z ∷ zs) (same_constant z xs ys (cc as_many))
+
+as_many_items : {X Y A B : Type 0} (f : X → A) (g : Y → B) (xs : List X) (ys : List Y) → length (map f xs) ≡ length (map g ys) → length xs ≡ length ys
+as_many_items f g xs ys is = sym (length-map xs f) ∙ is ∙ length-map ys g
+
+pub unstamped : {X : Type 0} (pages : List PageList) (drives : List X) → map pages_lasts pages ≡ map (λ _. []) drives → AreUnstamped pages
+unstamped pages drives is =
+    is ∙ sym (same_constant [] pages drives (as_many_items pages_lasts (λ _. []) pages drives (ap length is)))
+
+pub blank_sizes : {X : Type 0} (f : X → List ℕ) (pages : List PageList) (drives : List X) → AreUnstamped pages
+    → map length (map pages_words pages) ≡ map length (map f drives)
+    → map length (map pages_lasts pages) ≡ map (λ _. 0) drives
+blank_sizes f pages drives blank sizes = ap (map length) blank ∙ zeros pages ∙ same_constant 0 pages drives as_many where
+  as_many : length pages ≡ length drives
+  as_many = as_many_items pages_words f pages drives (as_many_items length length (map pages_words pages) (map f drives) (ap length sizes))
+
+  zeros : (xs : List PageList) → map length (map {A = PageList} {B = List (Option Stamp)} (λ _. []) xs) ≡ map (λ _. 0) xs
+  zeros [] = refl
+  zeros (x ∷ xs) = ap (λ ns. 0 ∷ ns) (zeros xs)
+
+pub no_stamps : {X : Type 0} (drives : List X) → map length (map {A = X} {B = List (Option Stamp)} (λ _. []) drives) ≡ map (λ _. 0) drives
+no_stamps [] = refl
+no_stamps (x ∷ xs) = ap (λ ns. 0 ∷ ns) (no_stamps xs)
+
+-- one list more is shared
+pub one_more_shared : (all first : List PageList) (i : ℕ) (pages same : PageList) → lists_shared first ≡ take i (lists_shared all)
+    → i < length all → pages ≡ get_or all i pages → same.value ≡ pages.value → lists_shared (first ++ same ∷ []) ≡ take (i + 1) (lists_shared all)
+one_more_shared all first i pages same is below there alike =
+    let within : i < length (lists_shared all) = rw length-map below in
+    let last : same.value ≡ get_or (lists_shared all) i pages.value
+    = alike ∙ ap (λ (p : PageList). p.value) there ∙ sym (get_or-map (λ (p : PageList). p.value) all i pages pages.value below) in
+    map-append (λ (p : PageList). p.value) first (same ∷ []) ∙ ap₂ (λ xs x. xs ++ x ∷ []) is last
+    ∙ sym (rw add-one (take-suc (lists_shared all) i pages.value within))
+
+-- what is seen of each list is seen of the lists that share it
+same_seen : {X : Type 0} (f : Vec SharedPage Global → X) (xs ys : List PageList) → lists_shared xs ≡ lists_shared ys
+    → map (λ (p : PageList). f p.value) xs ≡ map (λ (p : PageList). f p.value) ys
+same_seen f [] [] is = refl
+same_seen f [] (y ∷ ys) is = absurd (cc is)
+same_seen f (x ∷ xs) [] is = absurd (cc is)
+same_seen f (x ∷ xs) (y ∷ ys) is =
+    let here : x.value ≡ y.value = cc is in
+    ap₂ ◌∷◌ (ap f here) (same_seen f xs ys (cc is))
+
+pub same_words : (xs ys : List PageList) → lists_shared xs ≡ lists_shared ys → map pages_words xs ≡ map pages_words ys
+same_words xs ys is = same_seen (λ (v : Vec SharedPage Global). words_of v.items) xs ys is
+
+pub same_lasts : (xs ys : List PageList) → lists_shared xs ≡ lists_shared ys → map pages_lasts xs ≡ map pages_lasts ys
+same_lasts xs ys is = same_seen (λ (v : Vec SharedPage Global). lasts_of v.items) xs ys is
+
+same_length : (xs ys : List PageList) → lists_shared xs ≡ lists_shared ys → length xs ≡ length ys
+same_length xs ys is = as_many_items (λ (p : PageList). p.value) (λ (p : PageList). p.value) xs ys (ap length is)
+
+blank : (xs ys : List PageList) → length xs ≡ length ys → map {A = PageList} {B = List (Option Stamp)} (λ _. []) xs ≡ map (λ _. []) ys
+blank xs ys as_many = same_constant [] xs ys as_many
+
+pub shared_unstamped : (xs ys : List PageList) → lists_shared xs ≡ lists_shared ys → AreUnstamped ys → AreUnstamped xs
+shared_unstamped xs ys is none = same_lasts xs ys is ∙ none ∙ sym (blank xs ys (same_length xs ys is))
+
+-- another list takes a place, with stamps as there
+pub put_unstamped : (xs ys : List PageList) (k : ℕ) (old new : PageList) → lists_shared xs ≡ lists_shared ys → AreUnstamped ys
+    → old ≡ get_or ys k old → k < length ys → pages_lasts new ≡ pages_lasts old → AreUnstamped (slice_set xs k new)
+put_unstamped xs ys k old new is none there below lasts =
+    let same : map pages_lasts xs ≡ map pages_lasts ys = same_lasts xs ys is in
+    let as_many : length xs ≡ length ys = same_length xs ys is in
+    let first : pages_lasts new ≡ get_or (map pages_lasts xs) k [] = lasts ∙ ap pages_lasts there ∙ sym (get_or-map pages_lasts ys k old [] below) ∙ ap (λ zs. get_or zs k []) (sym same) in
+    let seen_there : pages_lasts new ≡ pages_lasts (get_or xs k old) = first ∙ get_or-map pages_lasts xs k old [] (omega (arith, as_many, below)) in
+    map-set_same pages_lasts xs k new old seen_there ∙ same ∙ none ∙ sym (blank (slice_set xs k new) ys (length-set xs k new ∙ as_many))
+
+-- the words of lists, with another list in a place
+pub words_put : (xs ys : List PageList) (k : ℕ) (new : PageList) (words : List ℕ) → lists_shared xs ≡ lists_shared ys → pages_words new ≡ words
+    → map pages_words (slice_set xs k new) ≡ slice_set (map pages_words ys) k words
+words_put xs ys k new words is these = map-set pages_words xs k new ∙ ap₂ (λ zs z. slice_set zs k z) (same_words xs ys is) these
+
+-- a list that has words is there
+pub list_there : {X : Type 0} (f : X → List ℕ) (xs : List X) (k word : ℕ) → word < length (slice_index_or (map f xs) k []) → k < length xs
+list_there f [] k word below = absurd (omega (arith, below))
+list_there f (x ∷ xs) zero word below = omega arith
+list_there f (x ∷ xs) (suc k) word below = let rest = list_there f xs k word below in omega (arith, rest)
+
+-- the words of the drive of a number, as its list has them
+pub words_there : (xs : List PageList) (k : ℕ) (pages : PageList) → pages ≡ get_or xs k pages → k < length xs → pages_words pages ≡ slice_index_or (map pages_words xs) k []
+words_there xs k pages there below = ap pages_words there ∙ sym (get_or-map pages_words xs k pages [] below)
+
+-- contents that are alike
+pub alike_contents : (c d : BusContent) → c.board ≡ d.board → c.core ≡ d.core → c.lasts ≡ d.lasts → c.drives ≡ d.drives → c.bytes_read ≡ d.bytes_read
+    → c.turn ≡ d.turn → c ≡ d
+alike_contents c d board core lasts drives bytes_read turn =
+    ap (λ x. record c { board = x }) board
+    ∙ ap (λ x. record c { board = d.board; core = x }) core
+    ∙ ap (λ x. record c { board = d.board; core = d.core; lasts = x }) lasts
+    ∙ ap (λ x. record c { board = d.board; core = d.core; lasts = d.lasts; drives = x }) drives
+    ∙ ap (λ x. record d { bytes_read = x; turn = c.turn }) bytes_read
+    ∙ ap (λ x. record d { turn = x }) turn

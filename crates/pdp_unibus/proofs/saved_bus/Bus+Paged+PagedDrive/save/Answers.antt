@@ -1,0 +1,5 @@
+use Rattle.pdp_unibus.proofs.SavedDrives.{unstamped}
+use Rattle.pdp_unibus.proofs.saved_bus.Bus+Paged+PagedDrive.save.Goals as goal
+
+pub invariant_of-result : goal.invariant_of-result
+invariant_of-result c = unstamped c.in_ok-drives.drives.items c.self.inside.drives.items c.in_ok-drives.ensures.lasts

@@ -1,0 +1,10 @@
+use Rattle.std.proofs.Common.{◌≡◌, length, map}
+use Rattle.pdp_unibus.specs.SavedDrives.{pages_lasts, pages_words}
+use Rattle.pdp_unibus.proofs.SavedDrives.{Loaded}
+use Rattle.pdp_unibus.proofs.saved_drives.load_each.Given as goal
+
+abbrev pub invariant-loop-number : goal.invariant-loop-number
+invariant-loop-number g l =
+    Loaded (map pages_words l.pages.items) (map g.D.Store.words l.initial.drives.items) (map g.D.Store.words l.drives.items) l.number
+    × Loaded (map pages_lasts l.pages.items) (map g.D.Store.lasts l.initial.drives.items) (map g.D.Store.lasts l.drives.items) l.number
+    × (length l.drives.items ≡ l.number-end) × (length l.pages.items ≡ l.number-end) × (length l.initial.drives.items ≡ l.number-end)

@@ -1,0 +1,25 @@
+-- The pages of drives. No public contract names this.
+use Rattle.std.specs.Prelude.{ℕ, ◌≡◌, List, [], Option, Vec, map}
+use Rattle.std.specs.declared.alloc.Global.{Global}
+use Rattle.std.specs.declared.rc.Rc.{Rc}
+use Rattle.pdp_store.specs.declared.Stamp.{Stamp}
+use Rattle.pdp_store.specs.Pages.{SharedPage, lasts_of, words_of}
+
+-- a list of pages, as it is shared
+abbrev pub PageList : Type 0
+PageList = Rc (Vec SharedPage Global) Global
+
+-- its words, and their last stamps
+abbrev pub pages_words : PageList → List ℕ
+pages_words pages = words_of pages.value.items
+
+abbrev pub pages_lasts : PageList → List (Option Stamp)
+pages_lasts pages = lasts_of pages.value.items
+
+-- these pages of drives have no stamps
+abbrev pub AreUnstamped : List PageList → Type 0
+AreUnstamped drives = map pages_lasts drives ≡ map (λ _. []) drives
+
+-- the lists that are shared
+abbrev pub lists_shared : List PageList → List (Vec SharedPage Global)
+lists_shared drives = map (λ pages. pages.value) drives

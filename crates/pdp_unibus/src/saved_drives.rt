@@ -1,0 +1,135 @@
+//! The drives as shared pages: taken, and loaded again.
+
+ghost use Rattle.std.specs.Prelude.{◌≡◌, ◌<◌, [], length, map, slice_index_or, slice_set, IfOk};
+ghost use Rattle.pdp_unibus.specs.SavedDrives.{lists_shared, pages_lasts, pages_words};
+
+use pdp_store::{Pages, Paging, change_word};
+use pdp_word::NoMemory;
+use std::alloc::Global;
+
+/// The pages of each drive, in the order of their numbers.
+///
+/// Err(NoMemory) where a growth was refused; the words of the drives stay in any case.
+#[tactic(auto, using(crate::proofs::SavedDrives::one_more))]
+pub(crate) fn take_each<D: Paging>(
+    alloc: Global,
+    drives: &mut Vec<D>,
+) -> Result<Vec<Pages>, NoMemory>
+    ensures same_words { map D.words drives.new.items ≡ map D.words drives.old.items }
+    ensures same_lasts { map D.lasts drives.new.items ≡ map D.lasts drives.old.items }
+    ensures words { IfOk result (λ pages. map pages_words pages.items ≡ map D.words drives.old.items) }
+    ensures lasts { IfOk result (λ pages. map pages_lasts pages.items ≡ map D.lasts drives.old.items) }
+{
+    let mut taken = Vec::with_capacity(alloc, drives.len())?;
+    for number in 0..drives.len() {
+        let pages = take_one(alloc, drives, number)?;
+        taken.push(pages)?;
+    }
+    Ok(taken)
+}
+
+/// The pages of the drive of this number.
+///
+/// Err(NoMemory) where a growth was refused; the words of the drives stay in any case.
+#[tactic(auto, using(crate::proofs::SavedDrives::same_for_one, crate::proofs::SavedDrives::seen))]
+fn take_one<D: Paging>(alloc: Global, drives: &mut Vec<D>, number: usize) -> Result<Pages, NoMemory>
+    requires { number < length drives.old.items }
+    ensures count { length drives.new.items ≡ length drives.old.items }
+    ensures same_words { map D.words drives.new.items ≡ map D.words drives.old.items }
+    ensures same_lasts { map D.lasts drives.new.items ≡ map D.lasts drives.old.items }
+    ensures words { IfOk result (λ pages. pages_words pages ≡ slice_index_or (map D.words drives.old.items) number []) }
+    ensures lasts { IfOk result (λ pages. pages_lasts pages ≡ slice_index_or (map D.lasts drives.old.items) number []) }
+{
+    drives[number].take_pages(alloc)
+}
+
+/// Loads each drive from the pages of its number. Takes no memory.
+#[tactic(auto, using(crate::proofs::SavedDrives::none_loaded, crate::proofs::SavedDrives::size_at, crate::proofs::SavedDrives::one_loaded, crate::proofs::SavedDrives::all_loaded))]
+pub(crate) fn load_each<D: Paging>(drives: &mut Vec<D>, pages: &Vec<Pages>)
+    requires words { map length (map pages_words pages.now.items) ≡ map length (map D.words drives.old.items) }
+    requires lasts { map length (map pages_lasts pages.now.items) ≡ map length (map D.lasts drives.old.items) }
+    ensures words { map D.words drives.new.items ≡ map pages_words pages.now.items }
+    ensures lasts { map D.lasts drives.new.items ≡ map pages_lasts pages.now.items }
+{
+    for number in 0..drives.len() {
+        load_one(drives, pages, number);
+    }
+}
+
+/// Loads the drive of this number from the pages of this number. Takes no memory.
+#[tactic(auto, using(crate::proofs::SavedDrives::seen, crate::proofs::SavedDrives::put_one))]
+fn load_one<D: Paging>(drives: &mut Vec<D>, pages: &Vec<Pages>, number: usize)
+    requires within { number < length drives.old.items }
+    requires there { number < length pages.now.items }
+    requires words { length (slice_index_or (map pages_words pages.now.items) number []) ≡ length (slice_index_or (map D.words drives.old.items) number []) }
+    requires lasts { length (slice_index_or (map pages_lasts pages.now.items) number []) ≡ length (slice_index_or (map D.lasts drives.old.items) number []) }
+    ensures count { length drives.new.items ≡ length drives.old.items }
+    ensures words { map D.words drives.new.items ≡ slice_set (map D.words drives.old.items) number (slice_index_or (map pages_words pages.now.items) number []) }
+    ensures lasts { map D.lasts drives.new.items ≡ slice_set (map D.lasts drives.old.items) number (slice_index_or (map pages_lasts pages.now.items) number []) }
+{
+    drives[number].load_pages(&pages[number]);
+}
+
+/// The same pages of each drive once more.
+///
+/// Err(NoMemory) where a growth was refused, or a list has as many owners as can be counted.
+#[tactic(auto, using(crate::proofs::SavedDrives::one_more_shared))]
+pub(crate) fn share_each(alloc: Global, drives: &[Pages]) -> Result<Vec<Pages>, NoMemory>
+    ensures { IfOk result (λ shared. lists_shared shared.items ≡ lists_shared drives.now) }
+{
+    let mut shared = Vec::with_capacity(alloc, drives.len())?;
+    for pages in drives {
+        shared.push(pages.clone()?)?;
+    }
+    Ok(shared)
+}
+
+/// These pages, of the drive of this number, with one word changed. The drive of this number here gives the serial of
+/// the new page, and core where there is none.
+///
+/// Err(NoMemory) where a growth was refused, or a page has as many owners as can be counted; the words of core and of
+/// the drives stay in any case.
+pub(crate) fn change_one<S: Paging, D: Paging>(
+    alloc: Global,
+    core: &mut S,
+    drives: &mut Vec<D>,
+    number: usize,
+    pages: &Pages,
+    word: usize,
+    value: u16,
+) -> Result<Pages, NoMemory>
+    requires { word < length (pages_words pages.now) }
+    ensures core_words { S.words core.new ≡ S.words core.old }
+    ensures core_lasts { S.lasts core.new ≡ S.lasts core.old }
+    ensures drive_words { map D.words drives.new.items ≡ map D.words drives.old.items }
+    ensures words { IfOk result (λ changed. pages_words changed ≡ slice_set (pages_words pages.now) word value) }
+    ensures lasts { IfOk result (λ changed. pages_lasts changed ≡ pages_lasts pages.now) }
+{
+    if number < drives.len() {
+        change_by(alloc, drives, number, pages, word, value)
+    } else {
+        change_word(core, alloc, pages, word, value)
+    }
+}
+
+// These pages with one word changed; the drive of this number gives the serial of the new page.
+//
+// Err(NoMemory) where a growth was refused, or a page has as many owners as can be counted; the words of the drives
+// stay in any case.
+#[tactic(auto, using(crate::proofs::SavedDrives::same_for_one))]
+fn change_by<D: Paging>(
+    alloc: Global,
+    drives: &mut Vec<D>,
+    number: usize,
+    pages: &Pages,
+    word: usize,
+    value: u16,
+) -> Result<Pages, NoMemory>
+    requires within { number < length drives.old.items }
+    requires there { word < length (pages_words pages.now) }
+    ensures drive_words { map D.words drives.new.items ≡ map D.words drives.old.items }
+    ensures words { IfOk result (λ changed. pages_words changed ≡ slice_set (pages_words pages.now) word value) }
+    ensures lasts { IfOk result (λ changed. pages_lasts changed ≡ pages_lasts pages.now) }
+{
+    change_word(&mut drives[number], alloc, pages, word, value)
+}
