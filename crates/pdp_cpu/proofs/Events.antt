@@ -1,5 +1,5 @@
 -- What the beginning of a turn does to the processor.
-use Rattle.std.proofs.Common.{◌≡◌, ◌∙◌, ℕ, zero, suc, ◌+◌, ◌<◌, List, [], ◌∷◌, length, take, get_or, slice_index, refl, sym, ap, subst, add-one, arith}
+use Rattle.std.proofs.Common.{◌≡◌, ℕ, zero, suc, ◌+◌, ◌<◌, List, [], ◌∷◌, length, take, get_or, refl, add-one, arith}
 use Rattle.pdp_unibus.specs.declared.event.Event.{Event}
 use Rattle.pdp_operand.specs.declared.processor.Processor.{Processor}
 use Rattle.pdp_cpu.specs.Turns.Turn.{processor_after, processor_after_events}

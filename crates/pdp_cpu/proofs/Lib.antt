@@ -7,3 +7,4 @@ pub mod Halted
 pub mod Dues
 pub mod StatusKept
 pub mod PlansKeepStatus
+mod KeptTexts

@@ -1,11 +1,11 @@
 -- The laws of turns, as instances of those of courses.
-use Rattle.std.proofs.Common.{◌≡◌, ◌∙◌, ◌++◌, ℕ, ◌<◌, ◌≤◌, None, All, List, ap, ap₂, refl, subst, sym, Bool, true, false, arith, length, slice_index, slice_index_or}
+use Rattle.std.proofs.Common.{◌≡◌, ◌∙◌, ◌++◌, ℕ, ◌<◌, ◌≤◌, None, All, List, ap, ap₂, subst, sym, Bool, true, false, arith, length, slice_index_or}
 use Rattle.std.proofs.lemmas.List.Elements.{All-append}
 use Rattle.pdp_unibus.specs.BusWorld.{BusWorld}
 use Rattle.pdp_store.proofs.Traces.{Avoids-first, Avoids-second}
 use Rattle.pdp_store.specs.Parts.{AlikeWords}
 use Rattle.pdp_store.specs.Touch.{Avoids, Part, Touch, is_core, last_write}
-use Rattle.pdp_unibus.proofs.Kept.{KeepsStamps, begun_keeps_page, begun_keeps_stamps, begun_keeps_turn, keeps_stamps}
+use Rattle.pdp_unibus.proofs.Kept.{KeepsStamps, begun_keeps_page, begun_keeps_stamps, begun_keeps_tape, begun_keeps_turn, keeps_stamps}
 use Rattle.pdp_unibus.proofs.Pairs.{begun_alike}
 use Rattle.pdp_unibus.specs.Beginning.{begun, in_turn}
 use Rattle.pdp_unibus.specs.Page.{AlikeOutside, SamePage, words_of, with_words}
@@ -19,7 +19,7 @@ use Rattle.pdp_operand.specs.declared.trap.Trap.{Trap}
 use Rattle.pdp_operand.specs.Phases.Phase.{Inner, Phase, inner_of}
 use Rattle.pdp_operand.proofs.Bound.{AtMost, course_length_le}
 use Rattle.pdp_cpu.proofs.PlanSizes.{size_of_plan}
-use Rattle.pdp_operand.proofs.Kept.{course_touches, course_lasts, course_keeps_turn, course_keeps_stamps}
+use Rattle.pdp_operand.proofs.Kept.{course_touches, course_keeps_tape, course_keeps_turn, course_keeps_stamps}
 use Rattle.pdp_operand.proofs.Outside.{course_undisturbed}
 use Rattle.pdp_cpu.specs.Handbook.Instruction.{executed, instruction, noted}
 use Rattle.pdp_cpu.specs.Handbook.TrapSequence.{handled, origin_of, push_plan, red, red_plan, sequence, trap_plan}
@@ -129,6 +129,11 @@ pub turn_keeps_words : (t : ℕ) (events : List Event) (w : World) → length (o
 unfolding one_turn
 turn_keeps_words t events w =
     (course_keeps_turn (course_at (at_turn t events w)) (at_turn t events w)).words ∙ (begun_keeps_turn t events w.bus).words
+
+pub turn_keeps_tape : (t : ℕ) (events : List Event) (w : World) → (one_turn t events w).bus.tape ≡ w.bus.tape
+unfolding one_turn
+turn_keeps_tape t events w =
+    course_keeps_tape (course_at (at_turn t events w)) (at_turn t events w) ∙ begun_keeps_tape t events w.bus
 
 pub turn_keeps_lasts : (t : ℕ) (events : List Event) (w : World) → length (one_turn t events w).bus.lasts ≡ length w.bus.lasts
 turn_keeps_lasts t events w = (turn_keeps_stamps t events w).size

@@ -10,7 +10,12 @@ use pdp_unibus::Bus;
 /// BR and the branches on a condition.
 #[inline(always)]
 #[tactic(auto, using(crate::proofs::Steps::run_branch), unfolding(crate::specs::Handbook::Branch::branch_plan))]
-pub fn branch<S: Store>(processor: &mut Processor, bus: &Bus<S>, condition: Condition, offset: i8)
+pub fn branch<S: Store, D: Store>(
+    processor: &mut Processor,
+    bus: &Bus<S, D>,
+    condition: Condition,
+    offset: i8,
+)
     ensures runs { Runs (branch_plan condition offset) processor.old bus.now (Ok tt) processor.new bus.now }
 {
     if condition.is_taken(bus.status().codes) {
@@ -30,7 +35,12 @@ fn go_to(processor: &mut Processor, offset: i8)
 /// SOB.
 #[inline(always)]
 #[tactic(auto, using(crate::proofs::Steps::run_subtract_one), unfolding(crate::specs::Handbook::Branch::sob_plan))]
-pub fn subtract_one<S: Store>(processor: &mut Processor, bus: &Bus<S>, register: u8, words: u8)
+pub fn subtract_one<S: Store, D: Store>(
+    processor: &mut Processor,
+    bus: &Bus<S, D>,
+    register: u8,
+    words: u8,
+)
     ensures runs { Runs (sob_plan register words) processor.old bus.now (Ok tt) processor.new bus.now }
 {
     let slot = Slot::of(bus.status().mode, register);

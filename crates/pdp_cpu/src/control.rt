@@ -14,7 +14,7 @@ use pdp_unibus::Bus;
 /// Err(Reserved) in user mode.
 #[inline(never)]
 #[tactic(auto, unfolding(crate::specs::Handbook::Control::halt_plan, crate::specs::Handbook::Control::halt, pdp_operand::specs::Phases::Phase::run))]
-pub fn halt<S: Store>(processor: &mut Processor, bus: &Bus<S>) -> Result<(), Trap>
+pub fn halt<S: Store, D: Store>(processor: &mut Processor, bus: &Bus<S, D>) -> Result<(), Trap>
     ensures runs { Runs halt_plan processor.old bus.now result processor.new bus.now }
 {
     if bus.status().mode == Mode::User {
@@ -36,7 +36,7 @@ pub fn wait(processor: &mut Processor)
 /// RESET.
 #[inline(never)]
 #[tactic(auto, unfolding(crate::specs::Handbook::Control::reset_plan, crate::specs::Handbook::Control::reset, pdp_operand::specs::Phases::Phase::run))]
-pub fn reset<S: Store>(bus: &mut Bus<S>)
+pub fn reset<S: Store, D: Store>(bus: &mut Bus<S, D>)
     ensures runs { (p : Processor) → Runs reset_plan p bus.old (Ok tt) p bus.new }
 {
     if bus.status().mode != Mode::User {

@@ -39,7 +39,7 @@ impl Due {
 
     /// What is due now.
     #[inline(always)]
-    pub fn of<S: Store>(processor: &Processor, bus: &Bus<S>) -> Due
+    pub fn of<S: Store, D: Store>(processor: &Processor, bus: &Bus<S, D>) -> Due
         ensures { result ≡ due_now processor.now bus.now.board }
     {
         if processor.run == RunState::Halted {
@@ -63,7 +63,7 @@ impl Due {
 /// its tests are joined without a jump for each.
 #[inline(always)]
 #[tactic(auto, using(crate::proofs::Dues::instruction_is_due))]
-pub fn nothing_is_pending<S: Store>(processor: &Processor, bus: &Bus<S>) -> bool
+pub fn nothing_is_pending<S: Store, D: Store>(processor: &Processor, bus: &Bus<S, D>) -> bool
     ensures { result ≡ true → due_now processor.now bus.now.board ≡ Instruction }
 {
     let pending = processor.trace_trap | processor.stack_trap | bus.may_request();

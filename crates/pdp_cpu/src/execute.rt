@@ -13,9 +13,9 @@ use pdp_unibus::Bus;
 /// written. Where the write faults the codes stay.
 #[inline(always)]
 #[tactic(auto, using(crate::proofs::Steps::run_store_codes, crate::proofs::Steps::run_store_none), unfolding(crate::specs::Handbook::Execute::finish_plan))]
-pub fn finish<S: Store>(
+pub fn finish<S: Store, D: Store>(
     processor: &mut Processor,
-    bus: &mut Bus<S>,
+    bus: &mut Bus<S, D>,
     place: Place,
     fill: Fill,
     effect: Effect,

@@ -14,9 +14,9 @@ use pdp_word::{Codes, Size};
 /// MUL.
 #[inline(never)]
 #[tactic(auto, using(crate::proofs::Steps::run_multiplication), unfolding(crate::specs::Handbook::Extended::mul_plan))]
-pub fn multiply<S: Store>(
+pub fn multiply<S: Store, D: Store>(
     processor: &mut Processor,
-    bus: &mut Bus<S>,
+    bus: &mut Bus<S, D>,
     register: u8,
     source: Spec,
 ) -> Result<(), Trap>
@@ -34,9 +34,9 @@ pub fn multiply<S: Store>(
 /// DIV.
 #[inline(never)]
 #[tactic(auto, using(crate::proofs::Steps::run_division), unfolding(crate::specs::Handbook::Extended::div_plan))]
-pub fn divide<S: Store>(
+pub fn divide<S: Store, D: Store>(
     processor: &mut Processor,
-    bus: &mut Bus<S>,
+    bus: &mut Bus<S, D>,
     register: u8,
     source: Spec,
 ) -> Result<(), Trap>
@@ -68,9 +68,9 @@ fn set_quotient(processor: &mut Processor, pair: Pair, effect: Div) -> Codes
 /// ASH.
 #[inline(never)]
 #[tactic(auto, using(crate::proofs::Steps::run_shift), unfolding(crate::specs::Handbook::Extended::ash_plan))]
-pub fn shift<S: Store>(
+pub fn shift<S: Store, D: Store>(
     processor: &mut Processor,
-    bus: &mut Bus<S>,
+    bus: &mut Bus<S, D>,
     register: u8,
     source: Spec,
 ) -> Result<(), Trap>
@@ -88,9 +88,9 @@ pub fn shift<S: Store>(
 /// ASHC.
 #[inline(never)]
 #[tactic(auto, using(crate::proofs::Steps::run_pair_shift), unfolding(crate::specs::Handbook::Extended::ashc_plan))]
-pub fn shift_pair<S: Store>(
+pub fn shift_pair<S: Store, D: Store>(
     processor: &mut Processor,
-    bus: &mut Bus<S>,
+    bus: &mut Bus<S, D>,
     register: u8,
     source: Spec,
 ) -> Result<(), Trap>

@@ -38,9 +38,9 @@ fn aim(processor: &mut Processor, place: Place) -> Result<u16, Trap>
 /// JMP.
 #[inline(never)]
 #[tactic(auto, using(crate::proofs::Steps::run_jump), unfolding(crate::specs::Handbook::Jump::jmp_plan))]
-pub fn jump<S: Store>(
+pub fn jump<S: Store, D: Store>(
     processor: &mut Processor,
-    bus: &mut Bus<S>,
+    bus: &mut Bus<S, D>,
     destination: Spec,
 ) -> Result<(), Trap>
     ensures runs { Runs (jmp_plan destination) processor.old bus.old result processor.new bus.new }
@@ -54,9 +54,9 @@ pub fn jump<S: Store>(
 /// JSR.
 #[inline(never)]
 #[tactic(auto, using(crate::proofs::Steps::run_take_link, crate::proofs::Steps::run_link), unfolding(crate::specs::Handbook::Jump::jsr_plan))]
-pub fn jump_to_subroutine<S: Store>(
+pub fn jump_to_subroutine<S: Store, D: Store>(
     processor: &mut Processor,
-    bus: &mut Bus<S>,
+    bus: &mut Bus<S, D>,
     register: u8,
     destination: Spec,
 ) -> Result<(), Trap>
@@ -84,9 +84,9 @@ fn link(processor: &mut Processor, slot: Slot, address: u16)
 /// Pops the register.
 #[inline(always)]
 #[tactic(auto, using(crate::proofs::Steps::run_set_register), unfolding(crate::specs::Handbook::Jump::pop_register))]
-fn pop_register<S: Store>(
+fn pop_register<S: Store, D: Store>(
     processor: &mut Processor,
-    bus: &mut Bus<S>,
+    bus: &mut Bus<S, D>,
     register: u8,
 ) -> Result<(), Trap>
     ensures runs { Runs (pop_plan register) processor.old bus.old result processor.new bus.new }
@@ -100,9 +100,9 @@ fn pop_register<S: Store>(
 /// RTS.
 #[inline(never)]
 #[tactic(auto, using(crate::proofs::Steps::run_return_by), unfolding(crate::specs::Handbook::Jump::rts_plan))]
-pub fn return_from_subroutine<S: Store>(
+pub fn return_from_subroutine<S: Store, D: Store>(
     processor: &mut Processor,
-    bus: &mut Bus<S>,
+    bus: &mut Bus<S, D>,
     register: u8,
 ) -> Result<(), Trap>
     ensures runs { Runs (rts_plan register) processor.old bus.old result processor.new bus.new }
@@ -115,7 +115,11 @@ pub fn return_from_subroutine<S: Store>(
 /// MARK.
 #[inline(never)]
 #[tactic(auto, using(crate::proofs::Steps::run_take_mark), unfolding(crate::specs::Handbook::Jump::mark_plan))]
-pub fn mark<S: Store>(processor: &mut Processor, bus: &mut Bus<S>, words: u8) -> Result<(), Trap>
+pub fn mark<S: Store, D: Store>(
+    processor: &mut Processor,
+    bus: &mut Bus<S, D>,
+    words: u8,
+) -> Result<(), Trap>
     ensures runs { Runs (mark_plan words) processor.old bus.old result processor.new bus.new }
 {
     take_mark(processor, Slot::of(bus.status().mode, 6), words);

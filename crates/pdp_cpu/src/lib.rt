@@ -4,8 +4,9 @@
 //! says that a turn takes the machine to its definition's next state, what was printed and punched with it, for every
 //! store of core and of the drives, with which act it began, and that the meter counts it: what is due (`Due`), an
 //! instruction's plan, and what follows a trap are all phases. The laws say how many phases a turn has at most, what it
-//! and the disk stamp and what they leave, and what a halted machine keeps. Which events a turn has, and how many turns
-//! are run, it leaves to pdp_replay.
+//! and the disk stamp and what they leave, and what a halted machine keeps. The contracts of `PagedMachine` say
+//! what is saved of a machine over stores of pages (`Saved`), what a load of it leaves, and which bytes of its texts
+//! the machine keeps. Which events a turn has, and how many turns are run, it leaves to pdp_replay.
 #![tactic(auto)]
 
 mod act;
@@ -20,6 +21,7 @@ mod execute;
 mod extended;
 mod instruction;
 mod jump;
+mod kept_text;
 mod laws;
 mod machine;
 mod meter;
@@ -33,6 +35,7 @@ mod pair;
 mod previous_mode;
 mod regs;
 mod return_from_trap;
+mod saved;
 mod serving;
 #[cfg(test)]
 mod tests;
@@ -41,6 +44,7 @@ mod two_operands;
 
 pub use act::Act;
 pub use devices::DeviceRegisters;
+pub use kept_text::KeptByte;
 pub use laws::{
     halted_machines_stay, stamps_are_last_writes, touches_are_of_their_turn,
     turns_end_within_32_phases, turns_keep_the_size_of_core, turns_leave_what_they_never_touch,
@@ -52,3 +56,4 @@ pub use pages::PageRegisters;
 pub use pdp_operand::RunState;
 pub use pdp_unibus::LAST_TURN;
 pub use regs::Regs;
+pub use saved::{PagedMachine, Saved};

@@ -1,7 +1,8 @@
-ghost use Rattle.std.specs.Prelude.{◌≡◌, ◌+◌, ◌-◌, ◌^◌, ◌<◌, ◌≤◌, length, map, min, slice_index, slice_index_or, [], None, Ok, OnOk};
+ghost use Rattle.std.specs.Prelude.{◌≡◌, ◌+◌, ◌-◌, ◌^◌, ◌<◌, ◌≤◌, length, map, min, slice_index, slice_index_or, take, [], None, Ok, OnOk};
 ghost use Rattle.pdp_unibus.specs.BusWorld.{powered};
+ghost use Rattle.pdp_cpu.specs.KeptTexts.{without_turns};
 ghost use Rattle.pdp_cpu.specs.Turns.Devices.{devices_of};
-ghost use Rattle.pdp_cpu.specs.Turns.MachineState.{IsReady, powered_machine, after_turn};
+ghost use Rattle.pdp_cpu.specs.Turns.MachineState.{IsReady, powered_machine, after_turn, printed_kept, punched_kept};
 ghost use Rattle.pdp_cpu.specs.Turns.Pages.{of_each_page, page_registers_of};
 ghost use Rattle.pdp_kt11.specs.declared.register.KtRegister.TheVariants.{Address, Descriptor};
 ghost use Rattle.pdp_unibus.specs.Register.{value_in};
@@ -13,6 +14,7 @@ use crate::act::Act;
 use crate::devices::DeviceRegisters;
 use crate::due::nothing_is_pending;
 use crate::instruction::instruct;
+use crate::kept_text::{KeptByte, KeptText};
 use crate::meter::Meter;
 use crate::pages::PageRegisters;
 use crate::regs::Regs;
@@ -28,35 +30,35 @@ use pdp_word::NoMemory;
 use std::alloc::Global;
 use std::marker::Model;
 
-/// The machine: processor, bus, core and drives, for any store of words.
+/// The machine: processor, bus, core and drives, for any stores of words.
 ///
-/// A contract sees it as a `MachineWithRoom`: the turns that it has run, its world, what was printed and punched, and
-/// for how many more bytes there is room.
+/// A contract sees it as a `MachineWithTexts`: the turns that it has run, its world, what was printed and punched,
+/// the bytes that it keeps of later turns too, and for how many more of them there is room.
 #[derive(Drop)]
-pub struct Machine<S: Store> {
-    processor: Processor,
-    bus: Bus<S>,
-    turn: u32,
-    text: Vec<u8>,
-    punched: Vec<u8>,
+pub struct Machine<S: Store, D: Store> {
+    pub(crate) processor: Processor,
+    pub(crate) bus: Bus<S, D>,
+    pub(crate) turn: u32,
+    pub(crate) text: KeptText,
+    pub(crate) punched: KeptText,
 }
 
-impl<S: Store> Model for Machine<S> {
-    ghost use Rattle.std.specs.Prelude.{◌-◌};
-    ghost use Rattle.std.specs.Vec.{vec_capacity, vec_len};
-    ghost use Rattle.pdp_cpu.specs.Turns.MachineState.{MachineWithRoom};
+impl<S: Store, D: Store> Model for Machine<S, D> {
+    ghost use Rattle.pdp_cpu.specs.Turns.MachineState.{MachineWithTexts};
     ghost use Rattle.pdp_operand.specs.Phases.World.{world};
 
-    ghost Value = { MachineWithRoom };
+    ghost Value = { MachineWithTexts };
 
     ghost view = { λ m. record {
-      state = record { turn = m.turn; world = world m.processor m.bus; text = m.text.items; punched = m.punched.items };
-      text_room = vec_capacity m.text - vec_len m.text;
-      punched_room = vec_capacity m.punched - vec_len m.punched;
+      state = record { turn = m.turn; world = world m.processor m.bus; text = m.text.text; punched = m.punched.text };
+      kept_text = m.text.bytes;
+      kept_punched = m.punched.bytes;
+      text_room = m.text.room;
+      punched_room = m.punched.room;
     } };
 }
 
-impl<S: Store> Machine<S> {
+impl<S: Store, D: Store> Machine<S, D> {
     /// The machine as of power-up over this core and these drives, with this paper tape in the reader and these delays
     /// (turns): PC is the start address (octal, bytes), every other register and the program status word 0, the devices
     /// as after RESET, no drive locked (this project's profile). It has run no turn, and printed and punched nothing.
@@ -65,18 +67,20 @@ impl<S: Store> Machine<S> {
         alloc: Global,
         start: u16,
         words: S,
-        drives: Vec<S>,
+        drives: Vec<D>,
         tape: Vec<u8>,
         delays: Delays,
     ) -> Self
-        ensures { result.state ≡ powered_machine start (S.words words) (S.lasts words) (map S.words drives.items) tape.items delays }
+        ensures state { result.state ≡ powered_machine start (S.words words) (S.lasts words) (map D.words drives.items) tape.items delays }
+        ensures kept_text { result.kept_text ≡ [] }
+        ensures kept_punched { result.kept_punched ≡ [] }
     {
         Machine {
             processor: Processor::power(start),
             bus: Bus::new(words, drives, tape, delays),
             turn: 0,
-            text: Vec::new(alloc),
-            punched: Vec::new(alloc),
+            text: KeptText::new(alloc),
+            punched: KeptText::new(alloc),
         }
     }
 
@@ -89,8 +93,10 @@ impl<S: Store> Machine<S> {
         ensures ready { OnOk result (IsReady self.new) }
         ensures had_room { IsReady self.old → result ≡ Ok tt }
         ensures same { self.new.state ≡ self.old.state }
+        ensures same_text { self.new.kept_text ≡ self.old.kept_text }
+        ensures same_punched { self.new.kept_punched ≡ self.old.kept_punched }
     {
-        if self.text.len() < self.text.capacity() && self.punched.len() < self.punched.capacity() {
+        if self.text.has_room() && self.punched.has_room() {
             return Ok(());
         }
         self.make_room()
@@ -102,9 +108,11 @@ impl<S: Store> Machine<S> {
     fn make_room(&mut self) -> Result<(), NoMemory>
         ensures ready { OnOk result (IsReady self.new) }
         ensures same { self.new.state ≡ self.old.state }
+        ensures same_text { self.new.kept_text ≡ self.old.kept_text }
+        ensures same_punched { self.new.kept_punched ≡ self.old.kept_punched }
     {
-        self.text.reserve(1)?;
-        self.punched.reserve(1)?;
+        self.text.make_room()?;
+        self.punched.make_room()?;
         Ok(())
     }
 
@@ -112,8 +120,9 @@ impl<S: Store> Machine<S> {
     /// completions that are due, and then one act, of which it tells how it began: the trace trap or the stack trap
     /// that is pending, an interrupt, one instruction with its trap if it has one, or nothing where the machine waits
     /// or is halted. `Continue` ends a halt, and the act of that turn is chosen after it; the turns of a halted
-    /// machine begin like others. The bytes that come out are kept. It asks for the room that `ready` makes, and that
-    /// fewer than 1,000,000,000 turns were run; then it always takes place.
+    /// machine begin like others. The bytes that come out are kept, over those of later turns that are kept in their
+    /// places. It asks for the room that `ready` makes, and that fewer than 1,000,000,000 turns were run; then it
+    /// always takes place.
     ///
     /// DEC PDP-11/40 Processor Handbook (1972), Processor traps and Interrupts; that a turn is one act, and their
     /// order, are this project's profile.
@@ -124,6 +133,8 @@ impl<S: Store> Machine<S> {
         requires limit { self.old.state.turn < LAST_TURN }
         ensures act { result ≡ turn_act self.old.state.turn events.now self.old.state.world }
         ensures turn { self.new.state ≡ after_turn events.now self.old.state }
+        ensures kept_text { self.new.kept_text ≡ printed_kept events.now self.old }
+        ensures kept_punched { self.new.kept_punched ≡ punched_kept events.now self.old }
         ensures counted { meter.new ≡ min (meter.old + 1) (2 ^ 64 - 1) }
         ensures grows { meter.old ≤ meter.new }
     {
@@ -188,18 +199,22 @@ impl<S: Store> Machine<S> {
         self.bus.disk_word(drive, number)
     }
 
-    /// The bytes that were printed on the console since power-up, in their order (PDP-11 Peripherals Handbook, KL11).
-    pub fn text(&self) -> &[u8]
-        ensures { result.now ≡ self.now.state.text }
+    /// The bytes that were printed on the console since power-up, in their order, each with its turn (PDP-11 Peripherals
+    /// Handbook, KL11).
+    pub fn text(&self) -> &[KeptByte]
+        ensures kept { result.now ≡ take (length self.now.state.text) self.now.kept_text }
+        ensures bytes { without_turns result.now ≡ self.now.state.text }
     {
-        &self.text
+        self.text.shown()
     }
 
-    /// The bytes that were punched since power-up, in their order (PDP-11 Peripherals Handbook, PC11).
-    pub fn punched(&self) -> &[u8]
-        ensures { result.now ≡ self.now.state.punched }
+    /// The bytes that were punched since power-up, in their order, each with its turn (PDP-11 Peripherals Handbook,
+    /// PC11).
+    pub fn punched(&self) -> &[KeptByte]
+        ensures kept { result.now ≡ take (length self.now.state.punched) self.now.kept_punched }
+        ensures bytes { without_turns result.now ≡ self.now.state.punched }
     {
-        &self.punched
+        self.punched.shown()
     }
 
     /// The registers of the devices as reads would give them, without the effect of a read (PDP-11 Peripherals
@@ -295,19 +310,19 @@ impl<S: Store> Machine<S> {
     #[tactic(auto, unfolding(crate::specs::Turns::Turn::printed_in, crate::specs::Turns::Turn::punched_in))]
     fn begin(&mut self, events: &[Event])
         requires ready { IsReady self.old }
-        ensures { self.new.state ≡ with_begun events.now self.old.state }
+        ensures state { self.new.state ≡ with_begun events.now self.old.state }
+        ensures kept_text { self.new.kept_text ≡ printed_kept events.now self.old }
+        ensures kept_punched { self.new.kept_punched ≡ punched_kept events.now self.old }
     {
         take_events(&mut self.processor, events);
         let output = self.bus.events(self.turn, events);
-        keep(&mut self.text, output.printed);
-        keep(&mut self.punched, output.punched);
+        self.text.keep(self.turn, output.printed);
+        self.punched.keep(self.turn, output.punched);
     }
 }
 
 ghost use Rattle.pdp_cpu.specs.Turns.MachineState.{with_begun};
 ghost use Rattle.pdp_cpu.specs.Turns.Turn.{processor_after, processor_after_events};
-ghost use Rattle.std.specs.Prelude.{◌++◌, option_to_list};
-ghost use Rattle.std.specs.Vec.{vec_capacity, vec_len};
 
 /// What events do to the processor, in their order.
 #[tactic(auto, using(crate::proofs::Events::after_more_events))]
@@ -330,15 +345,5 @@ fn take_event(processor: &mut Processor, event: Event)
             }
         }
         _ => {}
-    }
-}
-
-/// Keeps the byte that came out, if any, where there is room for one.
-fn keep(bytes: &mut Vec<u8>, byte: Option<u8>)
-    requires room { vec_len bytes.old < vec_capacity bytes.old }
-    ensures { bytes.new.items ≡ bytes.old.items ++ option_to_list byte }
-{
-    if let Some(byte) = byte {
-        let _ = bytes.push(byte);
     }
 }

@@ -13,9 +13,9 @@ use pdp_word::Size;
 /// MOV.
 #[inline(never)]
 #[tactic(auto, using(crate::proofs::Steps::run_execute_mov), unfolding(crate::specs::Handbook::Moves::mov_plan))]
-pub fn mov_word<S: Store>(
+pub fn mov_word<S: Store, D: Store>(
     processor: &mut Processor,
-    bus: &mut Bus<S>,
+    bus: &mut Bus<S, D>,
     source: Spec,
     destination: Spec,
 ) -> Result<(), Trap>
@@ -29,9 +29,9 @@ pub fn mov_word<S: Store>(
 /// MOVB: a byte that goes to a register fills it with its sign.
 #[inline(never)]
 #[tactic(auto, using(crate::proofs::Steps::run_execute_mov), unfolding(crate::specs::Handbook::Moves::movb_plan))]
-pub fn mov_byte<S: Store>(
+pub fn mov_byte<S: Store, D: Store>(
     processor: &mut Processor,
-    bus: &mut Bus<S>,
+    bus: &mut Bus<S, D>,
     source: Spec,
     destination: Spec,
 ) -> Result<(), Trap>

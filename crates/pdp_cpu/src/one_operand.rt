@@ -14,9 +14,9 @@ use pdp_word::Size;
 /// TST and TSTB.
 #[inline(never)]
 #[tactic(auto, using(crate::proofs::Steps::run_execute_tst, crate::proofs::Steps::run_store_codes), unfolding(crate::specs::Handbook::OneOperand::tst_plan))]
-pub fn test<S: Store>(
+pub fn test<S: Store, D: Store>(
     processor: &mut Processor,
-    bus: &mut Bus<S>,
+    bus: &mut Bus<S, D>,
     destination: Spec,
     size: Size,
 ) -> Result<(), Trap>
@@ -31,9 +31,9 @@ pub fn test<S: Store>(
 /// COM, INC, DEC, NEG, ADC, SBC, ROR, ROL, ASR, ASL and SWAB.
 #[inline(never)]
 #[tactic(auto, using(crate::proofs::Steps::run_execute_modification), unfolding(crate::specs::Handbook::OneOperand::modify_plan))]
-pub fn modify<S: Store>(
+pub fn modify<S: Store, D: Store>(
     processor: &mut Processor,
-    bus: &mut Bus<S>,
+    bus: &mut Bus<S, D>,
     modification: Modification,
     destination: Spec,
 ) -> Result<(), Trap>
@@ -49,9 +49,9 @@ pub fn modify<S: Store>(
 /// CLR and SXT.
 #[inline(never)]
 #[tactic(auto, using(crate::proofs::Steps::run_execute_replacement), unfolding(crate::specs::Handbook::OneOperand::replace_plan))]
-pub fn replace<S: Store>(
+pub fn replace<S: Store, D: Store>(
     processor: &mut Processor,
-    bus: &mut Bus<S>,
+    bus: &mut Bus<S, D>,
     replacement: Replacement,
     destination: Spec,
 ) -> Result<(), Trap>

@@ -15,9 +15,9 @@ use pdp_word::Size;
 /// memory was formed, any other source before.
 #[inline(always)]
 #[tactic(auto, unfolding(crate::specs::Handbook::Operands::operands_plan))]
-pub fn operands<S: Store>(
+pub fn operands<S: Store, D: Store>(
     processor: &mut Processor,
-    bus: &mut Bus<S>,
+    bus: &mut Bus<S, D>,
     source: Spec,
     destination: Spec,
     size: Size,
@@ -38,9 +38,9 @@ pub fn operands<S: Store>(
 /// Both operands are registers: no reference is made.
 #[inline(always)]
 #[tactic(auto, using(crate::proofs::Steps::run_keep_source, pdp_operand::proofs::Steps::run_name_register), unfolding(crate::specs::Handbook::Operands::source_first, pdp_operand::specs::Handbook::Operand::find, pdp_operand::specs::Handbook::Operand::read_operand, pdp_operand::specs::Phases::Phase::run))]
-fn read_registers<S: Store>(
+fn read_registers<S: Store, D: Store>(
     processor: &Processor,
-    bus: &Bus<S>,
+    bus: &Bus<S, D>,
     source: Spec,
     destination: Spec,
     size: Size,
@@ -56,9 +56,9 @@ fn read_registers<S: Store>(
 
 #[inline(never)]
 #[tactic(auto, using(crate::proofs::Steps::run_keep_source), unfolding(crate::specs::Handbook::Operands::source_first))]
-fn read_first<S: Store>(
+fn read_first<S: Store, D: Store>(
     processor: &mut Processor,
-    bus: &mut Bus<S>,
+    bus: &mut Bus<S, D>,
     source: Spec,
     destination: Spec,
     size: Size,
@@ -74,9 +74,9 @@ fn read_first<S: Store>(
 
 #[inline(always)]
 #[tactic(auto, using(crate::proofs::Steps::run_take_register), unfolding(crate::specs::Handbook::Operands::place_first))]
-fn read_late<S: Store>(
+fn read_late<S: Store, D: Store>(
     processor: &mut Processor,
-    bus: &mut Bus<S>,
+    bus: &mut Bus<S, D>,
     source: Spec,
     destination: Spec,
     size: Size,

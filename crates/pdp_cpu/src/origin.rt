@@ -15,7 +15,7 @@ pub struct Origin {
 impl Origin {
     /// PC and the program status of now.
     #[inline(always)]
-    pub fn of<S: Store>(processor: &Processor, bus: &Bus<S>) -> Origin
+    pub fn of<S: Store, D: Store>(processor: &Processor, bus: &Bus<S, D>) -> Origin
         ensures { result ≡ origin processor.now bus.now.board }
     {
         Origin {

@@ -21,9 +21,9 @@ use pdp_word::Size;
 /// Err where the operand can't be found or read, or the push can't be made; the codes then stay.
 #[inline(never)]
 #[tactic(auto, using(crate::proofs::Steps::run_cross, crate::proofs::Steps::run_keep_source, crate::proofs::Steps::run_execute_mov), unfolding(crate::specs::Handbook::PreviousMode::mfpi_plan))]
-pub fn move_from_previous<S: Store>(
+pub fn move_from_previous<S: Store, D: Store>(
     processor: &mut Processor,
-    bus: &mut Bus<S>,
+    bus: &mut Bus<S, D>,
     source: Spec,
 ) -> Result<(), Trap>
     ensures runs { Runs (mfpi_plan source) processor.old bus.old result processor.new bus.new }
@@ -45,9 +45,9 @@ pub fn move_from_previous<S: Store>(
 /// Err where the word can't be popped, or the destination can't be found or written; the codes then stay.
 #[inline(never)]
 #[tactic(auto, using(crate::proofs::Steps::run_cross, crate::proofs::Steps::run_keep_source, crate::proofs::Steps::run_execute_mov), unfolding(crate::specs::Handbook::PreviousMode::mtpi_plan))]
-pub fn move_to_previous<S: Store>(
+pub fn move_to_previous<S: Store, D: Store>(
     processor: &mut Processor,
-    bus: &mut Bus<S>,
+    bus: &mut Bus<S, D>,
     destination: Spec,
 ) -> Result<(), Trap>
     ensures runs { Runs (mtpi_plan destination) processor.old bus.old result processor.new bus.new }

@@ -44,7 +44,10 @@ fn returned(old: Status, word: u16) -> Status
 /// RTI and RTT.
 #[inline(never)]
 #[tactic(auto, using(crate::proofs::Steps::run_keep_counter, crate::proofs::Steps::run_return_from_trap), unfolding(crate::specs::Handbook::ReturnFromTrap::return_plan))]
-pub fn return_from_trap<S: Store>(processor: &mut Processor, bus: &mut Bus<S>) -> Result<(), Trap>
+pub fn return_from_trap<S: Store, D: Store>(
+    processor: &mut Processor,
+    bus: &mut Bus<S, D>,
+) -> Result<(), Trap>
     ensures runs { Runs return_plan processor.old bus.old result processor.new bus.new }
 {
     let place = address(processor, bus, POP, Size::Word)?;

@@ -34,7 +34,7 @@ fn take_stack(processor: &mut Processor)
 #[cold]
 #[inline(never)]
 #[tactic(auto, unfolding(crate::specs::Turns::Due::serving, crate::specs::Turns::Due::take_trace, pdp_operand::specs::Phases::Phase::run, pdp_operand::specs::Phases::Course::follow))]
-fn trace_trap<S: Store>(processor: &mut Processor, bus: &mut Bus<S>)
+fn trace_trap<S: Store, D: Store>(processor: &mut Processor, bus: &mut Bus<S, D>)
     ensures follows { Follows (serving trace_taken true 0o14) processor.old bus.old processor.new bus.new }
 {
     take_trace(processor);
@@ -46,7 +46,7 @@ fn trace_trap<S: Store>(processor: &mut Processor, bus: &mut Bus<S>)
 #[cold]
 #[inline(never)]
 #[tactic(auto, unfolding(crate::specs::Turns::Due::serving, crate::specs::Turns::Due::take_stack, pdp_operand::specs::Phases::Phase::run, pdp_operand::specs::Phases::Course::follow))]
-fn stack_trap<S: Store>(processor: &mut Processor, bus: &mut Bus<S>)
+fn stack_trap<S: Store, D: Store>(processor: &mut Processor, bus: &mut Bus<S, D>)
     ensures follows { Follows (serving stack_taken false 0o4) processor.old bus.old processor.new bus.new }
 {
     take_stack(processor);
@@ -58,7 +58,7 @@ fn stack_trap<S: Store>(processor: &mut Processor, bus: &mut Bus<S>)
 #[cold]
 #[inline(never)]
 #[tactic(auto, unfolding(crate::specs::Turns::Due::serving, crate::specs::Turns::Due::serve, pdp_operand::specs::Phases::Phase::run, pdp_operand::specs::Phases::Course::follow))]
-fn interrupt<S: Store>(processor: &mut Processor, bus: &mut Bus<S>, source: Source)
+fn interrupt<S: Store, D: Store>(processor: &mut Processor, bus: &mut Bus<S, D>, source: Source)
     ensures follows { Follows (serving (serve source) true (vector_of source))
         processor.old bus.old processor.new bus.new }
 {
@@ -71,7 +71,7 @@ fn interrupt<S: Store>(processor: &mut Processor, bus: &mut Bus<S>, source: Sour
 /// What is due takes place, and is told.
 #[cold]
 #[inline(never)]
-pub fn take_what_is_due<S: Store>(processor: &mut Processor, bus: &mut Bus<S>) -> Act
+pub fn take_what_is_due<S: Store, D: Store>(processor: &mut Processor, bus: &mut Bus<S, D>) -> Act
     ensures act { result ≡ act_of (due_now processor.old bus.old.board) }
     ensures follows { Follows (course_of (due_now processor.old bus.old.board)) processor.old bus.old processor.new bus.new }
 {
@@ -83,7 +83,7 @@ pub fn take_what_is_due<S: Store>(processor: &mut Processor, bus: &mut Bus<S>) -
 /// What is due takes place.
 #[inline(always)]
 #[tactic(auto, unfolding(pdp_operand::specs::Phases::Course::follow))]
-fn carry_out<S: Store>(processor: &mut Processor, bus: &mut Bus<S>, due: Due)
+fn carry_out<S: Store, D: Store>(processor: &mut Processor, bus: &mut Bus<S, D>, due: Due)
     ensures follows { Follows (course_of due) processor.old bus.old processor.new bus.new }
 {
     match due {

@@ -17,7 +17,7 @@ use pdp_unibus::{Bus, Status};
 /// The new PC of a trap, at its vector in kernel space.
 #[inline(always)]
 #[tactic(auto, unfolding(crate::specs::Handbook::TrapSequence::vector_counter, pdp_operand::specs::Phases::Phase::run))]
-fn read_counter<S: Store>(bus: &mut Bus<S>, vector: u16) -> Result<u16, Trap>
+fn read_counter<S: Store, D: Store>(bus: &mut Bus<S, D>, vector: u16) -> Result<u16, Trap>
     ensures gives { (p : Processor) → Gives in_counter (one (vector_counter vector)) p bus.old result p bus.new }
 {
     read_word(bus, Mode::Kernel, vector)
@@ -26,7 +26,7 @@ fn read_counter<S: Store>(bus: &mut Bus<S>, vector: u16) -> Result<u16, Trap>
 /// The new program status word of a trap, after its new PC.
 #[inline(always)]
 #[tactic(auto, unfolding(crate::specs::Handbook::TrapSequence::vector_status, pdp_operand::specs::Phases::Phase::run))]
-fn read_status<S: Store>(bus: &mut Bus<S>, vector: u16) -> Result<u16, Trap>
+fn read_status<S: Store, D: Store>(bus: &mut Bus<S, D>, vector: u16) -> Result<u16, Trap>
     requires { vector < 0o1000 }
     ensures gives { (p : Processor) → Gives in_status (one (vector_status vector)) p bus.old result p bus.new }
 {
@@ -36,9 +36,9 @@ fn read_status<S: Store>(bus: &mut Bus<S>, vector: u16) -> Result<u16, Trap>
 /// Pushes a word on the stack of the new mode, and answers the cell that it went to.
 #[inline(always)]
 #[tactic(auto, unfolding(crate::specs::Handbook::TrapSequence::push_plan, crate::specs::Handbook::TrapSequence::put, pdp_operand::specs::Handbook::Operand::lower, pdp_operand::specs::Phases::Phase::run))]
-fn push<S: Store>(
+fn push<S: Store, D: Store>(
     processor: &mut Processor,
-    bus: &mut Bus<S>,
+    bus: &mut Bus<S, D>,
     marks: bool,
     mode: Mode,
     word: u16,
@@ -57,9 +57,9 @@ fn push<S: Store>(
 /// PC and the program status become the new ones, and the previous mode the old one.
 #[inline(always)]
 #[tactic(auto, unfolding(crate::specs::Handbook::TrapSequence::enter, pdp_operand::specs::Phases::Phase::run))]
-fn enter<S: Store>(
+fn enter<S: Store, D: Store>(
     processor: &mut Processor,
-    bus: &mut Bus<S>,
+    bus: &mut Bus<S, D>,
     origin: Origin,
     counter: u16,
     word: u16,
@@ -79,9 +79,9 @@ fn enter<S: Store>(
 /// Err where it can't go on; PC is then as before, and so is the program status, but where a push wrote over it.
 #[inline(never)]
 #[tactic(auto, unfolding(crate::specs::Handbook::TrapSequence::trap_plan))]
-fn trap<S: Store>(
+fn trap<S: Store, D: Store>(
     processor: &mut Processor,
-    bus: &mut Bus<S>,
+    bus: &mut Bus<S, D>,
     marks: bool,
     vector: u16,
     origin: Origin,
@@ -101,7 +101,7 @@ fn trap<S: Store>(
 /// Writes a word in kernel space.
 #[inline(always)]
 #[tactic(auto, unfolding(crate::specs::Handbook::TrapSequence::save, pdp_operand::specs::Phases::Phase::run))]
-fn save<S: Store>(bus: &mut Bus<S>, address: u16, word: u16) -> Result<(), Trap>
+fn save<S: Store, D: Store>(bus: &mut Bus<S, D>, address: u16, word: u16) -> Result<(), Trap>
     ensures gives { (p : Processor) → Gives nowhere (one (save_phase address word)) p bus.old result p bus.new }
 {
     write_word(bus, Mode::Kernel, address, word)?;
@@ -111,9 +111,9 @@ fn save<S: Store>(bus: &mut Bus<S>, address: u16, word: u16) -> Result<(), Trap>
 /// The same as `enter`, with kernel R6 0 and no trap of the processor pending.
 #[inline(always)]
 #[tactic(auto, unfolding(crate::specs::Handbook::TrapSequence::enter_red, pdp_operand::specs::Phases::Phase::run))]
-fn enter_red<S: Store>(
+fn enter_red<S: Store, D: Store>(
     processor: &mut Processor,
-    bus: &mut Bus<S>,
+    bus: &mut Bus<S, D>,
     origin: Origin,
     counter: u16,
     word: u16,
@@ -136,9 +136,9 @@ fn enter_red<S: Store>(
 /// Err where it can't go on; PC and the program status are then as before.
 #[inline(never)]
 #[tactic(auto, using(crate::proofs::Steps::run_bare_stack), unfolding(crate::specs::Handbook::TrapSequence::red_plan))]
-fn red_trap<S: Store>(
+fn red_trap<S: Store, D: Store>(
     processor: &mut Processor,
-    bus: &mut Bus<S>,
+    bus: &mut Bus<S, D>,
     origin: Origin,
 ) -> Result<(), Trap>
     ensures runs { Runs (red_plan origin) processor.old bus.old result processor.new bus.new }
@@ -155,7 +155,7 @@ fn red_trap<S: Store>(
 /// The processor halts, with the old PC and the old program status.
 #[inline(always)]
 #[tactic(auto, using(crate::proofs::Steps::run_give_up))]
-fn give_up<S: Store>(processor: &mut Processor, bus: &mut Bus<S>, origin: Origin)
+fn give_up<S: Store, D: Store>(processor: &mut Processor, bus: &mut Bus<S, D>, origin: Origin)
     ensures runs { Runs (one (give_up_phase origin)) processor.old bus.old (Ok tt) processor.new bus.new }
 {
     processor.set_register(Slot::ProgramCounter, origin.counter);
@@ -166,7 +166,7 @@ fn give_up<S: Store>(processor: &mut Processor, bus: &mut Bus<S>, origin: Origin
 /// The red sequence; where it can't go on the processor halts.
 #[inline(never)]
 #[tactic(auto, using(crate::proofs::Endings::after_done, crate::proofs::Endings::after_caught), unfolding(crate::specs::Handbook::TrapSequence::red, pdp_operand::specs::Phases::Course::follow))]
-fn red<S: Store>(processor: &mut Processor, bus: &mut Bus<S>, origin: Origin)
+fn red<S: Store, D: Store>(processor: &mut Processor, bus: &mut Bus<S, D>, origin: Origin)
     ensures follows { Follows (red_course origin) processor.old bus.old processor.new bus.new }
 {
     match red_trap(processor, bus, origin) {
@@ -179,9 +179,9 @@ fn red<S: Store>(processor: &mut Processor, bus: &mut Bus<S>, origin: Origin)
 /// whether its pushes may leave a stack trap pending.
 #[inline(never)]
 #[tactic(auto, using(crate::proofs::Endings::after_done, crate::proofs::Endings::after_caught), unfolding(crate::specs::Handbook::TrapSequence::sequence, pdp_operand::specs::Phases::Course::follow))]
-pub fn begin_sequence<S: Store>(
+pub fn begin_sequence<S: Store, D: Store>(
     processor: &mut Processor,
-    bus: &mut Bus<S>,
+    bus: &mut Bus<S, D>,
     marks: bool,
     vector: u16,
     origin: Origin,
@@ -214,7 +214,7 @@ fn vector(trap: Trap) -> u16
 /// What follows where an instruction or its fetch can't go on.
 #[cold]
 #[inline(never)]
-pub fn handle<S: Store>(processor: &mut Processor, bus: &mut Bus<S>, trap: Trap)
+pub fn handle<S: Store, D: Store>(processor: &mut Processor, bus: &mut Bus<S, D>, trap: Trap)
     ensures follows { Follows (after_trap trap (origin processor.old bus.old.board)) processor.old bus.old processor.new bus.new }
 {
     let origin = Origin::of(processor, bus);

@@ -13,9 +13,9 @@ use pdp_unibus::Bus;
 /// CMP and BIT.
 #[inline(never)]
 #[tactic(auto, using(crate::proofs::Steps::run_comparison), unfolding(crate::specs::Handbook::TwoOperands::compare_plan))]
-pub fn compare<S: Store>(
+pub fn compare<S: Store, D: Store>(
     processor: &mut Processor,
-    bus: &mut Bus<S>,
+    bus: &mut Bus<S, D>,
     comparison: Comparison,
     source: Spec,
     destination: Spec,
@@ -34,9 +34,9 @@ pub fn compare<S: Store>(
 /// BIC, BIS, ADD, SUB and XOR.
 #[inline(never)]
 #[tactic(auto, using(crate::proofs::Steps::run_execute_combination), unfolding(crate::specs::Handbook::TwoOperands::combine_plan))]
-pub fn combine<S: Store>(
+pub fn combine<S: Store, D: Store>(
     processor: &mut Processor,
-    bus: &mut Bus<S>,
+    bus: &mut Bus<S, D>,
     combination: Combination,
     source: Spec,
     destination: Spec,

@@ -1,12 +1,15 @@
 -- A machine as a contract sees it; its state as of power-up is this project's profile.
-use Rattle.std.specs.Prelude.{ℕ, ◌+◌, ◌<◌, ◌++◌, List, [], Option}
+use Rattle.std.specs.Prelude.{ℕ, ◌+◌, ◌<◌, ◌++◌, List, [], Option, length}
 use Rattle.pdp_store.specs.declared.Stamp.{Stamp}
+use Rattle.pdp_unibus.specs.BusContent.{with_tape}
 use Rattle.pdp_unibus.specs.BusWorld.{powered}
 use Rattle.pdp_unibus.specs.declared.delays.Delays.{Delays}
 use Rattle.pdp_unibus.specs.declared.event.Event.{Event}
 use Rattle.pdp_operand.specs.Handbook.Processor.{powered_processor}
 use Rattle.pdp_operand.specs.Phases.World.{World, world}
+use Rattle.pdp_cpu.specs.KeptTexts.{kept_over}
 use Rattle.pdp_cpu.specs.Turns.Turn.{beginning, one_turn, printed_in, punched_in}
+use Rattle.pdp_cpu.specs.declared.kept_text.KeptByte.{KeptByte}
 
 -- the turns that it has run, its world, and the bytes that were printed and punched in them, in their order
 pub record MachineState : Type 0 where
@@ -15,9 +18,12 @@ pub record MachineState : Type 0 where
   pub text : List ℕ
   pub punched : List ℕ
 
--- a machine, and for how many more printed and punched bytes it has room
-pub record MachineWithRoom : Type 0 where
+-- a machine with the printed and the punched bytes that it keeps, of which the first are those of its state, and for how
+-- many more of each it has room
+pub record MachineWithTexts : Type 0 where
   pub state : MachineState
+  pub kept_text : List KeptByte
+  pub kept_punched : List KeptByte
   pub text_room : ℕ
   pub punched_room : ℕ
 
@@ -36,7 +42,7 @@ powered_machine start words lasts drives tape delays = record {
 }
 
 -- the machine has the room that a turn may need, for a printed and a punched byte
-abbrev pub IsReady : MachineWithRoom → Type 0
+abbrev pub IsReady : MachineWithTexts → Type 0
 IsReady m = (0 < m.text_room) × (0 < m.punched_room)
 
 -- the machine when its next turn has begun, with these events
@@ -55,3 +61,16 @@ after_turn events m = record {
   text = m.text ++ printed_in m.turn events m.world;
   punched = m.punched ++ punched_in m.turn events m.world;
 }
+
+-- the printed and the punched bytes that are kept after the next turn, with these events
+abbrev pub printed_kept : List Event → MachineWithTexts → List KeptByte
+printed_kept events m =
+    kept_over m.state.turn (printed_in m.state.turn events m.state.world) (length m.state.text) m.kept_text
+
+abbrev pub punched_kept : List Event → MachineWithTexts → List KeptByte
+punched_kept events m =
+    kept_over m.state.turn (punched_in m.state.turn events m.state.world) (length m.state.punched) m.kept_punched
+
+-- the state with another tape in the reader
+abbrev pub state_with_tape : List ℕ → MachineState → MachineState
+state_with_tape tape m = record m { world = world m.world.processor (with_tape m.world.bus tape) }

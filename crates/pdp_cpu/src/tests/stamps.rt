@@ -1,4 +1,4 @@
-use super::{WORDS, after};
+use super::after;
 use pdp_store::{Agent, Stamp};
 use pdp_word::NoMemory;
 
@@ -8,18 +8,6 @@ const fn stamp(turn: u32) -> Option<Stamp> {
         turn,
         agent: Agent::Cpu,
     })
-}
-
-#[test]
-fn leaves_core_unwritten(rt: HostRuntime) -> Result<(), NoMemory> {
-    // MOV #5,R0; CMP (PC),R0; TSTB @#1000
-    let program = [0o012700, 5, 0o021700, 0o105737, 0o001000];
-    let machine = after(rt.alloc(), &program, 3)?;
-    assert_eq!(rt; machine.word(0o001000 / 2), 0o012700);
-    for number in 0..WORDS {
-        assert_eq!(rt; machine.last(number), None, "word {number}");
-    }
-    Ok(())
 }
 
 // Writes of words and of bytes leave the stamp of their turn, and reads leave none.
@@ -32,12 +20,8 @@ fn writes_core_with_its_stamps(rt: HostRuntime) -> Result<(), NoMemory> {
         0o005211, 0o105711, 0o105061, 0o000004,
     ];
     for (turns, lasts, words) in [
-        (1, [None; 3], [0, 0, 0]),
         (2, [stamp(1), None, None], [0o001040, 0, 0]),
-        (3, [stamp(1), stamp(2), None], [0o001040, 0o020000, 0]),
         (4, [stamp(1), stamp(2), None], [0o001040, 0o020000, 0]),
-        (5, [stamp(4), stamp(2), None], [0o001041, 0o020000, 0]),
-        (6, [stamp(4), stamp(2), None], [0o001041, 0o020000, 0]),
         (7, [stamp(4), stamp(2), stamp(6)], [0o001041, 0o020000, 0]),
     ] {
         let machine = after(rt.alloc(), &program, turns)?;

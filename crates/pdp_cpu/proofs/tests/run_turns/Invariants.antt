@@ -3,7 +3,7 @@ use Rattle.std.proofs.Common.{◌≡◌, ◌+◌, length}
 use Rattle.pdp_cpu.proofs.tests.run_turns.Given as goal
 
 abbrev pub invariant-loop-done : goal.invariant-loop-done
-invariant-loop-done l = record {
+invariant-loop-done g l = record {
   turns : l.machine.state.turn ≡ l.initial.machine.state.turn + l._done;
   words : length l.machine.state.world.bus.core ≡ length l.initial.machine.state.world.bus.core;
 }

@@ -1,0 +1,153 @@
+//! What is saved of a machine, so that it can be looked at again as it was.
+
+ghost use Rattle.std.specs.Prelude.{◌≡◌, ◌≤◌, length, IfOk};
+ghost use Rattle.pdp_cpu.specs.KeptTexts.{kept_before};
+ghost use Rattle.pdp_cpu.specs.Saved.{CanHold, HasWord, content_with_delays, content_with_word, machine_content, state_cut, state_on};
+ghost use Rattle.pdp_cpu.specs.Turns.MachineState.{state_with_tape};
+
+use crate::machine::Machine;
+use pdp_operand::Processor;
+use pdp_store::{Paged, PagedDrive};
+use pdp_unibus::{Delays, SavedBus};
+use pdp_word::NoMemory;
+use std::alloc::Global;
+use std::marker::Model;
+
+/// The machine whose core and drives can be taken as shared pages.
+pub type PagedMachine = Machine<Paged, PagedDrive>;
+
+/// A machine as it was: all of it that turns change. Its words are pages that it shares with the machine, and of what
+/// was printed and punched it has the lengths: the bytes are the machine's.
+///
+/// A contract sees it as a `MachineContent`. (This project's profile.)
+#[derive(Drop)]
+pub struct Saved {
+    turn: u32,
+    processor: Processor,
+    bus: SavedBus,
+
+    // How many bytes were printed and punched.
+    text_length: usize,
+    punched_length: usize,
+}
+
+impl Model for Saved {
+    ghost use Rattle.pdp_cpu.specs.Saved.{MachineContent};
+
+    ghost Value = { MachineContent };
+
+    ghost view = { λ s. record {
+      turn = s.turn;
+      processor = s.processor;
+      bus = s.bus;
+      text_length = s.text_length;
+      punched_length = s.punched_length;
+    } };
+}
+
+impl Saved {
+    /// Makes these the delays (turns) of its devices.
+    pub fn set_delays(&mut self, delays: Delays)
+        ensures { self.new ≡ content_with_delays delays self.old }
+    {
+        self.bus.set_delays(delays);
+    }
+
+    /// The same machine with this value in a word: of core, or of the drive of this number (from 0). The word counts
+    /// from 0 there. All pages but the one of that word are shared, and stamps are kept. `machine` numbers the new
+    /// page, and stays as it is.
+    ///
+    /// Err(NoMemory) where a growth was refused; that words have as many owners as can be counted counts as one. (This
+    /// project's profile.)
+    #[tactic(auto, unfolding(crate::specs::Saved::HasWord, crate::specs::Saved::content_with_word))]
+    pub fn with_word(
+        &self,
+        alloc: Global,
+        machine: &mut PagedMachine,
+        drive: Option<u8>,
+        word: usize,
+        value: u16,
+    ) -> Result<Saved, NoMemory>
+        requires { HasWord drive word self.now }
+        ensures same { machine.new ≡ machine.old }
+        ensures saved { IfOk result (λ saved. saved ≡ content_with_word drive word value self.now) }
+    {
+        let number = drive_number(drive);
+        let bus = self
+            .bus
+            .with_word(alloc, &mut machine.bus, number, word, value)?;
+        Ok(Saved {
+            turn: self.turn,
+            processor: self.processor,
+            bus,
+            text_length: self.text_length,
+            punched_length: self.punched_length,
+        })
+    }
+}
+
+// The number of a drive, as the bus counts.
+fn drive_number(drive: Option<u8>) -> Option<usize>
+    ensures { result ≡ drive }
+{
+    match drive {
+        None => None,
+        Some(number) => Some(usize::from(number)),
+    }
+}
+
+impl Machine<Paged, PagedDrive> {
+    /// The machine as it is now. Words that are shared already are shared again, and only others copied.
+    ///
+    /// Err(NoMemory) where a growth was refused. The machine stays as it is in any case. (This project's profile.)
+    pub fn save(&mut self, alloc: Global) -> Result<Saved, NoMemory>
+        ensures same { self.new ≡ self.old }
+        ensures saved { IfOk result (λ saved. saved ≡ machine_content self.old.state) }
+    {
+        let bus = self.bus.save(alloc)?;
+        Ok(Saved {
+            turn: self.turn,
+            processor: self.processor,
+            bus,
+            text_length: self.text.count(),
+            punched_length: self.punched.count(),
+        })
+    }
+
+    /// Makes the machine the one that was saved, on its own tape, its texts the first of the bytes that it keeps: none
+    /// of these goes. It asks for a core and drives of the same sizes, and for as many kept bytes. Takes no memory.
+    /// (This project's profile.)
+    pub fn load(&mut self, saved: &Saved)
+        requires { CanHold self.old saved.now }
+        ensures state { self.new.state ≡ state_on self.old saved.now }
+        ensures kept_text { self.new.kept_text ≡ self.old.kept_text }
+        ensures kept_punched { self.new.kept_punched ≡ self.old.kept_punched }
+    {
+        self.turn = saved.turn;
+        self.processor = saved.processor;
+        self.bus.load(&saved.bus);
+        self.text.show(saved.text_length);
+        self.punched.show(saved.punched_length);
+    }
+
+    /// Drops the bytes at the end of the kept texts that were printed or punched in this turn or later, also of the
+    /// texts of the machine as it is now. Takes no memory. (This project's profile.)
+    pub fn keep_text(&mut self, turn: u32)
+        ensures kept_text { self.new.kept_text ≡ kept_before turn self.old.kept_text }
+        ensures kept_punched { self.new.kept_punched ≡ kept_before turn self.old.kept_punched }
+        ensures state { self.new.state ≡ state_cut (length self.new.kept_text) (length self.new.kept_punched) self.old.state }
+    {
+        self.text.keep_before(turn);
+        self.punched.keep_before(turn);
+    }
+
+    /// Puts another tape into the reader, of which as many bytes count as read. Takes no memory. (This project's
+    /// profile.)
+    pub fn set_tape(&mut self, tape: Vec<u8>)
+        ensures state { self.new.state ≡ state_with_tape tape.items self.old.state }
+        ensures kept_text { self.new.kept_text ≡ self.old.kept_text }
+        ensures kept_punched { self.new.kept_punched ≡ self.old.kept_punched }
+    {
+        self.bus.set_tape(tape);
+    }
+}
