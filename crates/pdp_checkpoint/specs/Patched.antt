@@ -1,0 +1,14 @@
+-- Kept states with another value in a word (this project's profile).
+use Rattle.std.specs.Prelude.{ℕ, Option, nat_le, map}
+use Rattle.std.specs.List.{filter}
+use Rattle.pdp_cpu.specs.Saved.{content_with_word}
+use Rattle.pdp_checkpoint.specs.declared.checkpoint.Checkpoint.{Checkpoint}
+use Rattle.pdp_checkpoint.specs.Ladder.{LadderData}
+
+-- a state with this value in a word of core, or of a drive
+abbrev pub with_word : Option ℕ → ℕ → ℕ → Checkpoint → Checkpoint
+with_word drive word value c = record c { saved = content_with_word drive word value c.saved }
+
+-- the states of turns that are not above this one, each with this value in the word
+abbrev pub patched_to : ℕ → Option ℕ → ℕ → ℕ → LadderData → LadderData
+patched_to turn drive word value l = record l { kept = map (with_word drive word value) (filter (λ c. nat_le c.turn turn) l.kept) }

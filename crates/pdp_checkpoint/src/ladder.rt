@@ -1,0 +1,157 @@
+ghost use Rattle.std.specs.Prelude.{◌≡◌, ◌+◌, ◌*◌, ◌/◌, ◌<◌, ◌≤◌, min, nat_le, Some, [], ◌∷◌, length, slice_get, IfOk, OnOk, OnErr};
+ghost use Rattle.std.specs.List.{All, filter};
+ghost use Rattle.pdp_unibus.specs.LastTurn.{last_turn};
+ghost use Rattle.pdp_checkpoint.specs.Patched.{patched_to};
+ghost use Rattle.pdp_cpu.specs.Saved.{HasWord};
+ghost use Rattle.pdp_checkpoint.specs.Ladder.{widest_stride, checkpoint_of, next_of, best_of, kept_with, AreRungs};
+
+use crate::checkpoint::Checkpoint;
+use crate::patched::patched;
+use crate::thin::thin;
+use pdp_cpu::PagedMachine;
+use pdp_word::NoMemory;
+use std::alloc::Global;
+use std::marker::Model;
+
+/// How many states a ladder keeps at most (this project's profile).
+pub const MOST_KEPT: usize = 256;
+
+/// The widest stride of a ladder, in turns (this project's profile).
+pub const WIDEST_STRIDE: u32 = 2_000_000_000;
+
+/// Kept states of a machine, at most 256, at the multiples of a stride from turn 0 on (this project's profile). A
+/// contract sees the list of them, the earliest first, and the stride.
+#[derive(Drop)]
+pub struct Ladder {
+    kept: Vec<Checkpoint>,
+    stride: u32,
+}
+
+impl Model for Ladder {
+    ghost use Rattle.pdp_checkpoint.specs.Ladder.{LadderData};
+
+    ghost Value = { LadderData };
+
+    ghost use Rattle.pdp_checkpoint.specs.Ladder.{AreRungs};
+
+    ghost view = { λ l. record { kept = l.kept.items; stride = l.stride } };
+
+    ghost invariant = { λ l. AreRungs (record { kept = l.kept.items; stride = l.stride }) };
+}
+
+impl Ladder {
+    /// A ladder that keeps the state of this machine, which is at turn 0, and then one every `stride` turns, 1 to
+    /// 2,000,000,000. The machine is left as it is.
+    ///
+    /// # Errors
+    ///
+    /// `NoMemory` where a growth was refused.
+    pub fn new(alloc: Global, stride: u32, machine: &mut PagedMachine) -> Result<Ladder, NoMemory>
+        requires start { machine.old.state.turn ≡ 0 }
+        requires some { 0 < stride }
+        requires widest { stride ≤ widest_stride }
+        ensures machine { machine.new ≡ machine.old }
+        ensures kept { IfOk result (λ ladder. ladder.kept ≡ checkpoint_of machine.old.state ∷ []) }
+        ensures stride { IfOk result (λ ladder. ladder.stride ≡ stride) }
+        ensures rungs { IfOk result AreRungs }
+    {
+        let saved = machine.save(alloc)?;
+        let mut kept = Vec::new(alloc);
+        kept.push(Checkpoint { turn: 0, saved })?;
+        Ok(Ladder { kept, stride })
+    }
+
+    /// How many turns lie between two kept states. It takes no memory.
+    pub fn stride(&self) -> u32
+        ensures stride { result ≡ self.now.stride }
+        ensures rungs { AreRungs self.now }
+    {
+        self.stride
+    }
+
+    /// The turn of the state to keep next: the first multiple of the stride above the turns that are kept.
+    pub fn next(&self) -> u32
+        ensures next { result ≡ next_of self.now }
+        ensures rungs { AreRungs self.now }
+    {
+        self.kept.len() as u32 * self.stride
+    }
+
+    /// The kept state of the greatest turn that is not above `turn`.
+    pub fn best(&self, turn: u32) -> &Checkpoint
+        ensures state { slice_get self.now.kept (best_of self.now turn) ≡ Some result.now }
+        ensures turn { result.now.turn ≡ best_of self.now turn * self.now.stride }
+        ensures below { result.now.turn ≤ turn }
+        ensures near { turn < next_of self.now → turn < result.now.turn + self.now.stride }
+        ensures last { next_of self.now ≤ turn → result.now.turn + self.now.stride ≡ next_of self.now }
+        ensures greatest { All (λ c. c.turn ≤ turn → c.turn ≤ result.now.turn) self.now.kept }
+    {
+        let last = self.kept.len() - 1;
+        let place = ((turn / self.stride) as usize).min(last);
+        &self.kept[place]
+    }
+
+    /// Keeps the state of this machine, which is at the turn of `next`. Where that is the 257th, the stride doubles
+    /// and the states at odd multiples of the old one go. The machine is left as it is.
+    ///
+    /// # Errors
+    ///
+    /// `NoMemory` where a growth was refused. The ladder is then as it was.
+    pub fn take(&mut self, alloc: Global, machine: &mut PagedMachine) -> Result<(), NoMemory>
+        requires next { machine.old.state.turn ≡ next_of self.old }
+        requires limit { machine.old.state.turn ≤ last_turn }
+        ensures machine { machine.new ≡ machine.old }
+        ensures kept { OnOk result (self.new ≡ kept_with self.old (checkpoint_of machine.old.state)) }
+        ensures refused { OnErr result (self.new ≡ self.old) }
+        ensures next { OnOk result (next_of self.new ≡ next_of self.old + self.new.stride) }
+        ensures rungs { AreRungs self.new }
+    {
+        let turn = self.next();
+        let saved = machine.save(alloc)?;
+        self.kept.push(Checkpoint { turn, saved })?;
+        if self.kept.len() > MOST_KEPT {
+            self.stride *= 2;
+            thin(&mut self.kept, self.stride);
+        }
+        Ok(())
+    }
+
+    /// Drops the states of turns above `turn`. It takes no memory.
+    pub fn cut(&mut self, turn: u32)
+        ensures kept { self.new.kept ≡ filter (λ c. nat_le c.turn turn) self.old.kept }
+        ensures stride { self.new.stride ≡ self.old.stride }
+        ensures count { length self.new.kept ≡ min (length self.old.kept) (turn / self.old.stride + 1) }
+        ensures rungs { AreRungs self.new }
+    {
+        self.kept.truncate((turn / self.stride) as usize + 1);
+    }
+
+    /// Gives a word of core, or of this drive, this value in the kept states up to `turn`, and drops those of turns above
+    /// it. All the new states are made before the first is replaced. The machine numbers the new pages, and is left as
+    /// it is.
+    ///
+    /// # Errors
+    ///
+    /// `NoMemory` where a growth was refused. The ladder is then as it was.
+    pub fn patch(
+        &mut self,
+        alloc: Global,
+        machine: &mut PagedMachine,
+        turn: u32,
+        drive: Option<u8>,
+        word: usize,
+        value: u16,
+    ) -> Result<(), NoMemory>
+        requires there { All (λ c. HasWord drive word c.saved) self.old.kept }
+        ensures machine { machine.new ≡ machine.old }
+        ensures kept { OnOk result (self.new ≡ patched_to turn drive word value self.old) }
+        ensures count { OnOk result (length self.new.kept ≡ min (length self.old.kept) (turn / self.old.stride + 1)) }
+        ensures refused { OnErr result (self.new ≡ self.old) }
+        ensures rungs { AreRungs self.new }
+    {
+        let count = ((turn / self.stride) as usize + 1).min(self.kept.len());
+        let kept = patched(alloc, machine, &self.kept[..count], drive, word, value)?;
+        self.kept = kept;
+        Ok(())
+    }
+}
