@@ -21,7 +21,7 @@ KeepsDrives xs b c = map length c.drives ≡ map length b.drives
 begins : Begins KeepsDrives
 begins = record {
   stays = λ b. refl;
-  changes = λ xs b c board tape so. so;
+  changes = λ xs b c board bytes_read so. so;
   completes = λ b. (completed_sizes b.turn (disk_world_of b)).drives;
   joins = λ xs ys b c d so also. also ∙ so;
 }
@@ -40,14 +40,15 @@ unfolding one_turn
 turn_keeps_drives t events w =
     along_course KeepsDrives goes (course_at (at_turn t events w)) (at_turn t events w) ∙ along_begun KeepsDrives begins t events w.bus
 
-lengths : (p : Past) (n : ℕ) → map length (state_at p n).bus.drives ≡ drive_words ∷ []
+-- the drive has its size in each state
+pub drives_keep_sizes : (p : Past) (n : ℕ) → map length (state_at p n).bus.drives ≡ drive_words ∷ []
 unfolding state_at power
-lengths p zero = ap (λ size. size ∷ []) (drive_has_size p.setup)
-lengths p (suc n) = turn_keeps_drives n (events_at p.script.entries n) (state_at p n) ∙ lengths p n
+drives_keep_sizes p zero = ap (λ size. size ∷ []) (drive_has_size p.setup)
+drives_keep_sizes p (suc n) = turn_keeps_drives n (events_at p.script.entries n) (state_at p n) ∙ drives_keep_sizes p n
 
 first_length : (drives : List (List ℕ)) (size : ℕ) → map length drives ≡ size ∷ [] → length (slice_index_or drives 0 []) ≡ size
 first_length [] size is = absurd (cc is)
 first_length (drive ∷ drives) size is = cc is
 
 pub drive_keeps_size : (p : Past) (n : ℕ) → length (disk_of (state_at p n)) ≡ drive_words
-drive_keeps_size p n = first_length (state_at p n).bus.drives drive_words (lengths p n)
+drive_keeps_size p n = first_length (state_at p n).bus.drives drive_words (drives_keep_sizes p n)

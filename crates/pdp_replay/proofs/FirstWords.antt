@@ -17,16 +17,16 @@ use Rattle.pdp_replay.specs.declared.patch.Storage.TheVariants as storage
 use Rattle.pdp_replay.specs.Image.{number_in, put_at, put_all, padded, AreApart}
 use Rattle.pdp_replay.proofs.Patches.{length_put_all}
 
-length_by_number : (value : ℕ → ℕ) (size : ℕ) → length (words_by_number value size) ≡ size
+pub length_by_number : (value : ℕ → ℕ) (size : ℕ) → length (words_by_number value size) ≡ size
 unfolding words_by_number
 length_by_number value size = length-map-range_with_len value 0 size
 
-word_by_number : (value : ℕ → ℕ) (size number : ℕ) → number < size → slice_index (words_by_number value size) number ≡ value number
+pub word_by_number : (value : ℕ → ℕ) (size number : ℕ) → number < size → slice_index (words_by_number value size) number ≡ value number
 unfolding words_by_number
 word_by_number value size number below = get_or-map-range_with_len value 0 size number number 0 below (omega arith)
 
 -- a list with the value of each of so many numbers is the list of them
-filled_by_number : (value : ℕ → ℕ) (words : List ℕ) (size : ℕ) → length words ≡ size
+pub filled_by_number : (value : ℕ → ℕ) (words : List ℕ) (size : ℕ) → length words ≡ size
     → ((number : ℕ) → number < size → slice_index words number ≡ value number) → words ≡ words_by_number value size
 unfolding words_by_number
 filled_by_number value words size long each = fill_by_all value words size 0 long each
@@ -85,7 +85,7 @@ put_elsewhere storage.Disk number (key.Core other) words word is = refl
 put_elsewhere storage.Disk number (key.Disk other) words word is = other_put number other words word is
 
 -- no other patch is of this word
-no_other : (k : PatchKey) (ps : Patches) → AllByRecursion (λ y. is_same_word k y ≡ false) (keys_of ps) → patch_of ps k ≡ None
+pub no_other : (k : PatchKey) (ps : Patches) → AllByRecursion (λ y. is_same_word k y ≡ false) (keys_of ps) → patch_of ps k ≡ None
 no_other k [] apart = refl
 no_other k (p ∷ ps) apart = let skipped : is_same_word k p.0 ≡ false = apart.0 in rw skipped (no_other k ps apart.1)
 

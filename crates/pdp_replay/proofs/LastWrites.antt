@@ -13,7 +13,7 @@ use Rattle.pdp_replay.specs.Setup.{core_size}
 use Rattle.pdp_replay.specs.States.{at, power, state_at, trace_at}
 use Rattle.pdp_replay.proofs.CoreSizes.{core_keeps_size}
 
-lasts_keep_size : (p : Past) (n : ℕ) → length (state_at p n).bus.lasts ≡ core_size p.setup
+pub lasts_keep_size : (p : Past) (n : ℕ) → length (state_at p n).bus.lasts ≡ core_size p.setup
 unfolding state_at power
 lasts_keep_size p zero = length-replicate (core_size p.setup) None
 lasts_keep_size p (suc n) = turn_keeps_lasts n (events_at p.script.entries n) (state_at p n) ∙ lasts_keep_size p n
@@ -23,7 +23,8 @@ all_the_same zero k x = refl
 all_the_same (suc size) zero x = refl
 all_the_same (suc size) (suc k) x = all_the_same size k x
 
-lasts_are : (p : Past) (n k : ℕ) → k < core_size p.setup
+-- the stamp of a word is that of its last write in the turns before
+pub lasts_are : (p : Past) (n k : ℕ) → k < core_size p.setup
     → slice_index_or (state_at p n).bus.lasts k None ≡ last_write (trace_at p n) k None
 unfolding state_at trace_at power
 lasts_are p zero k below = all_the_same (core_size p.setup) k None

@@ -9,3 +9,12 @@ pub mod Setups
 pub mod States
 pub mod Texts
 pub mod Trails
+pub mod KeptBytes
+pub mod KeptTexts
+pub mod StateSizes
+pub mod Agreeing
+pub mod Resumed
+pub mod KeptStates
+pub mod Lowered
+pub mod PoweredWords
+pub mod PoweredContents

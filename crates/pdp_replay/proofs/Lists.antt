@@ -1,11 +1,13 @@
 -- Lists of words as they are filled, and lists compared item by item.
 use Rattle.std.proofs.Common.{◌≡◌, ℕ, suc, zero, ◌+◌, ◌<◌, ◌≤◌, List, [], ◌∷◌, ◌++◌, ◌&&◌, Bool, true, false, None, length, ◌-◌, take, drop, get_or, refl, sym, ◌∙◌, ap, append_assoc, replicate, slice_set, slice_get, option_to_list, add-one}
 use Rattle.std.proofs.Math.Seq.{set-append_seam, take-suc}
-use Rattle.std.proofs.lemmas.List.{length-take-le, length-drop, get_or-drop}
+use Rattle.std.proofs.lemmas.List.{length-map, get_or-map, length-take-le, length-drop, get_or-drop}
 use Rattle.std.specs.Cmp.Lexicographic.{pointwise}
 use Rattle.std.specs.Option.{option_eq}
 use Rattle.std.specs.Prelude.{slice_index}
 use Rattle.std.proofs.Common.{arith}
+use Rattle.pdp_cpu.specs.KeptTexts.{without_turns}
+use Rattle.pdp_cpu.specs.declared.kept_text.KeptByte.{KeptByte}
 use Rattle.pdp_replay.specs.Image.{blank_lasts}
 
 -- one more word of an image over a list of zeros
@@ -49,6 +51,13 @@ pub words_one_more : (words : List ℕ) (first i : ℕ) → first + i < length w
 words_one_more words first i below =
     let within : i < length (drop first words) = rw length-drop (omega arith) in
     sym (rw add-one (take-suc (drop first words) i 0 within) ∙ ap (λ word. take i (drop first words) ++ word ∷ []) (get_or-drop first words i 0))
+
+-- one more byte of a text without its turns
+pub bytes_one_more : (kept : List KeptByte) (i : ℕ) (d : KeptByte) → i < length kept
+    → take i (without_turns kept) ++ (get_or kept i d).byte ∷ [] ≡ take (i + 1) (without_turns kept)
+bytes_one_more kept i d below =
+    sym (rw add-one (take-suc (without_turns kept) i 0 (rw length-map below)
+    ∙ ap (λ byte. take i (without_turns kept) ++ byte ∷ []) (get_or-map (λ b. b.byte) kept i d 0 below)))
 
 compared : {X : Type 0} (same : X → X → Bool) (xs ys : List X) (i : ℕ) → length xs ≡ length ys → i < length xs
     → pointwise same (drop i xs) (drop i ys) ≡ (option_eq same (slice_get xs i) (slice_get ys i) && pointwise same (drop (suc i) xs) (drop (suc i) ys))

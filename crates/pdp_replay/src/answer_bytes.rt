@@ -1,7 +1,9 @@
 ghost use Rattle.std.specs.Prelude.{◌≡◌, IfOk, nat_eq};
+ghost use Rattle.pdp_cpu.specs.KeptTexts.{without_turns};
 ghost use Rattle.std.specs.Cmp.{partial_equiv_from_equiv};
 ghost use Rattle.std.specs.Cmp.Lexicographic.{nat_list_eq_equiv, pointwise};
 
+use pdp_cpu::KeptByte;
 use pdp_word::NoMemory;
 use std::alloc::Global;
 use std::marker::Model;
@@ -29,13 +31,17 @@ impl Bytes {
         self.items.as_slice()
     }
 
-    /// A copy of these bytes.
+    /// These bytes, without their turns.
     ///
-    /// Err where there is no memory for it.
-    pub(crate) fn read(alloc: Global, bytes: &[u8]) -> Result<Bytes, NoMemory>
-        ensures { IfOk result (λ copy. copy ≡ bytes.now) }
+    /// Err where there is no memory for them.
+    #[tactic(auto, using(crate::proofs::Lists::bytes_one_more))]
+    pub(crate) fn read(alloc: Global, kept: &[KeptByte]) -> Result<Bytes, NoMemory>
+        ensures { IfOk result (λ bytes. bytes ≡ without_turns kept.now) }
     {
-        let items = bytes.to_vec(alloc)?;
+        let mut items = Vec::with_capacity(alloc, kept.len())?;
+        for index in 0..kept.len() {
+            items.push(kept[index].byte)?;
+        }
         Ok(Bytes { items })
     }
 }

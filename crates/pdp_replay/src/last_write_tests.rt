@@ -25,35 +25,7 @@ fn last_write_of_a_word(rt: HostRuntime) -> Result<(), Fail> {
         Step::Edit(Edit::Patch(0o2000, 3), Ok(0)),
         Step::Last(0, 0o2000, None),
         Step::Last(1, 0o2000, by_cpu(0, 7)),
-    ];
-    follow(&rt, rt.alloc(), engine, &steps)
-}
-
-#[test]
-fn writes_after_writes(rt: HostRuntime) -> Result<(), Fail> {
-    // INC @#2000; BR back to it.
-    let engine = engine_with(rt.alloc(), 31, &[0o5237, 0o2000, 0o775]);
-    let steps = [
-        Step::Last(1, 0o2000, by_cpu(0, 1)),
-        Step::Last(2, 0o2000, by_cpu(0, 1)),
-        Step::Last(3, 0o2000, by_cpu(2, 2)),
         Step::Ran(Question::Last(101, 0o2000), 101, 101),
-    ];
-    follow(&rt, rt.alloc(), engine, &steps)
-}
-
-#[test]
-fn byte_write_counts_for_its_word(rt: HostRuntime) -> Result<(), Fail> {
-    // MOVB #101,@#2001; HALT.
-    let engine = engine_with(rt.alloc(), 31, &[0o112737, 0o101, 0o2001, 0]);
-    let steps = [Step::Last(1, 0o2000, by_cpu(0, 0o40400))];
-    follow(&rt, rt.alloc(), engine, &steps)
-}
-
-#[test]
-fn refused_last_writes(rt: HostRuntime) -> Result<(), Fail> {
-    let engine = engine_with(rt.alloc(), 31, &[0o777]);
-    let steps = [
         Step::Refused(Question::Last(1_000_000_001, 0o760001), Fault::TurnTooLarge),
         Step::Refused(Question::Last(0, 0o760001), Fault::OutsideCore),
         Step::Refused(Question::Last(0, 4_294_967_295), Fault::OutsideCore),

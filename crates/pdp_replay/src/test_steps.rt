@@ -7,10 +7,10 @@ use std::process::Abort;
 use std::test::Fail;
 
 /// The stride of each setup here.
-pub const STRIDE: u32 = 2_000_000_000;
+pub(crate) const STRIDE: u32 = 2_000_000_000;
 
 /// A setup of so many units of core, without images: start 1000 (octal), and the one stride.
-pub fn blank(alloc: Global, units: u8) -> Setup {
+pub(crate) fn blank(alloc: Global, units: u8) -> Setup {
     Setup {
         units,
         start: 0o1000,
@@ -22,7 +22,7 @@ pub fn blank(alloc: Global, units: u8) -> Setup {
 }
 
 /// An engine over so many units of core, with these words from 1000 (octal) on as its image; it starts there.
-pub fn engine_with(alloc: Global, units: u8, words: &[u16]) -> Result<Engine, Fault> {
+pub(crate) fn engine_with(alloc: Global, units: u8, words: &[u16]) -> Result<Engine, Fault> {
     let mut setup = blank(alloc, units);
     setup.core = vec![in alloc; 0; 256]?;
     setup.core.extend_from_slice(words)?;
@@ -31,7 +31,7 @@ pub fn engine_with(alloc: Global, units: u8, words: &[u16]) -> Result<Engine, Fa
 
 /// A step of a test.
 #[derive(Clone, Copy)]
-pub enum Step<'a> {
+pub(crate) enum Step<'a> {
     /// The registers before this turn.
     Regs(u32, Regs),
     /// The words, of core or of the drive, that this question is answered.
@@ -62,7 +62,7 @@ pub enum Step<'a> {
 
 /// An edit of the past. The number of an event that it puts in is its answer, else 0.
 #[derive(Clone, Copy)]
-pub enum Edit<'a> {
+pub(crate) enum Edit<'a> {
     /// Makes the core word at this address this word.
     Patch(u32, u16),
     /// Makes the word of the drive of this number this word.
@@ -83,19 +83,9 @@ pub enum Edit<'a> {
     Delay(Line, u32),
 }
 
-/// The question before this turn for so many words of core from this address on.
-pub const fn core(turn: u32, address: u32, count: u32) -> Question {
-    Question::Core(turn, address, count)
-}
-
-/// The question before this turn for so many words of the drive from the word of this number on.
-pub const fn disk(turn: u32, first: u32, count: u32) -> Question {
-    Question::Disk(turn, first, count)
-}
-
 /// Asserts that these steps, taken in turn with this engine, give what they say. A failure names a step, counted from
 /// 0.
-pub fn follow(
+pub(crate) fn follow(
     rt: &impl Abort,
     alloc: Global,
     engine: Result<Engine, Fault>,

@@ -1,5 +1,5 @@
 use super::*;
-use crate::test_steps::{Edit, STRIDE, Step, blank, core, follow};
+use crate::test_steps::{Edit, STRIDE, Step, blank, follow};
 use std::alloc::Global;
 use std::test::Fail;
 
@@ -12,14 +12,6 @@ fn patched(alloc: Global, words: &[u16]) -> Result<Engine, Fault> {
         address = address.saturating_add(2);
     }
     Ok(engine)
-}
-
-/// An engine over one unit of core, with these words from 0 on as its image; it starts there.
-fn from_zero(alloc: Global, words: &[u16]) -> Result<Engine, Fault> {
-    let mut setup = blank(alloc, 1);
-    setup.start = 0;
-    setup.core = words.to_vec(alloc)?;
-    Engine::new(alloc, setup)
 }
 
 /// Registers of which R0, R1 and PC alone are not 0.
@@ -43,22 +35,6 @@ fn first_run(rt: HostRuntime) -> Result<(), Fail> {
         Step::Regs(2, regs(5, 0, 0o1006, RunState::Halted)),
         Step::Regs(1_000_000, regs(5, 0, 0o1006, RunState::Halted)),
         Step::Regs(1, regs(5, 0, 0o1004, RunState::Run)),
-    ];
-    follow(&rt, rt.alloc(), engine, &steps)
-}
-
-#[test]
-fn patches_over_an_image(rt: HostRuntime) -> Result<(), Fail> {
-    let engine = from_zero(rt.alloc(), &[0o12700, 5, 0]);
-
-    // The later value of a word that has a patch is the one that counts.
-    let steps = [
-        Step::Regs(1, regs(5, 0, 4, RunState::Run)),
-        Step::Edit(Edit::Patch(2, 6), Ok(0)),
-        Step::Regs(1, regs(6, 0, 4, RunState::Run)),
-        Step::Edit(Edit::Patch(4, 0o777), Ok(0)),
-        Step::Edit(Edit::Patch(2, 7), Ok(0)),
-        Step::Regs(3, regs(7, 0, 4, RunState::Run)),
     ];
     follow(&rt, rt.alloc(), engine, &steps)
 }
@@ -145,7 +121,7 @@ fn refused_images(rt: HostRuntime) -> Result<(), Fail> {
 #[test]
 fn turn_of_a_question(rt: HostRuntime) {
     assert_eq!(rt; Question::Regs(300).turn(), 300);
-    assert_eq!(rt; core(7, 0o1000, 3).turn(), 7);
+    assert_eq!(rt; Question::Core(7, 0o1000, 3).turn(), 7);
     assert_eq!(rt; Question::Disk(6, 0, 3).turn(), 6);
     assert_eq!(rt; Question::Text(8).turn(), 8);
     assert_eq!(rt; Question::Punched(9).turn(), 9);

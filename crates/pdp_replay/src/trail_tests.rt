@@ -40,6 +40,7 @@ const FIRST_TURN: [TrailEntry; 1] = [TrailEntry {
 fn turns_that_led_to_a_halt(rt: HostRuntime) -> Result<(), Fail> {
     let engine = engine_with(rt.alloc(), 31, &WAIT_FOR_CLOCK);
     let four = Question::Trail(8, 4);
+    let out_of_range = Fault::CountOutOfRange;
     let steps = [
         Step::Edit(Edit::Patch(0o100, 0o1100), Ok(0)),
         Step::Edit(Edit::Patch(0o102, 0o300), Ok(0)),
@@ -51,15 +52,6 @@ fn turns_that_led_to_a_halt(rt: HostRuntime) -> Result<(), Fail> {
         Step::Alike(four, four, true),
         Step::Alike(four, Question::Trail(7, 4), false),
         Step::Alike(four, Question::Trail(8, 3), false),
-    ];
-    follow(&rt, rt.alloc(), engine, &steps)
-}
-
-#[test]
-fn refused_trails(rt: HostRuntime) -> Result<(), Fail> {
-    let engine = engine_with(rt.alloc(), 31, &[0o777]);
-    let out_of_range = Fault::CountOutOfRange;
-    let steps = [
         Step::Refused(Question::Trail(1_000_000_001, 0), Fault::TurnTooLarge),
         Step::Refused(Question::Trail(3, 4), out_of_range),
         Step::Refused(Question::Trail(3, 0), out_of_range),

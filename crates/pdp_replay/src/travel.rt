@@ -18,7 +18,7 @@ use pdp_word::NoMemory;
 use std::alloc::Global;
 
 /// The machine that an engine runs.
-pub type FlatMachine = Machine<Flat>;
+pub type FlatMachine = Machine<Flat, Flat>;
 
 /// The machine as of power-up of this setup with its delays and patches.
 ///

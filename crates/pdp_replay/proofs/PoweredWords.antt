@@ -1,0 +1,156 @@
+-- What a patch of a word, a patch less, other delays and another tape make of the state as of power-up.
+use Rattle.std.proofs.Common.{◌≡◌, ◌∙◌, ℕ, ◌<◌, Bool, true, false, [], ◌∷◌, None, Some, ap, length, nat_eq, refl, subst, sym, unwrap_or}
+use Rattle.std.specs.Prelude.{slice_index, slice_set}
+use Rattle.std.specs.List.{AllByRecursion, IsDistinct}
+use Rattle.std.specs.Map.{keys_of}
+use Rattle.std.proofs.lemmas.Bool.{eqb-true, eq-eqb, false≢true}
+use Rattle.std.proofs.lemmas.Grind.{get_or-set_at}
+use Rattle.std.proofs.lemmas.List.{get_or-set_other, length-set}
+use Rattle.indexmap.specs.IndexMap.{insert_entry, shift_remove_entry}
+use Rattle.pdp_replay.specs.FirstWords.{words_by_number, core_words, first_core_word, disk_words, first_disk_word}
+use Rattle.pdp_replay.specs.Image.{AreApart}
+use Rattle.pdp_replay.specs.PatchedWords.{Patches, core_key, disk_key, is_same_word, patch_of}
+use Rattle.pdp_replay.specs.Setup.{SetupData, core_size, drive_words}
+use Rattle.pdp_replay.specs.declared.patch.PatchKey.{PatchKey}
+use Rattle.pdp_replay.specs.declared.patch.PatchKey.TheVariants as key
+use Rattle.pdp_replay.proofs.FirstWords.{filled_by_number, length_by_number, no_other, word_by_number}
+
+-- the same word has the same key, and is itself
+same_key : (k other : PatchKey) → is_same_word k other ≡ true → k ≡ other
+same_key (key.Core n) (key.Core m) is = ap core_key (eqb-true n m is)
+same_key (key.Disk n) (key.Disk m) is = ap disk_key (eqb-true n m is)
+same_key (key.Core n) (key.Disk m) is = absurd cc
+same_key (key.Disk n) (key.Core m) is = absurd cc
+
+itself : (k : PatchKey) → is_same_word k k ≡ true
+itself (key.Core n) = eq-eqb n n refl
+itself (key.Disk n) = eq-eqb n n refl
+
+-- one patch more: its word has it, and no other word another one
+abbrev put : Patches → PatchKey → ℕ → Patches
+put ps k word = insert_entry is_same_word ps k word
+
+put_first : (p : PatchKey × ℕ) (ps : Patches) (k : PatchKey) (word : ℕ) (same : Bool) → is_same_word k p.0 ≡ same
+    → patch_of (put ps k word) k ≡ Some word → patch_of (put (p ∷ ps) k word) k ≡ Some word
+put_first p ps k word true is later = simp is refl
+put_first p ps k word false is later = simp is later
+
+put_here : (ps : Patches) (k : PatchKey) (word : ℕ) → patch_of (put ps k word) k ≡ Some word
+put_here [] k word = let same = itself k in rw same refl
+put_here (p ∷ ps) k word = put_first p ps k word (is_same_word k p.0) refl (put_here ps k word)
+
+put_first_elsewhere : (p : PatchKey × ℕ) (ps : Patches) (k q : PatchKey) (word : ℕ) → is_same_word q k ≡ false → (same found : Bool)
+    → is_same_word k p.0 ≡ same → is_same_word q p.0 ≡ found → patch_of (put ps k word) q ≡ patch_of ps q
+    → patch_of (put (p ∷ ps) k word) q ≡ patch_of (p ∷ ps) q
+put_first_elsewhere p ps k q word other true true is met later =
+    absurd (false≢true (sym (subst (λ k. is_same_word q k ≡ false) (same_key k p.0 is) other) ∙ met))
+put_first_elsewhere p ps k q word other true false is missed later = simp (is, missed) refl
+put_first_elsewhere p ps k q word other false true is met later = simp (is, met) refl
+put_first_elsewhere p ps k q word other false false is missed later = simp (is, missed) later
+
+put_elsewhere : (ps : Patches) (k q : PatchKey) (word : ℕ) → is_same_word q k ≡ false → patch_of (put ps k word) q ≡ patch_of ps q
+put_elsewhere [] k q word other = rw other refl
+put_elsewhere (p ∷ ps) k q word other =
+    put_first_elsewhere p ps k q word other (is_same_word k p.0) (is_same_word q p.0) refl refl (put_elsewhere ps k q word other)
+
+-- a patch less
+abbrev taken : Patches → PatchKey → Patches
+taken ps k = shift_remove_entry (is_same_word k) ps
+
+taken_first : (p : PatchKey × ℕ) (ps : Patches) (k : PatchKey) (same : Bool) → is_same_word k p.0 ≡ same
+    → AllByRecursion (λ y. is_same_word p.0 y ≡ false) (keys_of ps) → patch_of (taken ps k) k ≡ None → patch_of (taken (p ∷ ps) k) k ≡ None
+taken_first p ps k true is apart later =
+    let none : patch_of ps k ≡ None = subst (λ q. patch_of ps q ≡ None) (sym (same_key k p.0 is)) (no_other p.0 ps apart) in
+    simp is none
+taken_first p ps k false is apart later = simp is later
+
+taken_here : (ps : Patches) (k : PatchKey) → AreApart ps → patch_of (taken ps k) k ≡ None
+unfolding IsDistinct
+taken_here [] k apart = refl
+taken_here (p ∷ ps) k apart = taken_first p ps k (is_same_word k p.0) refl apart.0 (taken_here ps k apart.1)
+
+taken_first_elsewhere : (p : PatchKey × ℕ) (ps : Patches) (k q : PatchKey) → is_same_word q k ≡ false → (same found : Bool)
+    → is_same_word k p.0 ≡ same → is_same_word q p.0 ≡ found → patch_of (taken ps k) q ≡ patch_of ps q
+    → patch_of (taken (p ∷ ps) k) q ≡ patch_of (p ∷ ps) q
+taken_first_elsewhere p ps k q other true true is met later =
+    absurd (false≢true (sym (subst (λ k. is_same_word q k ≡ false) (same_key k p.0 is) other) ∙ met))
+taken_first_elsewhere p ps k q other true false is missed later = simp (is, missed) refl
+taken_first_elsewhere p ps k q other false true is met later = simp (is, met) refl
+taken_first_elsewhere p ps k q other false false is missed later = simp (is, missed) later
+
+taken_elsewhere : (ps : Patches) (k q : PatchKey) → is_same_word q k ≡ false → patch_of (taken ps k) q ≡ patch_of ps q
+taken_elsewhere [] k q other = refl
+taken_elsewhere (p ∷ ps) k q other =
+    taken_first_elsewhere p ps k q other (is_same_word k p.0) (is_same_word q p.0) refl refl (taken_elsewhere ps k q other)
+
+-- values by number, of which one is another, and of which none is
+one_changed : (value now : ℕ → ℕ) (size i word : ℕ) → i < size → now i ≡ word
+    → ((number : ℕ) → nat_eq number i ≡ false → now number ≡ value number)
+    → words_by_number now size ≡ slice_set (words_by_number value size) i word
+one_changed value now size i word inside here elsewhere =
+    sym (filled_by_number now (slice_set (words_by_number value size) i word) size long (λ number below. each number below (nat_eq number i) refl))
+  where
+    long : length (slice_set (words_by_number value size) i word) ≡ size
+    long = length-set (words_by_number value size) i word ∙ length_by_number value size
+
+    each : (number : ℕ) → number < size → (same : Bool) → nat_eq number i ≡ same → slice_index (slice_set (words_by_number value size) i word) number ≡ now number
+    each number below true is =
+        let at : number ≡ i = eqb-true number i is in
+        let within : i < length (words_by_number value size) = rw (length_by_number value size) inside in
+        rw at (get_or-set_at (words_by_number value size) i i word 0 refl within ∙ sym here)
+    each number below false is =
+        get_or-set_other (words_by_number value size) i number word 0 (λ same. false≢true (sym is ∙ eq-eqb number i same))
+        ∙ word_by_number value size number below
+        ∙ sym (elsewhere number is)
+
+none_changed : (value now : ℕ → ℕ) (size : ℕ) → ((number : ℕ) → now number ≡ value number) → words_by_number now size ≡ words_by_number value size
+none_changed value now size same =
+    sym (filled_by_number now (words_by_number value size) size (length_by_number value size)
+    (λ number below. word_by_number value size number below ∙ sym (same number)))
+
+-- the setup with a patch more, and with one less
+abbrev pub patched : SetupData → PatchKey → ℕ → SetupData
+patched s k word = record s { patches = put s.patches k word }
+
+abbrev pub unpatched : SetupData → PatchKey → SetupData
+unpatched s k = record s { patches = taken s.patches k }
+
+pub core_patched : (s : SetupData) (i word : ℕ) → i < core_size s → core_words (patched s (core_key i) word) ≡ slice_set (core_words s) i word
+unfolding core_words
+core_patched s i word inside =
+    one_changed (first_core_word s) (first_core_word (patched s (core_key i) word)) (core_size s) i word inside
+    (ap (λ found. unwrap_or found (slice_index s.core i)) (put_here s.patches (core_key i) word))
+    (λ number other. ap (λ found. unwrap_or found (slice_index s.core number)) (put_elsewhere s.patches (core_key i) (core_key number) word other))
+
+pub core_stays : (s : SetupData) (i word : ℕ) → core_words (patched s (disk_key i) word) ≡ core_words s
+unfolding core_words
+core_stays s i word =
+    none_changed (first_core_word s) (first_core_word (patched s (disk_key i) word)) (core_size s)
+    (λ number. ap (λ found. unwrap_or found (slice_index s.core number)) (put_elsewhere s.patches (disk_key i) (core_key number) word refl))
+
+pub disk_patched : (s : SetupData) (i word : ℕ) → i < drive_words → disk_words (patched s (disk_key i) word) ≡ slice_set (disk_words s) i word
+unfolding disk_words
+disk_patched s i word inside =
+    one_changed (first_disk_word s) (first_disk_word (patched s (disk_key i) word)) drive_words i word inside
+    (ap (λ found. unwrap_or found (slice_index s.disk i)) (put_here s.patches (disk_key i) word))
+    (λ number other. ap (λ found. unwrap_or found (slice_index s.disk number)) (put_elsewhere s.patches (disk_key i) (disk_key number) word other))
+
+pub disk_stays : (s : SetupData) (i word : ℕ) → disk_words (patched s (core_key i) word) ≡ disk_words s
+unfolding disk_words
+disk_stays s i word =
+    none_changed (first_disk_word s) (first_disk_word (patched s (core_key i) word)) drive_words
+    (λ number. ap (λ found. unwrap_or found (slice_index s.disk number)) (put_elsewhere s.patches (core_key i) (disk_key number) word refl))
+
+pub core_reverted : (s : SetupData) (i : ℕ) → i < core_size s → AreApart s.patches
+    → core_words (unpatched s (core_key i)) ≡ slice_set (core_words s) i (slice_index s.core i)
+unfolding core_words
+core_reverted s i inside apart =
+    one_changed (first_core_word s) (first_core_word (unpatched s (core_key i))) (core_size s) i (slice_index s.core i) inside
+    (ap (λ found. unwrap_or found (slice_index s.core i)) (taken_here s.patches (core_key i) apart))
+    (λ number other. ap (λ found. unwrap_or found (slice_index s.core number)) (taken_elsewhere s.patches (core_key i) (core_key number) other))
+
+pub disk_stays_reverted : (s : SetupData) (i : ℕ) → disk_words (unpatched s (core_key i)) ≡ disk_words s
+unfolding disk_words
+disk_stays_reverted s i =
+    none_changed (first_disk_word s) (first_disk_word (unpatched s (core_key i))) drive_words
+    (λ number. ap (λ found. unwrap_or found (slice_index s.disk number)) (taken_elsewhere s.patches (core_key i) (disk_key number) refl))
