@@ -259,63 +259,38 @@ fn outcome_with(alloc: Global, words: &[&str], length: usize) -> Result<(u8, &'s
 
 #[test]
 fn reads_files(rt: HostRuntime) -> Result<(), Fail> {
-    let rows: [(&[&str], usize, (u8, &str)); 19] = [
-        (&["pdp11", "--tape", "file.bin"], 0, DONE),
+    let rows: [(&[&str], usize, (u8, &str)); 9] = [
         (&["pdp11", "--tape=file.bin"], 3, DONE),
         (&["pdp11", "--tape", "file.bin"], 1_048_577, BAD_IMAGE),
-        (&["pdp11", "--core", "file.bin"], 6, DONE),
-        (&["pdp11", "--core", "file.bin"], 3, BAD_IMAGE),
         (&["pdp11", "--core", "file.bin"], 253_952, DONE),
         (&["pdp11", "--core", "file.bin"], 253_954, BAD_IMAGE),
+        (&["pdp11", "--core", "file.bin"], 3, BAD_IMAGE),
         (&["pdp11", "--disk", "file.bin"], 2_494_464, DONE),
         (&["pdp11", "--disk", "file.bin"], 2_494_466, BAD_IMAGE),
-        (&["pdp11", "--disk", "file.bin"], 1, BAD_IMAGE),
-        (
-            &[
-                "pdp11", "--core", "file.bin", "--disk", "file.bin", "--tape", "file.bin",
-            ],
-            2,
-            DONE,
-        ),
-        (
-            &["pdp11", "--disk", "file.bin", "--core", "missing"],
-            3,
-            INPUT_OR_OUTPUT,
-        ),
-        (
-            &["pdp11", "--core", "file.bin", "--tape", "missing"],
-            3,
-            INPUT_OR_OUTPUT,
-        ),
-        (
-            &["pdp11", "--core", "file.bin", "--units", "32"],
-            3,
-            BAD_IMAGE,
-        ),
-        (
-            &["pdp11", "--core", "file.bin", "--units", "32"],
-            253_954,
-            BAD_SETUP,
-        ),
-        (
-            &["pdp11", "--tape", "missing", "--units", "32"],
-            0,
-            INPUT_OR_OUTPUT,
-        ),
-        (
-            &["pdp11", "--core", "missing", "--units", "x"],
-            0,
-            BAD_ARGUMENTS,
-        ),
+        (&["pdp11", "--tape", "missing"], 0, INPUT_OR_OUTPUT),
         (&["pdp11", "--core"], 0, BAD_ARGUMENTS),
-        (
-            &["pdp11", "--disk", "file.bin", "--disk", "file.bin"],
-            0,
-            BAD_ARGUMENTS,
-        ),
     ];
     for (words, length, told) in rows {
         assert_eq!(rt; outcome_with(rt.alloc(), words, length)?, told, "{words:?}");
+    }
+    Ok(())
+}
+
+// Of several causes the first of the order is told.
+#[test]
+fn tells_the_first_cause(rt: HostRuntime) -> Result<(), Fail> {
+    for (option, name, units, length, told) in [
+        ("--core", "file.bin", "32", 3, BAD_IMAGE),
+        ("--core", "file.bin", "32", 253_954, BAD_SETUP),
+        ("--tape", "missing", "32", 0, INPUT_OR_OUTPUT),
+        ("--core", "missing", "x", 0, BAD_ARGUMENTS),
+    ] {
+        let words = ["pdp11", option, name, "--units", units];
+        assert_eq!(rt;
+            outcome_with(rt.alloc(), &words, length)?,
+            told,
+            "{words:?}"
+        );
     }
     Ok(())
 }
