@@ -1,3 +1,5 @@
 pub mod Steps
 pub mod Rungs
+pub mod Changed
 pub mod PatchedRungs
+pub mod DelayedRungs

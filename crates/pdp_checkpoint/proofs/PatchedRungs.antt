@@ -1,33 +1,12 @@
 -- What kept states with another value in a word keep of those before.
-use Rattle.std.proofs.Common.{◌≡◌, ℕ, ◌+◌, ◌*◌, ◌/◌, min, nat_le, Option, List, [], ◌∷◌, length, map, take, refl, sym, ap, ◌∙◌, arith}
+use Rattle.std.proofs.Common.{◌≡◌, ℕ, ◌+◌, ◌/◌, min, nat_le, Option, List, length, map, take, refl, sym, ◌∙◌, arith}
 use Rattle.std.specs.List.{filter}
 use Rattle.std.proofs.lemmas.List.{take_min}
 use Rattle.pdp_checkpoint.specs.declared.checkpoint.Checkpoint.{Checkpoint}
-use Rattle.pdp_checkpoint.specs.Ladder.{LadderData, steps_from, AreRungs}
+use Rattle.pdp_checkpoint.specs.Ladder.{LadderData, AreRungs}
 use Rattle.pdp_checkpoint.specs.Patched.{with_word, patched_to}
-use Rattle.pdp_checkpoint.proofs.Steps.{turns_of}
+use Rattle.pdp_checkpoint.proofs.Changed.{rungs_changed}
 use Rattle.pdp_checkpoint.proofs.Rungs.{below_is_first, rungs_cut}
-
-turns_kept : (drive : Option ℕ) (word value : ℕ) (cs : List Checkpoint) → turns_of (map (with_word drive word value) cs) ≡ turns_of cs
-turns_kept drive word value [] = refl
-turns_kept drive word value (c ∷ cs) = ap (λ (ts : List ℕ). c.turn ∷ ts) (turns_kept drive word value cs)
-
-length_kept : (drive : Option ℕ) (word value : ℕ) (cs : List Checkpoint) → length (map (with_word drive word value) cs) ≡ length cs
-length_kept drive word value [] = refl
-length_kept drive word value (c ∷ cs) = omega (arith, length_kept drive word value cs)
-
-rungs_patched : (l : LadderData) (drive : Option ℕ) (word value : ℕ) → AreRungs l → AreRungs (record l { kept = map (with_word drive word value) l.kept })
-rungs_patched l drive word value rungs =
-    let size : length (map (with_word drive word value) l.kept) ≡ length l.kept = length_kept drive word value l.kept in
-    let reach : length (map (with_word drive word value) l.kept) * l.stride ≡ length l.kept * l.stride = ap (λ n. n * l.stride) size in
-    record {
-      turns = turns_kept drive word value l.kept ∙ rungs.turns ∙ ap (steps_from l.stride 0) (sym size);
-      some = omega (arith, rungs.some);
-      few = omega (arith, rungs.few);
-      positive = rungs.positive;
-      widest = rungs.widest;
-      within = omega (arith, rungs.within);
-    }
 
 -- how a ladder is after its first states got another value in a word
 pub record IsPatchedTo (turn : ℕ) (drive : Option ℕ) (word value : ℕ) (before after : LadderData) : Type 0 where
@@ -43,5 +22,5 @@ is_patched_to l turn drive word value first now rungs first_is now_is =
     let cut : AreRungs (record l { kept = first }) = rw low (rungs_cut l (turn / l.stride + 1) rungs (omega arith)) in
     record {
       is = rw (now_is, below) refl;
-      rungs = rw now_is (rungs_patched (record l { kept = first }) drive word value cut);
+      rungs = rw now_is (rungs_changed (record l { kept = first }) (with_word drive word value) (λ c. refl) cut);
     }

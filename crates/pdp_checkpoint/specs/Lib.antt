@@ -1,2 +1,3 @@
 pub mod Ladder
+pub mod Delayed
 pub mod Patched

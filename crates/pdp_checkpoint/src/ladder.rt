@@ -1,6 +1,7 @@
 ghost use Rattle.std.specs.Prelude.{◌≡◌, ◌+◌, ◌*◌, ◌/◌, ◌<◌, ◌≤◌, min, nat_le, Some, [], ◌∷◌, length, slice_get, IfOk, OnOk, OnErr};
 ghost use Rattle.std.specs.List.{All, filter};
 ghost use Rattle.pdp_unibus.specs.LastTurn.{last_turn};
+ghost use Rattle.pdp_checkpoint.specs.Delayed.{delayed};
 ghost use Rattle.pdp_checkpoint.specs.Patched.{patched_to};
 ghost use Rattle.pdp_cpu.specs.Saved.{HasWord};
 ghost use Rattle.pdp_checkpoint.specs.Ladder.{widest_stride, checkpoint_of, next_of, best_of, kept_with, AreRungs};
@@ -9,6 +10,7 @@ use crate::checkpoint::Checkpoint;
 use crate::patched::patched;
 use crate::thin::thin;
 use pdp_cpu::PagedMachine;
+use pdp_unibus::Delays;
 use pdp_word::NoMemory;
 use std::alloc::Global;
 use std::marker::Model;
@@ -85,6 +87,7 @@ impl Ladder {
         ensures near { turn < next_of self.now → turn < result.now.turn + self.now.stride }
         ensures last { next_of self.now ≤ turn → result.now.turn + self.now.stride ≡ next_of self.now }
         ensures greatest { All (λ c. c.turn ≤ turn → c.turn ≤ result.now.turn) self.now.kept }
+        ensures rungs { AreRungs self.now }
     {
         let last = self.kept.len() - 1;
         let place = ((turn / self.stride) as usize).min(last);
@@ -124,6 +127,17 @@ impl Ladder {
         ensures rungs { AreRungs self.new }
     {
         self.kept.truncate((turn / self.stride) as usize + 1);
+    }
+
+    /// Makes these the delays (turns) of the devices in the kept state of turn 0, and drops the states of later turns.
+    /// It takes no memory. (This project's profile.)
+    pub fn set_delays(&mut self, delays: Delays)
+        ensures kept { self.new ≡ delayed delays self.old }
+        ensures count { length self.new.kept ≡ 1 }
+        ensures rungs { AreRungs self.new }
+    {
+        self.kept.truncate(1);
+        self.kept[0].saved.set_delays(delays);
     }
 
     /// Gives a word of core, or of this drive, this value in the kept states up to `turn`, and drops those of turns above

@@ -3,7 +3,7 @@ ghost use Rattle.std.specs.Prelude.{◌≡◌, ◌≤◌, OnOk, IfOk, length};
 use super::*;
 use pdp_cpu::{Machine, Meter, PagedMachine};
 use pdp_store::{Paged, PagedDrive};
-use pdp_unibus::Delays;
+use pdp_unibus::{Delays, Line};
 use pdp_word::NoMemory;
 use std::alloc::Global;
 
@@ -82,6 +82,20 @@ fn cuts_above_a_turn(rt: HostRuntime) -> Result<(), NoMemory> {
     ladder.cut(3);
     assert_eq!(rt; ladder.next(), 4);
     ladder.cut(0);
+    assert_eq!(rt; ladder.best(100).turn, 0);
+    Ok(())
+}
+
+// The state of turn 0 alone is left, and the stride is as it was.
+#[test]
+fn sets_the_delays_of_the_first_state(rt: HostRuntime) -> Result<(), NoMemory> {
+    let mut machine = machine(rt.alloc())?;
+    let mut ladder = Ladder::new(rt.alloc(), 4, &mut machine)?;
+    climb(rt.alloc(), &mut ladder, &mut machine, 0, 20)?;
+    assert_eq!(rt; ladder.next(), 24);
+    ladder.set_delays(Delays::standard().with(Line::Printer, 4));
+    assert_eq!(rt; ladder.stride(), 4);
+    assert_eq!(rt; ladder.next(), 4);
     assert_eq!(rt; ladder.best(100).turn, 0);
     Ok(())
 }

@@ -152,6 +152,14 @@ impl<S: Store, D: Store> Machine<S, D> {
         act
     }
 
+    /// How many turns it has run since power-up, which is the number of the turn that comes next (this project's
+    /// profile).
+    pub fn turns(&self) -> u32
+        ensures { result ≡ self.now.state.turn }
+    {
+        self.turn
+    }
+
     /// The registers now (DEC PDP-11/40 Processor Handbook (1972), General registers and Processor status word).
     pub fn regs(&self) -> Regs
         ensures { result ≡ regs_of self.now.state.world }

@@ -37,6 +37,7 @@ fn loads_other_delays(rt: HostRuntime) -> Result<(), NoMemory> {
     saved.set_delays(Delays::standard().with(Line::Printer, 4));
     machine.load(&saved);
     run_turns(&mut machine, &mut Meter::new(), 5)?;
+    assert_eq!(rt; machine.turns(), 5);
     let printed = KeptByte {
         byte: 0o101,
         turn: 4,

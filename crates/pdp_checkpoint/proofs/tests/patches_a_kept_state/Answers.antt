@@ -1,6 +1,6 @@
-use Rattle.std.proofs.Common.{◌≡◌, ◌<◌, All, None, [], arith, length, subst, sym}
+use Rattle.std.proofs.Common.{◌≡◌, All, None, [], arith, length, subst, sym}
 use Rattle.std.proofs.lemmas.List.Elements.{All-cons, All-nil}
-use Rattle.pdp_cpu.specs.Saved.{HasWord, machine_content}
+use Rattle.pdp_cpu.specs.Saved.{HasWord}
 use Rattle.pdp_cpu.specs.Turns.MachineState.{MachineState}
 use Rattle.pdp_checkpoint.specs.declared.checkpoint.Checkpoint.{Checkpoint}
 use Rattle.pdp_checkpoint.specs.Ladder.{checkpoint_of}
