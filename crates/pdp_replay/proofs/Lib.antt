@@ -18,3 +18,15 @@ pub mod KeptStates
 pub mod Lowered
 pub mod PoweredWords
 pub mod PoweredContents
+pub mod Strides
+pub mod UnderWay
+pub mod Ways
+pub mod Settled
+pub mod OnWay
+pub mod PoweredRuns
+pub mod Forgotten
+pub mod EditedStates
+pub mod EditedEngines
+pub mod EditedDelays
+pub mod EditedSetups
+pub mod Engines

@@ -1,49 +1,31 @@
 -- Lists of words as they are filled, and lists compared item by item.
-use Rattle.std.proofs.Common.{◌≡◌, ℕ, suc, zero, ◌+◌, ◌<◌, ◌≤◌, List, [], ◌∷◌, ◌++◌, ◌&&◌, Bool, true, false, None, length, ◌-◌, take, drop, get_or, refl, sym, ◌∙◌, ap, append_assoc, replicate, slice_set, slice_get, option_to_list, add-one}
-use Rattle.std.proofs.Math.Seq.{set-append_seam, take-suc}
-use Rattle.std.proofs.lemmas.List.{length-map, get_or-map, length-take-le, length-drop, get_or-drop}
+use Rattle.std.proofs.Common.{◌≡◌, ℕ, suc, zero, ◌+◌, ◌<◌, ◌≤◌, List, [], ◌∷◌, ◌++◌, ◌&&◌, Bool, length, take, drop, get_or, refl, sym, ◌∙◌, ap, replicate, slice_set, slice_get, add-one}
+use Rattle.std.proofs.Math.Seq.{take-suc}
+use Rattle.std.proofs.lemmas.List.{length-map, get_or-map, length-drop, get_or-drop}
 use Rattle.std.specs.Cmp.Lexicographic.{pointwise}
 use Rattle.std.specs.Option.{option_eq}
 use Rattle.std.specs.Prelude.{slice_index}
 use Rattle.std.proofs.Common.{arith}
 use Rattle.pdp_cpu.specs.KeptTexts.{without_turns}
 use Rattle.pdp_cpu.specs.declared.kept_text.KeptByte.{KeptByte}
-use Rattle.pdp_replay.specs.Image.{blank_lasts}
 
--- one more word of an image over a list of zeros
-filled : (image : List ℕ) (i rest word : ℕ) → i < length image → word ≡ get_or image i 0
-    → slice_set (take i image ++ replicate (suc rest) 0) i word ≡ take (suc i) image ++ replicate rest 0
-filled image i rest word below is =
-    let front : length (take i image) ≡ i = length-take-le i image (omega arith) in
-    ap (λ j. slice_set (take i image ++ 0 ∷ replicate rest 0) j word) (sym front)
-    ∙ set-append_seam (take i image) 0 (replicate rest 0) word
-    ∙ ap (λ w. take i image ++ w ∷ replicate rest 0) is
-    ∙ sym (ap (λ xs. xs ++ replicate rest 0) (take-suc image i 0 below) ∙ append_assoc (take i image) (get_or image i 0 ∷ []) (replicate rest 0))
+-- one more word of an image over a list
+filled : (image words : List ℕ) (i : ℕ) → i < length image → length image ≤ length words
+    → slice_set (take i image ++ drop i words) i (get_or image i 0) ≡ take (suc i) image ++ drop (suc i) words
+filled [] words i below within = absurd (omega arith)
+filled (x ∷ image) [] i below within = absurd (omega arith)
+filled (x ∷ image) (w ∷ words) zero below within = refl
+filled (x ∷ image) (w ∷ words) (suc i) below within = ap (λ xs. x ∷ xs) (filled image words i (omega arith) (omega arith))
 
-filled_to : (image : List ℕ) (words i rest : ℕ) → words - i ≡ suc rest → words - (i + 1) ≡ rest → i < length image
-    → slice_set (take i image ++ replicate (words - i) 0) i (get_or image i 0) ≡ take (i + 1) image ++ replicate (words - (i + 1)) 0
-filled_to image words i rest now then below = rw (now, then, add-one) (filled image i rest (get_or image i 0) below refl)
-
-pub filled_one_more : (image : List ℕ) (words i : ℕ) → i < length image → length image ≤ words
-    → slice_set (take i image ++ replicate (words - i) 0) i (get_or image i 0) ≡ take (i + 1) image ++ replicate (words - (i + 1)) 0
-filled_one_more image words i below within = filled_to image words i (words - (i + 1)) (omega arith) refl below
+pub filled_one_more : (image words : List ℕ) (i : ℕ) → i < length image → length image ≤ length words
+    → slice_set (take i image ++ drop i words) i (get_or image i 0) ≡ take (i + 1) image ++ drop (i + 1) words
+filled_one_more image words i below within = rw add-one (filled image words i below within)
 
 -- a word without a stamp gets none
 pub blank_stays : {X : Type 0} (n i : ℕ) (x : X) → slice_set (replicate n x) i x ≡ replicate n x
 blank_stays zero i x = refl
 blank_stays (suc n) zero x = refl
 blank_stays (suc n) (suc i) x = ap (λ xs. x ∷ xs) (blank_stays n i x)
-
-pub blank_lasts_stay : (stamped : Bool) (n i : ℕ) → slice_set (blank_lasts stamped n) i None ≡ blank_lasts stamped n
-unfolding blank_lasts
-blank_lasts_stay true n i = blank_stays n i None
-blank_lasts_stay false n i = refl
-
-pub take_one_more : {X : Type 0} (xs : List X) (i : ℕ) → take (suc i) xs ≡ take i xs ++ option_to_list (slice_get xs i)
-take_one_more [] zero = refl
-take_one_more [] (suc i) = refl
-take_one_more (x ∷ xs) zero = refl
-take_one_more (x ∷ xs) (suc i) = ap (λ ys. x ∷ ys) (take_one_more xs i)
 
 -- one more word of a range
 pub words_one_more : (words : List ℕ) (first i : ℕ) → first + i < length words

@@ -1,10 +1,9 @@
 -- What an edit of the setup makes of the saved state at turn 0: one word, the delays, or nothing but the tape.
-use Rattle.std.proofs.Common.{◌≡◌, ℕ, ◌<◌, List, [], ◌∷◌, ap, ap₂, refl}
+use Rattle.std.proofs.Common.{◌≡◌, ℕ, ◌<◌, List, [], ◌∷◌, None, ap, ap₂, refl}
 use Rattle.std.specs.Prelude.{slice_index, slice_set}
 use Rattle.pdp_unibus.specs.declared.delays.Delays.{Delays}
 use Rattle.pdp_cpu.specs.Saved.{MachineContent, content_with_delays, machine_content}
-use Rattle.pdp_replay.specs.Image.{AreApart}
-use Rattle.pdp_replay.specs.PatchedWords.{core_key, disk_key}
+use Rattle.pdp_replay.specs.PatchedWords.{core_key, disk_key, patch_of}
 use Rattle.pdp_replay.specs.Past.{Past}
 use Rattle.pdp_replay.specs.Setup.{SetupData, core_size, drive_words}
 use Rattle.pdp_replay.specs.FirstWords.{core_words, disk_words}
@@ -40,10 +39,10 @@ pub first_of_disk_patch : (s : SetupData) (i word : ℕ) → i < drive_words
 unfolding power
 first_of_disk_patch s i word inside = ap₂ (with_words s) (core_stays s i word) (disk_patched s i word inside)
 
-pub first_of_core_revert : (s : SetupData) (i : ℕ) → i < core_size s → AreApart s.patches
+pub first_of_core_revert : (s : SetupData) (i : ℕ) → i < core_size s → patch_of (unpatched s (core_key i)).patches (core_key i) ≡ None
     → first_content (unpatched s (core_key i)) ≡ content_with_core (slice_set (core_words s) i (slice_index s.core i)) (first_content s)
 unfolding power
-first_of_core_revert s i inside apart = ap₂ (with_words s) (core_reverted s i inside apart) (disk_stays_reverted s i)
+first_of_core_revert s i inside none = ap₂ (with_words s) (core_reverted s i inside none) (disk_stays_reverted s i)
 
 -- first_content has core's and the drive's words as of power-up
 pub first_core_is : (s : SetupData) → (first_content s).bus.core ≡ core_words s

@@ -1,19 +1,16 @@
 -- What a patch of a word, a patch less, other delays and another tape make of the state as of power-up.
 use Rattle.std.proofs.Common.{◌≡◌, ◌∙◌, ℕ, ◌<◌, Bool, true, false, [], ◌∷◌, None, Some, ap, length, nat_eq, refl, subst, sym, unwrap_or}
 use Rattle.std.specs.Prelude.{slice_index, slice_set}
-use Rattle.std.specs.List.{AllByRecursion, IsDistinct}
-use Rattle.std.specs.Map.{keys_of}
 use Rattle.std.proofs.lemmas.Bool.{eqb-true, eq-eqb, false≢true}
 use Rattle.std.proofs.lemmas.Grind.{get_or-set_at}
 use Rattle.std.proofs.lemmas.List.{get_or-set_other, length-set}
 use Rattle.indexmap.specs.IndexMap.{insert_entry, shift_remove_entry}
 use Rattle.pdp_replay.specs.FirstWords.{words_by_number, core_words, first_core_word, disk_words, first_disk_word}
-use Rattle.pdp_replay.specs.Image.{AreApart}
 use Rattle.pdp_replay.specs.PatchedWords.{Patches, core_key, disk_key, is_same_word, patch_of}
 use Rattle.pdp_replay.specs.Setup.{SetupData, core_size, drive_words}
 use Rattle.pdp_replay.specs.declared.patch.PatchKey.{PatchKey}
 use Rattle.pdp_replay.specs.declared.patch.PatchKey.TheVariants as key
-use Rattle.pdp_replay.proofs.FirstWords.{filled_by_number, length_by_number, no_other, word_by_number}
+use Rattle.pdp_replay.proofs.FirstWords.{filled_by_number, length_by_number, word_by_number}
 
 -- the same word has the same key, and is itself
 same_key : (k other : PatchKey) → is_same_word k other ≡ true → k ≡ other
@@ -56,18 +53,6 @@ put_elsewhere (p ∷ ps) k q word other =
 -- a patch less
 abbrev taken : Patches → PatchKey → Patches
 taken ps k = shift_remove_entry (is_same_word k) ps
-
-taken_first : (p : PatchKey × ℕ) (ps : Patches) (k : PatchKey) (same : Bool) → is_same_word k p.0 ≡ same
-    → AllByRecursion (λ y. is_same_word p.0 y ≡ false) (keys_of ps) → patch_of (taken ps k) k ≡ None → patch_of (taken (p ∷ ps) k) k ≡ None
-taken_first p ps k true is apart later =
-    let none : patch_of ps k ≡ None = subst (λ q. patch_of ps q ≡ None) (sym (same_key k p.0 is)) (no_other p.0 ps apart) in
-    simp is none
-taken_first p ps k false is apart later = simp is later
-
-taken_here : (ps : Patches) (k : PatchKey) → AreApart ps → patch_of (taken ps k) k ≡ None
-unfolding IsDistinct
-taken_here [] k apart = refl
-taken_here (p ∷ ps) k apart = taken_first p ps k (is_same_word k p.0) refl apart.0 (taken_here ps k apart.1)
 
 taken_first_elsewhere : (p : PatchKey × ℕ) (ps : Patches) (k q : PatchKey) → is_same_word q k ≡ false → (same found : Bool)
     → is_same_word k p.0 ≡ same → is_same_word q p.0 ≡ found → patch_of (taken ps k) q ≡ patch_of ps q
@@ -141,12 +126,12 @@ disk_stays s i word =
     none_changed (first_disk_word s) (first_disk_word (patched s (core_key i) word)) drive_words
     (λ number. ap (λ found. unwrap_or found (slice_index s.disk number)) (put_elsewhere s.patches (core_key i) (disk_key number) word refl))
 
-pub core_reverted : (s : SetupData) (i : ℕ) → i < core_size s → AreApart s.patches
+pub core_reverted : (s : SetupData) (i : ℕ) → i < core_size s → patch_of (taken s.patches (core_key i)) (core_key i) ≡ None
     → core_words (unpatched s (core_key i)) ≡ slice_set (core_words s) i (slice_index s.core i)
 unfolding core_words
-core_reverted s i inside apart =
+core_reverted s i inside none =
     one_changed (first_core_word s) (first_core_word (unpatched s (core_key i))) (core_size s) i (slice_index s.core i) inside
-    (ap (λ found. unwrap_or found (slice_index s.core i)) (taken_here s.patches (core_key i) apart))
+    (ap (λ found. unwrap_or found (slice_index s.core i)) none)
     (λ number other. ap (λ found. unwrap_or found (slice_index s.core number)) (taken_elsewhere s.patches (core_key i) (core_key number) other))
 
 pub disk_stays_reverted : (s : SetupData) (i : ℕ) → disk_words (unpatched s (core_key i)) ≡ disk_words s

@@ -1,12 +1,10 @@
 -- What a run can start from.
-use Rattle.std.proofs.Common.{◌≡◌, ℕ, ◌≤◌, Bool, true, false, Result, Ok, Err, refl, arith, if◌then◌else◌}
+use Rattle.std.proofs.Common.{◌≡◌, Bool, true, false, Result, Ok, Err, refl, arith, if◌then◌else◌}
 use Rattle.std.proofs.lemmas.Grind.{common_steps}
 use Rattle.pdp_script.specs.Refusal.{result_map}
 use Rattle.pdp_script.specs.declared.faults.Fault.{Fault}
 use Rattle.pdp_script.specs.declared.faults.Fault.TheVariants.{BadImage, BadSetup}
-use Rattle.pdp_unibus.specs.LastTurn.{last_turn}
-use Rattle.pdp_replay.specs.Known.{IsStride}
-use Rattle.pdp_replay.specs.Setup.{SetupData, setup_checked, IsGood, has_good_numbers, has_good_images, only_stride}
+use Rattle.pdp_replay.specs.Setup.{SetupData, setup_checked, IsGood, has_good_numbers, has_good_images}
 
 abbrev accepted : Result (Unit {0}) Fault
 accepted = Ok tt
@@ -18,7 +16,8 @@ good_by : (s : SetupData) (numbers images : Bool) → has_good_numbers s ≡ num
     → accepted ≡ checked (if numbers then if images then Ok s else Err BadImage else Err BadSetup) → IsGood s
 good_by s true true numbers images is = record {
   units = grind (arith, common_steps);
-  stride = grind (arith, common_steps);
+  some = grind (arith, common_steps);
+  widest = grind (arith, common_steps);
   core = grind (arith, common_steps);
   disk = grind (arith, common_steps);
 }
@@ -28,13 +27,3 @@ good_by s false images_are numbers images is = absurd cc
 pub good_is : (s : SetupData) → accepted ≡ checked (setup_checked s) → IsGood s
 unfolding setup_checked
 good_is s is = good_by s (has_good_numbers s) (has_good_images s) refl refl is
-
--- the one stride there is needs no doubling
-pub one_stride : (start highest stride : ℕ) → start ≡ only_stride → stride ≡ start → highest ≤ last_turn
-    → IsStride start highest stride
-one_stride start highest stride only same limit = record {
-  doublings = 0;
-  is = omega (arith, same);
-  enough = omega (arith, only, same, limit);
-  least = λ some. absurd (omega arith);
-}

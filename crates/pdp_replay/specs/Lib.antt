@@ -6,10 +6,11 @@ pub mod Image
 pub mod Past
 pub mod States
 pub mod KeptStates
-pub mod Quiet
 pub mod LastWrites
 pub mod Trails
 pub mod Answer
 pub mod Edit
 pub mod Timeline
 pub mod Known
+pub mod Strides
+pub mod KeptRuns

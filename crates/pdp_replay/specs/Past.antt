@@ -1,5 +1,5 @@
 -- The past: what determines a run, its setup with the delays and the patches, and its script (this project's profile).
-use Rattle.std.specs.Prelude.{ℕ, [], Result}
+use Rattle.std.specs.Prelude.{ℕ, List, [], Result}
 use Rattle.std.specs.declared.hash.BuildHasherDefault.{BuildHasherDefault}
 use Rattle.std.specs.declared.hash.FoldHasher.{FoldHasher}
 use Rattle.indexmap.specs.IndexMap.{IndexMap}
@@ -9,15 +9,15 @@ use Rattle.pdp_script.specs.declared.faults.Fault.{Fault}
 use Rattle.pdp_unibus.specs.declared.delays.Delays.{Delays}
 use Rattle.pdp_replay.specs.Setup.{SetupData, setup_from, setup_checked}
 use Rattle.pdp_replay.specs.declared.patch.PatchKey.{PatchKey}
-use Rattle.pdp_replay.specs.declared.setup.Setup.{Setup}
+use Rattle.pdp_replay.specs.declared.origin.Origin.{Origin}
 
 pub record Past : Type 0 where
   pub setup : SetupData
   pub script : ScriptData
 
--- a setup with the delays, the patches and the script of an engine
-abbrev pub past_from : Setup → Delays → IndexMap PatchKey ℕ (BuildHasherDefault FoldHasher) → ScriptData → Past
-past_from setup delays patches script = record { setup = setup_from setup delays patches; script = script }
+-- an origin with the tape, the delays, the patches and the script of an engine
+abbrev pub past_from : Origin → List ℕ → Delays → IndexMap PatchKey ℕ (BuildHasherDefault FoldHasher) → ScriptData → Past
+past_from origin tape delays patches script = record { setup = setup_from origin tape delays patches; script = script }
 
 -- without events, and no number given
 abbrev pub unscripted : SetupData → Past

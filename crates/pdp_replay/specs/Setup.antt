@@ -1,5 +1,5 @@
 -- What a run starts from, as plain data (this project's profile).
-use Rattle.std.specs.Prelude.{ℕ, ◌≡◌, ◌≤◌, ◌*◌, ◌%◌, ◌==◌, ◌&&◌, Bool, List, [], Result, Ok, Err, length, nat_le, if◌then◌else◌}
+use Rattle.std.specs.Prelude.{ℕ, ◌<◌, ◌≤◌, ◌*◌, ◌%◌, ◌==◌, ◌&&◌, Bool, List, [], Result, Ok, Err, length, nat_le, if◌then◌else◌}
 use Rattle.indexmap.specs.IndexMap.{IndexMap}
 use Rattle.std.specs.declared.hash.BuildHasherDefault.{BuildHasherDefault}
 use Rattle.std.specs.declared.hash.FoldHasher.{FoldHasher}
@@ -9,6 +9,8 @@ use Rattle.pdp_unibus.specs.Delays.{standard_delays}
 use Rattle.pdp_unibus.specs.declared.delays.Delays.{Delays}
 use Rattle.pdp_replay.specs.PatchedWords.{Patches}
 use Rattle.pdp_replay.specs.declared.patch.PatchKey.{PatchKey}
+use Rattle.pdp_checkpoint.specs.Ladder.{widest_stride}
+use Rattle.pdp_replay.specs.declared.origin.Origin.{Origin}
 use Rattle.pdp_replay.specs.declared.setup.Setup.{Setup}
 
 -- the size of core in units of 4,096 words, the start address, the images, the tape, the starting stride, the delays,
@@ -24,7 +26,7 @@ pub record SetupData : Type 0 where
   pub patches : Patches
 
 -- the limits of a setup: the units of core and the words of one, the words of a drive (203
--- cylinders of 2 surfaces of 12 sectors of 256 words), the bytes of a tape, and the one stride for now
+-- cylinders of 2 surfaces of 12 sectors of 256 words), and the bytes of a tape
 abbrev pub most_units : ℕ
 most_units = 31
 
@@ -37,36 +39,47 @@ drive_words = 1247232
 abbrev pub tape_bytes : ℕ
 tape_bytes = 1048576
 
-abbrev pub only_stride : ℕ
-only_stride = 2000000000
-
 -- how many words core has
 abbrev pub core_size : SetupData → ℕ
 core_size s = s.units * unit_words
 
-abbrev pub with_patches : Setup → Delays → Patches → SetupData
-with_patches setup delays patches = record {
+-- a setup with the standard delays, and without patches
+abbrev pub given : Setup → SetupData
+given setup = record {
   units = setup.units;
   start = setup.start;
   core = setup.core.items;
   disk = setup.disk.items;
   tape = setup.tape.items;
   stride = setup.stride;
+  delays = standard_delays;
+  patches = [];
+}
+
+-- what an origin gives, with this tape, these delays and these patches
+abbrev pub setup_of : Origin → List ℕ → Delays → Patches → SetupData
+setup_of origin tape delays patches = record {
+  units = origin.units;
+  start = origin.start;
+  core = origin.core.items;
+  disk = origin.disk.items;
+  tape = tape;
+  stride = origin.stride;
   delays = delays;
   patches = patches;
 }
 
--- a setup with the delays and the patches of an engine
-abbrev pub setup_from : Setup → Delays → IndexMap PatchKey ℕ (BuildHasherDefault FoldHasher) → SetupData
-setup_from setup delays patches = with_patches setup delays patches.entries
+-- with the standard delays, and without patches
+abbrev pub first_setup : Origin → List ℕ → SetupData
+first_setup origin tape = setup_of origin tape standard_delays []
 
--- a setup with the standard delays, and without patches
-abbrev pub given : Setup → SetupData
-given setup = with_patches setup standard_delays []
+-- with the delays and the patches of an engine
+abbrev pub setup_from : Origin → List ℕ → Delays → IndexMap PatchKey ℕ (BuildHasherDefault FoldHasher) → SetupData
+setup_from origin tape delays patches = setup_of origin tape delays patches.entries
 
--- units within their limits, an even start, and the one stride
+-- units and stride within their limits, and an even start
 abbrev pub has_good_numbers : SetupData → Bool
-has_good_numbers s = nat_le 1 s.units && nat_le s.units most_units && s.start % 2 == 0 && s.stride == only_stride
+has_good_numbers s = nat_le 1 s.units && nat_le s.units most_units && s.start % 2 == 0 && nat_le 1 s.stride && nat_le s.stride widest_stride
 
 -- core's image within core, a drive's image within the drive, a tape within its limit
 abbrev pub has_good_images : SetupData → Bool
@@ -79,6 +92,7 @@ setup_checked s = (if has_good_numbers s then if has_good_images s then Ok s els
 -- what is kept of a setup that a run can start from
 pub record IsGood (s : SetupData) : Type 0 where
   pub units : s.units ≤ most_units
-  pub stride : s.stride ≡ only_stride
+  pub some : 0 < s.stride
+  pub widest : s.stride ≤ widest_stride
   pub core : length s.core ≤ core_size s
   pub disk : length s.disk ≤ drive_words

@@ -1,5 +1,5 @@
 -- An engine as a contract sees it (this project's profile).
-use Rattle.std.specs.Prelude.{ℕ, ◌≡◌, ◌≤◌, Bool, true, false, List, min, unwrap_or, Result, Ok, Err}
+use Rattle.std.specs.Prelude.{ℕ, ◌≤◌, Bool, true, false, List, min, unwrap_or, Result, Ok, Err}
 use Rattle.pdp_script.specs.Refusal.{past_left}
 use Rattle.pdp_unibus.specs.LastTurn.{last_turn}
 use Rattle.pdp_script.specs.declared.faults.Fault.{Fault}
@@ -9,6 +9,10 @@ use Rattle.pdp_replay.specs.Edit.{core_edit, disk_edit, revert_edit, tape_edit, 
 use Rattle.pdp_replay.specs.Past.{Past, unscripted}
 use Rattle.pdp_replay.specs.Setup.{SetupData, IsGood, core_size}
 use Rattle.pdp_replay.specs.FirstWords.{AllThere}
+use Rattle.pdp_replay.specs.KeptStates.{AreKept}
+use Rattle.pdp_replay.specs.Strides.{IsStride}
+use Rattle.pdp_checkpoint.specs.Ladder.{LadderData}
+use Rattle.pdp_cpu.specs.Turns.MachineState.{MachineWithTexts}
 
 -- the past, the known turn, the highest that it has been, the stride, and the turns run so far
 pub record Timeline : Type 0 where
@@ -61,10 +65,12 @@ event_altered number turn event t =
 abbrev pub event_dropped : ℕ → Timeline → Timeline
 event_dropped number t = after_edit (unwrap_or (turn_of_event number t.past) 0) (event_drop number t.past) false t
 
--- what every engine keeps
-pub record IsTimeline (setup : SetupData) (known highest stride : ℕ) : Type 0 where
-  pub good : IsGood setup
-  pub there : AllThere (core_size setup) setup.patches
+-- what every engine keeps: a setup that a run can start from, patches of words that are there, what it knows, the stride
+-- that belongs to the highest turn known, and of the run all that ought to be kept
+pub record IsEngine (p : Past) (known highest : ℕ) (m : MachineWithTexts) (l : LadderData) : Type 0 where
+  pub good : IsGood p.setup
+  pub there : AllThere (core_size p.setup) p.setup.patches
   pub reached : known ≤ highest
   pub limit : highest ≤ last_turn
-  pub same_stride : stride ≡ setup.stride
+  pub stride : IsStride p.setup.stride highest l.stride
+  pub kept : AreKept p known m l

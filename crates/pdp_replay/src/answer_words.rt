@@ -4,7 +4,7 @@ ghost use Rattle.std.specs.Cmp.Lexicographic.{nat_list_eq_equiv, pointwise};
 ghost use Rattle.pdp_replay.specs.Answer.{words_from};
 ghost use Rattle.pdp_replay.specs.States.{disk_of};
 
-use crate::travel::FlatMachine;
+use pdp_cpu::PagedMachine;
 use pdp_word::NoMemory;
 use std::alloc::Global;
 use std::marker::Model;
@@ -40,7 +40,7 @@ impl Words {
     #[tactic(auto, using(crate::proofs::Lists::words_one_more))]
     pub(crate) fn read_core(
         alloc: Global,
-        machine: &FlatMachine,
+        machine: &PagedMachine,
         first: u32,
         count: u32,
     ) -> Result<Words, NoMemory>
@@ -62,7 +62,7 @@ impl Words {
     #[tactic(auto, using(crate::proofs::Lists::words_one_more))]
     pub(crate) fn read_disk(
         alloc: Global,
-        machine: &FlatMachine,
+        machine: &PagedMachine,
         first: u32,
         count: u32,
     ) -> Result<Words, NoMemory>

@@ -1,4 +1,4 @@
-ghost use Rattle.std.specs.Prelude.{◌≡◌, ◌*◌, ◌/◌, ◌<◌, Ok, IfOk, OnErr, false, min};
+ghost use Rattle.std.specs.Prelude.{◌≡◌, ◌*◌, ◌/◌, ◌<◌, Ok, IfOk, OnErr, false};
 ghost use Rattle.pdp_script.specs.Refusal.{for_memory, edit_answer, result_map};
 ghost use Rattle.pdp_replay.specs.Setup.{SetupData};
 ghost use Rattle.pdp_replay.specs.Edit.{core_word_at, core_edit, revert_edit, insertion_answer, event_alteration, event_drop, patch_at, patch_count};
@@ -22,9 +22,11 @@ impl Engine {
         ensures after { self.new ≡ core_edited address word (for_memory result) self.old }
         ensures refused { OnErr result (self.new ≡ self.old) }
     {
-        let key = PatchKey::Core(core_word(self.setup.units, address)?);
+        let key = PatchKey::Core(core_word(self.origin.units, address)?);
+        let alloc = *self.patches.allocator();
+        self.patches.reserve(1)?;
+        self.run.set_word(alloc, key, word)?;
         self.patches.insert(key, word)?;
-        lower_known(&mut self.known, 0);
         Ok(())
     }
 
@@ -40,11 +42,15 @@ impl Engine {
         ensures after { self.new ≡ core_reverted address (for_memory result) self.old }
         ensures refused { OnErr result (self.new ≡ self.old) }
     {
-        let key = PatchKey::Core(core_word(self.setup.units, address)?);
-        if self.patches.shift_remove(&key).is_none() {
+        let number = core_word(self.origin.units, address)?;
+        let key = PatchKey::Core(number);
+        if !self.patches.contains_key(&key) {
             return Err(Fault::NoSuchPatch);
         }
-        lower_known(&mut self.known, 0);
+        let alloc = *self.patches.allocator();
+        let word = self.origin.core_word(number);
+        self.run.set_word(alloc, key, word)?;
+        self.patches.shift_remove(&key);
         Ok(())
     }
 
@@ -61,7 +67,7 @@ impl Engine {
         ensures refused { OnErr result (self.new ≡ self.old) }
     {
         let number = self.script.insert(turn, event)?;
-        lower_known(&mut self.known, turn);
+        self.run.lower(turn);
         Ok(number)
     }
 
@@ -79,7 +85,7 @@ impl Engine {
     {
         let before = self.script.turn_of(number).unwrap_or(turn);
         self.script.alter(number, turn, event)?;
-        lower_known(&mut self.known, before.min(turn));
+        self.run.lower(before.min(turn));
         Ok(())
     }
 
@@ -95,7 +101,7 @@ impl Engine {
     {
         let before = self.script.turn_of(number).unwrap_or(0);
         self.script.drop_event(number)?;
-        lower_known(&mut self.known, before);
+        self.run.lower(before);
         Ok(())
     }
 
@@ -117,13 +123,6 @@ impl Engine {
             PatchKey::Disk(number) => Patch::Disk(*number, *word),
         })
     }
-}
-
-/// Forgets what is known past this turn.
-pub(crate) fn lower_known(known: &mut u32, turn: u32)
-    ensures { known.new ≡ min known.old turn }
-{
-    *known = (*known).min(turn);
 }
 
 /// The number of the core word at this address (octal, bytes), of a core of so many units.

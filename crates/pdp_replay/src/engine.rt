@@ -2,15 +2,19 @@ ghost use Rattle.std.specs.Prelude.{◌≡◌, ◌+◌, ◌≤◌, ◌<◌, ◌^
 ghost use Rattle.pdp_script.specs.Refusal.{for_memory, question_answer, result_map};
 ghost use Rattle.pdp_replay.specs.Setup.{given, setup_checked};
 ghost use Rattle.pdp_replay.specs.Answer.{answer_to, value_answered};
-ghost use Rattle.pdp_replay.specs.Known.{known_after, IsStride, IsWithinBound};
+ghost use Rattle.pdp_replay.specs.KeptStates.{AreStatesOf, IsBuiltFrom, KeepsTexts};
+ghost use Rattle.pdp_replay.specs.Known.{known_after, IsWithinBound};
+ghost use Rattle.pdp_replay.specs.Strides.{IsStride};
 ghost use Rattle.pdp_replay.specs.Timeline.{fresh};
 
+use crate::kept_run::KeptRun;
+use crate::origin::Origin;
 use crate::patch::PatchKey;
 use crate::question::{Answer, Question};
 use crate::setup::Setup;
-use crate::travel::machine_at;
 use indexmap::IndexMap;
-use pdp_cpu::Meter;
+use pdp_checkpoint::Ladder;
+use pdp_cpu::PagedMachine;
 use pdp_script::{Fault, Script};
 use pdp_unibus::Delays;
 use std::alloc::Global;
@@ -21,26 +25,29 @@ use std::marker::Model;
 /// A contract sees it as a `Timeline`. Answers are always those of the run from power-up of the past as it is now.
 #[derive(Drop)]
 pub struct Engine {
-    pub(crate) setup: Setup,
+    pub(crate) origin: Origin,
     pub(crate) delays: Delays,
     pub(crate) patches: IndexMap<PatchKey, u16>,
     pub(crate) script: Script,
-    pub(crate) meter: Meter,
-    pub(crate) known: u32,
+    pub(crate) run: KeptRun,
     highest: u32,
-    stride: u32,
 }
 
 impl Model for Engine {
-    ghost use Rattle.pdp_replay.specs.Timeline.{Timeline, IsTimeline};
+    ghost use Rattle.pdp_replay.specs.Timeline.{Timeline, IsEngine};
     ghost use Rattle.pdp_replay.specs.Past.{past_from};
-    ghost use Rattle.pdp_replay.specs.Setup.{setup_from};
 
     ghost Value = { Timeline };
 
-    ghost view = { λ e. record { past = past_from e.setup e.delays e.patches e.script; known = e.known; highest = e.highest; stride = e.stride; turns = e.meter } };
+    ghost view = { λ e. record {
+      past = past_from e.origin e.run.machine.state.world.bus.tape e.delays e.patches e.script;
+      known = e.run.known;
+      highest = e.highest;
+      stride = e.run.ladder.stride;
+      turns = e.run.meter;
+    } };
 
-    ghost invariant = { λ e. IsTimeline (setup_from e.setup e.delays e.patches) e.known e.highest e.stride };
+    ghost invariant = { λ e. IsEngine (past_from e.origin e.run.machine.state.world.bus.tape e.delays e.patches e.script) e.run.known e.highest e.run.machine e.run.ladder };
 }
 
 impl Engine {
@@ -53,16 +60,29 @@ impl Engine {
         ensures engine { result ≡ result_map fresh (question_answer (setup_checked (given setup)) (for_memory result)) }
     {
         setup.check()?;
-        let stride = setup.stride;
+        let Setup {
+            units,
+            start,
+            core,
+            disk,
+            tape,
+            stride,
+        } = setup;
+        let origin = Origin {
+            units,
+            start,
+            core,
+            disk,
+            stride,
+        };
+        let run = KeptRun::power(alloc, &origin, tape)?;
         Ok(Engine {
-            setup,
+            origin,
             delays: Delays::standard(),
             patches: IndexMap::new(alloc),
             script: Script::new(alloc),
-            meter: Meter::new(),
-            known: 0,
+            run,
             highest: 0,
-            stride,
         })
     }
 
@@ -99,26 +119,34 @@ impl Engine {
         // A refusal for another cause than memory changes nothing.
         ensures refused { IsErr result → for_memory result ≡ false → self.new ≡ self.old }
     {
-        let before = self.meter.count();
-        let turn = question.turn();
-        question.check(self.setup.units)?;
-        let mut machine = machine_at(
-            alloc,
-            &self.setup,
-            self.delays,
-            &self.patches,
-            &self.script,
-            &mut self.meter,
-            question.first_turn(),
-        )?;
-        let value = question.answer(alloc, &mut machine, &self.script, &mut self.meter)?;
-        self.known = self.known.max(turn);
-        self.highest = self.highest.max(self.known);
+        let before = self.run.meter.count();
+        question.check(self.origin.units)?;
+        let answered = question.answer(alloc, &mut self.run, &self.script);
+        self.highest = self.highest.max(self.run.known);
+        let value = answered?;
         Ok(Answer {
             value,
-            ran: self.meter.count() - before,
-            known: self.known,
-            stride: self.stride,
+            ran: self.run.meter.count() - before,
+            known: self.run.known,
+            stride: self.run.ladder.stride(),
         })
+    }
+
+    /// The states that are kept of the run of the past as it is now: those of turn 0 and of each multiple of the stride
+    /// up to the known turn (this project's profile).
+    pub fn kept_states(&self) -> &Ladder
+        ensures states { AreStatesOf self.now.past self.now.known result.now }
+        ensures stride { result.now.stride ≡ self.now.stride }
+    {
+        &self.run.ladder
+    }
+
+    /// The machine that runs the turns. It keeps what was printed and punched before the known turn, each byte with its
+    /// turn; its own turn is that of the last question or edit (this project's profile).
+    pub fn machine(&self) -> &PagedMachine
+        ensures texts { KeepsTexts self.now.past self.now.known result.now }
+        ensures built { IsBuiltFrom self.now.past.setup result.now }
+    {
+        &self.run.machine
     }
 }

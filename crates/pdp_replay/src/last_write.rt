@@ -1,7 +1,7 @@
 ghost use Rattle.std.specs.Prelude.{◌≡◌, ◌<◌, length};
 ghost use Rattle.pdp_replay.specs.LastWrites.{IsLastWriteIn};
 
-use crate::travel::FlatMachine;
+use pdp_cpu::PagedMachine;
 use pdp_store::Agent;
 
 /// The last write to a word of core before a turn (this project's profile). A byte write counts for its word; patches
@@ -18,7 +18,7 @@ pub struct LastWrite {
 
 impl LastWrite {
     /// The last write to the core word of this number; None where there was none since power-up.
-    pub(crate) fn read(machine: &FlatMachine, number: usize) -> Option<LastWrite>
+    pub(crate) fn read(machine: &PagedMachine, number: usize) -> Option<LastWrite>
         requires { number < length machine.now.state.world.bus.core }
         ensures { IsLastWriteIn machine.now.state number result }
     {

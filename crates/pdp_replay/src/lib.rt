@@ -10,17 +10,20 @@
 
 mod answer_bytes;
 mod answer_words;
+mod changes;
 mod edits;
 mod engine;
 mod image;
+mod kept_run;
 mod last_write;
 mod laws;
+mod origin;
 mod patch;
 mod question;
 mod setup;
 mod setup_edits;
 mod trail;
-mod travel;
+mod turns;
 
 pub use answer_bytes::Bytes;
 pub use answer_words::Words;
@@ -36,7 +39,7 @@ pub use pdp_script::Fault;
 pub use pdp_store::Agent;
 pub use pdp_unibus::{Delays, Event, Line};
 pub use question::{Answer, Question, Value};
-pub use setup::{ONLY_STRIDE, Setup};
+pub use setup::{DEFAULT_STRIDE, Setup};
 pub use trail::{Trail, TrailEntry};
 
 #[cfg(test)]
@@ -45,6 +48,8 @@ mod core_tests;
 mod device_tests;
 #[cfg(test)]
 mod disk_tests;
+#[cfg(test)]
+mod jump_tests;
 #[cfg(test)]
 mod last_write_tests;
 #[cfg(test)]

@@ -1,5 +1,5 @@
 ghost use Rattle.std.specs.Prelude.{◌≡◌};
-ghost use Rattle.pdp_replay.specs.Image.{number_in};
+ghost use Rattle.pdp_replay.specs.KeptRuns.{number_of};
 
 /// A word that differs as of power-up (this project's profile).
 #[derive(Clone, Copy, Debug, PartialEq, Eq)]
@@ -19,23 +19,13 @@ pub enum PatchKey {
     Disk(u32),
 }
 
-/// What has words that can be patched.
-#[derive(Clone, Copy, Debug, PartialEq, Eq)]
-pub(crate) enum Storage {
-    Core,
-    Disk,
-}
-
 impl PatchKey {
-    /// The number of the word in this storage; None where it is a word of another.
-    pub(crate) fn number_in(self, storage: Storage) -> Option<u32>
-        ensures { result ≡ number_in storage self }
+    /// The number of the word in what it is a word of.
+    pub(crate) fn number(self) -> u32
+        ensures { result ≡ number_of self }
     {
-        match (storage, self) {
-            (Storage::Core, PatchKey::Core(number)) | (Storage::Disk, PatchKey::Disk(number)) => {
-                Some(number)
-            }
-            _ => None,
+        match self {
+            PatchKey::Core(number) | PatchKey::Disk(number) => number,
         }
     }
 }

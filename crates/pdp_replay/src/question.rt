@@ -1,17 +1,21 @@
-ghost use Rattle.std.specs.Prelude.{◌≡◌, ◌+◌, ◌*◌, ◌/◌, ◌≤◌, length, IfOk, OnOk};
+ghost use Rattle.std.specs.Prelude.{◌≡◌, ◌+◌, ◌*◌, ◌/◌, ◌<◌, ◌≤◌, ℕ, length, max, min, IfOk, OnOk};
+ghost use Rattle.pdp_checkpoint.specs.Ladder.{next_of};
+ghost use Rattle.pdp_replay.specs.KeptRuns.{KeepsRun, KeepsStride, LeavesKept};
+ghost use Rattle.pdp_replay.specs.KeptStates.{AreKept};
+ghost use Rattle.pdp_replay.specs.Known.{known_after, CanAnswer};
 ghost use Rattle.pdp_replay.specs.Past.{Past};
 ghost use Rattle.pdp_replay.specs.Setup.{SetupData};
 ghost use Rattle.pdp_replay.specs.States.{disk_of};
-ghost use Rattle.pdp_replay.specs.Answer.{question_checked, range_checked, disk_range_checked, trail_checked, first_turn_needed, turn_asked, IsWithin, IsAnswerIn};
+ghost use Rattle.pdp_replay.specs.Answer.{answer, question_checked, range_checked, disk_range_checked, trail_checked, first_turn_needed, turn_asked, IsWithin, IsAnswerIn};
 
 use crate::answer_bytes::Bytes;
 use crate::answer_words::Words;
 use crate::edits::core_word;
+use crate::kept_run::KeptRun;
 use crate::last_write::LastWrite;
 use crate::setup::{DRIVE_WORDS, UNIT_WORDS};
 use crate::trail::Trail;
-use crate::travel::FlatMachine;
-use pdp_cpu::{DeviceRegisters, Meter, PageRegisters, Regs};
+use pdp_cpu::{DeviceRegisters, PageRegisters, Regs};
 use pdp_script::{Fault, Script};
 use pdp_unibus::LAST_TURN;
 use pdp_word::NoMemory;
@@ -107,26 +111,52 @@ impl Question {
         }
     }
 
-    /// The answer, read off the machine before the first turn that is needed; a trail's turns are run, with the events
-    /// of the script, and the meter counts each.
+    /// The answer about the run with this script, of which states are kept: the machine is taken to the first turn that
+    /// is needed, and from there through the turns that a trail lists.
     ///
-    /// Err where there is no memory for it.
-    #[tactic(auto, unfolding(crate::specs::Answer::answer))]
+    /// Err where a growth was refused; what was kept until then stays.
     pub(crate) fn answer(
         self,
         alloc: Global,
-        machine: &mut FlatMachine,
+        run: &mut KeptRun,
         script: &Script,
-        meter: &mut Meter,
     ) -> Result<Value, NoMemory>
-        requires within { IsWithin self (length machine.old.state.world.bus.core) }
-        requires drive { length (disk_of machine.old.state.world) ≡ DRIVE_WORDS }
-        requires here { machine.old.state.turn ≡ first_turn_needed self }
-        requires limit { turn_asked self ≤ LAST_TURN }
-        ensures value { IfOk result (IsAnswerIn machine.old.state script.now self) }
-        ensures least { meter.old ≤ meter.new }
-        ensures most { meter.new + first_turn_needed self ≤ meter.old + turn_asked self }
+        requires can { CanAnswer self script.now run.old }
+        ensures value { IfOk result (λ value. (p : Past) → p.script ≡ script.now → AreKept p run.old.known run.old.machine run.old.ladder → value ≡ answer self p) }
+        ensures kept { KeepsRun script.now run.old run.new }
+        ensures known { OnOk result (run.new.known ≡ known_after self run.old.known) }
+        ensures known_least { run.old.known ≤ run.new.known }
+        ensures known_most { run.new.known ≤ known_after self run.old.known }
+        ensures stride { KeepsStride run.old run.new }
+        ensures bound { run.new.meter + min (first_turn_needed self) run.old.known + 1 ≤ run.old.meter + turn_asked self + run.old.ladder.stride }
+        ensures counted { run.old.meter ≤ run.new.meter }
     {
+        run.reach(alloc, script, self.first_turn())?;
+        self.read(alloc, run, script)
+    }
+
+    /// The answer, read off the machine before the first turn that is needed; a trail's turns are run, and what is to be
+    /// kept of them is kept.
+    ///
+    /// Err where a growth was refused; what was kept until then stays.
+    #[tactic(auto, unfolding(crate::specs::Answer::answer))]
+    fn read(self, alloc: Global, run: &mut KeptRun, script: &Script) -> Result<Value, NoMemory>
+        requires within { IsWithin self (length run.old.machine.state.world.bus.core) }
+        requires drive { length (disk_of run.old.machine.state.world) ≡ DRIVE_WORDS }
+        requires here { run.old.machine.state.turn ≡ first_turn_needed self }
+        requires limit { turn_asked self ≤ LAST_TURN }
+        requires reached { run.old.machine.state.turn ≤ run.old.known }
+        requires short { run.old.machine.state.turn < next_of run.old.ladder }
+        ensures value { IfOk result (IsAnswerIn run.old.machine.state script.now self) }
+        ensures kept { LeavesKept script.now run.old run.new }
+        ensures known { OnOk result (run.new.known ≡ known_after self run.old.known) }
+        ensures known_least { run.old.known ≤ run.new.known }
+        ensures known_most { run.new.known ≤ known_after self run.old.known }
+        ensures stride { KeepsStride run.old run.new }
+        ensures most { run.new.meter + first_turn_needed self ≤ run.old.meter + turn_asked self }
+        ensures counted { run.old.meter ≤ run.new.meter }
+    {
+        let machine = &run.machine;
         match self {
             Question::Regs(_) => Ok(Value::Regs(machine.regs())),
             Question::Core(_, address, count) => {
@@ -145,9 +175,8 @@ impl Question {
                 let number = address as usize / 2;
                 Ok(Value::Last(LastWrite::read(machine, number)))
             }
-            Question::Trail(turn, count) => {
-                let first = turn - count;
-                let trail = Trail::record(alloc, machine, script, meter, first, count)?;
+            Question::Trail(_, count) => {
+                let trail = Trail::record(alloc, run, script, count)?;
                 Ok(Value::Trail(trail))
             }
         }

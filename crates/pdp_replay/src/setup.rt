@@ -2,6 +2,7 @@ ghost use Rattle.std.specs.Prelude.{◌≡◌, Result};
 ghost use Rattle.pdp_script.specs.Refusal.{result_map};
 ghost use Rattle.pdp_replay.specs.Setup.{given, setup_checked};
 
+use pdp_checkpoint::WIDEST_STRIDE;
 use pdp_script::Fault;
 
 /// The most units of core.
@@ -16,8 +17,8 @@ pub(crate) const DRIVE_WORDS: usize = 1_247_232;
 /// The most bytes of a paper tape.
 pub(crate) const TAPE_BYTES: usize = 1_048_576;
 
-/// The one stride for now, in turns (this project's profile).
-pub const ONLY_STRIDE: u32 = 2_000_000_000;
+/// The stride of states that are kept where none is given, in turns (this project's profile).
+pub const DEFAULT_STRIDE: u32 = 10_000;
 
 /// What a run starts from (this project's profile).
 #[derive(Debug, Drop)]
@@ -32,7 +33,7 @@ pub struct Setup {
     pub disk: Vec<u16>,
     /// The bytes of the paper tape: at most 1,048,576.
     pub tape: Vec<u8>,
-    /// How many turns apart states are kept: 2,000,000,000 for now.
+    /// How many turns apart states are kept at first: 1 to 2,000,000,000.
     pub stride: u32,
 }
 
@@ -46,7 +47,10 @@ impl Setup {
         ensures { result ≡ result_map (λ _. tt) (setup_checked (given self.now)) }
     {
         let units = self.units;
-        if units < 1 || units > MOST_UNITS || self.start % 2 != 0 || self.stride != ONLY_STRIDE {
+        if units < 1 || units > MOST_UNITS || self.start % 2 != 0 {
+            return Err(Fault::BadSetup);
+        }
+        if self.stride < 1 || self.stride > WIDEST_STRIDE {
             return Err(Fault::BadSetup);
         }
         let words = usize::from(units) * UNIT_WORDS;

@@ -3,7 +3,6 @@ ghost use Rattle.pdp_script.specs.Refusal.{for_memory, edit_answer, result_map};
 ghost use Rattle.pdp_replay.specs.Edit.{disk_word_at, disk_edit, tape_edit, delay_edit};
 ghost use Rattle.pdp_replay.specs.Timeline.{disk_edited, tape_replaced, delay_set};
 
-use crate::edits::lower_known;
 use crate::engine::Engine;
 use crate::patch::PatchKey;
 use crate::setup::{DRIVE_WORDS, TAPE_BYTES};
@@ -24,8 +23,10 @@ impl Engine {
         ensures refused { OnErr result (self.new ≡ self.old) }
     {
         let key = PatchKey::Disk(disk_word(number)?);
+        let alloc = *self.patches.allocator();
+        self.patches.reserve(1)?;
+        self.run.set_word(alloc, key, word)?;
         self.patches.insert(key, word)?;
-        lower_known(&mut self.known, 0);
         Ok(())
     }
 
@@ -42,8 +43,7 @@ impl Engine {
         if tape.len() > TAPE_BYTES {
             return Err(Fault::BadImage);
         }
-        self.setup.tape = tape;
-        lower_known(&mut self.known, 0);
+        self.run.set_tape(tape);
         Ok(())
     }
 
@@ -62,7 +62,7 @@ impl Engine {
             return Err(Fault::TurnTooLarge);
         }
         self.delays = self.delays.with(line, delay);
-        lower_known(&mut self.known, 0);
+        self.run.set_delays(self.delays);
         Ok(())
     }
 }

@@ -6,10 +6,10 @@ use std::fmt::Debug;
 use std::process::Abort;
 use std::test::Fail;
 
-/// The stride of each setup here.
+/// The stride where a test gives none. It is so wide that the state of turn 0 alone is kept.
 pub(crate) const STRIDE: u32 = 2_000_000_000;
 
-/// A setup of so many units of core, without images: start 1000 (octal), and the one stride.
+/// A setup of so many units of core, without images: start 1000 (octal), and the widest stride.
 pub(crate) fn blank(alloc: Global, units: u8) -> Setup {
     Setup {
         units,
@@ -23,9 +23,20 @@ pub(crate) fn blank(alloc: Global, units: u8) -> Setup {
 
 /// An engine over so many units of core, with these words from 1000 (octal) on as its image; it starts there.
 pub(crate) fn engine_with(alloc: Global, units: u8, words: &[u16]) -> Result<Engine, Fault> {
+    engine_of_stride(alloc, units, words, STRIDE)
+}
+
+/// The same with this stride.
+pub(crate) fn engine_of_stride(
+    alloc: Global,
+    units: u8,
+    words: &[u16],
+    stride: u32,
+) -> Result<Engine, Fault> {
     let mut setup = blank(alloc, units);
     setup.core = vec![in alloc; 0; 256]?;
     setup.core.extend_from_slice(words)?;
+    setup.stride = stride;
     Engine::new(alloc, setup)
 }
 
@@ -48,9 +59,13 @@ pub(crate) enum Step<'a> {
     Trail(Question, &'a [TrailEntry]),
     /// Whether these two questions are answered the same.
     Alike(Question, Question, bool),
-    /// How many turns are run for this question, and the known turn after it.
+    /// How many turns are run for this question, and the known turn after it, with the widest stride.
     Ran(Question, u64, u32),
-    /// The known turn after this question.
+    /// How many turns are run for this question, and the known turn and the stride after it.
+    Took(Question, u64, u32, u32),
+    /// How many turns at most are run for this question, and the known turn and the stride after it.
+    RanAtMost(Question, u64, u32, u32),
+    /// The known turn after this question, with the widest stride.
     Known(Question, u32),
     /// Why this question has no answer.
     Refused(Question, Fault),
@@ -92,8 +107,18 @@ pub(crate) fn follow(
     steps: &[Step],
 ) -> Result<(), Fail> {
     let mut engine = engine?;
+    follow_on(rt, alloc, &mut engine, steps)
+}
+
+/// The same with an engine that stays.
+pub(crate) fn follow_on(
+    rt: &impl Abort,
+    alloc: Global,
+    engine: &mut Engine,
+    steps: &[Step],
+) -> Result<(), Fail> {
     for (number, step) in steps.iter().enumerate() {
-        take(rt, alloc, &mut engine, number, *step)?;
+        take(rt, alloc, engine, number, *step)?;
     }
     Ok(())
 }
@@ -109,19 +134,42 @@ fn take(
         Step::Alike(one, other, want) => {
             assert_same(rt, number, &are_alike(engine, alloc, one, other)?, &want);
         }
-        Step::Ran(asked, ran, known) => {
-            let want = (ran, known, STRIDE);
-            assert_same(rt, number, &took(engine, alloc, asked)?, &want);
-        }
-        Step::Known(asked, want) => {
-            let (_, known, stride) = took(engine, alloc, asked)?;
-            assert_same(rt, number, &(known, stride), &(want, STRIDE));
-        }
         Step::Refused(asked, why) => assert_same(rt, number, &engine.ask(alloc, asked), &Err(why)),
         Step::Edit(edit, want) => assert_same(rt, number, &make(engine, alloc, edit), &want),
         Step::Patches(count, first) => {
             let patches = (engine.patch_count(), engine.patches(0));
             assert_same(rt, number, &patches, &(count, first));
+        }
+        _ => return ask_what_it_took(rt, alloc, engine, number, step),
+    }
+    Ok(())
+}
+
+/// Asserts that the answer to the question of this step takes what it says, or has the value that it says.
+fn ask_what_it_took(
+    rt: &impl Abort,
+    alloc: Global,
+    engine: &mut Engine,
+    number: usize,
+    step: Step,
+) -> Result<(), Fail> {
+    match step {
+        Step::Ran(asked, ran, known) => {
+            let want = (ran, known, STRIDE);
+            assert_same(rt, number, &took(engine, alloc, asked)?, &want);
+        }
+        Step::Took(asked, ran, known, stride) => {
+            let want = (ran, known, stride);
+            assert_same(rt, number, &took(engine, alloc, asked)?, &want);
+        }
+        Step::RanAtMost(asked, most, known, stride) => {
+            let (ran, known_then, stride_then) = took(engine, alloc, asked)?;
+            assert!(rt; ran <= most, "{ran} turns at step {number}");
+            assert_same(rt, number, &(known_then, stride_then), &(known, stride));
+        }
+        Step::Known(asked, want) => {
+            let (_, known, stride) = took(engine, alloc, asked)?;
+            assert_same(rt, number, &(known, stride), &(want, STRIDE));
         }
         _ => return ask_value(rt, alloc, engine, number, step),
     }
@@ -233,7 +281,11 @@ fn entries_of(alloc: Global, trail: &Trail) -> Result<Vec<TrailEntry>, Fail> {
     Ok(entries)
 }
 
-fn value_of(engine: &mut Engine, alloc: Global, question: Question) -> Result<Value, Fault> {
+pub(crate) fn value_of(
+    engine: &mut Engine,
+    alloc: Global,
+    question: Question,
+) -> Result<Value, Fault> {
     Ok(engine.ask(alloc, question)?.value)
 }
 
@@ -252,7 +304,8 @@ fn took(engine: &mut Engine, alloc: Global, question: Question) -> Result<(u64, 
     Ok((answer.ran, answer.known, answer.stride))
 }
 
-fn make(engine: &mut Engine, alloc: Global, edit: Edit) -> Result<u32, Fault> {
+/// Makes this edit, and gives what it answers.
+pub(crate) fn make(engine: &mut Engine, alloc: Global, edit: Edit) -> Result<u32, Fault> {
     match edit {
         Edit::Patch(address, word) => engine.set_core(address, word)?,
         Edit::PatchDisk(number, word) => engine.set_disk(number, word)?,

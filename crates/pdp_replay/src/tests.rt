@@ -44,8 +44,12 @@ fn what_an_answer_took(rt: HostRuntime) -> Result<(), Fail> {
     let engine = patched(rt.alloc(), &[0o777]);
     let steps = [
         Step::Ran(Question::Regs(300), 300, 300),
-        Step::Known(Question::Regs(5), 300),
+        // No state but that of turn 0 is kept.
+        Step::Ran(Question::Regs(5), 5, 300),
+        Step::Ran(Question::Regs(0), 0, 300),
+        Step::Ran(Question::Regs(301), 301, 301),
         Step::Edit(Edit::Patch(0o2000, 1), Ok(0)),
+        Step::Ran(Question::Regs(0), 0, 0),
         Step::Ran(Question::Regs(5), 5, 5),
     ];
     follow(&rt, rt.alloc(), engine, &steps)
@@ -83,9 +87,11 @@ fn refused_numbers(rt: HostRuntime) -> Result<(), Fail> {
         (0, 0o1000, STRIDE, Some(Fault::BadSetup)),
         (32, 0o1000, STRIDE, Some(Fault::BadSetup)),
         (31, 0o1001, STRIDE, Some(Fault::BadSetup)),
-        (31, 0o1000, 1, Some(Fault::BadSetup)),
-        (1, 0o177776, STRIDE, None),
-        (31, 0, STRIDE, None),
+        (31, 0o1000, 0, Some(Fault::BadSetup)),
+        (31, 0o1000, 2_000_000_001, Some(Fault::BadSetup)),
+        (31, 0o1000, 4_294_967_295, Some(Fault::BadSetup)),
+        (1, 0o177776, 1, None),
+        (31, 0, 2_000_000_000, None),
     ] {
         let mut setup = blank(alloc, units);
         setup.start = start;

@@ -1,14 +1,16 @@
-ghost use Rattle.std.specs.Prelude.{◌≡◌, ◌+◌, ◌<◌, ◌≤◌, length, slice_get, IfOk, OnOk};
+ghost use Rattle.std.specs.Prelude.{◌≡◌, ◌+◌, ◌<◌, ◌≤◌, ℕ, length, max, slice_get, IfOk, OnOk};
 ghost use Rattle.std.specs.Cmp.{partial_equiv_from_equiv};
 ghost use Rattle.std.specs.Cmp.Lexicographic.{pointwise, lists_equiv};
 ghost use Rattle.pdp_cpu.specs.Turns.MachineState.{after_turn};
 ghost use Rattle.pdp_script.specs.Entries.{events_at};
+ghost use Rattle.pdp_checkpoint.specs.Ladder.{next_of};
+ghost use Rattle.pdp_replay.specs.KeptRuns.{GoesOn, KeepsStride, LeavesKept};
 ghost use Rattle.pdp_replay.specs.Trails.{trail_entry, same_entry, IsTrailFrom};
 ghost use Rattle.pdp_replay.specs.contracts.trail.TrailEntryEq.TheImpl.Laws.{laws-law};
 
-use crate::travel::FlatMachine;
+use crate::kept_run::KeptRun;
 use circular_buffer::HeapCircularBuffer;
-use pdp_cpu::{Act, Meter};
+use pdp_cpu::Act;
 use pdp_script::Script;
 use pdp_unibus::LAST_TURN;
 use pdp_word::NoMemory;
@@ -56,53 +58,59 @@ impl Trail {
         self.entries.get(index).copied()
     }
 
-    /// The trail of the next turns of the machine, so many from `first` on, which it runs with the events of the
-    /// script; the meter counts each.
+    /// The trail of the next turns of the run, so many, which it runs with the events of the script; what is to be kept
+    /// of them is kept.
     ///
-    /// Err where there is no memory for it.
+    /// Err where a growth was refused; what was kept until then stays.
     #[tactic(auto, using(crate::proofs::Trails::trail_none))]
     pub(crate) fn record(
         alloc: Global,
-        machine: &mut FlatMachine,
+        run: &mut KeptRun,
         script: &Script,
-        meter: &mut Meter,
-        first: u32,
         count: u32,
     ) -> Result<Trail, NoMemory>
-        requires here { machine.old.state.turn ≡ first }
-        requires limit { first + count ≤ LAST_TURN }
-        ensures trail { IfOk result (IsTrailFrom script.now first count machine.old.state) }
-        ensures least { meter.old ≤ meter.new }
-        ensures most { meter.new ≤ meter.old + count }
+        requires limit { run.old.machine.state.turn + count ≤ LAST_TURN }
+        requires reached { run.old.machine.state.turn ≤ run.old.known }
+        requires short { run.old.machine.state.turn < next_of run.old.ladder }
+        ensures trail { IfOk result (IsTrailFrom script.now run.old.machine.state.turn count run.old.machine.state) }
+        ensures kept { LeavesKept script.now run.old run.new }
+        ensures known { OnOk result (run.new.known ≡ max run.old.known (run.old.machine.state.turn + count)) }
+        ensures known_least { run.old.known ≤ run.new.known }
+        ensures known_most { run.new.known ≤ max run.old.known (run.old.machine.state.turn + count) }
+        ensures stride { KeepsStride run.old run.new }
+        ensures most { run.new.meter ≤ run.old.meter + count }
+        ensures counted { run.old.meter ≤ run.new.meter }
     {
         let mut entries = HeapCircularBuffer::with_capacity(alloc, count as usize)?;
-        for done in 0..count {
-            let entry = record_turn(machine, script, meter, first + done)?;
+        for _done in 0..count {
+            let entry = record_turn(alloc, run, script)?;
             entries.push_back(entry);
         }
         Ok(Trail { entries })
     }
 }
 
-/// Runs the machine through this turn, with the events of the script, and tells of it; the meter counts the turn.
+/// Runs one turn with the events of the script, and tells of it; what is to be kept of it is kept.
 ///
-/// Err where the turn's room was refused.
-fn record_turn(
-    machine: &mut FlatMachine,
-    script: &Script,
-    meter: &mut Meter,
-    turn: u32,
-) -> Result<TrailEntry, NoMemory>
-    requires here { machine.old.state.turn ≡ turn }
-    requires limit { turn < LAST_TURN }
-    ensures entry { IfOk result (λ entry. entry ≡ trail_entry turn (events_at script.now.entries turn) machine.old.state.world) }
-    ensures machine { OnOk result (machine.new.state ≡ after_turn (events_at script.now.entries turn) machine.old.state) }
-    ensures least { meter.old ≤ meter.new }
-    ensures most { meter.new ≤ meter.old + 1 }
+/// Err where a growth was refused; what was kept until then stays.
+fn record_turn(alloc: Global, run: &mut KeptRun, script: &Script) -> Result<TrailEntry, NoMemory>
+    requires short { run.old.machine.state.turn < next_of run.old.ladder }
+    requires limit { run.old.machine.state.turn < LAST_TURN }
+    ensures entry { IfOk result (λ entry. entry ≡ trail_entry run.old.machine.state.turn (events_at script.now.entries run.old.machine.state.turn) run.old.machine.state.world) }
+    ensures machine { OnOk result (run.new.machine.state ≡ after_turn (events_at script.now.entries run.old.machine.state.turn) run.old.machine.state) }
+    ensures kept { LeavesKept script.now run.old run.new }
+    ensures way { OnOk result (GoesOn script.now run.old run.new) }
+    ensures short { OnOk result (run.new.machine.state.turn < next_of run.new.ladder) }
+    ensures known { OnOk result (run.new.known ≡ max run.old.known (run.old.machine.state.turn + 1)) }
+    ensures known_least { run.old.known ≤ run.new.known }
+    ensures known_most { run.new.known ≤ max run.old.known (run.old.machine.state.turn + 1) }
+    ensures stride { KeepsStride run.old run.new }
+    ensures most { run.new.meter ≤ run.old.meter + 1 }
+    ensures counted { run.old.meter ≤ run.new.meter }
 {
-    machine.ready()?;
-    let pc = machine.regs().pc;
-    let act = machine.turn(meter, script.at(turn));
+    let turn = run.machine.turns();
+    let pc = run.machine.regs().pc;
+    let act = run.step(alloc, script)?;
     Ok(TrailEntry { turn, pc, act })
 }
 

@@ -6,7 +6,7 @@ use Rattle.pdp_replay.proofs.engine.Engine.patches.Goals as goal
 pub overflow_mul-result : goal.overflow_mul-result
 overflow_mul-result c =
     let units = c.self.invariant.good.units in
-    let there : IsThere (c.self.inside.setup.units * 4096) c.in_ok-key.key.now =
+    let there : IsThere (c.self.inside.origin.units * 4096) c.in_ok-key.key.now =
     entry_there _ _ _ (c.in_ok-key.key.now, c.in_ok-key.word.now) c.self.invariant.there (sym c.in_ok-key.ensures.entry) in
-    let below : c.in-Core.number < c.self.inside.setup.units * 4096 = rw c.in-Core.is at there in
+    let below : c.in-Core.number < c.self.inside.origin.units * 4096 = rw c.in-Core.is at there in
     omega arith

@@ -1,12 +1,31 @@
-use Rattle.std.proofs.Common.{arith}
-use Rattle.pdp_replay.proofs.Patches.{there_inserted}
+use Rattle.std.proofs.Common.{◌≡◌, ap₂, rules}
+use Rattle.indexmap.specs.IndexMap.{insert_entry}
+use Rattle.pdp_operand.specs.Phases.World.{World}
+use Rattle.pdp_replay.specs.Past.{Past, past_from}
+use Rattle.pdp_replay.specs.PatchedWords.{disk_key, is_same_word}
+use Rattle.pdp_replay.specs.Setup.{setup_of}
+use Rattle.pdp_replay.proofs.EditedSetups.{engine_patched, word_kept}
+use Rattle.pdp_replay.proofs.PoweredWords.{patched}
 use Rattle.pdp_replay.proofs.engine.Engine.set_disk.Goals as goal
 
+pub set_word-requires : goal.set_word-requires
+set_word-requires c =
+    let old = c.self.inside in
+    let p : Past = past_from old.origin old.run.machine.state.world.bus.tape old.delays old.patches old.script in
+    record {
+      there = word_kept p old.run.known old.run.ladder (disk_key c.in_ok-disk_word.field-0) c.self.invariant.kept.states c.in_ok-disk_word.ensures.below;
+    }
+
 pub invariant_of-self-2 : goal.invariant_of-self-2
-invariant_of-self-2 c = record {
-  good = record { units = c.self.invariant.good.units; stride = c.self.invariant.good.stride; core = c.self.invariant.good.core; disk = c.self.invariant.good.disk };
-  there = rw c.in_ok-insert.ensures.entries (there_inserted _ _ _ _ _ c.in_ok-disk_word.ensures.below c.self.invariant.there);
-  reached = omega arith;
-  limit = c.self.invariant.limit;
-  same_stride = c.self.invariant.same_stride;
-}
+invariant_of-self-2 c =
+    let old = c.self.inside in
+    let run = c.set_word.new.self in
+    let patches = c.insert.new.self in
+    let number = c.in_ok-disk_word.field-0 in
+    let p : Past = past_from old.origin old.run.machine.state.world.bus.tape old.delays old.patches old.script in
+    let q : Past = past_from old.origin run.machine.state.world.bus.tape old.delays patches old.script in
+    let set = c.in_ok-set_word.ensures in
+    let entries : patches.entries ≡ insert_entry is_same_word old.patches.entries (disk_key number) c.args.word = search rules in
+    let setup : q.setup ≡ patched p.setup (disk_key number) c.args.word =
+    ap₂ (λ (w : World) entries. setup_of old.origin w.bus.tape old.delays entries) set.world entries in
+    engine_patched p q (disk_key number) c.args.word old.highest old.run run c.self.invariant setup c.in_ok-disk_word.ensures.below set.forgotten set.ladder set.world

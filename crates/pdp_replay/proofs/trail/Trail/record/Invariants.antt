@@ -1,4 +1,6 @@
-use Rattle.std.proofs.Common.{◌≡◌, ◌+◌, ◌≤◌, length}
+use Rattle.std.proofs.Common.{◌≡◌, ◌+◌, ◌<◌, ◌≤◌, length, max}
+use Rattle.pdp_checkpoint.specs.Ladder.{next_of}
+use Rattle.pdp_replay.specs.KeptRuns.{GoesOn, KeepsStride}
 use Rattle.pdp_replay.specs.Past.{Past}
 use Rattle.pdp_replay.specs.States.{at}
 use Rattle.pdp_replay.specs.Trails.{trail_of}
@@ -6,11 +8,17 @@ use Rattle.pdp_replay.proofs.trail.Trail.record.Given as goal
 
 abbrev pub invariant-loop-done : goal.invariant-loop-done
 invariant-loop-done l = record {
-  turn : l.machine.state.turn ≡ l.first + l.done;
-  here : (past : Past) → past.script ≡ l.script → l.fn.machine.state ≡ at past l.first → l.machine.state ≡ at past (l.first + l.done);
-  listed : (past : Past) → past.script ≡ l.script → l.fn.machine.state ≡ at past l.first → l.entries.items ≡ trail_of past l.first l.done;
-  size : length l.entries.items ≡ l.done;
+  turn : l.run.machine.state.turn ≡ l.fn.run.machine.state.turn + l._done;
+  way : GoesOn l.script l.fn.run l.run;
+  short : l.run.machine.state.turn < next_of l.run.ladder;
+  known : l.run.known ≡ max l.fn.run.known (l.fn.run.machine.state.turn + l._done);
+  stride : KeepsStride l.fn.run l.run;
+  here : (p : Past) → p.script ≡ l.script → l.fn.run.machine.state ≡ at p l.fn.run.machine.state.turn
+      → l.run.machine.state ≡ at p (l.fn.run.machine.state.turn + l._done);
+  listed : (p : Past) → p.script ≡ l.script → l.fn.run.machine.state ≡ at p l.fn.run.machine.state.turn
+      → l.entries.items ≡ trail_of p l.fn.run.machine.state.turn l._done;
+  size : length l.entries.items ≡ l._done;
   capacity : l.entries.capacity ≡ l.count;
-  least : l.fn.meter ≤ l.meter;
-  most : l.meter ≤ l.fn.meter + l.done;
+  most : l.run.meter ≤ l.fn.run.meter + l._done;
+  counted : l.fn.run.meter ≤ l.run.meter;
 }

@@ -1,0 +1,47 @@
+-- What a run keeps as of power-up.
+use Rattle.std.proofs.Common.{◌≡◌, ◌∙◌, ℕ, List, [], ◌∷◌, None, Option, ap, refl, replicate, sym}
+use Rattle.pdp_checkpoint.specs.Ladder.{AreRungs, LadderData, checkpoint_of}
+use Rattle.pdp_cpu.specs.Turns.MachineState.{MachineState, MachineWithTexts, powered_machine}
+use Rattle.pdp_store.specs.declared.Stamp.{Stamp}
+use Rattle.pdp_replay.specs.FirstWords.{core_words, disk_words}
+use Rattle.pdp_replay.specs.Image.{padded}
+use Rattle.pdp_replay.specs.KeptStates.{AreKept, KeepsTexts, punched_kept_at, text_kept_at}
+use Rattle.pdp_replay.specs.Past.{Past, unscripted}
+use Rattle.pdp_replay.specs.Setup.{IsGood, SetupData, core_size, drive_words}
+use Rattle.pdp_replay.specs.States.{at, power, powered_up}
+use Rattle.pdp_replay.proofs.FirstWords.{core_is_padded, drive_is_padded}
+use Rattle.pdp_replay.proofs.KeptStates.{states_first}
+use Rattle.pdp_replay.proofs.StateSizes.{at_is_built}
+use Rattle.pdp_replay.proofs.States.{at_first}
+
+-- the machine of this setup over such core, such stamps and such drives
+abbrev pub machine_over : SetupData → List ℕ → List (Option Stamp) → List (List ℕ) → MachineState
+machine_over s core lasts drives = powered_machine s.start core lasts drives s.tape s.delays
+
+machine_is_powered : (s : SetupData) → machine_over s (core_words s) (replicate (core_size s) None) (disk_words s ∷ []) ≡ powered_up s
+unfolding power
+machine_is_powered s = refl
+
+-- over padded images it is in the first state of the run
+pub powered_over : (s : SetupData) (core : List ℕ) (lasts : List (Option Stamp)) (drives : List (List ℕ)) → IsGood s → s.patches ≡ []
+    → core ≡ padded (core_size s) s.core → lasts ≡ replicate (core_size s) None → drives ≡ padded drive_words s.disk ∷ []
+    → machine_over s core lasts drives ≡ at (unscripted s) 0
+powered_over s core lasts drives good none core_is lasts_are drives_are =
+    ap (λ words. machine_over s words lasts drives) (core_is ∙ core_is_padded s good.core none)
+    ∙ ap (λ stamps. machine_over s (core_words s) stamps drives) lasts_are
+    ∙ ap (λ words. machine_over s (core_words s) (replicate (core_size s) None) words) (drives_are ∙ ap (λ words. words ∷ []) (drive_is_padded s good.disk none))
+    ∙ machine_is_powered s
+    ∙ sym (at_first (unscripted s))
+
+no_texts : (p : Past) (m : MachineWithTexts) → m.kept_text ≡ [] → m.kept_punched ≡ [] → KeepsTexts p 0 m
+unfolding text_kept_at punched_kept_at
+no_texts p m text punched = record { text = text; punched = punched }
+
+-- its first state is all that is kept
+pub powered_kept : (p : Past) (m now : MachineWithTexts) (l : LadderData) → m.state ≡ at p 0 → m.kept_text ≡ [] → m.kept_punched ≡ [] → now ≡ m
+    → l.kept ≡ checkpoint_of m.state ∷ [] → AreRungs l → AreKept p 0 now l
+powered_kept p m now l state text punched same kept rungs = rw same (record {
+  states = states_first p l (kept ∙ ap (λ s. checkpoint_of s ∷ []) state) rungs;
+  texts = no_texts p m text punched;
+  built = at_is_built p 0 m state;
+})

@@ -1,0 +1,45 @@
+-- A machine on its way through a run: what a turn leaves of that, and how it begins and ends.
+use Rattle.std.proofs.Common.{◌≡◌, ◌∙◌, ℕ, ◌+◌, List, ap, arith, max, subst, sym}
+use Rattle.pdp_cpu.specs.Turns.MachineState.{MachineState, MachineWithTexts, after_turn, printed_kept, punched_kept}
+use Rattle.pdp_script.specs.Entries.{events_at}
+use Rattle.pdp_unibus.specs.declared.event.Event.{Event}
+use Rattle.pdp_checkpoint.specs.Ladder.{LadderData}
+use Rattle.pdp_replay.specs.KeptRuns.{IsOnWay, IsUnderWay}
+use Rattle.pdp_replay.specs.KeptStates.{AreKept, AreStatesOf, KeepsTexts}
+use Rattle.pdp_replay.specs.Past.{Past}
+use Rattle.pdp_replay.specs.States.{at}
+use Rattle.pdp_replay.specs.declared.kept_run.KeptRun.{KeptRun}
+use Rattle.pdp_replay.proofs.Lowered.{texts_turned}
+use Rattle.pdp_replay.proofs.StateSizes.{at_is_built}
+use Rattle.pdp_replay.proofs.States.{at_next}
+
+-- one turn on
+pub way_on : (p : Past) (known : ℕ) (m now : MachineWithTexts) (events : List Event) → IsUnderWay p known m → events ≡ events_at p.script.entries m.state.turn
+    → now.state ≡ after_turn events m.state → now.kept_text ≡ printed_kept events m → now.kept_punched ≡ punched_kept events m → IsUnderWay p known now
+way_on p known m now events way is state text punched =
+    let n : ℕ = m.state.turn in
+    let here : now.state ≡ at p (n + 1) =
+    state ∙ ap (λ e. after_turn e m.state) is ∙ ap (after_turn (events_at p.script.entries n)) way.here ∙ sym (at_next p n) in
+    let turn : now.state.turn ≡ n + 1 = ap (λ (s : MachineState). s.turn) here in
+    let texts : KeepsTexts p (max (max known n) (n + 1)) now =
+    texts_turned p (max known n) n m now way.texts (omega arith) way.here (text ∙ ap (λ e. printed_kept e m) is) (punched ∙ ap (λ e. punched_kept e m) is) in
+    let same : max (max known n) (n + 1) ≡ max known now.state.turn = omega (arith, turn) in
+    record {
+      here = here ∙ ap (at p) (sym turn);
+      texts = subst (λ k. KeepsTexts p k now) same texts;
+    }
+
+-- a run whose machine is in one of its states is on its way
+pub way_of_run : (p : Past) (r : KeptRun) → IsOnWay p r → IsUnderWay p r.known r.machine
+way_of_run p r on =
+    let reached = on.reached in
+    let same : r.known ≡ max r.known r.machine.state.turn = omega (arith, reached) in
+    record { here = on.here; texts = subst (λ k. KeepsTexts p k r.machine) same on.kept.texts }
+
+-- what is kept where the machine came to a turn up to which the states are those of the run
+pub kept_on_way : (p : Past) (known now : ℕ) (m : MachineWithTexts) (l : LadderData) → AreStatesOf p now l → IsUnderWay p known m → now ≡ max known m.state.turn → AreKept p now m l
+kept_on_way p known now m l states way is = record {
+  states = states;
+  texts = subst (λ k. KeepsTexts p k m) (sym is) way.texts;
+  built = at_is_built p m.state.turn m way.here;
+}

@@ -1,0 +1,47 @@
+use Rattle.std.proofs.Common.{◌≡◌, ◌∙◌, ◌-◌, ◌<◌, arith, length, sym}
+use Rattle.pdp_cpu.specs.KeptTexts.{kept_before}
+use Rattle.pdp_cpu.specs.Saved.{state_cut}
+use Rattle.pdp_checkpoint.specs.Ladder.{next_of}
+use Rattle.pdp_replay.proofs.Settled.{settled, settled_refused, settled_taken, stride_settled, stride_taken}
+use Rattle.pdp_replay.proofs.kept_run.KeptRun.settle.Goals as goal
+use Rattle.pdp_replay.proofs.kept_run.KeptRun.settle.Goals.{then-turn-next+in_default, else-turn-next}
+
+pub returns-in-Err-clause-kept : goal.returns-in-Err-clause-kept
+returns-in-Err-clause-kept c = λ p are way.
+    let m = c.args.self.now.machine in
+    let here : m.state.turn ≡ next_of c.args.self.now.ladder = sym c.turns-turn.ensures ∙ c.if-turn-next.true ∙ c.next.ensures.next in
+    let now = c.keep_text.new.self in
+    let taken = c.in-Err.ensures in
+    let text : now.kept_text ≡ kept_before (m.state.turn - 1) m.kept_text = rw (← c.turns-turn.ensures, ← taken.machine) c.keep_text.ensures.kept_text in
+    let punched : now.kept_punched ≡ kept_before (m.state.turn - 1) m.kept_punched = rw (← c.turns-turn.ensures, ← taken.machine) c.keep_text.ensures.kept_punched in
+    let state : now.state ≡ state_cut (length now.kept_text) (length now.kept_punched) m.state = rw (← taken.machine) c.keep_text.ensures.state in
+    rw (c.max-self.ensures, taken.refused, c.turns-turn.ensures)
+    (settled_refused p c.args.self.now.known (length now.kept_text) (length now.kept_punched) m now c.args.self.now.ladder are way here text punched state)
+
+pub returns-clause-kept : goal.returns-clause-kept
+returns-clause-kept c = λ p are way.
+    let r = c.args.self.now in
+    elim c.if-turn-next.branch [
+      | then-turn-next+in_default w ↦
+          let here : r.machine.state.turn ≡ next_of r.ladder = sym c.turns-turn.ensures ∙ w.if-turn-next.true ∙ c.next.ensures.next in
+          let machine = w.take.ensures.machine in
+          rw (c.max-self-2.ensures, w.self-is, c.turns-turn.ensures, machine)
+          (settled_taken p r.known r.machine r.ladder w.take.new.self are way here w.in_default.ensures.kept w.take.ensures.rungs w.in_default.ensures.next)
+      | else-turn-next w ↦
+          let below : r.machine.state.turn < next_of r.ladder = omega (arith, c.requires.within, c.turns-turn.ensures, w.if-turn-next.false, c.next.ensures.next) in
+          rw (c.max-self-2.ensures, w.self-is, c.turns-turn.ensures) (settled p r.known r.machine r.ladder are way below)
+    ]
+
+pub returns-clause-stride : goal.returns-clause-stride
+returns-clause-stride c = λ start high is.
+    let r = c.args.self.now in
+    elim c.if-turn-next.branch [
+      | then-turn-next+in_default w ↦
+          let here : r.machine.state.turn ≡ next_of r.ladder = sym c.turns-turn.ensures ∙ w.if-turn-next.true ∙ c.next.ensures.next in
+          rw (c.max-self-2.ensures, w.self-is, c.turns-turn.ensures)
+          (stride_taken start high r.known r.machine.state r.ladder w.take.new.self c.next.ensures.rungs here w.in_default.ensures.kept is)
+      | else-turn-next w ↦
+          let below : r.machine.state.turn < next_of r.ladder = omega (arith, c.requires.within, c.turns-turn.ensures, w.if-turn-next.false, c.next.ensures.next) in
+          rw (c.max-self-2.ensures, w.self-is, c.turns-turn.ensures)
+          (stride_settled start high r.known r.machine.state.turn r.ladder c.next.ensures.rungs below is)
+    ]

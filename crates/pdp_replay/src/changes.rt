@@ -1,0 +1,86 @@
+//! What edits of the past leave of what is kept of a run.
+
+ghost use Rattle.std.specs.Prelude.{◌≡◌, min, OnOk, OnErr};
+ghost use Rattle.std.specs.List.{All};
+ghost use Rattle.pdp_checkpoint.specs.Delayed.{delayed};
+ghost use Rattle.pdp_checkpoint.specs.Patched.{patched_to};
+ghost use Rattle.pdp_cpu.specs.Saved.{HasWord};
+ghost use Rattle.pdp_operand.specs.Phases.World.{world};
+ghost use Rattle.pdp_replay.specs.KeptRuns.{cut_to_first, drive_of, number_of, IsForgotten};
+ghost use Rattle.pdp_replay.specs.KeptStates.{AreKept};
+ghost use Rattle.pdp_replay.specs.Past.{Past};
+ghost use Rattle.pdp_unibus.specs.BusContent.{with_tape};
+
+use crate::kept_run::KeptRun;
+use crate::patch::PatchKey;
+use pdp_unibus::Delays;
+use pdp_word::NoMemory;
+use std::alloc::Global;
+
+impl KeptRun {
+    /// Lowers the known turn to this one where it is above it, and drops what is kept of later turns. It runs no turn
+    /// and takes no memory.
+    pub(crate) fn lower(&mut self, turn: u32)
+        ensures kept { (p : Past) → AreKept p self.old.known self.old.machine self.old.ladder → AreKept p self.new.known self.new.machine self.new.ladder }
+        ensures known { self.new.known ≡ min self.old.known turn }
+        ensures stride { self.new.ladder.stride ≡ self.old.ladder.stride }
+        ensures world { self.new.machine.state.world ≡ self.old.machine.state.world }
+        ensures meter { self.new.meter ≡ self.old.meter }
+    {
+        let known = self.known.min(turn);
+        self.ladder.cut(known);
+        self.machine.keep_text(known);
+        self.known = known;
+    }
+
+    /// Gives a word this value in the kept state of turn 0, and drops what is kept of later turns. It runs no turn.
+    ///
+    /// Err where a growth was refused; nothing changes then.
+    pub(crate) fn set_word(
+        &mut self,
+        alloc: Global,
+        key: PatchKey,
+        word: u16,
+    ) -> Result<(), NoMemory>
+        requires there { All (λ c. HasWord (drive_of key) (number_of key) c.saved) self.old.ladder.kept }
+        ensures ladder { OnOk result (self.new.ladder ≡ patched_to 0 (drive_of key) (number_of key) word self.old.ladder) }
+        ensures forgotten { OnOk result (IsForgotten self.old self.new) }
+        ensures world { OnOk result (self.new.machine.state.world ≡ self.old.machine.state.world) }
+        ensures refused { OnErr result (self.new ≡ self.old) }
+    {
+        let drive = match key {
+            PatchKey::Core(_) => None,
+            PatchKey::Disk(_) => Some(0),
+        };
+        let number = key.number() as usize;
+        self.ladder
+            .patch(alloc, &mut self.machine, 0, drive, number, word)?;
+        self.machine.keep_text(0);
+        self.known = 0;
+        Ok(())
+    }
+
+    /// Makes these the delays in the kept state of turn 0, and drops what is kept of later turns. It runs no turn and
+    /// takes no memory.
+    pub(crate) fn set_delays(&mut self, delays: Delays)
+        ensures ladder { self.new.ladder ≡ delayed delays self.old.ladder }
+        ensures forgotten { IsForgotten self.old self.new }
+        ensures world { self.new.machine.state.world ≡ self.old.machine.state.world }
+    {
+        self.ladder.set_delays(delays);
+        self.machine.keep_text(0);
+        self.known = 0;
+    }
+
+    /// Puts this tape into the reader, and drops what is kept of turns after turn 0. It runs no turn and takes no memory.
+    pub(crate) fn set_tape(&mut self, tape: Vec<u8>)
+        ensures ladder { self.new.ladder ≡ cut_to_first self.old.ladder }
+        ensures forgotten { IsForgotten self.old self.new }
+        ensures world { self.new.machine.state.world ≡ world self.old.machine.state.world.processor (with_tape self.old.machine.state.world.bus tape.items) }
+    {
+        self.ladder.cut(0);
+        self.machine.set_tape(tape);
+        self.machine.keep_text(0);
+        self.known = 0;
+    }
+}

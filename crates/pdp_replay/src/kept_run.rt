@@ -1,0 +1,185 @@
+ghost use Rattle.std.specs.Prelude.{◌≡◌, ◌+◌, ◌≤◌, ◌<◌, ℕ, max, min, IfOk, OnOk};
+ghost use Rattle.pdp_checkpoint.specs.Ladder.{next_of};
+ghost use Rattle.pdp_cpu.specs.Turns.MachineState.{after_turn};
+ghost use Rattle.pdp_cpu.specs.Turns.Turn.{turn_act};
+ghost use Rattle.pdp_script.specs.Entries.{events_at};
+ghost use Rattle.pdp_replay.specs.KeptRuns.{GoesOn, IsRunOf, IsUnderWay, KeepsRun, KeepsStride, LeavesKept};
+ghost use Rattle.pdp_replay.specs.KeptStates.{AreKept, AreStatesOf};
+ghost use Rattle.pdp_replay.specs.Past.{Past, unscripted};
+ghost use Rattle.pdp_replay.specs.Setup.{first_setup, IsGood};
+ghost use Rattle.pdp_replay.specs.States.{at};
+
+use crate::image::{core_store, drive_store};
+use crate::origin::Origin;
+use crate::turns::run_part;
+use pdp_checkpoint::Ladder;
+use pdp_cpu::{Act, Machine, Meter, PagedMachine};
+use pdp_script::Script;
+use pdp_unibus::{Delays, LAST_TURN};
+use pdp_word::NoMemory;
+use std::alloc::Global;
+
+/// The machine of a run, the states of it that are kept, the count of the turns that were run, and the known turn: up
+/// to it all is kept that ought to be.
+#[derive(Drop)]
+pub(crate) struct KeptRun {
+    pub(crate) machine: PagedMachine,
+    pub(crate) ladder: Ladder,
+    pub(crate) meter: Meter,
+    pub(crate) known: u32,
+}
+
+impl KeptRun {
+    /// A run as of power-up with the standard delays and without patches, of which the first state is kept.
+    ///
+    /// Err where a growth was refused.
+    pub(crate) fn power(alloc: Global, origin: &Origin, tape: Vec<u8>) -> Result<KeptRun, NoMemory>
+        requires good { IsGood (first_setup origin.now tape.items) }
+        ensures kept { IfOk result (λ run. AreKept (unscripted (first_setup origin.now tape.items)) 0 run.machine run.ladder) }
+        ensures known { IfOk result (λ run. run.known ≡ 0) }
+        ensures meter { IfOk result (λ run. run.meter ≡ 0) }
+        ensures stride { IfOk result (λ run. run.ladder.stride ≡ origin.now.stride) }
+    {
+        let core = core_store(alloc, origin)?;
+        let drives = vec![in alloc; drive_store(alloc, origin)?]?;
+        let delays = Delays::standard();
+        let mut machine = Machine::power(alloc, origin.start, core, drives, tape, delays);
+        let ladder = Ladder::new(alloc, origin.stride, &mut machine)?;
+        Ok(KeptRun {
+            machine,
+            ladder,
+            meter: Meter::new(),
+            known: 0,
+        })
+    }
+
+    /// Takes the machine to this turn: from the best kept state of the lesser of it and the known turn, with the events
+    /// of the script. All that is to be kept on the way is kept, and the meter counts each turn.
+    ///
+    /// Err where a growth was refused; what was kept until then stays.
+    pub(crate) fn reach(
+        &mut self,
+        alloc: Global,
+        script: &Script,
+        turn: u32,
+    ) -> Result<(), NoMemory>
+        requires run { IsRunOf script.now self.old }
+        requires limit { turn ≤ LAST_TURN }
+        ensures kept { KeepsRun script.now self.old self.new }
+        ensures there { OnOk result ((p : Past) → p.script ≡ script.now → AreKept p self.old.known self.old.machine self.old.ladder → self.new.machine.state ≡ at p turn) }
+        ensures known { OnOk result (self.new.known ≡ max self.old.known turn) }
+        ensures known_least { self.old.known ≤ self.new.known }
+        ensures known_most { self.new.known ≤ max self.old.known turn }
+        ensures stride { KeepsStride self.old self.new }
+        ensures bound { self.new.meter + min turn self.old.known + 1 ≤ self.old.meter + turn + self.old.ladder.stride }
+        ensures counted { self.old.meter ≤ self.new.meter }
+    {
+        let best = self.ladder.best(turn.min(self.known));
+        self.machine.load(&best.saved);
+        self.forward(alloc, script, turn)
+    }
+
+    /// Runs the machine on to this turn, with the events of the script.
+    ///
+    /// Err where a growth was refused; what was kept until then stays.
+    fn forward(&mut self, alloc: Global, script: &Script, to: u32) -> Result<(), NoMemory>
+        requires forward { self.old.machine.state.turn ≤ to }
+        requires reached { self.old.machine.state.turn ≤ self.old.known }
+        requires short { self.old.machine.state.turn < next_of self.old.ladder }
+        requires limit { to ≤ LAST_TURN }
+        ensures kept { LeavesKept script.now self.old self.new }
+        ensures way { OnOk result (GoesOn script.now self.old self.new) }
+        ensures turn { OnOk result (self.new.machine.state.turn ≡ to) }
+        ensures turn_most { self.new.machine.state.turn ≤ to }
+        ensures known { OnOk result (self.new.known ≡ max self.old.known to) }
+        ensures known_least { self.old.known ≤ self.new.known }
+        ensures known_most { self.new.known ≤ max self.old.known to }
+        ensures stride { KeepsStride self.old self.new }
+        ensures ran { self.new.meter + self.old.machine.state.turn ≤ self.old.meter + self.new.machine.state.turn }
+        ensures counted { self.old.meter ≤ self.new.meter }
+    {
+        while self.machine.turns() < to {
+            self.leg(alloc, script, to)?;
+        }
+        Ok(())
+    }
+
+    /// Runs the machine to this turn, but not beyond the next turn whose state is to be kept, and settles there.
+    ///
+    /// Err where a growth was refused; what was kept until then stays.
+    fn leg(&mut self, alloc: Global, script: &Script, to: u32) -> Result<(), NoMemory>
+        requires forward { self.old.machine.state.turn < to }
+        requires short { self.old.machine.state.turn < next_of self.old.ladder }
+        requires limit { to ≤ LAST_TURN }
+        ensures kept { LeavesKept script.now self.old self.new }
+        ensures way { OnOk result (GoesOn script.now self.old self.new) }
+        ensures on { OnOk result (self.old.machine.state.turn < self.new.machine.state.turn) }
+        ensures turn_most { self.new.machine.state.turn ≤ to }
+        ensures short { OnOk result (self.new.machine.state.turn < next_of self.new.ladder) }
+        ensures known { OnOk result (self.new.known ≡ max self.old.known self.new.machine.state.turn) }
+        ensures known_least { self.old.known ≤ self.new.known }
+        ensures known_most { self.new.known ≤ max self.old.known to }
+        ensures stride { KeepsStride self.old self.new }
+        ensures ran { self.new.meter + self.old.machine.state.turn ≤ self.old.meter + self.new.machine.state.turn }
+        ensures counted { self.old.meter ≤ self.new.meter }
+    {
+        let end = self.ladder.next().min(to);
+        let ran = run_part(&mut self.machine, script, &mut self.meter, end);
+        self.settle(alloc)?;
+        ran
+    }
+
+    /// Runs one turn with the events of the script, settles after it, and tells its act.
+    ///
+    /// Err where a growth was refused; what was kept until then stays.
+    pub(crate) fn step(&mut self, alloc: Global, script: &Script) -> Result<Act, NoMemory>
+        requires short { self.old.machine.state.turn < next_of self.old.ladder }
+        requires limit { self.old.machine.state.turn < LAST_TURN }
+        ensures act { IfOk result (λ act. act ≡ turn_act self.old.machine.state.turn (events_at script.now.entries self.old.machine.state.turn) self.old.machine.state.world) }
+        ensures machine { OnOk result (self.new.machine.state ≡ after_turn (events_at script.now.entries self.old.machine.state.turn) self.old.machine.state) }
+        ensures kept { LeavesKept script.now self.old self.new }
+        ensures way { OnOk result (GoesOn script.now self.old self.new) }
+        ensures short { OnOk result (self.new.machine.state.turn < next_of self.new.ladder) }
+        ensures known { OnOk result (self.new.known ≡ max self.old.known (self.old.machine.state.turn + 1)) }
+        ensures known_least { self.old.known ≤ self.new.known }
+        ensures known_most { self.new.known ≤ max self.old.known (self.old.machine.state.turn + 1) }
+        ensures stride { KeepsStride self.old self.new }
+        ensures most { self.new.meter ≤ self.old.meter + 1 }
+        ensures counted { self.old.meter ≤ self.new.meter }
+    {
+        self.machine.ready()?;
+        let turn = self.machine.turns();
+        let act = self.machine.turn(&mut self.meter, script.at(turn));
+        self.settle(alloc)?;
+        Ok(act)
+    }
+
+    /// The machine came to a turn, at the latest the next one whose state is to be kept: keeps its state there, and
+    /// raises the known turn to it.
+    ///
+    /// Err where a growth was refused: the known turn is then at least the one before, up to which texts are kept.
+    fn settle(&mut self, alloc: Global) -> Result<(), NoMemory>
+        requires within { self.old.machine.state.turn ≤ next_of self.old.ladder }
+        requires limit { self.old.machine.state.turn ≤ LAST_TURN }
+        ensures kept { (p : Past) → AreStatesOf p self.old.known self.old.ladder → IsUnderWay p self.old.known self.old.machine → AreKept p self.new.known self.new.machine self.new.ladder }
+        ensures machine { OnOk result (self.new.machine ≡ self.old.machine) }
+        ensures turn { self.new.machine.state.turn ≡ self.old.machine.state.turn }
+        ensures short { OnOk result (self.new.machine.state.turn < next_of self.new.ladder) }
+        ensures known { OnOk result (self.new.known ≡ max self.old.known self.old.machine.state.turn) }
+        ensures known_least { self.old.known ≤ self.new.known }
+        ensures known_most { self.new.known ≤ max self.old.known self.old.machine.state.turn }
+        ensures stride { KeepsStride self.old self.new }
+        ensures meter { self.new.meter ≡ self.old.meter }
+    {
+        let turn = self.machine.turns();
+        if turn == self.ladder.next() {
+            if let Err(refused) = self.ladder.take(alloc, &mut self.machine) {
+                self.machine.keep_text(turn - 1);
+                self.known = self.known.max(turn - 1);
+                return Err(refused);
+            }
+        }
+        self.known = self.known.max(turn);
+        Ok(())
+    }
+}
