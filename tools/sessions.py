@@ -1,6 +1,7 @@
 """The stored sessions of a folder: NAME.session is standard input, NAME.args the arguments (one a line),
 NAME.expected standard output, NAME.status the exit status (no file: 0), NAME.stderr standard error (no file: empty).
 Each is run in its folder, where the files are that its arguments name."""
+import argparse
 import os
 import subprocess
 from collections import namedtuple
@@ -9,6 +10,16 @@ SECONDS = 60
 
 Ended = namedtuple("Ended", "output status error")
 Session = namedtuple("Session", "name folder lines args expected")
+
+
+def asked(description):
+    """What a tool's words ask for: the program's path, the folders, and the strides to run their sessions with."""
+    parser = argparse.ArgumentParser(description=description)
+    parser.add_argument("--stride", metavar="LIST", default="", help="strides with a comma between them, as 1,4,10000")
+    parser.add_argument("program", metavar="PROGRAM")
+    parser.add_argument("folders", metavar="FOLDER", nargs="+")
+    words = parser.parse_args()
+    return os.path.abspath(words.program), words.folders, [stride for stride in words.stride.split(",") if stride]
 
 
 def stored(path, default=b""):
@@ -31,6 +42,16 @@ def sessions_of(folder):
                 expected = Ended(stored(base + ".expected"), status, stored(base + ".stderr"))
                 found.append(Session(base, at, stored(base + ".session"), args, expected))
     return found
+
+
+def with_strides(session, strides):
+    """The session with each of these strides; just as it is where there is none, or where it has a stride of its own."""
+    if not strides or any(arg.startswith("--stride") for arg in session.args):
+        return [session]
+    return [
+        session._replace(name=f"{session.name} with stride {stride}", args=["--stride", stride, *session.args])
+        for stride in strides
+    ]
 
 
 def run(program, session, lines, **more):

@@ -1,7 +1,6 @@
 -- The numbers that the options give (this project's profile).
 use Rattle.std.specs.Prelude.{ℕ, List, Option, Some, None, min, option_map}
 use Rattle.pdp_word.specs.Number.{number_of}
-use Rattle.pdp_replay.specs.Setup.{only_stride}
 use Rattle.pdp_session.specs.Grammar.Arguments.{◌>>=◌, largest_number}
 use Rattle.pdp11.specs.declared.options.Options.{Options}
 
@@ -20,7 +19,7 @@ all_given units start stride = do
   Some (record { units = u; start = a; stride = n })
 
 -- what the texts of --units, --start and --stride give, in fields of 8, 16 and 32 bits: without them 31, 1000 octal and
--- the one stride
+-- 10,000
 abbrev pub units_number : Option (List ℕ) → Option ℕ
 units_number text = number_given 10 255 31 text
 
@@ -28,7 +27,7 @@ abbrev pub start_number : Option (List ℕ) → Option ℕ
 start_number text = number_given 8 0o177777 0o1000 text
 
 abbrev pub stride_number : Option (List ℕ) → Option ℕ
-stride_number text = number_given 10 largest_number only_stride text
+stride_number text = number_given 10 largest_number 10000 text
 
 -- and what they ask for together
 abbrev pub options_given : Option (List ℕ) → Option (List ℕ) → Option (List ℕ) → Option Options

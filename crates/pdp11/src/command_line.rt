@@ -165,7 +165,7 @@ fn with_numbers<'a>(alloc: Global, command: Command<'a>) -> Result<Command<'a>, 
         alloc,
         "stride",
         "N",
-        "Stride in turns, 2000000000 alone for now",
+        "Turns between kept states, 1 to 2000000000 [default: 10000]",
     );
     command.arg(units)?.arg(start)?.arg(stride)
 }

@@ -1,7 +1,7 @@
 ghost use Rattle.std.specs.Prelude.{◌≡◌, option_map};
 ghost use Rattle.pdp11.specs.Numbers.{options_given, start_number, stride_number, units_number};
 
-use pdp_replay::ONLY_STRIDE;
+use pdp_replay::DEFAULT_STRIDE;
 use pdp_word::{read_decimal, read_octal};
 
 // The units where none are given.
@@ -18,12 +18,12 @@ pub struct Options {
     pub units: u8,
     /// The address that PC has at power-up.
     pub start: u16,
-    /// The stride, in turns.
+    /// How many turns apart states are kept at first.
     pub stride: u32,
 }
 
 /// The options with these texts, decimal, octal and decimal: without them 31 units, start address 1000 and a
-/// stride of 2,000,000,000 turns. `None` where a text is no number of 1 to 10 digits.
+/// stride of 10,000 turns. `None` where a text is no number of 1 to 10 digits.
 pub fn read_options(
     units: Option<&str>,
     start: Option<&str>,
@@ -62,7 +62,7 @@ fn stride_given(text: Option<&str>) -> Option<u32>
     ensures { result ≡ stride_number (option_map (λ text. text.now) text.entry) }
 {
     let Some(text) = text else {
-        return Some(ONLY_STRIDE)
+        return Some(DEFAULT_STRIDE)
     };
     let stride = read_decimal(text.as_bytes())?;
     Some(u32::try_from(stride).unwrap_or(u32::MAX))

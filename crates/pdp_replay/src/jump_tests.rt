@@ -1,9 +1,11 @@
 //! Questions in any order over states that are kept: how many turns they run, and that no order changes an answer.
 
 use super::*;
+use crate::page_tests::{CLEAR, MADE, MAP};
 use crate::test_steps::{
-    Edit, Step, engine_of_stride, engine_with, follow, follow_on, make, value_of,
+    Edit, Step, ask_backward, ask_each, ask_forward, engine_of_stride, follow, follow_on, make,
 };
+use crate::trail_tests::{FIRST_TURN, TO_THE_HALT, WAIT_FOR_CLOCK};
 use pdp_cpu::KeptByte;
 use std::alloc::Global;
 use std::process::Abort;
@@ -59,67 +61,39 @@ const HALTED: Regs = Regs {
     state: RunState::Halted,
 };
 
+/// The registers of WAIT_FOR_CLOCK once it has halted.
+const fn stopped(pc: u16) -> Regs {
+    Regs {
+        r: [0; 6],
+        ksp: 0o700,
+        usp: 0,
+        pc,
+        ps: 0,
+        state: RunState::Halted,
+    }
+}
+
+/// What LETTERS has printed before turn 7.
+const A_AND_B: [KeptByte; 2] = [
+    KeptByte {
+        byte: 0o101,
+        turn: 2,
+    },
+    KeptByte {
+        byte: 0o102,
+        turn: 6,
+    },
+];
+
+/// What it has punched by then.
+const PUNCHED_A: [KeptByte; 1] = [KeptByte {
+    byte: 0o101,
+    turn: 6,
+}];
+
 /// The last write of a word.
 const fn written(turn: u32, agent: Agent, word: u16) -> Option<LastWrite> {
     Some(LastWrite { turn, agent, word })
-}
-
-/// A question, and what it was answered.
-#[derive(Debug, PartialEq, Eq, Drop)]
-struct Answered {
-    question: Question,
-    value: Value,
-}
-
-fn ask_each(
-    alloc: Global,
-    engine: &mut Engine,
-    questions: &[Question],
-) -> Result<Vec<Answered>, Fail> {
-    let mut answered = Vec::new(alloc);
-    for question in questions {
-        let question = *question;
-        let value = value_of(engine, alloc, question)?;
-        answered.push(Answered { question, value })?;
-    }
-    Ok(answered)
-}
-
-fn assert_again(
-    rt: &impl Abort,
-    alloc: Global,
-    engine: &mut Engine,
-    answered: &Answered,
-) -> Result<(), Fail> {
-    let value = value_of(engine, alloc, answered.question)?;
-    assert_eq!(rt; &value, &answered.value, "{:?}", answered.question);
-    Ok(())
-}
-
-/// Asserts that these questions are answered with the same values again, in the same order.
-fn ask_forward(
-    rt: &impl Abort,
-    alloc: Global,
-    engine: &mut Engine,
-    answered: &[Answered],
-) -> Result<(), Fail> {
-    for one in answered {
-        assert_again(rt, alloc, engine, one)?;
-    }
-    Ok(())
-}
-
-/// Asserts that these questions are answered with the same values again, the last one first.
-fn ask_backward(
-    rt: &impl Abort,
-    alloc: Global,
-    engine: &mut Engine,
-    answered: &[Answered],
-) -> Result<(), Fail> {
-    for one in answered.iter().rev() {
-        assert_again(rt, alloc, engine, one)?;
-    }
-    Ok(())
 }
 
 /// Asserts that these steps hold over these words with stride 1; and that these questions, asked once, are answered
@@ -275,4 +249,125 @@ fn texts_after_jumps(rt: HostRuntime) -> Result<(), Fail> {
         Question::Punched(0),
     ];
     same_after_jumps(&rt, rt.alloc(), &LETTERS, &steps, &questions)
+}
+
+#[test]
+fn registers_of_pages_after_jumps(rt: HostRuntime) -> Result<(), Fail> {
+    let steps = [Step::Pages(6, MADE), Step::Pages(0, CLEAR)];
+    let questions = [
+        Question::Pages(9),
+        Question::Pages(0),
+        Question::Pages(7),
+        Question::Pages(300),
+        Question::Pages(1),
+        Question::Core(8, 0o2000, 1),
+        Question::Pages(6),
+        Question::Core(7, 0o2000, 1),
+    ];
+    same_after_jumps(&rt, rt.alloc(), &MAP, &steps, &questions)
+}
+
+// The machine halts in turn 7. Continue in turn 270 takes it to the next word, which is a HALT too.
+#[test]
+fn trails_after_jumps(rt: HostRuntime) -> Result<(), Fail> {
+    let steps = [
+        Step::Edit(Edit::Patch(0o100, 0o1100), Ok(0)),
+        Step::Edit(Edit::Patch(0o102, 0o300), Ok(0)),
+        Step::Edit(Edit::Patch(0o1100, 2), Ok(0)),
+        Step::Edit(Edit::Insert(5, Event::Tick), Ok(1)),
+        Step::Edit(Edit::Insert(270, Event::Continue), Ok(2)),
+        Step::Regs(300, stopped(0o1020)),
+        Step::Trail(Question::Trail(8, 4), &TO_THE_HALT),
+        Step::Regs(270, stopped(0o1016)),
+        Step::Trail(Question::Trail(1, 1), &FIRST_TURN),
+        Step::Regs(271, stopped(0o1020)),
+    ];
+    let questions = [
+        Question::Trail(8, 4),
+        Question::Trail(300, 64),
+        Question::Trail(1, 1),
+        Question::Trail(257, 2),
+        Question::Regs(271),
+        Question::Trail(6, 6),
+        Question::Regs(270),
+        Question::Regs(6),
+    ];
+    same_after_jumps(&rt, rt.alloc(), &WAIT_FOR_CLOCK, &steps, &questions)
+}
+
+// A question about an early turn leaves what was printed and punched by the known turn. An edit at a turn leaves what
+// was printed and punched before it.
+#[test]
+fn early_questions_keep_the_text(rt: HostRuntime) -> Result<(), Fail> {
+    let engine = engine_of_stride(rt.alloc(), 31, &LETTERS, 4);
+    let (printed, punched) = (Question::Text(100), Question::Punched(100));
+    let steps = [
+        Step::Took(printed, 100, 100, 4),
+        Step::Took(Question::Text(3), 3, 100, 4),
+        Step::Took(printed, 0, 100, 4),
+        Step::Bytes(printed, b"ABCDEFGHIJKLMNOPQRSTUVWXY"),
+        Step::Took(Question::Punched(8), 0, 100, 4),
+        Step::Bytes(Question::Punched(8), b"A"),
+        Step::Took(punched, 0, 100, 4),
+        Step::Bytes(punched, b"ABCDEFGHIJKLMNOPQRSTUVWX"),
+        Step::Took(Question::Text(103), 3, 103, 4),
+        Step::Took(Question::Text(0), 0, 103, 4),
+        Step::Bytes(Question::Text(103), &ALPHABET),
+        Step::Edit(Edit::Insert(50, Event::Tick), Ok(1)),
+        Step::Took(Question::Text(8), 0, 50, 4),
+        Step::Took(Question::Text(52), 4, 52, 4),
+        Step::Bytes(Question::Text(52), b"ABCDEFGHIJKLM"),
+        Step::Took(printed, 48, 100, 4),
+        Step::Bytes(printed, b"ABCDEFGHIJKLMNOPQRSTUVWXY"),
+    ];
+    follow(&rt, rt.alloc(), engine, &steps)
+}
+
+/// Of the states that are kept: the stride, the turn of the next, and the turn of the one from which a turn is reached.
+fn kept(engine: &Engine, turn: u32) -> (u32, u32, u32) {
+    let ladder = engine.kept_states();
+    (ladder.stride(), ladder.next(), ladder.best(turn).turn)
+}
+
+// By turn 11 the states of the turns 0, 4 and 8 are kept, and then the machine goes back to turn 7. The edit leaves the
+// states of the turns 0 and 4.
+#[test]
+fn kept_states_and_machine(rt: HostRuntime) -> Result<(), Fail> {
+    let alloc = rt.alloc();
+    let mut engine = engine_of_stride(alloc, 31, &LETTERS, 4)?;
+    let (late, early) = (Question::Text(11), Question::Text(7));
+    let steps = [Step::Bytes(late, b"ABC"), Step::Bytes(early, b"AB")];
+    follow_on(&rt, alloc, &mut engine, &steps)?;
+    assert_eq!(rt; kept(&engine, 1_000), (4, 12, 8));
+    assert_eq!(rt; kept(&engine, 7), (4, 12, 4));
+    let machine = engine.machine();
+    assert_eq!(rt; machine.turns(), 7);
+    assert_eq!(rt; machine.text(), A_AND_B.as_slice());
+    assert_eq!(rt; machine.punched(), PUNCHED_A.as_slice());
+    make(&mut engine, alloc, Edit::Insert(5, Event::Tick))?;
+    assert_eq!(rt; kept(&engine, 1_000), (4, 8, 4));
+    Ok(())
+}
+
+// States at the multiples of 40,000 are kept by turn 10,000,000: from 256 times 10,000 on the stride is 20,000, and
+// from 256 times 20,000 on 40,000.
+#[test]
+fn known_is_known(rt: HostRuntime) -> Result<(), Fail> {
+    let alloc = rt.alloc();
+    let mut engine = engine_of_stride(alloc, 1, &[0o777], DEFAULT_STRIDE)?;
+    let last = Question::Regs(10_000_000);
+    let want = Answer {
+        value: Value::Regs(keyed(0, 0o1000, 0)),
+        ran: 0,
+        known: 10_000_000,
+        stride: 40_000,
+    };
+    let steps = [Step::Took(last, 10_000_000, 10_000_000, 40_000)];
+    follow_on(&rt, alloc, &mut engine, &steps)?;
+    for number in 0..100_000u32 {
+        let turn = number % 251 * 40_000;
+        let answer = engine.ask(alloc, Question::Regs(turn))?;
+        assert_eq!(rt; &answer, &want, "at turn {turn}");
+    }
+    Ok(())
 }

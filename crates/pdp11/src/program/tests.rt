@@ -19,7 +19,7 @@ Options:
       --tape <FILE>  Paper tape, a file of plain bytes [default: empty]
       --units <N>    Units of core of 4096 words, 1 to 31 [default: 31]
       --start <A>    Start address, octal and even [default: 1000]
-      --stride <N>   Stride in turns, 2000000000 alone for now
+      --stride <N>   Turns between kept states, 1 to 2000000000 [default: 10000]
   -h, --help         Print help
 
 An image file holds words of two bytes each, the low byte first.
@@ -104,7 +104,7 @@ fn outcome_of(alloc: Global, words: &[&str], written: &mut Vec<u8>) -> (u8, &'st
 
 #[test]
 fn words_and_statuses(rt: HostRuntime) -> Result<(), Fail> {
-    let rows: [(&[&str], (u8, &str)); 19] = [
+    let rows: [(&[&str], (u8, &str)); 21] = [
         (&["pdp11"], DONE),
         (
             &[
@@ -125,7 +125,9 @@ fn words_and_statuses(rt: HostRuntime) -> Result<(), Fail> {
         (&["pdp11", "--start", "1001"], BAD_SETUP),
         (&["pdp11", "--start", "201000"], BAD_SETUP),
         (&["pdp11", "--stride", "4294967297"], BAD_SETUP),
-        (&["pdp11", "--stride", "10000"], BAD_SETUP),
+        (&["pdp11", "--stride", "1"], DONE),
+        (&["pdp11", "--stride", "0"], BAD_SETUP),
+        (&["pdp11", "--stride", "2000000001"], BAD_SETUP),
         (&["pdp11", "--units", "x"], BAD_ARGUMENTS),
         (&["pdp11", "--units", ""], BAD_ARGUMENTS),
         (&["pdp11", "--units", "00000000031"], BAD_ARGUMENTS),

@@ -1,8 +1,9 @@
-use Rattle.std.proofs.Common.{◌≡◌, true, false, sym, ap, ◌∙◌}
+use Rattle.std.proofs.Common.{◌≡◌, true, false, [], arith, rules, sym, ap, ◌∙◌}
 use Rattle.pdp_script.specs.declared.faults.Fault.TheVariants.{Input, Output}
+use Rattle.pdp_replay.specs.Setup.{given, setup_checked}
 use Rattle.pdp_replay.specs.Timeline.{fresh}
 use Rattle.pdp_session.specs.Session.{is_told_first}
-use Rattle.pdp_session.proofs.SessionEnds.{start_refuses}
+use Rattle.pdp_session.proofs.SessionEnds.{ends_refused, start_refuses, starts_with}
 use Rattle.pdp_session.proofs.session.run.Goals as goal
 
 pub returns-in-Err-clause-input : goal.returns-in-Err-clause-input
@@ -18,3 +19,17 @@ returns-in-Err-clause-output g c = λ failed.
     let fault : c.in-Err.fault ≡ Output = cc in
     let never : false ≡ true = sym (ap is_told_first fault) ∙ of_start in
     cc
+
+pub returns-in-Ok-clause-session : goal.returns-in-Ok-clause-session
+returns-in-Ok-clause-session g c =
+    rw (starts_with (setup_checked (given c.args.setup)) _ c.in-Ok.engine c.in-Ok.ensures.engine) c.serve.ensures.session
+
+pub returns-in-Err-clause-session : goal.returns-in-Err-clause-session
+returns-in-Err-clause-session g c = record {
+  read = [];
+  out = [];
+  takes = search rules;
+  writes = search rules;
+  pulled = omega arith;
+  ends = ends_refused _ _ c.in-Err.fault _ c.in-Err.ensures.engine;
+}
