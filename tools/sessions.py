@@ -3,6 +3,7 @@ NAME.expected standard output, NAME.status the exit status (no file: 0), NAME.st
 Each is run in its folder, where the files are that its arguments name."""
 import argparse
 import os
+import re
 import subprocess
 from collections import namedtuple
 
@@ -63,6 +64,28 @@ def run(program, session, lines, **more):
     except subprocess.TimeoutExpired:
         return Ended(b"", f"no answer in {SECONDS} seconds", b"")
     return Ended(ran.stdout, ran.returncode, ran.stderr)
+
+
+def lines_of(text):
+    return re.findall(rb"[^\n]*\n|[^\n]+", text)
+
+
+def has_reply(line):
+    if line.endswith(b"\n"):
+        line = line[:-1].removesuffix(b"\r")
+    return len(line) > 200 or (not line.startswith(b"#") and line.strip(b" \t") != b"")
+
+
+def replies_of(output):
+    """The replies in an output, each with all its lines."""
+    lines, replies = lines_of(output), []
+    while lines:
+        first = lines[0].split()
+        is_list = first[:1] in ([b"patches"], [b"trail"]) and first[1:2] and first[1].isdigit()
+        more = int(first[1]) if is_list else 0
+        replies.append(b"".join(lines[: more + 1]))
+        lines = lines[more + 1 :]
+    return replies
 
 
 def difference(got, wanted):

@@ -49,8 +49,6 @@ mod device_tests;
 #[cfg(test)]
 mod disk_tests;
 #[cfg(test)]
-mod edit_tests;
-#[cfg(test)]
 mod jump_tests;
 #[cfg(test)]
 mod last_write_tests;

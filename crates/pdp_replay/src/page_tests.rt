@@ -4,14 +4,14 @@ use std::test::Fail;
 
 /// MOVs to registers of pages: of all ones to KPDR2 and UPAR5, of 12345 to UPDR1, and of a map of pages 0 and 7 to where
 /// they are without mapping. Then a MOV of 1 to SR0, one of 5 to 2000, and one of two aborts to SR0; HALT.
-pub(crate) const MAP: [u16; 28] = [
+const MAP: [u16; 28] = [
     0o12737, 0o177777, 0o172304, 0o12737, 0o177777, 0o177652, 0o12737, 0o12345, 0o177602, 0o12737,
     0o7600, 0o172356, 0o12737, 0o77406, 0o172316, 0o12737, 0o77406, 0o172300, 0o12737, 1, 0o177572,
     0o12737, 5, 0o2000, 0o12737, 0o120000, 0o177572, 0,
 ];
 
 /// The registers as of power-up.
-pub(crate) const CLEAR: PageRegisters = PageRegisters {
+const CLEAR: PageRegisters = PageRegisters {
     status0: 0,
     status2: 0,
     kernel_descriptors: [0; 8],
@@ -21,7 +21,7 @@ pub(crate) const CLEAR: PageRegisters = PageRegisters {
 };
 
 /// The registers once the pages are made, before turn 6.
-pub(crate) const MADE: PageRegisters = PageRegisters {
+const MADE: PageRegisters = PageRegisters {
     status0: 0,
     status2: 0o1036,
     kernel_descriptors: [0o77406, 0, 0o77416, 0, 0, 0, 0, 0o77406],

@@ -3,10 +3,10 @@ use crate::test_steps::{Edit, Step, engine_with, follow};
 use std::test::Fail;
 
 /// MOV #700,SP; MOV #100,@#177546; WAIT; HALT
-pub(crate) const WAIT_FOR_CLOCK: [u16; 7] = [0o12706, 0o700, 0o12737, 0o100, 0o177546, 1, 0];
+const WAIT_FOR_CLOCK: [u16; 7] = [0o12706, 0o700, 0o12737, 0o100, 0o177546, 1, 0];
 
 /// The turns before turn 8, where the clock ticks in turn 5, and RTI at 1100 is followed by HALT.
-pub(crate) const TO_THE_HALT: [TrailEntry; 4] = [
+const TO_THE_HALT: [TrailEntry; 4] = [
     TrailEntry {
         turn: 4,
         pc: 0o1014,
@@ -30,7 +30,7 @@ pub(crate) const TO_THE_HALT: [TrailEntry; 4] = [
 ];
 
 /// The turn before turn 1.
-pub(crate) const FIRST_TURN: [TrailEntry; 1] = [TrailEntry {
+const FIRST_TURN: [TrailEntry; 1] = [TrailEntry {
     turn: 0,
     pc: 0o1000,
     act: Act::Instr,
