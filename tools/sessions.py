@@ -13,14 +13,19 @@ Ended = namedtuple("Ended", "output status error")
 Session = namedtuple("Session", "name folder lines args expected")
 
 
-def asked(description):
-    """What a tool's words ask for: the program's path, the folders, and the strides to run their sessions with."""
+def asked(description, *flags):
+    """What a tool's words ask for: the program's path, the folders, the strides to run their sessions with, and whether each
+    of its own flags is there."""
     parser = argparse.ArgumentParser(description=description)
     parser.add_argument("--stride", metavar="LIST", default="", help="strides with a comma between them, as 1,4,10000")
+    for flag in flags:
+        parser.add_argument(flag, action="store_true")
     parser.add_argument("program", metavar="PROGRAM")
     parser.add_argument("folders", metavar="FOLDER", nargs="+")
-    words = parser.parse_args()
-    return os.path.abspath(words.program), words.folders, [stride for stride in words.stride.split(",") if stride]
+    words = vars(parser.parse_args())
+    strides = [stride for stride in words["stride"].split(",") if stride]
+    are_there = [words[flag.strip("-").replace("-", "_")] for flag in flags]
+    return os.path.abspath(words["program"]), words["folders"], strides, *are_there
 
 
 def stored(path, default=b""):
