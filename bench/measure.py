@@ -6,6 +6,9 @@ import time
 HERE = os.path.dirname(os.path.abspath(__file__))
 PROGRAM = os.path.join(HERE, "..", "crates", "pdp11", "out", "pdp11")
 
+# The arguments of a run that keeps its first state alone.
+FIRST_ALONE = ["--stride", "2000000000"]
+
 
 def programs(kind="programs", period=0):
     """The name and the lines of each program in a folder: those that run on, or those that idle; the line clock ticks with

@@ -18,6 +18,7 @@ use pdp_script::Script;
 use pdp_unibus::{Delays, LAST_TURN};
 use pdp_word::NoMemory;
 use std::alloc::Global;
+use std::mem;
 
 /// The machine of a run, the states of it that are kept, the count of the turns that were run, and the known turn: up
 /// to it all is kept that ought to be.
@@ -124,7 +125,10 @@ impl KeptRun {
         ensures counted { self.old.meter ≤ self.new.meter }
     {
         let end = self.ladder.next().min(to);
-        let ran = run_part(&mut self.machine, script, &mut self.meter, end);
+        // While the meter is apart from the machine, the loop counts in a register.
+        let mut counting = mem::replace(&mut self.meter, Meter::new());
+        let ran = run_part(&mut self.machine, script, &mut counting, end);
+        self.meter = counting;
         self.settle(alloc)?;
         ran
     }
