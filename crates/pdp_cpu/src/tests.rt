@@ -10,11 +10,9 @@ use std::alloc::Global;
 
 mod changed_words;
 mod devices;
-mod output;
 mod pages;
 mod red;
 mod saved;
-mod stamps;
 mod turns;
 
 // How many words of core the machines of these tests have: addresses 000000 to 001777.

@@ -165,6 +165,3 @@ fn read_patches(arguments: &[u8]) -> Option<Command>
     }
     Some(Command::ListPatches)
 }
-
-#[cfg(test)]
-mod tests;

@@ -57,34 +57,3 @@ fn event_with(name: &[u8], number: &[u8]) -> Option<Event>
         None
     }
 }
-
-#[cfg(test)]
-mod tests {
-    use super::*;
-
-    #[test]
-    fn events(rt: HostRuntime) {
-        for (text, want) in [
-            (b"key 377".as_slice(), Some(Event::Key(0o377))),
-            (b"key 400".as_slice(), None),
-            (b"key".as_slice(), None),
-            (b"tick".as_slice(), Some(Event::Tick)),
-            (b"tick 1".as_slice(), None),
-            (b"printer".as_slice(), Some(Event::PrinterDone)),
-            (b"reader".as_slice(), Some(Event::ReaderDone)),
-            (b"punch".as_slice(), Some(Event::PunchDone)),
-            (b"disk".as_slice(), Some(Event::DiskDone)),
-            (b"continue".as_slice(), Some(Event::Continue)),
-            (
-                b"switches 177777".as_slice(),
-                Some(Event::Switches(0o177777)),
-            ),
-            (b"switches 200000".as_slice(), None),
-            (b"Tick".as_slice(), None),
-            (b"key 1 2".as_slice(), None),
-            (b"".as_slice(), None),
-        ] {
-            assert_eq!(rt; read_event(text), want);
-        }
-    }
-}

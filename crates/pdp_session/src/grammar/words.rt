@@ -49,20 +49,3 @@ fn is_blank(byte: u8) -> bool
 {
     byte == b' ' || byte == b'\t'
 }
-
-#[cfg(test)]
-mod tests {
-    use super::*;
-
-    #[test]
-    fn first_word(rt: HostRuntime) {
-        match next_word(b"\t core 1000 5") {
-            Some((word, rest)) => {
-                assert_eq!(rt; word, b"core".as_slice());
-                assert_eq!(rt; rest, b" 1000 5".as_slice());
-            }
-            None => panic!(rt; "a text with words has a first word"),
-        }
-        assert!(rt; next_word(b" \t").is_none());
-    }
-}

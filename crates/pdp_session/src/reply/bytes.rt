@@ -76,6 +76,3 @@ fn stands_for_itself(byte: u8) -> bool
 {
     (b' '..=b'~').contains(&byte) && byte != b'\\'
 }
-
-#[cfg(test)]
-mod tests;

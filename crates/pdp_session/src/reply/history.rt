@@ -106,6 +106,3 @@ fn add_interrupt(text: &mut Text, vector: u16)
     add(text, b"irq ");
     add(text, &octal3(vector));
 }
-
-#[cfg(test)]
-mod tests;

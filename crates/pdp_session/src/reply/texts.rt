@@ -259,6 +259,3 @@ pub fn refusal_text(fault: Fault) -> Text
     add(&mut text, b"\n");
     text
 }
-
-#[cfg(test)]
-mod tests;
