@@ -47,6 +47,3 @@ pub use pdp_word::{Codes, Size};
 pub use quotient::Div;
 pub use shifts::{asl, asr, rol, ror};
 pub use single_operand::{adc, clr, com, dec, inc, neg, sbc, tst};
-
-#[cfg(test)]
-mod tests;

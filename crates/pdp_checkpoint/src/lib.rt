@@ -12,6 +12,3 @@ mod thin;
 
 pub use checkpoint::Checkpoint;
 pub use ladder::{Ladder, MOST_KEPT, WIDEST_STRIDE};
-
-#[cfg(test)]
-mod tests;

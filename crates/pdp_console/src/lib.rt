@@ -16,6 +16,3 @@ pub use keyboard::Keyboard;
 pub use kl::{Kl, KlRegister};
 pub use kw::Kw;
 pub use laws::{keys_set_done_and_reads_clear_it, ticks_request_where_enabled};
-
-#[cfg(test)]
-mod tests;

@@ -37,8 +37,6 @@ mod regs;
 mod return_from_trap;
 mod saved;
 mod serving;
-#[cfg(test)]
-mod tests;
 mod trap_sequence;
 mod two_operands;
 

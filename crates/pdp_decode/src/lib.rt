@@ -9,8 +9,6 @@
 mod decoding;
 mod instruction;
 mod laws;
-#[cfg(test)]
-mod tests;
 
 pub use decoding::decode;
 pub use instruction::{Instr, Spec, name_of};

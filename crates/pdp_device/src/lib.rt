@@ -16,6 +16,3 @@ pub use channel::Channel;
 pub use laws::{a_byte_comes_out_once, completions_come_in_their_turn, requests_appear_on_a_rise};
 pub use operation::Operation;
 pub use outlet::{Outlet, OutletRegister};
-
-#[cfg(test)]
-mod tests;

@@ -13,8 +13,6 @@ mod page;
 mod place;
 mod register;
 mod status;
-#[cfg(test)]
-mod tests;
 
 pub use kt::Kt;
 pub use laws::{

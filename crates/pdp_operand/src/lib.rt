@@ -13,8 +13,6 @@ mod operand;
 mod place;
 mod processor;
 mod reference;
-#[cfg(test)]
-mod tests;
 mod trap;
 
 pub use laws::{

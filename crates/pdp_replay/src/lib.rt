@@ -41,24 +41,3 @@ pub use pdp_unibus::{Delays, Event, Line};
 pub use question::{Answer, Question, Value};
 pub use setup::{DEFAULT_STRIDE, Setup};
 pub use trail::{Trail, TrailEntry};
-
-#[cfg(test)]
-mod core_tests;
-#[cfg(test)]
-mod device_tests;
-#[cfg(test)]
-mod disk_tests;
-#[cfg(test)]
-mod jump_tests;
-#[cfg(test)]
-mod last_write_tests;
-#[cfg(test)]
-mod page_tests;
-#[cfg(test)]
-mod script_tests;
-#[cfg(test)]
-mod test_steps;
-#[cfg(test)]
-mod tests;
-#[cfg(test)]
-mod trail_tests;

@@ -26,6 +26,3 @@ pub use laws::{
 };
 pub use register::RkRegister;
 pub use rk::Rk;
-
-#[cfg(test)]
-mod tests;

@@ -163,6 +163,3 @@ impl Script {
         Ok(())
     }
 }
-
-#[cfg(test)]
-mod tests;

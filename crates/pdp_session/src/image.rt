@@ -24,21 +24,3 @@ pub fn read_image(alloc: Global, bytes: &[u8]) -> Result<Vec<u16>, Fault>
     LittleEndian::read_u16_into(bytes, &mut words);
     Ok(words)
 }
-
-#[cfg(test)]
-mod tests {
-    use super::*;
-    use std::test::Fail;
-
-    #[test]
-    fn words_of_an_image(rt: HostRuntime) -> Result<(), Fail> {
-        let words = read_image(rt.alloc(), &[0xc0, 0x15, 0x05, 0x00, 0xff, 0x01])?;
-        assert_eq!(rt; words.as_slice(), [0o12700, 0o5, 0o777].as_slice());
-        assert_eq!(rt; read_image(rt.alloc(), b"")?.len(), 0);
-        match read_image(rt.alloc(), &[0xc0, 0x15, 0x05]) {
-            Ok(_) => panic!(rt; "an image of three bytes has no words"),
-            Err(fault) => assert_eq!(rt; fault, Fault::BadImage),
-        }
-        Ok(())
-    }
-}

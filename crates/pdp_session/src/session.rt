@@ -84,6 +84,3 @@ fn serve<R: Feed, W: Drain>(
         }
     }
 }
-
-#[cfg(test)]
-mod tests;

@@ -13,19 +13,13 @@ ghost use Rattle.pdp_store.specs.Stored.{HasLastOfEachOrNone};
 
 mod base;
 mod changed_word;
-#[cfg(test)]
-mod drive_tests;
 mod flat_store;
 mod laws;
 mod page;
 mod page_runs;
-#[cfg(test)]
-mod page_tests;
 mod paged_drive;
 mod paged_store;
 mod paging;
-#[cfg(test)]
-mod tests;
 
 pub use changed_word::change_word;
 pub use flat_store::Flat;

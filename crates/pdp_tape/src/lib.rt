@@ -17,6 +17,3 @@ pub use laws::{
 };
 pub use pc::{Pc, PcRegister};
 pub use reader::Reader;
-
-#[cfg(test)]
-mod tests;

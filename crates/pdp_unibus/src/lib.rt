@@ -25,8 +25,6 @@ mod saved_drives;
 mod source;
 mod status;
 mod tape;
-#[cfg(test)]
-mod tests;
 mod watch;
 
 pub use beginning::Output;

@@ -21,6 +21,3 @@ pub use number::{read_decimal, read_octal, write_octal6};
 pub use request::request_after;
 pub use size::Size;
 pub use word::{join, low_byte, sign_extend, signed};
-
-#[cfg(test)]
-mod tests;

@@ -68,24 +68,3 @@ impl<R: Read> Feed for FromRead<R> {
         self.failed
     }
 }
-
-#[cfg(test)]
-mod tests {
-    use super::*;
-    use std::test::Fail;
-
-    #[test]
-    fn feeds(rt: HostRuntime) -> Result<(), Fail> {
-        let mut reader = FromRead::new(b"abc".as_slice());
-        let mut buf = [0; 2];
-        assert_eq!(rt; reader.left(), 1_000_000_000_000);
-        assert_eq!(rt; reader.pull(&mut buf), Ok(2));
-        assert_eq!(rt; buf, [b'a', b'b']);
-        assert_eq!(rt; reader.left(), 999_999_999_999);
-        assert_eq!(rt; reader.pull(&mut buf), Ok(1));
-        assert_eq!(rt; reader.pull(&mut buf), Ok(0));
-        assert_eq!(rt; reader.left(), 999_999_999_997);
-        assert!(rt; !reader.failed());
-        Ok(())
-    }
-}

@@ -52,21 +52,3 @@ impl<W: Write> Drain for ToWrite<W> {
         self.failed
     }
 }
-
-#[cfg(test)]
-mod tests {
-    use super::*;
-    use std::test::Fail;
-
-    #[test]
-    fn drains(rt: HostRuntime) -> Result<(), Fail> {
-        let mut bytes = Vec::new(rt.alloc());
-        {
-            let mut writer = ToWrite::new(&mut bytes);
-            assert_eq!(rt; writer.put(b"abc"), Ok(3));
-            assert!(rt; !writer.failed());
-        }
-        assert_eq!(rt; bytes.as_slice(), b"abc".as_slice());
-        Ok(())
-    }
-}
