@@ -1,3 +1,5 @@
+//! Numbers and names of faults, and a refused growth as want of memory.
+
 use pdp_script::Fault;
 use pdp_word::NoMemory;
 use std::alloc::{AllocError, AllocFailed};

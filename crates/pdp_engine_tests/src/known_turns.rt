@@ -1,3 +1,5 @@
+//! How far back each edit lowers the known turn.
+
 use crate::steps::{Edit, Step, engine_with, follow};
 use pdp_replay::*;
 use std::test::Fail;

@@ -1,3 +1,5 @@
+//! Which states a ladder keeps, by their turns, and a kept state with a word changed.
+
 ghost use Rattle.std.specs.Prelude.{◌≡◌, ◌≤◌, OnOk, IfOk, length};
 
 use pdp_checkpoint::*;

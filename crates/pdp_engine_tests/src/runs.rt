@@ -1,3 +1,5 @@
+//! How many turns an answer ran, setups that are refused, and the turn that a question asks about.
+
 use crate::steps::{Edit, STRIDE, Step, blank, follow};
 use pdp_replay::*;
 use std::alloc::Global;

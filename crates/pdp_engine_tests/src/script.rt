@@ -1,3 +1,5 @@
+//! A script of events: a key that is put off and dropped, and a script that is full.
+
 use pdp_script::{Fault, Script};
 use pdp_unibus::Event;
 use std::test::Fail;

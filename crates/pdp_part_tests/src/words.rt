@@ -1,3 +1,5 @@
+//! Numbers in texts, words and bytes, and requests.
+
 use pdp_word::*;
 use std::alloc::AllocError;
 use std::test::Fail;

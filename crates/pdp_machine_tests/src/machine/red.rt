@@ -1,3 +1,5 @@
+//! The red sequence in cores of a few words.
+
 use super::{halted, place, run_turns, running};
 use pdp_cpu::{Act, Machine, Meter};
 use pdp_store::Flat;

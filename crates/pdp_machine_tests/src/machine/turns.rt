@@ -1,3 +1,5 @@
+//! Power-up, a turn, and turns of a halted machine.
+
 use super::{WORDS, halted, machine_over, run_turns, running};
 use pdp_cpu::{
     Meter, halted_machines_stay, stamps_are_last_writes, touches_are_of_their_turn,
