@@ -84,6 +84,7 @@ fn word_and_last(rt: &impl Abort, bus: &Bus<Flat, Flat>, number: usize) -> (u16,
 fn reads_and_writes_core(rt: HostRuntime) -> Result<(), NoMemory> {
     let mut bus = bus(rt.alloc(), &[], Delays::standard())?;
     assert_eq!(rt; bus.words(), 256);
+    assert_eq!(rt; bus.drives(), 0);
     assert_eq!(rt; word_and_last(&rt, &bus, 0o40), (0, None));
 
     take_steps(

@@ -1,9 +1,6 @@
 //! The first and the last word of each instruction, and the words between that have none.
 
-use pdp_decode::{
-    Instr, decode, decoded_instructions_have_their_word, encoded_instructions_decode_back, name_of,
-    rows_never_meet, sections_are_one_table,
-};
+use pdp_decode::{Instr, decode, name_of};
 
 #[test]
 fn names_control_and_branches(rt: HostRuntime) {
@@ -113,12 +110,4 @@ fn reserves_other_words(rt: HostRuntime) {
         assert_eq!(rt; decode(last), Instr::Reserved, "at {last:06o}");
     }
     assert_eq!(rt; name_of(&decode(0o170000)), "Reserved");
-}
-
-#[test]
-fn states_its_laws() {
-    decoded_instructions_have_their_word();
-    encoded_instructions_decode_back();
-    rows_never_meet();
-    sections_are_one_table();
 }

@@ -1,11 +1,7 @@
 //! Power-up, a turn, and turns of a halted machine.
 
 use super::{WORDS, halted, machine_over, run_turns, running};
-use pdp_cpu::{
-    Meter, halted_machines_stay, stamps_are_last_writes, touches_are_of_their_turn,
-    turns_end_within_32_phases, turns_leave_what_they_never_touch,
-    what_cannot_go_on_leaves_the_codes,
-};
+use pdp_cpu::Meter;
 use pdp_word::NoMemory;
 
 #[test]
@@ -37,14 +33,4 @@ fn moves_an_immediate_and_halts(rt: HostRuntime) -> Result<(), NoMemory> {
     assert_eq!(rt; machine.regs(), halted(r, 0, 0o001006, 0));
     assert_eq!(rt; meter.count(), 5);
     Ok(())
-}
-
-#[test]
-fn states_its_laws() {
-    turns_end_within_32_phases();
-    stamps_are_last_writes();
-    touches_are_of_their_turn();
-    turns_leave_what_they_never_touch();
-    what_cannot_go_on_leaves_the_codes();
-    halted_machines_stay();
 }
