@@ -1,4 +1,5 @@
-"""What the measurements share: the programs, and runs of the built program."""
+"""What the measurements share: their arguments, the programs, and runs of the built program."""
+import argparse
 import os
 import subprocess
 import time
@@ -10,9 +11,24 @@ PROGRAM = os.path.join(HERE, "..", "crates", "pdp11", "out", "pdp11")
 FIRST_ALONE = ["--stride", "2000000000"]
 
 
+def asked(description, **defaults):
+    """Returns the numbers that a measurement is given, in the order of these names, each with its
+    default. --help shows the description and ends. If the program isn't built, it ends with
+    status 1."""
+    as_it_is = argparse.RawDescriptionHelpFormatter
+    parser = argparse.ArgumentParser(description=description, formatter_class=as_it_is)
+    for name, default in defaults.items():
+        text = f"{default:,} if it isn't given"
+        parser.add_argument(name.upper(), nargs="?", type=int, default=default, help=text)
+    numbers = vars(parser.parse_args()).values()
+    if not os.access(PROGRAM, os.X_OK):
+        parser.exit(1, f"{parser.prog}: build the program first: ./pdp11 </dev/null\n")
+    return list(numbers)
+
+
 def programs(kind="programs", period=0):
-    """The name and the lines of each program in a folder: those that run on, or those that idle; the line clock ticks with
-    this period in turns, 0 for never."""
+    """The name and the lines of each program in a folder: those that run on, or those that idle.
+    The line clock ticks each `period` turns, 0 for never."""
     folder = os.path.join(HERE, kind)
     for name in sorted(os.listdir(folder)):
         with open(os.path.join(folder, name), encoding="ascii") as file:
@@ -32,7 +48,8 @@ def run(command, text):
 
 
 def rate(lines, turns, states=("run",)):
-    """Turns in a second, less the time of a run that takes none. The program must be in one of these states then."""
+    """Turns in a second, less the time of a run that takes none. The run must end in one of these
+    states."""
     none, _ = run([PROGRAM], lines + "regs 0\n")
     some, out = run([PROGRAM], lines + f"regs {turns}\n")
     if out.split()[-1] not in states:

@@ -1,6 +1,7 @@
-"""The stored sessions of a folder: NAME.session is standard input, NAME.args the arguments (one a line),
-NAME.expected standard output, NAME.status the exit status (no file: 0), NAME.stderr standard error (no file: empty).
-Each is run in its folder, where the files are that its arguments name."""
+"""What the checks share: the lines of the session language, and the stored sessions of a folder.
+NAME.session is standard input, NAME.args the arguments (one a line), NAME.expected standard output,
+NAME.status the exit status (no file: 0), NAME.stderr standard error (no file: empty). A session is
+run in its folder, which has the files that its arguments name."""
 import argparse
 import os
 import re
@@ -12,20 +13,66 @@ SECONDS = 60
 Ended = namedtuple("Ended", "output status error")
 Session = namedtuple("Session", "name folder lines args expected")
 
+# A line of the language: its form, as --help shows it, what kind it is, and how many lines its
+# reply has. tools/check-help compares the table with what the program's --help shows.
+Line = namedtuple("Line", "form kind reply")
+EDIT, QUESTION, LIST = "edit", "question", "list"
+ONE_LINE, COUNTED_LINES = "one line", "a line with a count, and as many lines"
+LANGUAGE = [
+    Line("core A W", EDIT, ONE_LINE),
+    Line("uncore A", EDIT, ONE_LINE),
+    Line("disk I W", EDIT, ONE_LINE),
+    Line("patches", LIST, COUNTED_LINES),
+    Line("tape B B ..", EDIT, ONE_LINE),
+    Line("delay L N", EDIT, ONE_LINE),
+    Line("at T EVENT", EDIT, ONE_LINE),
+    Line("alter E T EVENT", EDIT, ONE_LINE),
+    Line("drop E", EDIT, ONE_LINE),
+    Line("regs N", QUESTION, ONE_LINE),
+    Line("mem N A C", QUESTION, ONE_LINE),
+    Line("dsk N I C", QUESTION, ONE_LINE),
+    Line("text N", QUESTION, ONE_LINE),
+    Line("punched N", QUESTION, ONE_LINE),
+    Line("last N A", QUESTION, ONE_LINE),
+    Line("devices N", QUESTION, ONE_LINE),
+    Line("pages N", QUESTION, ONE_LINE),
+    Line("trail N C", QUESTION, COUNTED_LINES),
+]
 
-def asked(description, *flags):
-    """What a tool's words ask for: the program's path, the folders, the strides to run their sessions with, and whether each
-    of its own flags is there."""
-    parser = argparse.ArgumentParser(description=description)
-    parser.add_argument("--stride", metavar="LIST", default="", help="strides with a comma between them, as 1,4,10000")
+
+def command_of(line):
+    """The word that a line of the language begins with, as it is in a session."""
+    return line.form.split()[0].encode()
+
+
+QUESTIONS = {command_of(line) for line in LANGUAGE if line.kind == QUESTION}
+# The reply begins with the command.
+COUNTED = {command_of(line) for line in LANGUAGE if line.reply == COUNTED_LINES}
+
+
+def existing_program(path):
+    """The program's absolute path, from any folder; an error of the arguments if it isn't there."""
+    if not os.access(path, os.X_OK):
+        raise argparse.ArgumentTypeError(f"{path}: no such program; ./pdp11 </dev/null builds it")
+    return os.path.abspath(path)
+
+
+def asked(description, *flags, numbers=()):
+    """What a tool's arguments say: the program, the folders, the strides to run their sessions
+    with, whether each of its own flags is there, and each of its own numbers."""
+    as_it_is = argparse.RawDescriptionHelpFormatter
+    parser = argparse.ArgumentParser(description=description, formatter_class=as_it_is)
+    parser.add_argument("--stride", metavar="LIST", default="", help="such as 1,4,10000")
     for flag in flags:
         parser.add_argument(flag, action="store_true")
-    parser.add_argument("program", metavar="PROGRAM")
+    for number in numbers:
+        parser.add_argument(number, metavar="N", type=int, default=0)
+    parser.add_argument("program", metavar="PROGRAM", type=existing_program)
     parser.add_argument("folders", metavar="FOLDER", nargs="+")
     words = vars(parser.parse_args())
     strides = [stride for stride in words["stride"].split(",") if stride]
-    are_there = [words[flag.strip("-").replace("-", "_")] for flag in flags]
-    return os.path.abspath(words["program"]), words["folders"], strides, *are_there
+    own = [words[word.strip("-").replace("-", "_")] for word in (*flags, *numbers)]
+    return words["program"], words["folders"], strides, *own
 
 
 def stored(path, default=b""):
@@ -51,21 +98,19 @@ def sessions_of(folder):
 
 
 def with_strides(session, strides):
-    """The session with each of these strides; just as it is where there is none, or where it has a stride of its own."""
+    """The session with each of these strides; unchanged if there is none, or if the session has a
+    stride of its own."""
     if not strides or any(arg.startswith("--stride") for arg in session.args):
         return [session]
-    return [
-        session._replace(name=f"{session.name} with stride {stride}", args=["--stride", stride, *session.args])
-        for stride in strides
-    ]
+    named = [(f"{session.name} with stride {it}", ["--stride", it]) for it in strides]
+    return [session._replace(name=name, args=[*words, *session.args]) for name, words in named]
 
 
 def run(program, session, lines, **more):
-    """Runs the program with the session's arguments over these lines; `more` goes to subprocess.run."""
+    """Runs the program with the session's arguments on these lines; subprocess.run gets `more`."""
+    how = {"cwd": session.folder, "capture_output": True, "timeout": SECONDS, **more}
     try:
-        ran = subprocess.run(
-            [program, *session.args], input=lines, cwd=session.folder, capture_output=True, timeout=SECONDS, **more
-        )
+        ran = subprocess.run([program, *session.args], input=lines, **how)
     except subprocess.TimeoutExpired:
         return Ended(b"", f"no answer in {SECONDS} seconds", b"")
     return Ended(ran.stdout, ran.returncode, ran.stderr)
@@ -85,19 +130,20 @@ def replies_of(output):
     """The replies in an output, each with all its lines."""
     lines, replies = lines_of(output), []
     while lines:
-        first = lines[0].split()
-        is_list = first[:1] in ([b"patches"], [b"trail"]) and first[1:2] and first[1].isdigit()
-        more = int(first[1]) if is_list else 0
+        command, *rest = lines[0].split() or [b""]
+        is_counted = command in COUNTED and rest and rest[0].isdigit()
+        more = int(rest[0]) if is_counted else 0
         replies.append(b"".join(lines[: more + 1]))
         lines = lines[more + 1 :]
     return replies
 
 
 def difference(got, wanted):
-    """Says where they differ first."""
+    """Says what differs first between two runs."""
     for name in ("status", "error"):
         if getattr(got, name) != getattr(wanted, name):
             return f"{name} is {getattr(got, name)!r}, and not {getattr(wanted, name)!r}"
     ours, theirs = got.output.split(b"\n"), wanted.output.split(b"\n")
-    at = next(i for i in range(max(len(ours), len(theirs))) if ours[i : i + 1] != theirs[i : i + 1])
+    lines = range(max(len(ours), len(theirs)))
+    at = next(i for i in lines if ours[i : i + 1] != theirs[i : i + 1])
     return f"line {at + 1} of the output is {ours[at : at + 1]}, and not {theirs[at : at + 1]}"

@@ -1,7 +1,8 @@
 -- What the files of a session hold (this project's profile).
-use Rattle.std.specs.Prelude.{◌≡◌, ℕ, List, [], Option, Some, None, IfSome, Result, Ok, Err, ◌⊎◌, option_map, string_bytes}
+use Rattle.std.specs.Prelude.{◌≡◌, ℕ, ◌+◌, ◌*◌, ◌≤◌, ◌&&◌, nat_le, if◌then◌else◌, List, [], length, take, Option, Some, None, IfSome, Result, Ok, Err, ◌⊎◌, option_map, string_bytes}
 use Rattle.clap.specs.Words.{Text}
 use Rattle.pdp_script.specs.declared.faults.Fault.TheVariants.{BadImage as FaultBadImage}
+use Rattle.pdp_replay.specs.Setup.{most_units, unit_words, drive_words, tape_bytes}
 use Rattle.pdp_session.specs.Image.{image_read}
 use Rattle.pdp11.specs.declared.command_line.FileNames.{FileNames}
 use Rattle.pdp11.specs.declared.exit.Exit.{Exit}
@@ -17,14 +18,29 @@ pub record Contents : Type 0 where
 abbrev pub contents_of : Media → Contents
 contents_of media = record { core = media.core.items; disk = media.disk.items; tape = media.tape.items }
 
--- what comes of the name of a file: no bytes where there is none; else the bytes that the file is known to have, or the
--- exit where it can't be read or there is no memory for its bytes
-abbrev pub IsFileOf : (Text → Option (List ℕ)) → Option Text → Result (List ℕ) Exit → Type 0
-IsFileOf known None bytes = bytes ≡ Ok []
-IsFileOf known (Some name) (Ok bytes) = IfSome (known name) (λ whole. bytes ≡ whole)
-IsFileOf known (Some name) (Err InputOrOutput) = Unit {0}
-IsFileOf known (Some name) (Err NoMemory) = Unit {0}
-IsFileOf known (Some name) (Err _) = ⊥
+-- How many bytes are read of a file at most. Of an image these are all bytes that core or the drive has room for, and one
+-- word more, which is enough to refuse an image that is too long; of a tape one byte more. Units of core that are
+-- out of range are refused anyway: with them an image is read as if core had all its units.
+abbrev pub units_read : ℕ → ℕ
+units_read units = if nat_le 1 units && nat_le units most_units then units else most_units
+
+abbrev pub most_of_core : ℕ → ℕ
+most_of_core units = 2 * (units_read units * unit_words + 1)
+
+abbrev pub most_of_disk : ℕ
+most_of_disk = 2 * (drive_words + 1)
+
+abbrev pub most_of_tape : ℕ
+most_of_tape = tape_bytes + 1
+
+-- what comes of the name of a file: no bytes if there is no name; else the first bytes that the file is known to have, at
+-- most `most` of them, or the exit if it can't be read or there is no memory for its bytes
+abbrev pub IsFileOf : (Text → Option (List ℕ)) → ℕ → Option Text → Result (List ℕ) Exit → Type 0
+IsFileOf known most None bytes = bytes ≡ Ok []
+IsFileOf known most (Some name) (Ok bytes) = (length bytes ≤ most) × IfSome (known name) (λ whole. bytes ≡ take most whole)
+IsFileOf known most (Some name) (Err InputOrOutput) = Unit {0}
+IsFileOf known most (Some name) (Err NoMemory) = Unit {0}
+IsFileOf known most (Some name) (Err _) = ⊥
 
 -- what comes of the bytes of an image: its words, or the exit where their number is odd or there is no memory for them
 abbrev pub IsImageOf : List ℕ → Result (List ℕ) Exit → Type 0
@@ -33,33 +49,33 @@ IsImageOf bytes (Err BadImage) = image_read bytes ≡ Err FaultBadImage
 IsImageOf bytes (Err NoMemory) = Unit {0}
 IsImageOf bytes (Err _) = ⊥
 
--- the bytes that were read of the files of these names
-pub record AreBytesOf (known : Text → Option (List ℕ)) (names : FileNames) (core disk tape : List ℕ) : Type 0 where
-  pub core_read : IsFileOf known (option_map string_bytes names.core) (Ok core)
-  pub disk_read : IsFileOf known (option_map string_bytes names.disk) (Ok disk)
-  pub tape_read : IsFileOf known (option_map string_bytes names.tape) (Ok tape)
+-- the bytes that were read of the files of these names, for a core of these units
+pub record AreBytesOf (known : Text → Option (List ℕ)) (units : ℕ) (names : FileNames) (core disk tape : List ℕ) : Type 0 where
+  pub core_read : IsFileOf known (most_of_core units) (option_map string_bytes names.core) (Ok core)
+  pub disk_read : IsFileOf known most_of_disk (option_map string_bytes names.disk) (Ok disk)
+  pub tape_read : IsFileOf known most_of_tape (option_map string_bytes names.tape) (Ok tape)
 
--- all files were read, and both images are whole words
-pub record HoldMedia (known : Text → Option (List ℕ)) (names : FileNames) (media : Contents) : Type 0 where
+-- all files were read, and what was read of both images is whole words
+pub record HoldMedia (known : Text → Option (List ℕ)) (units : ℕ) (names : FileNames) (media : Contents) : Type 0 where
   pub core : List ℕ
   pub disk : List ℕ
-  pub bytes : AreBytesOf known names core disk media.tape
+  pub bytes : AreBytesOf known units names core disk media.tape
   pub core_words : image_read core ≡ Ok media.core
   pub disk_words : image_read disk ≡ Ok media.disk
 
--- all files were read, and one of the images isn't whole words
-pub record HoldBadImage (known : Text → Option (List ℕ)) (names : FileNames) : Type 0 where
+-- all files were read, and what was read of one of the images isn't whole words
+pub record HoldBadImage (known : Text → Option (List ℕ)) (units : ℕ) (names : FileNames) : Type 0 where
   pub core : List ℕ
   pub disk : List ℕ
   pub tape : List ℕ
-  pub bytes : AreBytesOf known names core disk tape
+  pub bytes : AreBytesOf known units names core disk tape
   pub is_bad : (image_read core ≡ Err FaultBadImage) ⊎ (image_read disk ≡ Err FaultBadImage)
 
--- what comes of the names of the files: what they hold; or the exit where one can't be read, or else an image isn't whole
--- words, or where it is out of memory
-abbrev pub AreMediaOf : (Text → Option (List ℕ)) → FileNames → Result Contents Exit → Type 0
-AreMediaOf known names (Ok media) = HoldMedia known names media
-AreMediaOf known names (Err BadImage) = HoldBadImage known names
-AreMediaOf known names (Err InputOrOutput) = Unit {0}
-AreMediaOf known names (Err NoMemory) = Unit {0}
-AreMediaOf known names (Err _) = ⊥
+-- what comes of the names of the files: what they hold; or the exit if one can't be read, or else an image isn't whole
+-- words, or if it is out of memory
+abbrev pub AreMediaOf : (Text → Option (List ℕ)) → ℕ → FileNames → Result Contents Exit → Type 0
+AreMediaOf known units names (Ok media) = HoldMedia known units names media
+AreMediaOf known units names (Err BadImage) = HoldBadImage known units names
+AreMediaOf known units names (Err InputOrOutput) = Unit {0}
+AreMediaOf known units names (Err NoMemory) = Unit {0}
+AreMediaOf known units names (Err _) = ⊥

@@ -52,7 +52,7 @@ GoesOn options (Err cause) before after pulls pulls_after before_out after_out e
 -- the files were read, and then the session was answered
 pub record Starts (contents : Text → Option (List ℕ)) (options : Options) (names : FileNames) (before after : Option (List ℕ)) (pulls pulls_after : ℕ) (before_out after_out : Option (List ℕ)) (exit : Exit) : Type 0 where
   pub media : Result Contents Exit
-  pub is_media : AreMediaOf contents names media
+  pub is_media : AreMediaOf contents options.units names media
   pub goes : GoesOn options media before after pulls pulls_after before_out after_out exit
 
 -- what was done where the words ask for this: the known contents of files, the reader's known bytes and pulls before and

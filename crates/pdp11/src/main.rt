@@ -1,9 +1,19 @@
-//! pdp11: a PDP-11/40 that answers questions about any turn of its run, and whose past can be edited. Session lines
-//! come on standard input, and the replies go to standard output.
+//! pdp11: a PDP-11/40 that answers questions about any turn of its run, and whose past can be
+//! edited. Session lines come on standard input, and the replies go to standard output. It stands
+//! on pdp_session, which runs the session, on what is below that, and on clap, which reads the
+//! command line.
 //!
-//! It stands on pdp_session, which runs the session, on what is below that, and on clap, which reads the command
-//! line. The contract of `outcome` gives exit status and line on standard error by what the words ask for and how
-//! the session ended. What a command line or a file holds, and what standard input and output do, it leaves to the
+//! # What is proved
+//!
+//! - Exit status and line on standard error are a pair of the table, and that of the run's result
+//!   if the run was reached. The run starts with the words of the images' files and the bytes of
+//!   the tape's, if the files are known (`outcome`).
+//!
+//! # What is only tested
+//!
+//! - The text of help; the worked rows, tables and examples on the built program.
+//!
+//! What a command line or a file holds, and what standard input and output do, is left to the
 //! system.
 #![tactic(auto)]
 

@@ -1,6 +1,6 @@
 ghost use Rattle.std.specs.Prelude.{◌≡◌, true, Err, option_map, string_bytes};
 ghost use Rattle.pdp_script.specs.Refusal.{result_map};
-ghost use Rattle.pdp11.specs.Media.{IsFileOf, IsImageOf, AreMediaOf, contents_of};
+ghost use Rattle.pdp11.specs.Media.{IsFileOf, IsImageOf, AreMediaOf, contents_of, most_of_core};
 
 use crate::command_line::FileNames;
 use crate::exit::Exit;
@@ -18,30 +18,71 @@ pub struct Media {
     pub tape: Vec<u8>,
 }
 
-/// Reads the files of these names. All files are read before an image is looked at: a file that can't be read is told
-/// before an image of an odd number of bytes. `NoMemory` as soon as it is out of memory.
-pub fn read_media<F: Files>(alloc: Global, names: FileNames, files: &mut F) -> Result<Media, Exit>
-    ensures media { AreMediaOf (F.contents files.old) names (result_map contents_of result) }
+// The most units of core.
+const MOST_UNITS: u8 = 31;
+
+// The bytes of one unit of core.
+const UNIT_BYTES: usize = 8_192;
+
+// The bytes of a drive.
+const DRIVE_BYTES: usize = 2_494_464;
+
+// The most bytes of a paper tape.
+const TAPE_BYTES: usize = 1_048_576;
+
+// One word past its limit shows that an image is too long, however long its file is. So no more of the file is read.
+const WORD_BYTES: usize = 2;
+
+/// Reads the files of these names, for a core of `units` units. Of an image it reads at most one word more than core
+/// or the drive has room for, and of the tape one byte more than its limit: the setup is refused with that.
+///
+/// All files are read before an image is looked at: a file that can't be read is told before an image of an odd number
+/// of bytes. `NoMemory` as soon as it is out of memory.
+pub fn read_media<F: Files>(
+    alloc: Global,
+    units: u8,
+    names: FileNames,
+    files: &mut F,
+) -> Result<Media, Exit>
+    ensures media { AreMediaOf (F.contents files.old) units names (result_map contents_of result) }
     ensures failed { result ≡ Err Exit.InputOrOutput → F.has_failed files.new ≡ true }
 {
-    let core = read_file(alloc, names.core, files)?;
-    let disk = read_file(alloc, names.disk, files)?;
-    let tape = read_file(alloc, names.tape, files)?;
+    let core = read_file(alloc, names.core, most_of_core(units), files)?;
+    let disk = read_file(alloc, names.disk, DRIVE_BYTES + WORD_BYTES, files)?;
+    let tape = read_file(alloc, names.tape, TAPE_BYTES + 1, files)?;
     let core = image_of(alloc, core)?;
     let disk = image_of(alloc, disk)?;
     Ok(Media { core, disk, tape })
 }
 
-// The bytes of the file of this name, or no bytes where no file is named.
-fn read_file<F: Files>(alloc: Global, name: Option<String>, files: &mut F) -> Result<Vec<u8>, Exit>
-    ensures file { IsFileOf (F.contents files.old) (option_map string_bytes name) (result_map (λ bytes. bytes.items) result) }
+// How many bytes of core's image are read at most.
+fn most_of_core(units: u8) -> usize
+    ensures { result ≡ most_of_core units }
+{
+    let units = if (1..=MOST_UNITS).contains(&units) {
+        units
+    } else {
+        MOST_UNITS
+    };
+    usize::from(units) * UNIT_BYTES + WORD_BYTES
+}
+
+// The bytes of the file of this name, at most the first `most`; no bytes if no file is named.
+fn read_file<F: Files>(
+    alloc: Global,
+    name: Option<String>,
+    most: usize,
+    files: &mut F,
+) -> Result<Vec<u8>, Exit>
+    ensures file { IsFileOf (F.contents files.old) most (option_map string_bytes name)
+        (result_map (λ bytes. bytes.items) result) }
     ensures failed { result ≡ Err Exit.InputOrOutput → F.has_failed files.new ≡ true }
     ensures same { F.contents files.new ≡ F.contents files.old }
 {
     let Some(name) = name else {
         return Ok(Vec::new(alloc))
     };
-    match files.bytes(alloc, name.as_str()) {
+    match files.bytes(alloc, name.as_str(), most) {
         Ok(bytes) => Ok(bytes),
         Err(FileFailure::NoMemory) => Err(Exit::NoMemory),
         Err(FileFailure::Unreadable) => Err(Exit::InputOrOutput),

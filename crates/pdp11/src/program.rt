@@ -82,7 +82,7 @@ fn start_session<R: Feed, W: Drain, F: Files>(
     ensures starts { Starts (F.contents files.old) options names (R.remaining reader.old) (R.remaining reader.new)
         (R.pulls reader.old) (R.pulls reader.new) (W.written writer.old) (W.written writer.new) result }
 {
-    match read_media(alloc, names, files) {
+    match read_media(alloc, options.units, names, files) {
         Ok(media) => answer_lines(alloc, options, media, reader, writer),
         Err(cause) => cause,
     }

@@ -1,9 +1,23 @@
-//! Results and condition codes of the instructions, over whole numbers.
+//! Results and condition codes of the instructions, over whole numbers. It stands on pdp_word.
 //!
-//! It stands on pdp_word. The contract of each instruction's function gives its value and its condition codes, by a
-//! definition; the laws say what these definitions come to: for instance that a sum is exact with C as the bit
-//! above the word. Where operands come from and where a value goes it leaves to pdp_operand, and when codes are
-//! stored to pdp_cpu.
+//! # What is proved
+//!
+//! - Each instruction of one or two operands has the value and the codes of its definition (`mov`,
+//!   `cmp`, `add`, `sub`, `bit`, `bic`, `bis`, `xor`, `clr` to `tst`, `ror` to `asl`, `swab`,
+//!   `sxt`); so has extended arithmetic (`mul`, `div`, `ash`, `ashc`). MFPI and MTPI have the codes
+//!   of MOV.
+//! - A sum is exact with C as the bit above the word, and a comparison orders its operands
+//!   (`sums_are_exact`, `comparisons_order_operands`). V is set exactly if the signed result does
+//!   not fit (`overflow_marks_wrong_signed_results`).
+//! - A product is exact. Each division has one quotient and one remainder, and DIV gives them
+//!   (`products_are_exact`, `quotients_are_unique`, `divisions_are_exact`).
+//! - Shifts to the right divide by powers of 2; shifts to the left multiply by them while V is
+//!   clear (`shifts_to_the_right_divide`, `shifts_to_the_left_multiply`).
+//! - Logic goes bit by bit, and the codes tell of the value (`logic_goes_bit_by_bit`,
+//!   `codes_tell_of_the_value`).
+//!
+//! Where operands come from and where a value goes is left to pdp_operand, when codes are stored to
+//! pdp_cpu.
 #![tactic(auto)]
 
 mod arithmetic;

@@ -1,8 +1,19 @@
-//! Kept states of the machine: a ladder of at most 256 of them, at the multiples of a stride of turns.
+//! Kept states of the machine: a ladder of at most 256 of them, at the multiples of a stride of
+//! turns. It stands on pdp_word, pdp_store, pdp_unibus and pdp_cpu.
 //!
-//! It stands on pdp_word, pdp_store, pdp_unibus and pdp_cpu. The contracts say exactly which states are kept after each
-//! call, which of them is the best for a turn that is asked about, and what a word that is patched leaves of them. How a
-//! machine runs from one to the next it leaves to pdp_cpu, and which turns are wanted to pdp_replay.
+//! # What is proved
+//!
+//! - States are kept at turn 0 and at each further multiple of the stride. A 257th doubles the
+//!   stride, and those at odd multiples of the old one go (`Ladder::new`, `take`, `stride`,
+//!   `next`).
+//! - The best state for a turn is the last at or before it (`best`).
+//! - A cut drops those above a turn, and no other (`cut`).
+//! - Other delays are put into the state of turn 0, and the later ones go (`set_delays`).
+//! - A patch changes a word in each state up to a turn and drops the others, or is refused and
+//!   changes nothing (`patch`).
+//!
+//! How a machine runs from one state to the next is left to pdp_cpu, which turns are wanted to
+//! pdp_replay.
 #![tactic(auto)]
 
 mod checkpoint;

@@ -8,7 +8,8 @@ use Rattle.pdp_unibus.specs.declared.status.Status.{Status}
 use Rattle.pdp_operand.specs.Phases.Phase.{State, Stop}
 use Rattle.pdp_operand.specs.Phases.Plan.{one, run_plan}
 use Rattle.pdp_operand.specs.declared.place.Fill.{Fill}
-use Rattle.pdp_cpu.specs.Handbook.Action.{action_of, plan_of_action, plan_of}
+use Rattle.pdp_cpu.specs.Handbook.Action.{plan_of_action, plan_of}
+use Rattle.pdp_operation.specs.Action.{action_of}
 use Rattle.pdp_cpu.specs.Handbook.Branch.{branch_plan, sob_plan}
 use Rattle.pdp_cpu.specs.Handbook.ChangeCodes.{clear_plan, set_plan}
 use Rattle.pdp_cpu.specs.Handbook.Control.{halt_plan, wait_plan, reset_plan, raise_plan}
@@ -22,12 +23,12 @@ use Rattle.pdp_cpu.specs.Handbook.Moves.{execute_mov, mov_plan, movb_plan}
 use Rattle.pdp_cpu.specs.Handbook.Operands.{operands_plan, source_first, place_first, keep_source, take_register}
 use Rattle.pdp_cpu.specs.Handbook.PreviousMode.{cross, mfpi_plan, mtpi_plan}
 use Rattle.pdp_cpu.specs.Handbook.OneOperand.{execute_tst, execute_modification, execute_replacement, tst_plan, modify_plan, replace_plan}
-use Rattle.pdp_cpu.specs.declared.action.Action.{Action}
-use Rattle.pdp_cpu.specs.declared.action.Action.TheVariants as action
-use Rattle.pdp_cpu.specs.declared.operation.Combination.{Combination}
-use Rattle.pdp_cpu.specs.declared.operation.Comparison.{Comparison}
-use Rattle.pdp_cpu.specs.declared.operation.Modification.{Modification}
-use Rattle.pdp_cpu.specs.declared.operation.Replacement.{Replacement}
+use Rattle.pdp_operation.specs.declared.action.Action.{Action}
+use Rattle.pdp_operation.specs.declared.action.Action.TheVariants as action
+use Rattle.pdp_operation.specs.declared.operation.Combination.{Combination}
+use Rattle.pdp_operation.specs.declared.operation.Comparison.{Comparison}
+use Rattle.pdp_operation.specs.declared.operation.Modification.{Modification}
+use Rattle.pdp_operation.specs.declared.operation.Replacement.{Replacement}
 use Rattle.pdp_operand.specs.declared.place.Place.{Place}
 use Rattle.pdp_operand.specs.declared.place.Place.TheVariants.{Reg, Mem}
 use Rattle.pdp_cpu.proofs.StatusKept.{Stops, Safe, Steady, Sure, ReadsAtMost, steady_safe, steady_steady, safe_sure, steady_if, phase_safe, phase_steady, phase_sure, steady_find, steady_read, steady_read_before_write}

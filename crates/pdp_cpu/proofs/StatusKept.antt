@@ -18,7 +18,7 @@ use Rattle.pdp_operand.specs.Phases.Plan.{Plan, ◌▸◌, one, run_plan}
 use Rattle.pdp_operand.specs.Handbook.Operand.{find, lower, name_register, point, grow, index, indirect, read_before_write, read_operand, reference_at, reading, mode_now}
 use Rattle.pdp_operand.specs.declared.place.Place.{Place}
 use Rattle.pdp_operand.specs.declared.place.Place.TheVariants.{Reg, Mem}
-use Rattle.pdp_operand.specs.declared.trap.Trap.{Trap}
+use Rattle.pdp_operation.specs.declared.trap.Trap.{Trap}
 use Rattle.pdp_operand.proofs.Shape.{reply_by, shape_if, shape_of, shape_at, shape_by, perform_is}
 
 abbrev pub status_in : State → Status

@@ -15,7 +15,7 @@ use Rattle.pdp_unibus.specs.declared.event.Event.{Event}
 use Rattle.pdp_operand.specs.Laws.Touched.{IsByProcessor}
 use Rattle.pdp_operand.specs.Laws.Trace.{trace_of}
 use Rattle.pdp_operand.specs.declared.processor.Processor.{Processor}
-use Rattle.pdp_operand.specs.declared.trap.Trap.{Trap}
+use Rattle.pdp_operation.specs.declared.trap.Trap.{Trap}
 use Rattle.pdp_operand.specs.Phases.Phase.{Inner, Phase, inner_of}
 use Rattle.pdp_operand.proofs.Bound.{AtMost, course_length_le}
 use Rattle.pdp_cpu.proofs.PlanSizes.{size_of_plan}
@@ -32,7 +32,7 @@ use Rattle.pdp_cpu.specs.declared.due.Due.TheVariants as due
 use Rattle.pdp_cpu.specs.declared.origin.Origin.{Origin}
 use Rattle.pdp_decode.specs.declared.instruction.Instr.{Instr}
 use Rattle.pdp_operand.specs.Phases.Course.{Course, End, Go, ends, follow}
-use Rattle.pdp_operand.specs.declared.trap.Trap.TheVariants.{OddAddress, MappingAbort, BusTimeout, Reserved, JumpToRegister, StackLimit, Breakpoint, InputOutput, Emulator, TrapInstruction}
+use Rattle.pdp_operation.specs.declared.trap.Trap.TheVariants.{OddAddress, MappingAbort, BusTimeout, Reserved, JumpToRegister, StackLimit, Breakpoint, InputOutput, Emulator, TrapInstruction}
 use Rattle.pdp_unibus.specs.Source.{vector_of}
 
 ends_at_most : (n : ℕ) → (i : Inner) → AtMost (ends i) n

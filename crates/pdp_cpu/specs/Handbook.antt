@@ -1,5 +1,4 @@
 -- What the handbook says: the plan of each instruction.
-pub mod Operation
 pub mod Operands
 pub mod Execute
 pub mod Moves

@@ -2,8 +2,8 @@ ghost use Rattle.std.specs.Prelude.{◌≡◌, Ok};
 ghost use Rattle.pdp_operand.specs.Contract.{Runs};
 ghost use Rattle.pdp_cpu.specs.Handbook.Branch.{branch_plan, branched, sob_plan, fallen};
 
-use crate::condition::Condition;
 use pdp_operand::{Processor, Slot};
+use pdp_operation::Condition;
 use pdp_store::Store;
 use pdp_unibus::Bus;
 

@@ -1,6 +1,6 @@
 //! Laws of turns, for every turn, its events and every world.
 
-ghost use Rattle.std.specs.Prelude.{◌≡◌, ◌<◌, ◌≤◌, ℕ, All, Err, List, None, false, length, slice_index_or};
+ghost use Rattle.std.specs.Prelude.{◌≡◌, ◌<◌, ◌≤◌, ℕ, All, Err, List, None, false, length, map, slice_index_or};
 ghost use Rattle.pdp_unibus.specs.BusWorld.{BusWorld};
 ghost use Rattle.pdp_unibus.specs.declared.event.Event.{Event};
 ghost use Rattle.pdp_decode.specs.declared.instruction.Instr.{Instr};
@@ -48,6 +48,20 @@ pub fn turns_keep_the_size_of_core()
         length (one_turn t events w).bus.core ≡ length w.bus.core }
     ensures lasts { (t : ℕ) (events : List Event) (w : World) →
         length (one_turn t events w).bus.lasts ≡ length w.bus.lasts }
+{}
+
+/// A law of turns: there are as many drives after a turn as before it, each with as many words.
+#[tactic(auto, using(crate::proofs::DriveSizes::turn_keeps_drives))]
+pub fn turns_keep_the_sizes_of_drives()
+    ensures { (t : ℕ) (events : List Event) (w : World) →
+        map length (one_turn t events w).bus.drives ≡ map length w.bus.drives }
+{}
+
+/// A law of turns: the tape in the reader stays, whatever is read of it.
+#[tactic(auto, using(crate::proofs::TurnLaws::turn_keeps_tape))]
+pub fn turns_keep_the_tape()
+    ensures { (t : ℕ) (events : List Event) (w : World) →
+        (one_turn t events w).bus.tape ≡ w.bus.tape }
 {}
 
 /// A law of turns: a turn whose trace avoids a page of 256 words, of core or of a drive, leaves the page as it was, and

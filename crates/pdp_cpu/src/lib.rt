@@ -1,19 +1,31 @@
-//! The processor of the PDP-11/40: one whole turn of the machine, by phases.
+//! The processor of the PDP-11/40: one whole turn of the machine, by phases. It stands on
+//! pdp_operand, pdp_unibus, pdp_alu, pdp_decode and what is below these.
 //!
-//! It stands on pdp_operand, pdp_unibus, pdp_alu, pdp_decode and what is below these. The contract of `Machine::turn`
-//! says that a turn takes the machine to its definition's next state, what was printed and punched with it, for every
-//! store of core and of the drives, with which act it began, and that the meter counts it: what is due (`Due`), an
-//! instruction's plan, and what follows a trap are all phases. The laws say how many phases a turn has at most, what it
-//! and the disk stamp and what they leave, and what a halted machine keeps. The contracts of `PagedMachine` say
-//! what is saved of a machine over stores of pages (`Saved`), what a load of it leaves, and which bytes of its texts
-//! the machine keeps. Which events a turn has, and how many turns are run, it leaves to pdp_replay.
+//! # What is proved
+//!
+//! - A turn takes the machine to the next state of its definition, for every store of core and of
+//!   the drives: what is due (a trap, an interrupt, an instruction or nothing), one plan for each
+//!   row of the opcode table, and what follows a trap, the red sequence too. It tells with which
+//!   act it began, and the meter counts it (`Machine::turn`, `ready`).
+//! - A turn has at most 32 phases (`turns_end_within_32_phases`).
+//! - Stamps are the last writes of the trace, in which are the accesses of the processor and those
+//!   of the disk (`stamps_are_last_writes`, `touches_are_of_their_turn`).
+//! - A turn that never touches a page of core or of a drive does the same whatever the page has,
+//!   and leaves the page (`turns_leave_what_they_never_touch`).
+//! - An instruction that cannot go on leaves the codes (`what_cannot_go_on_leaves_the_codes`).
+//! - The processor of a halted machine stays until `continue`, and so do core and the drives if
+//!   nothing is under way on the disk (`halted_machines_stay`).
+//! - What was printed and punched is kept, byte by byte, with the turn of each. A load makes a
+//!   machine the one that was saved, on the tape that it then has (`PagedMachine::save`, `load`,
+//!   `keep_text`, `set_tape`, `Saved::set_delays`, `with_word`).
+//! - What is read of a machine (`text`, `punched`, `devices`, `pages`).
+//!
+//! Which events a turn has, and how many turns are run, is left to pdp_replay.
 #![tactic(auto)]
 
 mod act;
-mod action;
 mod branch;
 mod change_codes;
-mod condition;
 mod control;
 mod devices;
 mod due;
@@ -28,7 +40,6 @@ mod meter;
 mod moves;
 mod one_operand;
 mod operands;
-mod operation;
 mod origin;
 mod pages;
 mod pair;
@@ -45,8 +56,8 @@ pub use devices::DeviceRegisters;
 pub use kept_text::KeptByte;
 pub use laws::{
     halted_machines_stay, stamps_are_last_writes, touches_are_of_their_turn,
-    turns_end_within_32_phases, turns_keep_the_size_of_core, turns_leave_what_they_never_touch,
-    what_cannot_go_on_leaves_the_codes,
+    turns_end_within_32_phases, turns_keep_the_size_of_core, turns_keep_the_sizes_of_drives,
+    turns_keep_the_tape, turns_leave_what_they_never_touch, what_cannot_go_on_leaves_the_codes,
 };
 pub use machine::Machine;
 pub use meter::Meter;

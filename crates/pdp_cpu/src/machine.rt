@@ -20,6 +20,7 @@ use crate::pages::PageRegisters;
 use crate::regs::Regs;
 use crate::serving::take_what_is_due;
 use pdp_console::KlRegister;
+use pdp_icache::Lines;
 use pdp_kt11::{KtRegister, PageNumber, Space};
 use pdp_operand::{Processor, RunState, Slot};
 use pdp_rk11::RkRegister;
@@ -65,6 +66,7 @@ impl<S: Store, D: Store> Machine<S, D> {
     /// Takes no memory.
     pub fn power(
         alloc: Global,
+        lines: Lines,
         start: u16,
         words: S,
         drives: Vec<D>,
@@ -77,7 +79,7 @@ impl<S: Store, D: Store> Machine<S, D> {
     {
         Machine {
             processor: Processor::power(start),
-            bus: Bus::new(words, drives, tape, delays),
+            bus: Bus::new(lines, words, drives, tape, delays),
             turn: 0,
             text: KeptText::new(alloc),
             punched: KeptText::new(alloc),
@@ -150,6 +152,13 @@ impl<S: Store, D: Store> Machine<S, D> {
         self.turn += 1;
         meter.tick();
         act
+    }
+
+    /// Drops all decoded lines. In all that a contract sees the machine stays as it is.
+    pub fn clear_lines(&mut self)
+        ensures { self.new ≡ self.old }
+    {
+        self.bus.clear_lines();
     }
 
     /// How many turns it has run since power-up, which is the number of the turn that comes next (this project's

@@ -4,9 +4,9 @@ ghost use Rattle.pdp_cpu.specs.Handbook.TwoOperands.{compare_plan, combine_plan}
 
 use crate::execute::finish;
 use crate::operands::operands;
-use crate::operation::{Combination, Comparison};
 use pdp_decode::Spec;
 use pdp_operand::{Fill, Processor, Trap, fetch, fetch_before_store};
+use pdp_operation::{Combination, Comparison};
 use pdp_store::Store;
 use pdp_unibus::Bus;
 

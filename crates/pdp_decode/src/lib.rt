@@ -1,9 +1,20 @@
-//! Words to instructions: the opcode table of this project's PDP-11/40 profile, as a total function of the word.
+//! Words to instructions: the opcode table of this project's PDP-11/40 profile, as a total function
+//! of the word. It stands on pdp_word. Words and opcodes are octal.
 //!
-//! It stands on pdp_word. The contract of `decode` gives every word its instruction, with fields in their ranges,
-//! and `Reserved` where no row of the table takes the word. The laws say that decoding and the instruction formats
-//! undo each other, but for reserved words, and that no two rows meet. What an instruction does it leaves to
-//! pdp_cpu. Words and opcodes are octal.
+//! # What is proved
+//!
+//! - Each word is the instruction of its row in the table, with fields in their ranges, or
+//!   `Reserved` if no row takes it (`decode`).
+//! - Decoding and the instruction formats undo each other, except for reserved words
+//!   (`decoded_instructions_have_their_word`, `encoded_instructions_decode_back`).
+//! - No two rows of the table meet (`rows_never_meet`, `sections_are_one_table`).
+//! - Each instruction has its mnemonic (`name_of`).
+//!
+//! # What is only tested
+//!
+//! - That the mnemonics are the handbook's texts.
+//!
+//! What an instruction does is left to pdp_cpu.
 #![tactic(auto)]
 
 mod decoding;

@@ -1,10 +1,18 @@
-//! What the devices of the PDP-11/40 share: a channel that requests interrupts, an operation that takes its time, and
-//! an outlet, which puts bytes out.
+//! What the devices of the PDP-11/40 share: a channel that requests interrupts, an operation that
+//! takes its time, and an outlet, which puts bytes out. It stands on pdp_word.
 //!
-//! It stands on pdp_word. `Channel` has ready, enable and the request; `Operation` knows the turn in which a device is
-//! done; `Outlet` is both the printer and the punch. Laws say that a request appears exactly where ready and enable
-//! come to be both set, that an operation is due in one turn and in no other, and that the byte written last comes out
-//! once. Whose channel or outlet it is, its addresses, its vector and when it completes are left to the crates above.
+//! # What is proved
+//!
+//! - `Channel`: ready, enable and the request of a device. The request appears exactly if ready and
+//!   enable come to be both set; once served it stays away as long as they are
+//!   (`requests_appear_on_a_rise`).
+//! - `Operation`: it is due in the turn that its delay says, and in no other
+//!   (`completions_come_in_their_turn`).
+//! - `Outlet`, which is both the printer and the punch: of the bytes that are written while one is
+//!   on its way the last comes out, once (`a_byte_comes_out_once`).
+//!
+//! Whose channel or outlet it is, its addresses, its vector and when it completes are left to the
+//! crates above.
 #![tactic(auto)]
 
 mod channel;

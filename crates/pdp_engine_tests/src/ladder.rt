@@ -4,6 +4,7 @@ ghost use Rattle.std.specs.Prelude.{◌≡◌, ◌≤◌, OnOk, IfOk, length};
 
 use pdp_checkpoint::*;
 use pdp_cpu::{Machine, Meter, PagedMachine};
+use pdp_icache::Lines;
 use pdp_store::{Paged, PagedDrive};
 use pdp_unibus::{Delays, Line};
 use pdp_word::NoMemory;
@@ -17,7 +18,8 @@ fn machine(alloc: Global) -> Result<PagedMachine, NoMemory>
     let core = Paged::new(alloc, 4096, true)?;
     let drives = vec![in alloc; PagedDrive::new(alloc, 512)?]?;
     let delays = Delays::standard();
-    Ok(Machine::power(alloc, 0o1000, core, drives, Vec::new(alloc), delays))
+    let lines = Lines::new(alloc)?;
+    Ok(Machine::power(alloc, lines, 0o1000, core, drives, Vec::new(alloc), delays))
 }
 
 // Runs the machine from one turn to another, and keeps its state wherever the ladder wants one.

@@ -44,6 +44,28 @@ fn what_an_answer_took(rt: HostRuntime) -> Result<(), Fail> {
     follow(&rt, rt.alloc(), engine, &steps)
 }
 
+// The machine stays where the last question left it, until an edit reaches back before that turn. Of these turns none but
+// that of power-up has its state kept.
+#[test]
+fn questions_at_one_turn_run_once(rt: HostRuntime) -> Result<(), Fail> {
+    let engine = patched(rt.alloc(), &[0o777]);
+    let steps = [
+        Step::Ran(Question::Regs(300), 300, 300),
+        Step::Ran(Question::Pages(300), 0, 300),
+        Step::Ran(Question::Devices(300), 0, 300),
+        Step::Ran(Question::Core(300, 0o1000, 4), 0, 300),
+        Step::Ran(Question::Disk(300, 0, 256), 0, 300),
+        Step::Ran(Question::Trail(310, 10), 10, 310),
+        Step::Ran(Question::Text(310), 0, 310),
+        Step::Edit(Edit::Insert(310, Event::Tick), Ok(1)),
+        Step::Ran(Question::Regs(312), 2, 312),
+        Step::Edit(Edit::Alter(1, 311, Event::Tick), Ok(0)),
+        Step::Ran(Question::Regs(310), 310, 310),
+        Step::Ran(Question::Regs(309), 309, 310),
+    ];
+    follow(&rt, rt.alloc(), engine, &steps)
+}
+
 /// Why there is no engine over this setup.
 fn refusal(alloc: Global, setup: Setup) -> Option<Fault> {
     Engine::new(alloc, setup).err()

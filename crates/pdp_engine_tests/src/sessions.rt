@@ -1,6 +1,6 @@
 //! The session as a call, with its streams. What its lines are answered is in the rows and tables of sessions.
 
-use pdp_session::{Drain, Fault, Feed, FromRead, Setup, ToWrite, read_image, run};
+use pdp_session::{Drain, Failed, Fault, Feed, FromRead, Setup, ToWrite, read_image, run};
 use std::alloc::Global;
 use std::io;
 use std::io::{Error, ErrorKind, Read, Write};
@@ -36,8 +36,10 @@ fn first_run(rt: HostRuntime) -> Result<(), Fail> {
     assert_eq!(rt;
         output.as_slice(),
         b"ok\nok\nok\n\
-        R0 000005 R1 000000 R2 000000 R3 000000 R4 000000 R5 000000 KSP 000000 USP 000000 PC 001004 PS 000000 run\n\
-        R0 000005 R1 000000 R2 000000 R3 000000 R4 000000 R5 000000 KSP 000000 USP 000000 PC 001006 PS 000000 halted\n"
+        R0 000005 R1 000000 R2 000000 R3 000000 R4 000000 R5 000000 \
+        KSP 000000 USP 000000 PC 001004 PS 000000 run\n\
+        R0 000005 R1 000000 R2 000000 R3 000000 R4 000000 R5 000000 \
+        KSP 000000 USP 000000 PC 001006 PS 000000 halted\n"
             .as_slice()
     );
     Ok(())
@@ -62,81 +64,26 @@ fn bad_setup(rt: HostRuntime) -> Result<(), Fail> {
     Ok(())
 }
 
-// Gives its bytes one at a time, and then fails.
-#[derive(Drop)]
-struct CutReader<'a> {
-    rest: &'a [u8],
-}
-
-impl Read for CutReader<'_> {
-    fn read(&mut self, buf: &mut [u8]) -> io::Result<usize> {
-        match self.rest.split_first() {
-            None => Err(Error::from(ErrorKind::BrokenPipe)),
-            Some((first, rest)) => {
-                if buf.is_empty() {
-                    return Ok(0);
-                }
-                buf[0] = *first;
-                self.rest = rest;
-                Ok(1)
-            }
-        }
+// `at 0 tick` 65,536 times, and then what a full script is asked.
+fn filling_lines(alloc: Global) -> Result<Vec<u8>, Fail> {
+    let mut lines = Vec::new(alloc);
+    for _ in 0..65_536 {
+        lines.extend_from_slice(b"at 0 tick\n")?;
     }
+    lines.extend_from_slice(b"at 0 tick\ndrop 1\nat 0 key 101\nat 0 tick\n")?;
+    Ok(lines)
 }
 
+// A script has at most 65,536 events. A refused one uses no number up, and a dropped one makes room.
 #[test]
-fn reader_fails(rt: HostRuntime) -> Result<(), Fail> {
-    let alloc = rt.alloc();
-    let mut reader = FromRead::new(CutReader {
-        rest: b"regs\nregs 0",
-    });
-    let mut output = Vec::new(alloc);
-    {
-        let mut writer = ToWrite::new(&mut output);
-        assert_eq!(rt;
-            run(alloc, bare(alloc), &mut reader, &mut writer),
-            Err(Fault::Input)
-        );
-    }
-    assert!(rt; reader.failed());
-    assert_eq!(rt; output.as_slice(), b"refused 10 BadLine\n".as_slice());
-    Ok(())
-}
-
-// Takes so many bytes, and then none.
-#[derive(Drop)]
-struct FullWriter {
-    taken: Vec<u8>,
-    room: usize,
-}
-
-impl Write for FullWriter {
-    fn write(&mut self, buf: &[u8]) -> io::Result<usize> {
-        let count = buf.len().min(self.room);
-        let (taken, _) = buf.split_at(count);
-        self.taken.extend_from_slice(taken)?;
-        self.room -= count;
-        Ok(count)
-    }
-
-    fn flush(&mut self) -> io::Result<()> {
-        Ok(())
-    }
-}
-
-#[test]
-fn writer_fails(rt: HostRuntime) -> Result<(), Fail> {
-    let alloc = rt.alloc();
-    let mut reader = FromRead::new(b"regs\nregs\nregs\n".as_slice());
-    let mut writer = ToWrite::new(FullWriter {
-        taken: Vec::new(alloc),
-        room: 25,
-    });
-    assert_eq!(rt;
-        run(alloc, bare(alloc), &mut reader, &mut writer),
-        Err(Fault::Output)
+fn fills_a_script(rt: HostRuntime) -> Result<(), Fail> {
+    let lines = filling_lines(rt.alloc())?;
+    let output = replies(rt.alloc(), lines.as_slice())?;
+    assert!(rt;
+        output.ends_with(b"event 65535\nevent 65536\n\
+            refused 6 ScriptFull\nok\nevent 65537\nrefused 6 ScriptFull\n"
+            .as_slice())
     );
-    assert!(rt; writer.failed());
     Ok(())
 }
 
@@ -167,6 +114,36 @@ fn feeds(rt: HostRuntime) -> Result<(), Fail> {
     Ok(())
 }
 
+// Fails at its second read, and gives a byte at each other.
+#[derive(Drop)]
+struct FailsOnce {
+    reads: u32,
+}
+
+impl Read for FailsOnce {
+    fn read(&mut self, buf: &mut [u8]) -> io::Result<usize> {
+        self.reads = self.reads.saturating_add(1);
+        if self.reads == 2 || buf.is_empty() {
+            return Err(Error::from(ErrorKind::BrokenPipe));
+        }
+        buf[0] = b'a';
+        Ok(1)
+    }
+}
+
+#[test]
+fn a_failed_feed_gives_no_more(rt: HostRuntime) -> Result<(), Fail> {
+    let mut reader = FromRead::new(FailsOnce { reads: 0 });
+    let mut buf = [0; 2];
+    assert_eq!(rt; reader.pull(&mut buf), Ok(1));
+    assert!(rt; !reader.failed());
+    assert_eq!(rt; reader.pull(&mut buf), Err(Failed));
+    assert!(rt; reader.failed());
+    assert_eq!(rt; reader.pull(&mut buf), Err(Failed));
+    assert_eq!(rt; reader.left(), 999_999_999_999);
+    Ok(())
+}
+
 #[test]
 fn drains(rt: HostRuntime) -> Result<(), Fail> {
     let mut bytes = Vec::new(rt.alloc());
@@ -176,5 +153,36 @@ fn drains(rt: HostRuntime) -> Result<(), Fail> {
         assert!(rt; !writer.failed());
     }
     assert_eq!(rt; bytes.as_slice(), b"abc".as_slice());
+    Ok(())
+}
+
+// Takes none at its second write, and a byte at each other.
+#[derive(Drop)]
+struct TakesNoneOnce {
+    writes: u32,
+}
+
+impl Write for TakesNoneOnce {
+    fn write(&mut self, buf: &[u8]) -> io::Result<usize> {
+        self.writes = self.writes.saturating_add(1);
+        if self.writes == 2 || buf.is_empty() {
+            return Ok(0);
+        }
+        Ok(1)
+    }
+
+    fn flush(&mut self) -> io::Result<()> {
+        Ok(())
+    }
+}
+
+#[test]
+fn a_failed_drain_takes_no_more(rt: HostRuntime) -> Result<(), Fail> {
+    let mut writer = ToWrite::new(TakesNoneOnce { writes: 0 });
+    assert_eq!(rt; writer.put(b"ab"), Ok(1));
+    assert!(rt; !writer.failed());
+    assert_eq!(rt; writer.put(b"b"), Ok(0));
+    assert!(rt; writer.failed());
+    assert_eq!(rt; writer.put(b"b"), Err(Failed));
     Ok(())
 }

@@ -170,10 +170,6 @@ fn bytes_of(engine: &mut Engine, alloc: Global, question: Question) -> Result<By
     }
 }
 
-fn value_of(engine: &mut Engine, alloc: Global, question: Question) -> Result<Value, Fault> {
-    Ok(engine.ask(alloc, question)?.value)
-}
-
 /// How many turns were run for a question, and the known turn and the stride after it.
 fn took(engine: &mut Engine, alloc: Global, question: Question) -> Result<(u64, u32, u32), Fault> {
     let answer = engine.ask(alloc, question)?;
@@ -192,63 +188,4 @@ pub(crate) fn make(engine: &mut Engine, alloc: Global, edit: Edit) -> Result<u32
         Edit::Delay(line, delay) => engine.set_delay(line, delay)?,
     }
     Ok(0)
-}
-
-/// A question, and what it was answered.
-#[derive(Debug, PartialEq, Eq, Drop)]
-pub(crate) struct Answered {
-    pub(crate) question: Question,
-    pub(crate) value: Value,
-}
-
-/// What these questions are answered, one after another.
-pub(crate) fn ask_each(
-    alloc: Global,
-    engine: &mut Engine,
-    questions: &[Question],
-) -> Result<Vec<Answered>, Fail> {
-    let mut answered = Vec::new(alloc);
-    for question in questions {
-        let question = *question;
-        let value = value_of(engine, alloc, question)?;
-        answered.push(Answered { question, value })?;
-    }
-    Ok(answered)
-}
-
-fn assert_again(
-    rt: &impl Abort,
-    alloc: Global,
-    engine: &mut Engine,
-    answered: &Answered,
-) -> Result<(), Fail> {
-    let value = value_of(engine, alloc, answered.question)?;
-    assert_eq!(rt; &value, &answered.value, "{:?}", answered.question);
-    Ok(())
-}
-
-/// Asserts that these questions are answered with the same values again, in the same order.
-pub(crate) fn ask_forward(
-    rt: &impl Abort,
-    alloc: Global,
-    engine: &mut Engine,
-    answered: &[Answered],
-) -> Result<(), Fail> {
-    for one in answered {
-        assert_again(rt, alloc, engine, one)?;
-    }
-    Ok(())
-}
-
-/// Asserts that these questions are answered with the same values again, the last one first.
-pub(crate) fn ask_backward(
-    rt: &impl Abort,
-    alloc: Global,
-    engine: &mut Engine,
-    answered: &[Answered],
-) -> Result<(), Fail> {
-    for one in answered.iter().rev() {
-        assert_again(rt, alloc, engine, one)?;
-    }
-    Ok(())
 }

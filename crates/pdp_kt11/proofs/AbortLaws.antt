@@ -7,7 +7,7 @@ use Rattle.pdp_kt11.specs.Mode.{mode_bits}
 use Rattle.pdp_kt11.specs.Page.{numbered_page, page_number, space_of}
 use Rattle.pdp_kt11.specs.Status.{abort_told, flagged, mapping_status_word, tells_abort}
 use Rattle.pdp_kt11.specs.Translation.{Translation, aborted, abort_in, block_of, checked, is_within, mapped, mapped_in, page_of, passed, translate}
-use Rattle.pdp_kt11.specs.declared.kt.Kt.{Kt}
+use Rattle.pdp_kt11.specs.declared.registers.MappingRegisters.{MappingRegisters}
 use Rattle.pdp_kt11.specs.declared.mode.Mode.{Mode}
 use Rattle.pdp_kt11.specs.declared.page.AccessControl.TheVariants as control
 use Rattle.pdp_kt11.specs.declared.page.Page.{Page}
@@ -25,7 +25,7 @@ unfolding translate
 mapping_off mode address access kt off = (rw off refl, rw off refl)
 
 -- an access while mapping is on
-pub while_on : (mode : Mode) (address : ℕ) (access : Access) (kt : Kt) → kt.status.enabled ≡ true
+pub while_on : (mode : Mode) (address : ℕ) (access : Access) (kt : MappingRegisters) → kt.status.enabled ≡ true
     → translate mode address access kt ≡ mapped_in (space_of mode) mode address access kt
 unfolding translate mapped
 while_on mode address access kt on = rw on refl
@@ -38,7 +38,7 @@ refused page block locked = by_length (is_within page.expansion page.length bloc
   by_length true is = (ReadOnly, rw (locked, is) refl)
   by_length false is = (Length, rw (locked, is) refl)
 
-refused_in : (space : Option Space) (mode : Mode) (address : ℕ) (kt : Kt) (page : Page) → page_through space address kt ≡ Some page
+refused_in : (space : Option Space) (mode : Mode) (address : ℕ) (kt : MappingRegisters) (page : Page) → page_through space address kt ≡ Some page
     → page.access ≡ control.ReadOnly → (abort : Abort) × (mapped_in space mode address Write kt ≡ aborted abort mode address kt)
 refused_in None mode address kt page used locked = cc
 refused_in (Some space) mode address kt page used locked =
@@ -47,7 +47,7 @@ refused_in (Some space) mode address kt page used locked =
     (why.0, rw why.1 refl)
 
 -- an abort changes SR0 alone
-aborts_in_status : (mode : Mode) (address : ℕ) (access : Access) (kt : Kt) (abort : Abort)
+aborts_in_status : (mode : Mode) (address : ℕ) (access : Access) (kt : MappingRegisters) (abort : Abort)
     → translate mode address access kt ≡ aborted abort mode address kt → AbortsInStatusAlone mode address access kt
 aborts_in_status mode address access kt abort is = record {
   aborts = (abort, ap (λ (t : Translation). t.address) is);
@@ -60,14 +60,14 @@ read_only mode address kt page on used locked =
     aborts_in_status mode address Write kt why.0 (while_on mode address Write kt on ∙ why.1)
 
 -- what isn't an abort has a place
-checked_to : (outcome : Option Abort) (space : Space) (mode : Mode) (address : ℕ) (access : Access) (kt : Kt) (abort : Abort)
+checked_to : (outcome : Option Abort) (space : Space) (mode : Mode) (address : ℕ) (access : Access) (kt : MappingRegisters) (abort : Abort)
     → (checked outcome space mode address access kt).address ≡ Err abort
     → checked outcome space mode address access kt ≡ aborted abort mode address kt
 checked_to (Some why) space mode address access kt abort is =
     let same : why ≡ abort = cc in ap (λ a. aborted a mode address kt) same
 checked_to None space mode address access kt abort is = cc
 
-mapped_to : (space : Option Space) (mode : Mode) (address : ℕ) (access : Access) (kt : Kt) (abort : Abort)
+mapped_to : (space : Option Space) (mode : Mode) (address : ℕ) (access : Access) (kt : MappingRegisters) (abort : Abort)
     → (mapped_in space mode address access kt).address ≡ Err abort
     → mapped_in space mode address access kt ≡ aborted abort mode address kt
 mapped_to (Some space) mode address access kt abort is =
@@ -76,7 +76,7 @@ mapped_to None mode address access kt abort is =
     let same : Resident ≡ abort = cc in ap (λ a. aborted a mode address kt) same
 
 -- an access that aborts does so while mapping is on
-aborted_is : (mode : Mode) (address : ℕ) (access : Access) (kt : Kt) (abort : Abort) → (translate mode address access kt).address ≡ Err abort
+aborted_is : (mode : Mode) (address : ℕ) (access : Access) (kt : MappingRegisters) (abort : Abort) → (translate mode address access kt).address ≡ Err abort
     → (kt.status.enabled ≡ true) × (translate mode address access kt ≡ aborted abort mode address kt)
 aborted_is mode address access kt abort is = by_enable kt.status.enabled refl where
   by_enable : (on : Bool) → kt.status.enabled ≡ on
@@ -86,12 +86,12 @@ aborted_is mode address access kt abort is = by_enable kt.status.enabled refl wh
       (enabled, way ∙ mapped_to (space_of mode) mode address access kt abort (rw way at is))
   by_enable false enabled = let there = (mapping_off mode address access kt enabled).0 in cc
 
-pub abort_leaves_the_rest : (mode : Mode) (address : ℕ) (access : Access) (kt : Kt) (abort : Abort)
+pub abort_leaves_the_rest : (mode : Mode) (address : ℕ) (access : Access) (kt : MappingRegisters) (abort : Abort)
     → (translate mode address access kt).address ≡ Err abort → AbortsInStatusAlone mode address access kt
 abort_leaves_the_rest mode address access kt abort is =
     aborts_in_status mode address access kt abort (aborted_is mode address access kt abort is).1
 
-number_back : (n : ℕ) → n < 8 → page_number (numbered_page n) ≡ n
+pub number_back : (n : ℕ) → n < 8 → page_number (numbered_page n) ≡ n
 unfolding numbered_page
 number_back zero small = refl
 number_back (suc zero) small = refl
@@ -129,7 +129,7 @@ first_is_told mode address access kt abort fits clear is =
     ∙ ap (λ number. abort_flag abort + mode_bits mode * 0o40 + number * 2 + 1) page
 
 -- a page changes, and no status
-status_passed : (access : Access) (space : Space) (page : PageNumber) (kt : Kt) → (passed access space page kt).status ≡ kt.status
+status_passed : (access : Access) (space : Space) (page : PageNumber) (kt : MappingRegisters) → (passed access space page kt).status ≡ kt.status
 unfolding with_page
 status_passed Read space page kt = refl
 status_passed Write space.Kernel page kt = refl
@@ -140,12 +140,12 @@ told_already : (abort : Abort) (mode : Mode) (page : PageNumber) (s : MappingSta
 unfolding abort_told
 told_already abort mode page s told = rw told refl
 
-status_checked : (outcome : Option Abort) (space : Space) (mode : Mode) (address : ℕ) (access : Access) (kt : Kt)
+status_checked : (outcome : Option Abort) (space : Space) (mode : Mode) (address : ℕ) (access : Access) (kt : MappingRegisters)
     → tells_abort kt.status ≡ true → (checked outcome space mode address access kt).after.status ≡ kt.status
 status_checked (Some abort) space mode address access kt told = told_already abort mode (page_of address) kt.status told
 status_checked None space mode address access kt told = status_passed access space (page_of address) kt
 
-status_mapped : (space : Option Space) (mode : Mode) (address : ℕ) (access : Access) (kt : Kt)
+status_mapped : (space : Option Space) (mode : Mode) (address : ℕ) (access : Access) (kt : MappingRegisters)
     → tells_abort kt.status ≡ true → (mapped_in space mode address access kt).after.status ≡ kt.status
 status_mapped (Some space) mode address access kt told =
     status_checked (abort_in (page_at space (page_of address) kt) access (block_of address)) space mode address access kt told
@@ -155,16 +155,16 @@ pub later_is_not_told : LaterAbortsAreNotTold
 later_is_not_told mode address access kt told = by_enable kt.status.enabled refl where
   by_enable : (on : Bool) → kt.status.enabled ≡ on → (translate mode address access kt).after.status ≡ kt.status
   by_enable true enabled = rw (while_on mode address access kt enabled) (status_mapped (space_of mode) mode address access kt told)
-  by_enable false enabled = ap (λ (k : Kt). k.status) (mapping_off mode address access kt enabled).1
+  by_enable false enabled = ap (λ (k : MappingRegisters). k.status) (mapping_off mode address access kt enabled).1
 
 -- what passes changes a page at most
-status_unchecked : (outcome : Option Abort) (space : Space) (mode : Mode) (address : ℕ) (access : Access) (kt : Kt) (p : ℕ)
+status_unchecked : (outcome : Option Abort) (space : Space) (mode : Mode) (address : ℕ) (access : Access) (kt : MappingRegisters) (p : ℕ)
     → (checked outcome space mode address access kt).address ≡ Ok p
     → (checked outcome space mode address access kt).after.status ≡ kt.status
 status_unchecked (Some abort) space mode address access kt p is = cc
 status_unchecked None space mode address access kt p is = status_passed access space (page_of address) kt
 
-status_unmapped : (space : Option Space) (mode : Mode) (address : ℕ) (access : Access) (kt : Kt) (p : ℕ)
+status_unmapped : (space : Option Space) (mode : Mode) (address : ℕ) (access : Access) (kt : MappingRegisters) (p : ℕ)
     → (mapped_in space mode address access kt).address ≡ Ok p → (mapped_in space mode address access kt).after.status ≡ kt.status
 status_unmapped (Some space) mode address access kt p is =
     status_unchecked (abort_in (page_at space (page_of address) kt) access (block_of address)) space mode address access kt p is
@@ -176,7 +176,7 @@ pass_leaves_status mode address access kt p is = by_enable kt.status.enabled ref
   by_enable true enabled =
       let way = while_on mode address access kt enabled in
       rw way (status_unmapped (space_of mode) mode address access kt p (rw (way, place_of) at is))
-  by_enable false enabled = ap (λ (k : Kt). k.status) (mapping_off mode address access kt enabled).1
+  by_enable false enabled = ap (λ (k : MappingRegisters). k.status) (mapping_off mode address access kt enabled).1
 
 pub abort_leaves_pages : AbortsLeaveThePages
 abort_leaves_pages mode address access kt abort is = (abort_leaves_the_rest mode address access kt abort is).leaves

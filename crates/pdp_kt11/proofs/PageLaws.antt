@@ -6,7 +6,7 @@ use Rattle.pdp_kt11.specs.Kt.{page_at}
 use Rattle.pdp_kt11.specs.Laws.{AreDisjoint, DisjointPagesNeverMeet, FitsIn18Bits, first_block, first_grown, last_block, last_grown, page_through, place_of}
 use Rattle.pdp_kt11.specs.Page.{space_of}
 use Rattle.pdp_kt11.specs.Translation.{abort_in, block_of, checked, is_resident, is_within, mapped_address, mapped_in, page_of}
-use Rattle.pdp_kt11.specs.declared.kt.Kt.{Kt}
+use Rattle.pdp_kt11.specs.declared.registers.MappingRegisters.{MappingRegisters}
 use Rattle.pdp_kt11.specs.declared.mode.Mode.{Mode}
 use Rattle.pdp_kt11.specs.declared.page.Expansion.{Expansion}
 use Rattle.pdp_kt11.specs.declared.page.Expansion.TheVariants.{Upward, Downward}
@@ -47,13 +47,13 @@ in_page page address access passes fits =
     (omega arith) (omega arith) fits in
     record { least = here.0; most = here.1 }
 
-place_checked : (outcome : Option Abort) (space : Space) (mode : Mode) (address : ℕ) (access : Access) (kt : Kt) (p : ℕ)
+place_checked : (outcome : Option Abort) (space : Space) (mode : Mode) (address : ℕ) (access : Access) (kt : MappingRegisters) (p : ℕ)
     → (checked outcome space mode address access kt).address ≡ Ok p
     → (outcome ≡ None) × (p ≡ mapped_address (page_at space (page_of address) kt) address)
 place_checked (Some abort) space mode address access kt p is = cc
 place_checked None space mode address access kt p is = (refl, cc)
 
-place_in : (space : Option Space) (mode : Mode) (address : ℕ) (access : Access) (kt : Kt) (page : Page) (p : ℕ)
+place_in : (space : Option Space) (mode : Mode) (address : ℕ) (access : Access) (kt : MappingRegisters) (page : Page) (p : ℕ)
     → page_through space address kt ≡ Some page → (mapped_in space mode address access kt).address ≡ Ok p
     → FitsIn18Bits page → IsInPage page p
 place_in None mode address access kt page p used is fits = cc

@@ -9,7 +9,7 @@ use Rattle.pdp_kt11.specs.Mode.{mode_bits}
 use Rattle.pdp_kt11.specs.Page.{access_bits, access_control_of, address_written, descriptor_word, descriptor_written, empty_page, expansion_bit, expansion_of, page_number, space_of}
 use Rattle.pdp_kt11.specs.Status.{mapping_status_word, mapping_status_written}
 use Rattle.pdp_kt11.specs.Translation.{abort_in, block_of, checked, mapped_in, page_of, passed, translate}
-use Rattle.pdp_kt11.specs.declared.kt.Kt.{Kt}
+use Rattle.pdp_kt11.specs.declared.registers.MappingRegisters.{MappingRegisters}
 use Rattle.pdp_kt11.specs.declared.mode.Mode.{Mode}
 use Rattle.pdp_kt11.specs.declared.mode.Mode.TheVariants as mode
 use Rattle.pdp_kt11.specs.declared.page.AccessControl.{AccessControl}
@@ -137,7 +137,7 @@ same_page space.User P5 = refl
 same_page space.User P6 = refl
 same_page space.User P7 = refl
 
-changed_is : (space : Space) (number : PageNumber) (page : Page) (kt : Kt) → HasEightPages kt
+changed_is : (space : Space) (number : PageNumber) (page : Page) (kt : MappingRegisters) → HasEightPages kt
     → page_at space number (with_page space number page kt) ≡ page
 changed_is space number page kt eight = page_changed space space number number page kt eight ∙ rw (same_page space number) refl
 
@@ -177,43 +177,43 @@ either : (same : Bool) (page old : Page) → HasBitsInRange page → HasBitsInRa
 either true page old new before = new
 either false page old new before = before
 
-changed_in_range : (space : Space) (number : PageNumber) (page : Page) (kt : Kt) → HasEightPages kt → PagesAreInRange kt → HasBitsInRange page
+changed_in_range : (space : Space) (number : PageNumber) (page : Page) (kt : MappingRegisters) → HasEightPages kt → PagesAreInRange kt → HasBitsInRange page
     → PagesAreInRange (with_page space number page kt)
 changed_in_range space number page kt eight ranged new other another =
     rw (page_changed other space another number page kt eight)
     (either (is_same_page other another space number) page (page_at other another kt) new (ranged other another))
 
-status_in_range : (status : MappingStatus) (kt : Kt) → PagesAreInRange kt → PagesAreInRange (record kt { status = status })
+status_in_range : (status : MappingStatus) (kt : MappingRegisters) → PagesAreInRange kt → PagesAreInRange (record kt { status = status })
 status_in_range status kt ranged space number = rw (status_apart space number status kt) (ranged space number)
 
-fetch_in_range : (frozen : Bool) (address : ℕ) (kt : Kt) → PagesAreInRange kt → PagesAreInRange (if frozen then kt else record kt { last_fetch = address })
+fetch_in_range : (frozen : Bool) (address : ℕ) (kt : MappingRegisters) → PagesAreInRange kt → PagesAreInRange (if frozen then kt else record kt { last_fetch = address })
 fetch_in_range frozen address kt ranged space number = rw (fetch_apart frozen space number address kt) (ranged space number)
 
-passed_in_range : (access : Access) (space : Space) (number : PageNumber) (kt : Kt) → HasEightPages kt → PagesAreInRange kt
+passed_in_range : (access : Access) (space : Space) (number : PageNumber) (kt : MappingRegisters) → HasEightPages kt → PagesAreInRange kt
     → PagesAreInRange (passed access space number kt)
 passed_in_range Read space number kt eight ranged = ranged
 passed_in_range Write space number kt eight ranged =
     let here = ranged space number in
     changed_in_range space number (record (page_at space number kt) { written = true }) kt eight ranged (record { frame = here.frame; length = here.length })
 
-checked_in_range : (outcome : Option Abort) (space : Space) (mode : Mode) (address : ℕ) (access : Access) (kt : Kt) → HasEightPages kt
+checked_in_range : (outcome : Option Abort) (space : Space) (mode : Mode) (address : ℕ) (access : Access) (kt : MappingRegisters) → HasEightPages kt
     → PagesAreInRange kt → PagesAreInRange (checked outcome space mode address access kt).after
 checked_in_range (Some abort) space mode address access kt eight ranged = status_in_range _ kt ranged
 checked_in_range None space mode address access kt eight ranged = passed_in_range access space (page_of address) kt eight ranged
 
-mapped_in_range : (home : Option Space) (mode : Mode) (address : ℕ) (access : Access) (kt : Kt) → HasEightPages kt
+mapped_in_range : (home : Option Space) (mode : Mode) (address : ℕ) (access : Access) (kt : MappingRegisters) → HasEightPages kt
     → PagesAreInRange kt → PagesAreInRange (mapped_in home mode address access kt).after
 mapped_in_range (Some space) mode address access kt eight ranged =
     checked_in_range (abort_in (page_at space (page_of address) kt) access (block_of address)) space mode address access kt eight ranged
 mapped_in_range None mode address access kt eight ranged = status_in_range _ kt ranged
 
-access_in_range : (mode : Mode) (address : ℕ) (access : Access) (kt : Kt) (on : Bool) → kt.status.enabled ≡ on → HasEightPages kt
+access_in_range : (mode : Mode) (address : ℕ) (access : Access) (kt : MappingRegisters) (on : Bool) → kt.status.enabled ≡ on → HasEightPages kt
     → PagesAreInRange kt → PagesAreInRange (translate mode address access kt).after
 access_in_range mode address access kt false enabled eight ranged = rw ((mapping_off mode address access kt enabled).1) ranged
 access_in_range mode address access kt true enabled eight ranged =
     rw (while_on mode address access kt enabled) (mapped_in_range (space_of mode) mode address access kt eight ranged)
 
-use_in_range : (use_of : Use) (kt : Kt) → HasEightPages kt → PagesAreInRange kt → PagesAreInRange (after_use use_of kt)
+use_in_range : (use_of : Use) (kt : MappingRegisters) → HasEightPages kt → PagesAreInRange kt → PagesAreInRange (after_use use_of kt)
 unfolding kt_written kt_fetched descriptor_written address_written
 use_in_range (Accessing mode address access) kt eight ranged = access_in_range mode address access kt kt.status.enabled refl eight ranged
 use_in_range (Writing Status0 word) kt eight ranged = status_in_range _ kt ranged

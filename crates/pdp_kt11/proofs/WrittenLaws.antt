@@ -6,7 +6,7 @@ use Rattle.pdp_kt11.specs.Kt.{kt_fetched, kt_written, page_at, powered_kt, with_
 use Rattle.pdp_kt11.specs.Laws.{HasEightPages, PowerClearsWrittenBits, PowerGivesEightPages, Use, UsesKeepEightPages, WrittenBitsTellTheTruth, after_use, is_address_in, is_same_page, place_of, told_by, told_after, writes_through}
 use Rattle.pdp_kt11.specs.Page.{address_written, descriptor_written, empty_page, page_number, space_of}
 use Rattle.pdp_kt11.specs.Translation.{abort_in, block_of, checked, mapped_in, page_of, passed, translate}
-use Rattle.pdp_kt11.specs.declared.kt.Kt.{Kt}
+use Rattle.pdp_kt11.specs.declared.registers.MappingRegisters.{MappingRegisters}
 use Rattle.pdp_kt11.specs.declared.mode.Mode.{Mode}
 use Rattle.pdp_kt11.specs.declared.page.Page.{Page}
 use Rattle.pdp_kt11.specs.declared.page.PageNumber.{PageNumber}
@@ -37,7 +37,7 @@ exchanged pages i j page true is within = rw (eqb-true i j is) (get_or-set_same 
 exchanged pages i j page false is within = get_or-set_other pages j i page empty_page (eqb-false i j is)
 
 -- the pages with one of them changed
-pub page_changed : (space other : Space) (number another : PageNumber) (page : Page) (kt : Kt) → HasEightPages kt
+pub page_changed : (space other : Space) (number another : PageNumber) (page : Page) (kt : MappingRegisters) → HasEightPages kt
     → page_at space number (with_page other another page kt)
     ≡ (if is_same_page space number other another then page else page_at space number kt)
 unfolding page_at with_page
@@ -60,13 +60,13 @@ marked true page old set = set
 marked false page old set = refl
 
 -- the status and what was fetched are of no page
-pub status_apart : (space : Space) (number : PageNumber) (status : MappingStatus) (kt : Kt)
+pub status_apart : (space : Space) (number : PageNumber) (status : MappingStatus) (kt : MappingRegisters)
     → page_at space number (record kt { status = status }) ≡ page_at space number kt
 unfolding page_at
 status_apart Kernel number status kt = refl
 status_apart User number status kt = refl
 
-pub fetch_apart : (frozen : Bool) (space : Space) (number : PageNumber) (address : ℕ) (kt : Kt)
+pub fetch_apart : (frozen : Bool) (space : Space) (number : PageNumber) (address : ℕ) (kt : MappingRegisters)
     → page_at space number (if frozen then kt else record kt { last_fetch = address }) ≡ page_at space number kt
 unfolding page_at
 fetch_apart true space number address kt = refl
@@ -74,7 +74,7 @@ fetch_apart false Kernel number address kt = refl
 fetch_apart false User number address kt = refl
 
 -- an access to a page of this space
-checked_tells : (outcome : Option Abort) (space other : Space) (number : PageNumber) (mode : Mode) (address : ℕ) (kt : Kt) → HasEightPages kt
+checked_tells : (outcome : Option Abort) (space other : Space) (number : PageNumber) (mode : Mode) (address : ℕ) (kt : MappingRegisters) → HasEightPages kt
     → (page_at space number (checked outcome other mode address Write kt).after).written
     ≡ (is_ok (checked outcome other mode address Write kt).address && is_same_page space number other (page_of address) || (page_at space number kt).written)
 checked_tells (Some abort) space other number mode address kt eight = ap (λ (p : Page). p.written) (status_apart space number _ kt)
@@ -82,19 +82,19 @@ checked_tells None space other number mode address kt eight =
     ap (λ (p : Page). p.written) (page_changed space other number (page_of address) _ kt eight)
     ∙ marked (is_same_page space number other (page_of address)) _ (page_at space number kt) refl
 
-write_tells : (home : Option Space) (space : Space) (number : PageNumber) (mode : Mode) (address : ℕ) (kt : Kt) → HasEightPages kt
+write_tells : (home : Option Space) (space : Space) (number : PageNumber) (mode : Mode) (address : ℕ) (kt : MappingRegisters) → HasEightPages kt
     → (page_at space number (mapped_in home mode address Write kt).after).written
     ≡ (is_ok (mapped_in home mode address Write kt).address && is_address_in space number home address || (page_at space number kt).written)
 write_tells None space number mode address kt eight = ap (λ (p : Page). p.written) (status_apart space number _ kt)
 write_tells (Some other) space number mode address kt eight =
     checked_tells (abort_in (page_at other (page_of address) kt) Write (block_of address)) space other number mode address kt eight
 
-read_leaves : (outcome : Option Abort) (space other : Space) (number : PageNumber) (mode : Mode) (address : ℕ) (kt : Kt)
+read_leaves : (outcome : Option Abort) (space other : Space) (number : PageNumber) (mode : Mode) (address : ℕ) (kt : MappingRegisters)
     → page_at space number (checked outcome other mode address Read kt).after ≡ page_at space number kt
 read_leaves (Some abort) space other number mode address kt = status_apart space number _ kt
 read_leaves None space other number mode address kt = refl
 
-read_tells : (home : Option Space) (space : Space) (number : PageNumber) (mode : Mode) (address : ℕ) (kt : Kt)
+read_tells : (home : Option Space) (space : Space) (number : PageNumber) (mode : Mode) (address : ℕ) (kt : MappingRegisters)
     → page_at space number (mapped_in home mode address Read kt).after ≡ page_at space number kt
 read_tells None space number mode address kt = status_apart space number _ kt
 read_tells (Some other) space number mode address kt =
@@ -103,7 +103,7 @@ read_tells (Some other) space number mode address kt =
 while_set : (on passes inside before : Bool) → on ≡ true → (passes && inside || before) ≡ (on && passes && inside || before)
 while_set on passes inside before set = rw set refl
 
-access_tells : (access : Access) (space : Space) (number : PageNumber) (mode : Mode) (address : ℕ) (kt : Kt) (on : Bool)
+access_tells : (access : Access) (space : Space) (number : PageNumber) (mode : Mode) (address : ℕ) (kt : MappingRegisters) (on : Bool)
     → kt.status.enabled ≡ on → HasEightPages kt
     → (page_at space number (translate mode address access kt).after).written
     ≡ (writes_through space number mode address access kt || (page_at space number kt).written)
@@ -115,7 +115,7 @@ access_tells Write space number mode address kt true enabled eight =
     rw (while_on mode address Write kt enabled, place_of) (write_tells (space_of mode) space number mode address kt eight ∙ while_set _ _ _ _ enabled)
 
 -- W after one use
-use_tells : (use_of : Use) (space : Space) (number : PageNumber) (kt : Kt) → HasEightPages kt
+use_tells : (use_of : Use) (space : Space) (number : PageNumber) (kt : MappingRegisters) → HasEightPages kt
     → (page_at space number (after_use use_of kt)).written ≡ told_after space number use_of kt (page_at space number kt).written
 unfolding kt_written kt_fetched descriptor_written address_written
 use_tells (Accessing mode address access) space number kt eight = access_tells access space number mode address kt kt.status.enabled refl eight
@@ -132,40 +132,40 @@ use_tells (Fetching address) space number kt eight = ap (λ (p : Page). p.writte
 use_tells Resetting space number kt eight = ap (λ (p : Page). p.written) (status_apart space number _ kt)
 
 -- nothing takes a page away
-changed_keeps : (space : Space) (number : PageNumber) (page : Page) (kt : Kt) → HasEightPages kt → HasEightPages (with_page space number page kt)
+changed_keeps : (space : Space) (number : PageNumber) (page : Page) (kt : MappingRegisters) → HasEightPages kt → HasEightPages (with_page space number page kt)
 unfolding with_page
 changed_keeps Kernel number page kt eight = record { kernel = length-set _ _ _ ∙ eight.kernel; user = eight.user }
 changed_keeps User number page kt eight = record { kernel = eight.kernel; user = length-set _ _ _ ∙ eight.user }
 
-status_keeps : (status : MappingStatus) (kt : Kt) → HasEightPages kt → HasEightPages (record kt { status = status })
+status_keeps : (status : MappingStatus) (kt : MappingRegisters) → HasEightPages kt → HasEightPages (record kt { status = status })
 status_keeps status kt eight = record { kernel = eight.kernel; user = eight.user }
 
-fetch_keeps : (frozen : Bool) (address : ℕ) (kt : Kt) → HasEightPages kt → HasEightPages (if frozen then kt else record kt { last_fetch = address })
+fetch_keeps : (frozen : Bool) (address : ℕ) (kt : MappingRegisters) → HasEightPages kt → HasEightPages (if frozen then kt else record kt { last_fetch = address })
 fetch_keeps true address kt eight = eight
 fetch_keeps false address kt eight = record { kernel = eight.kernel; user = eight.user }
 
-passed_keeps : (access : Access) (space : Space) (number : PageNumber) (kt : Kt) → HasEightPages kt → HasEightPages (passed access space number kt)
+passed_keeps : (access : Access) (space : Space) (number : PageNumber) (kt : MappingRegisters) → HasEightPages kt → HasEightPages (passed access space number kt)
 passed_keeps Read space number kt eight = eight
 passed_keeps Write space number kt eight = changed_keeps space number _ kt eight
 
-checked_keeps : (outcome : Option Abort) (space : Space) (mode : Mode) (address : ℕ) (access : Access) (kt : Kt) → HasEightPages kt
+checked_keeps : (outcome : Option Abort) (space : Space) (mode : Mode) (address : ℕ) (access : Access) (kt : MappingRegisters) → HasEightPages kt
     → HasEightPages (checked outcome space mode address access kt).after
 checked_keeps (Some abort) space mode address access kt eight = status_keeps _ kt eight
 checked_keeps None space mode address access kt eight = passed_keeps access space (page_of address) kt eight
 
-mapped_keeps : (home : Option Space) (mode : Mode) (address : ℕ) (access : Access) (kt : Kt) → HasEightPages kt
+mapped_keeps : (home : Option Space) (mode : Mode) (address : ℕ) (access : Access) (kt : MappingRegisters) → HasEightPages kt
     → HasEightPages (mapped_in home mode address access kt).after
 mapped_keeps (Some space) mode address access kt eight =
     checked_keeps (abort_in (page_at space (page_of address) kt) access (block_of address)) space mode address access kt eight
 mapped_keeps None mode address access kt eight = status_keeps _ kt eight
 
-access_keeps : (mode : Mode) (address : ℕ) (access : Access) (kt : Kt) (on : Bool) → kt.status.enabled ≡ on → HasEightPages kt
+access_keeps : (mode : Mode) (address : ℕ) (access : Access) (kt : MappingRegisters) (on : Bool) → kt.status.enabled ≡ on → HasEightPages kt
     → HasEightPages (translate mode address access kt).after
 access_keeps mode address access kt false enabled eight = rw ((mapping_off mode address access kt enabled).1) eight
 access_keeps mode address access kt true enabled eight =
     rw (while_on mode address access kt enabled) (mapped_keeps (space_of mode) mode address access kt eight)
 
-pub use_keeps_pages : (use_of : Use) (kt : Kt) → HasEightPages kt → HasEightPages (after_use use_of kt)
+pub use_keeps_pages : (use_of : Use) (kt : MappingRegisters) → HasEightPages kt → HasEightPages (after_use use_of kt)
 unfolding kt_written kt_fetched
 use_keeps_pages (Accessing mode address access) kt eight = access_keeps mode address access kt kt.status.enabled refl eight
 use_keeps_pages (Writing Status0 word) kt eight = status_keeps _ kt eight

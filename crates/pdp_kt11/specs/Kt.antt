@@ -4,7 +4,7 @@
 use Rattle.std.specs.Prelude.{ℕ, ◌+◌, ◌-◌, ◌/◌, ◌%◌, ◌==◌, ◌&&◌, nat_le, Bool, List, [], ◌∷◌, Option, Some, None, slice_index_or, slice_set, if◌then◌else◌}
 use Rattle.pdp_kt11.specs.Page.{address_written, descriptor_word, descriptor_written, empty_page, numbered_page, page_number}
 use Rattle.pdp_kt11.specs.Status.{clear_status, mapping_status_word, mapping_status_written, tells_abort}
-use Rattle.pdp_kt11.specs.declared.kt.Kt.{Kt}
+use Rattle.pdp_kt11.specs.declared.registers.MappingRegisters.{MappingRegisters}
 use Rattle.pdp_kt11.specs.declared.page.Page.{Page}
 use Rattle.pdp_kt11.specs.declared.page.PageNumber.{PageNumber}
 use Rattle.pdp_kt11.specs.declared.page.Space.{Space}
@@ -13,22 +13,22 @@ use Rattle.pdp_kt11.specs.declared.register.KtRegister.{KtRegister}
 use Rattle.pdp_kt11.specs.declared.register.KtRegister.TheVariants.{Status0, Status1, Status2, Descriptor, Address}
 
 -- the pages of a space
-abbrev pub pages_of : Space → Kt → List Page
+abbrev pub pages_of : Space → MappingRegisters → List Page
 pages_of Kernel kt = kt.kernel
 pages_of User kt = kt.user
 
-unfoldable pub page_at : Space → PageNumber → Kt → Page
+unfoldable pub page_at : Space → PageNumber → MappingRegisters → Page
 page_at space number kt = slice_index_or (pages_of space kt) (page_number number) empty_page
 
-abbrev pub with_pages : Space → List Page → Kt → Kt
+abbrev pub with_pages : Space → List Page → MappingRegisters → MappingRegisters
 with_pages Kernel pages kt = record kt { kernel = pages }
 with_pages User pages kt = record kt { user = pages }
 
-unfoldable pub with_page : Space → PageNumber → Page → Kt → Kt
+unfoldable pub with_page : Space → PageNumber → Page → MappingRegisters → MappingRegisters
 with_page space number page kt = with_pages space (slice_set (pages_of space kt) (page_number number) page) kt
 
 -- as of power-up: every bit of every register is 0
-unfoldable pub powered_kt : Kt
+unfoldable pub powered_kt : MappingRegisters
 powered_kt = record {
   status = clear_status;
   last_fetch = 0;
@@ -37,11 +37,11 @@ powered_kt = record {
 }
 
 -- RESET clears SR0; the pages and SR2 stay
-abbrev pub kt_reset : Kt → Kt
+abbrev pub kt_reset : MappingRegisters → MappingRegisters
 kt_reset kt = record kt { status = clear_status }
 
 -- an instruction was fetched at this virtual address: SR2 takes it, while no abort is told
-unfoldable pub kt_fetched : ℕ → Kt → Kt
+unfoldable pub kt_fetched : ℕ → MappingRegisters → MappingRegisters
 kt_fetched address kt = if tells_abort kt.status then kt else record kt { last_fetch = address }
 
 -- eight words from this address on
@@ -64,7 +64,7 @@ kt_register_at address = (
     if is_among 0o777640 address then Some (Address User (page_from 0o777640 address)) else None)
 
 -- what a read gives; it does nothing
-unfoldable pub kt_value : KtRegister → Kt → ℕ
+unfoldable pub kt_value : KtRegister → MappingRegisters → ℕ
 kt_value Status0 kt = mapping_status_word kt.status
 kt_value Status1 kt = 0
 kt_value Status2 kt = kt.last_fetch
@@ -72,7 +72,7 @@ kt_value (Descriptor space number) kt = descriptor_word (page_at space number kt
 kt_value (Address space number) kt = (page_at space number kt).frame
 
 -- what a write of a word does
-unfoldable pub kt_written : KtRegister → ℕ → Kt → Kt
+unfoldable pub kt_written : KtRegister → ℕ → MappingRegisters → MappingRegisters
 kt_written Status0 word kt = record kt { status = mapping_status_written word kt.status }
 kt_written Status1 word kt = kt
 kt_written Status2 word kt = kt

@@ -8,7 +8,7 @@ use Rattle.pdp_kt11.specs.Page.{page_number, space_of}
 use Rattle.pdp_kt11.specs.Place.{unmapped_address}
 use Rattle.pdp_kt11.specs.Status.{mapping_status_word, tells_abort}
 use Rattle.pdp_kt11.specs.Translation.{page_of, translate}
-use Rattle.pdp_kt11.specs.declared.kt.Kt.{Kt}
+use Rattle.pdp_kt11.specs.declared.registers.MappingRegisters.{MappingRegisters}
 use Rattle.pdp_kt11.specs.declared.mode.Mode.{Mode}
 use Rattle.pdp_kt11.specs.declared.page.AccessControl.TheVariants as control
 use Rattle.pdp_kt11.specs.declared.page.Expansion.{Expansion}
@@ -25,39 +25,39 @@ use Rattle.pdp_kt11.specs.declared.register.KtRegister.{KtRegister}
 use Rattle.pdp_kt11.specs.declared.register.KtRegister.TheVariants.{Status0, Status1, Status2, Descriptor, Address}
 
 -- where an access goes, if it isn't aborted, and the registers after it
-abbrev pub place_of : Mode → ℕ → Access → Kt → Result ℕ Abort
+abbrev pub place_of : Mode → ℕ → Access → MappingRegisters → Result ℕ Abort
 place_of mode address access kt = (translate mode address access kt).address
 
-abbrev pub after_access : Mode → ℕ → Access → Kt → Kt
+abbrev pub after_access : Mode → ℕ → Access → MappingRegisters → MappingRegisters
 after_access mode address access kt = (translate mode address access kt).after
 
 -- while mapping is off an access goes where it goes without memory management, and leaves the registers
 abbrev pub MappingOffIsTheOldRule : Type 0
-MappingOffIsTheOldRule = (mode : Mode) (address : ℕ) (access : Access) (kt : Kt) → kt.status.enabled ≡ false
+MappingOffIsTheOldRule = (mode : Mode) (address : ℕ) (access : Access) (kt : MappingRegisters) → kt.status.enabled ≡ false
     → (place_of mode address access kt ≡ Ok (unmapped_address address)) × (after_access mode address access kt ≡ kt)
 
 -- the page that an access goes through while mapping is on, if its mode has pages
-abbrev pub page_through : Option Space → ℕ → Kt → Option Page
+abbrev pub page_through : Option Space → ℕ → MappingRegisters → Option Page
 page_through None address kt = None
 page_through (Some space) address kt = Some (page_at space (page_of address) kt)
 
-abbrev pub page_used : Mode → ℕ → Kt → Option Page
+abbrev pub page_used : Mode → ℕ → MappingRegisters → Option Page
 page_used mode address kt = page_through (space_of mode) address kt
 
 -- an access is aborted, and leaves all registers but SR0
-pub record AbortsInStatusAlone (mode : Mode) (address : ℕ) (access : Access) (kt : Kt) : Type 0 where
+pub record AbortsInStatusAlone (mode : Mode) (address : ℕ) (access : Access) (kt : MappingRegisters) : Type 0 where
   pub aborts : (abort : Abort) × (place_of mode address access kt ≡ Err abort)
   pub leaves : after_access mode address access kt ≡ record kt { status = (after_access mode address access kt).status }
 
 -- a write through a read-only page is aborted: it goes nowhere
 abbrev pub ReadOnlyPagesAreNeverWritten : Type 0
-ReadOnlyPagesAreNeverWritten = (mode : Mode) (address : ℕ) (kt : Kt) (page : Page) → kt.status.enabled ≡ true
+ReadOnlyPagesAreNeverWritten = (mode : Mode) (address : ℕ) (kt : MappingRegisters) (page : Page) → kt.status.enabled ≡ true
     → page_used mode address kt ≡ Some page → page.access ≡ control.ReadOnly
     → AbortsInStatusAlone mode address Write kt
 
 -- whatever access is aborted, it leaves all registers but SR0
 abbrev pub AbortsLeaveThePages : Type 0
-AbortsLeaveThePages = (mode : Mode) (address : ℕ) (access : Access) (kt : Kt) (abort : Abort)
+AbortsLeaveThePages = (mode : Mode) (address : ℕ) (access : Access) (kt : MappingRegisters) (abort : Abort)
     → place_of mode address access kt ≡ Err abort
     → after_access mode address access kt ≡ record kt { status = (after_access mode address access kt).status }
 
@@ -70,25 +70,25 @@ abort_flag ReadOnly = 0o20000
 -- where SR0 tells of no abort yet, the first one is told by its flag alone, the bits of its mode and the number of its
 -- page; mapping stays on
 abbrev pub TheFirstAbortIsTold : Type 0
-TheFirstAbortIsTold = (mode : Mode) (address : ℕ) (access : Access) (kt : Kt) (abort : Abort)
+TheFirstAbortIsTold = (mode : Mode) (address : ℕ) (access : Access) (kt : MappingRegisters) (abort : Abort)
     → address < 0o200000 → tells_abort kt.status ≡ false → place_of mode address access kt ≡ Err abort
     → mapping_status_word (after_access mode address access kt).status
     ≡ abort_flag abort + mode_bits mode * 0o40 + address / 0o20000 * 2 + 1
 
 -- where it tells of one already, or one of its bits 15-13 was written, no access changes it
 abbrev pub LaterAbortsAreNotTold : Type 0
-LaterAbortsAreNotTold = (mode : Mode) (address : ℕ) (access : Access) (kt : Kt) → tells_abort kt.status ≡ true
+LaterAbortsAreNotTold = (mode : Mode) (address : ℕ) (access : Access) (kt : MappingRegisters) → tells_abort kt.status ≡ true
     → (after_access mode address access kt).status ≡ kt.status
 
 -- an access that passes leaves SR0
 abbrev pub PassesLeaveStatus : Type 0
-PassesLeaveStatus = (mode : Mode) (address : ℕ) (access : Access) (kt : Kt) (p : ℕ)
+PassesLeaveStatus = (mode : Mode) (address : ℕ) (access : Access) (kt : MappingRegisters) (p : ℕ)
     → place_of mode address access kt ≡ Ok p → (after_access mode address access kt).status ≡ kt.status
 
 -- SR2 follows the fetches where SR0 tells of no abort, and no other register changes; where it tells of one, or one of its
 -- bits 15-13 was written, a fetch changes no register
 abbrev pub FetchesAreFollowedUntilAnAbort : Type 0
-FetchesAreFollowedUntilAnAbort = (address : ℕ) (kt : Kt)
+FetchesAreFollowedUntilAnAbort = (address : ℕ) (kt : MappingRegisters)
     → (tells_abort kt.status ≡ false → kt_fetched address kt ≡ record kt { last_fetch = address })
     × (tells_abort kt.status ≡ true → kt_fetched address kt ≡ kt)
 
@@ -118,7 +118,7 @@ AreDisjoint page other = (last_block page < first_block other) ⊎ (last_block o
 
 -- two accesses through pages whose addresses don't pass 18 bits, and that are disjoint, never go to the same word
 abbrev pub DisjointPagesNeverMeet : Type 0
-DisjointPagesNeverMeet = (kt : Kt) (mode another : Mode) (a b : ℕ) (first second : Access) (page other : Page) (p q : ℕ)
+DisjointPagesNeverMeet = (kt : MappingRegisters) (mode another : Mode) (a b : ℕ) (first second : Access) (page other : Page) (p q : ℕ)
     → kt.status.enabled ≡ true → page_used mode a kt ≡ Some page → page_used another b kt ≡ Some other
     → FitsIn18Bits page → FitsIn18Bits other → AreDisjoint page other
     → place_of mode a first kt ≡ Ok p → place_of another b second kt ≡ Ok q
@@ -131,14 +131,14 @@ pub data Use : Type 0 where
   Fetching : ℕ → Use
   Resetting : Use
 
-abbrev pub after_use : Use → Kt → Kt
+abbrev pub after_use : Use → MappingRegisters → MappingRegisters
 after_use (Accessing mode address access) kt = after_access mode address access kt
 after_use (Writing register word) kt = kt_written register word kt
 after_use (Fetching address) kt = kt_fetched address kt
 after_use Resetting kt = kt_reset kt
 
 -- the registers after uses, in their order
-abbrev pub after_uses : List Use → Kt → Kt
+abbrev pub after_uses : List Use → MappingRegisters → MappingRegisters
 after_uses [] kt = kt
 after_uses (use_of ∷ uses) kt = after_uses uses (after_use use_of kt)
 
@@ -157,38 +157,38 @@ is_address_in space number None address = false
 is_address_in space number (Some other) address = is_same_page space number other (page_of address)
 
 -- whether an access writes through this page: mapping is on, it isn't aborted, and its address is of the page
-abbrev pub writes_through : Space → PageNumber → Mode → ℕ → Access → Kt → Bool
+abbrev pub writes_through : Space → PageNumber → Mode → ℕ → Access → MappingRegisters → Bool
 writes_through space number mode address Read kt = false
 writes_through space number mode address Write kt =
     kt.status.enabled && is_ok (place_of mode address Write kt) && is_address_in space number (space_of mode) address
 
 -- W of a page after a use, where it was this before: a write through the page sets it, a write of one of its two
 -- registers clears it
-abbrev pub told_after : Space → PageNumber → Use → Kt → Bool → Bool
+abbrev pub told_after : Space → PageNumber → Use → MappingRegisters → Bool → Bool
 told_after space number (Accessing mode address access) kt before = writes_through space number mode address access kt || before
 told_after space number (Writing (Descriptor other another) word) kt before = not (is_same_page space number other another) && before
 told_after space number (Writing (Address other another) word) kt before = not (is_same_page space number other another) && before
 told_after space number _ kt before = before
 
 -- W of a page as its uses tell it
-abbrev pub told_by : Space → PageNumber → List Use → Kt → Bool → Bool
+abbrev pub told_by : Space → PageNumber → List Use → MappingRegisters → Bool → Bool
 told_by space number [] kt before = before
 told_by space number (use_of ∷ uses) kt before =
     told_by space number uses (after_use use_of kt) (told_after space number use_of kt before)
 
 -- each space has its eight pages, as the machine has
-pub record HasEightPages (kt : Kt) : Type 0 where
+pub record HasEightPages (kt : MappingRegisters) : Type 0 where
   pub kernel : length kt.kernel ≡ 8
   pub user : length kt.user ≡ 8
 
 -- W of each page is what the uses tell, from what it was before them
 abbrev pub WrittenBitsTellTheTruth : Type 0
-WrittenBitsTellTheTruth = (space : Space) (number : PageNumber) (uses : List Use) (kt : Kt) → HasEightPages kt
+WrittenBitsTellTheTruth = (space : Space) (number : PageNumber) (uses : List Use) (kt : MappingRegisters) → HasEightPages kt
     → (page_at space number (after_uses uses kt)).written ≡ told_by space number uses kt (page_at space number kt).written
 
 -- and no use takes a page away
 abbrev pub UsesKeepEightPages : Type 0
-UsesKeepEightPages = (uses : List Use) (kt : Kt) → HasEightPages kt → HasEightPages (after_uses uses kt)
+UsesKeepEightPages = (uses : List Use) (kt : MappingRegisters) → HasEightPages kt → HasEightPages (after_uses uses kt)
 
 -- as of power-up each space has its eight pages, and W of each is clear
 abbrev pub PowerGivesEightPages : Type 0
@@ -203,7 +203,7 @@ pub record HasBitsInRange (page : Page) : Type 0 where
   pub length : page.length < 0o200
 
 -- each page is such, as the machine's are
-abbrev pub PagesAreInRange : Kt → Type 0
+abbrev pub PagesAreInRange : MappingRegisters → Type 0
 PagesAreInRange kt = (space : Space) (number : PageNumber) → HasBitsInRange (page_at space number kt)
 
 -- so they are as of power-up, and each use keeps them so
@@ -211,7 +211,7 @@ abbrev pub PowerGivesPagesInRange : Type 0
 PowerGivesPagesInRange = PagesAreInRange powered_kt
 
 abbrev pub UsesKeepPagesInRange : Type 0
-UsesKeepPagesInRange = (uses : List Use) (kt : Kt) → HasEightPages kt → PagesAreInRange kt → PagesAreInRange (after_uses uses kt)
+UsesKeepPagesInRange = (uses : List Use) (kt : MappingRegisters) → HasEightPages kt → PagesAreInRange kt → PagesAreInRange (after_uses uses kt)
 
 -- the bits of a word that a rule names: of SR0 15-13, 6-5 and 3-0, of a descriptor 14-8, 6 and 3-1, of an address 11-0
 abbrev pub named_bits : KtRegister → ℕ → ℕ
@@ -223,22 +223,22 @@ named_bits (Address space number) word = word % 0o10000
 
 -- a read gives those alone: the others are 0
 abbrev pub OtherBitsReadZero : Type 0
-OtherBitsReadZero = (register : KtRegister) (kt : Kt) → PagesAreInRange kt
+OtherBitsReadZero = (register : KtRegister) (kt : MappingRegisters) → PagesAreInRange kt
     → kt_value register kt ≡ named_bits register (kt_value register kt)
 
 -- a descriptor reads back bits 14-8 and 3-1 of the word that was written to it, and W clear
 abbrev pub WrittenDescriptorReadsBack : Type 0
-WrittenDescriptorReadsBack = (space : Space) (number : PageNumber) (word : ℕ) (kt : Kt) → HasEightPages kt
+WrittenDescriptorReadsBack = (space : Space) (number : PageNumber) (word : ℕ) (kt : MappingRegisters) → HasEightPages kt
     → kt_value (Descriptor space number) (kt_written (Descriptor space number) word kt)
     ≡ word / 0o400 % 0o200 * 0o400 + word % 0o20 / 2 * 2
 
 -- a page address register reads back bits 11-0
 abbrev pub WrittenAddressReadsBack : Type 0
-WrittenAddressReadsBack = (space : Space) (number : PageNumber) (word : ℕ) (kt : Kt) → HasEightPages kt
+WrittenAddressReadsBack = (space : Space) (number : PageNumber) (word : ℕ) (kt : MappingRegisters) → HasEightPages kt
     → kt_value (Address space number) (kt_written (Address space number) word kt) ≡ word % 0o10000
 
 -- SR0 reads back bits 15-13 and 0, and bits 6-5 and 3-1 as before
 abbrev pub WrittenStatusReadsBack : Type 0
-WrittenStatusReadsBack = (word : ℕ) (kt : Kt)
+WrittenStatusReadsBack = (word : ℕ) (kt : MappingRegisters)
     → kt_value Status0 (kt_written Status0 word kt)
     ≡ word / 0o20000 % 8 * 0o20000 + kt_value Status0 kt / 0o40 % 4 * 0o40 + kt_value Status0 kt % 0o20 / 2 * 2 + word % 2

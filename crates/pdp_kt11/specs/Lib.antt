@@ -1,3 +1,4 @@
+pub mod KeptTranslation
 pub mod Kt
 pub mod Laws
 pub mod Mode

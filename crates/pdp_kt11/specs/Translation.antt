@@ -5,7 +5,7 @@ use Rattle.pdp_kt11.specs.Kt.{page_at, with_page}
 use Rattle.pdp_kt11.specs.Page.{numbered_page, space_of}
 use Rattle.pdp_kt11.specs.Place.{unmapped_address}
 use Rattle.pdp_kt11.specs.Status.{abort_told}
-use Rattle.pdp_kt11.specs.declared.kt.Kt.{Kt}
+use Rattle.pdp_kt11.specs.declared.registers.MappingRegisters.{MappingRegisters}
 use Rattle.pdp_kt11.specs.declared.mode.Mode.{Mode}
 use Rattle.pdp_kt11.specs.declared.page.AccessControl.{AccessControl}
 use Rattle.pdp_kt11.specs.declared.page.AccessControl.TheVariants as control
@@ -56,22 +56,22 @@ abort_in page access block =
 -- where an access goes, or its abort; and the registers after it
 pub record Translation : Type 0 where
   pub address : Result ℕ Abort
-  pub after : Kt
+  pub after : MappingRegisters
 
 -- a write through a page sets its W
-abbrev pub passed : Access → Space → PageNumber → Kt → Kt
+abbrev pub passed : Access → Space → PageNumber → MappingRegisters → MappingRegisters
 passed Read space number kt = kt
 passed Write space number kt = with_page space number (record (page_at space number kt) { written = true }) kt
 
 -- SR0 tells of an abort, if no other is told
-abbrev pub aborted : Abort → Mode → ℕ → Kt → Translation
+abbrev pub aborted : Abort → Mode → ℕ → MappingRegisters → Translation
 aborted abort mode address kt = record {
   address = Err abort;
   after = record kt { status = abort_told abort mode (page_of address) kt.status };
 }
 
 -- an access to a page of a space, with the test that fails, if one does
-abbrev pub checked : Option Abort → Space → Mode → ℕ → Access → Kt → Translation
+abbrev pub checked : Option Abort → Space → Mode → ℕ → Access → MappingRegisters → Translation
 checked (Some abort) space mode address access kt = aborted abort mode address kt
 checked None space mode address access kt = record {
   address = Ok (mapped_address (page_at space (page_of address) kt) address);
@@ -79,17 +79,17 @@ checked None space mode address access kt = record {
 }
 
 -- an access in the space of a mode, if it has one
-abbrev pub mapped_in : Option Space → Mode → ℕ → Access → Kt → Translation
+abbrev pub mapped_in : Option Space → Mode → ℕ → Access → MappingRegisters → Translation
 mapped_in None mode address access kt = aborted Resident mode address kt
 mapped_in (Some space) mode address access kt =
     checked (abort_in (page_at space (page_of address) kt) access (block_of address)) space mode address access kt
 
 -- an access while mapping is on
-unfoldable pub mapped : Mode → ℕ → Access → Kt → Translation
+unfoldable pub mapped : Mode → ℕ → Access → MappingRegisters → Translation
 mapped mode address access kt = mapped_in (space_of mode) mode address access kt
 
 -- an access: by the mapping registers as they are
-unfoldable pub translate : Mode → ℕ → Access → Kt → Translation
+unfoldable pub translate : Mode → ℕ → Access → MappingRegisters → Translation
 translate mode address access kt =
     if kt.status.enabled then mapped mode address access kt
     else record { address = Ok (unmapped_address address); after = kt }

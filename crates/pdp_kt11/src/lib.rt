@@ -1,17 +1,42 @@
-//! Memory management of the PDP-11/40, the KT11-D: processor modes, pages and their registers, and the physical address
-//! of a virtual one.
+//! Memory management of the PDP-11/40, the KT11-D: processor modes, pages and their registers, and
+//! the physical address of a virtual one. It stands on pdp_word.
 //!
-//! It stands on pdp_word. The contracts of `Kt` give each access its physical address or its abort, and the registers
-//! after it, for all that they can hold, and say what a read and a write of each register do. The reference itself, its
-//! odd addresses and its trap it leaves to pdp_operand, the bus cycle to pdp_unibus.
+//! # What is proved
+//!
+//! - Each access, in each mode and whatever the registers hold, has its physical address, or aborts
+//!   by the first test that fails, with W and SR0 after it (`Kt::place`, `Mode::of_bits`).
+//! - What a fetch, a read and a write of each register and RESET do (`Kt::fetched`, `read_reg`,
+//!   `write_reg`, `reset`, `KtRegister::at`). Registers read back what they keep of a word
+//!   (`registers_read_back`).
+//! - While mapping is off, addresses go by the rule without mapping (`mapping_off_is_the_old_rule`,
+//!   `unmapped`).
+//! - Pages whose addresses do not pass 18 bits and that do not overlap never share a word
+//!   (`disjoint_pages_never_meet`).
+//! - Nothing is written through a read-only page (`read_only_pages_are_never_written`).
+//! - W of a page is set exactly if a write went through the page since one of its two registers was
+//!   last written, or since power-up (`written_bits_tell_the_truth`).
+//! - SR0 tells the first abort and no other, and an abort leaves the pages
+//!   (`the_first_abort_is_told`, `aborts_leave_the_pages`).
+//!
+//! - Which translations are kept changes no result: a contract sees the registers alone, and that
+//!   each kept translation is right is an invariant of `Kt`.
+//!
+//! # What is only tested
+//!
+//! - That a translation is kept after an access with mapping on (`Kt::held`).
+//!
+//! The reference itself, its odd addresses and its trap are left to pdp_operand, the bus cycle to
+//! pdp_unibus.
 #![tactic(auto)]
 
+mod kept_translation;
 mod kt;
 mod laws;
 mod mode;
 mod page;
 mod place;
 mod register;
+mod registers;
 mod status;
 
 pub use kt::Kt;
@@ -24,4 +49,5 @@ pub use mode::Mode;
 pub use page::{AccessControl, Expansion, Page, PageNumber, Space};
 pub use place::{Abort, Access, unmapped};
 pub use register::KtRegister;
+pub use registers::MappingRegisters;
 pub use status::MappingStatus;

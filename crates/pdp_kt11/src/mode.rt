@@ -37,15 +37,11 @@ impl Mode {
     }
 
     /// The two bits of the mode in the program status word: 0 to 3.
+    #[inline(always)]
     pub fn bits(self) -> u16
         ensures bits { result ≡ mode_bits self }
         ensures two_bits { result < 4 }
     {
-        match self {
-            Mode::Kernel => 0,
-            Mode::Bad1 => 1,
-            Mode::Bad2 => 2,
-            Mode::User => 3,
-        }
+        self as u16
     }
 }

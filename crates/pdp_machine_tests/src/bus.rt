@@ -1,6 +1,7 @@
 //! The bus over a page of core, and what its tests share. What programs make of registers is in the rows and tables of
 //! sessions.
 
+use pdp_icache::Lines;
 use pdp_store::{Agent, Flat, Stamp};
 use pdp_unibus::{Bus, Delays, Event, Priority, Source, Timeout, timeouts_change_nothing};
 use pdp_word::NoMemory;
@@ -16,14 +17,21 @@ const PRB: u32 = 0o777552;
 
 const PPB: u32 = 0o777556;
 
+const TKS: u32 = 0o777560;
+
 const TKB: u32 = 0o777562;
 
 const TPB: u32 = 0o777566;
 
+// A physical address has 18 bits.
+const ADDRESSES: u32 = 0o1000000;
+
 // A bus at power-up with 256 words of core, no drive, this tape in the reader and these delays.
 fn bus(alloc: Global, tape: &[u8], delays: Delays) -> Result<Bus<Flat, Flat>, NoMemory> {
     let core = Flat::new(alloc, 256, true)?;
-    Ok(Bus::new(core, Vec::new(alloc), tape.to_vec(alloc)?, delays))
+    let lines = Lines::new(alloc)?;
+    let tape = tape.to_vec(alloc)?;
+    Ok(Bus::new(lines, core, Vec::new(alloc), tape, delays))
 }
 
 // What is done with a bus, and what it answers.
@@ -37,6 +45,8 @@ enum Step<'a> {
     Read(u32, u16),
     Write(u32, u16),
     WriteByte(u32, u8),
+    // Whether a source may request an interrupt.
+    MayRequest(bool),
     // The source that is chosen for a priority.
     Choose(Priority, Option<Source>),
     Serve(Source),
@@ -58,14 +68,15 @@ fn take_steps(rt: &impl Abort, bus: &mut Bus<Flat, Flat>, steps: &[Step]) {
                 assert_eq!(rt; bus.begin_quietly(turn), quiet, "{step:?}");
             }
             Step::Read(address, word) => assert_eq!(rt; bus.read(address), Ok(word), "{step:?}"),
-            Step::Write(address, word) => assert_eq!(rt;
-                bus.write(address, word),
-                Ok(()),
-                "{step:?}"
-            ),
+            Step::Write(address, word) => {
+                assert!(rt; address < ADDRESSES);
+                assert_eq!(rt; bus.write(address, word), Ok(()), "{step:?}");
+            }
             Step::WriteByte(address, byte) => {
+                assert!(rt; address < ADDRESSES);
                 assert_eq!(rt; bus.write_byte(address, byte), Ok(()), "{step:?}");
             }
+            Step::MayRequest(may) => assert_eq!(rt; bus.may_request(), may, "{step:?}"),
             Step::Choose(priority, source) => {
                 assert_eq!(rt; bus.choose(priority), source, "{step:?}");
             }

@@ -4,6 +4,7 @@
 ghost use Rattle.std.specs.Prelude.{◌≡◌, ◌+◌, ◌≤◌, IfOk, OnOk, length};
 
 use pdp_cpu::{Act, Machine, Meter, Regs, RunState, turns_keep_the_size_of_core};
+use pdp_icache::Lines;
 use pdp_store::{Flat, Store};
 use pdp_unibus::{Delays, LAST_TURN};
 use pdp_word::NoMemory;
@@ -39,6 +40,7 @@ fn machine_over(alloc: Global, start: u16, program: &[u16]) -> Result<Machine<Fl
     place(&mut core, 0o001000, program);
     Ok(Machine::power(
         alloc,
+        Lines::new(alloc)?,
         start,
         core,
         Vec::new(alloc),

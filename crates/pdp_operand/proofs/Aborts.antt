@@ -10,8 +10,8 @@ use Rattle.pdp_unibus.specs.Cycle.{Slave, Core, Device, Nobody, slave_at}
 use Rattle.pdp_unibus.specs.declared.board.Board.{Board}
 use Rattle.pdp_operand.specs.Handbook.Reference.{Kind, ReadWord, ReadByte, WriteWord, WriteByte, Reference, Reply, access_of, is_odd, translation}
 use Rattle.pdp_operand.specs.Laws.Aborted.{AbortsLeaveCore, FailsWith, ReadOnlyPagesKeepTheirWords, ToldAbortsLeaveCore, refusal_of, with_mapping_status}
-use Rattle.pdp_operand.specs.declared.trap.Trap.{Trap}
-use Rattle.pdp_operand.specs.declared.trap.Trap.TheVariants.{MappingAbort, OddAddress}
+use Rattle.pdp_operation.specs.declared.trap.Trap.{Trap}
+use Rattle.pdp_operation.specs.declared.trap.Trap.TheVariants.{MappingAbort, OddAddress}
 use Rattle.pdp_operand.proofs.Shape.{perform_is, reply_by, shape_at, shape_by, shape_if, shape_of, touches_is}
 use Rattle.pdp_operand.proofs.Shape.Shape.{Apart}
 

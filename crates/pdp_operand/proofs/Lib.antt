@@ -7,3 +7,4 @@ pub mod Pairs
 pub mod Bound
 pub mod Outside
 pub mod Aborts
+pub mod Decodings

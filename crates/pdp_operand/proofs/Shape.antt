@@ -12,8 +12,8 @@ use Rattle.pdp_operand.specs.Laws.Trace.{touch_at, touched, touches}
 use Rattle.pdp_store.specs.Parts.{core_with, drives_with}
 use Rattle.pdp_store.specs.Touch.{Part as parts, Part, Touch}
 use Rattle.pdp_unibus.specs.Page.{words_of, with_words}
-use Rattle.pdp_operand.specs.declared.trap.Trap.{Trap}
-use Rattle.pdp_operand.specs.declared.trap.Trap.TheVariants.{BusTimeout, MappingAbort, OddAddress}
+use Rattle.pdp_operation.specs.declared.trap.Trap.{Trap}
+use Rattle.pdp_operation.specs.declared.trap.Trap.TheVariants.{BusTimeout, MappingAbort, OddAddress}
 
 -- what a reference does, besides the board that it leaves: no word of core answers; or a word is read, and told through
 -- a function; or a word is written, from what it was

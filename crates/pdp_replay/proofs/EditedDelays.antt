@@ -8,7 +8,7 @@ use Rattle.pdp_operand.specs.Phases.World.{world}
 use Rattle.pdp_unibus.specs.BusContent.{with_tape}
 use Rattle.pdp_unibus.specs.declared.delays.Delays.{Delays}
 use Rattle.pdp_replay.specs.FirstWords.{AllThere}
-use Rattle.pdp_replay.specs.KeptRuns.{IsForgotten, cut_to_first}
+use Rattle.pdp_replay.specs.KeptRuns.{IsForgotten, IsKeptRun, cut_to_first}
 use Rattle.pdp_replay.specs.KeptStates.{AreKept, IsBuiltFrom}
 use Rattle.pdp_replay.specs.Past.{Past}
 use Rattle.pdp_replay.specs.Setup.{IsGood, SetupData, core_size}
@@ -18,18 +18,25 @@ use Rattle.pdp_replay.specs.declared.kept_run.KeptRun.{KeptRun}
 use Rattle.pdp_replay.proofs.Forgotten.{first_kept, kept_anew, rungs_anew}
 use Rattle.pdp_replay.proofs.PoweredContents.{first_content, first_is, first_of_delays, first_of_tape}
 
+-- the machine is said to be in no state of the run
+kept_forgotten : (q : Past) (before after : KeptRun) → IsForgotten before after → AreKept q after.known after.machine after.ladder → IsKeptRun q after
+kept_forgotten q before after forgotten kept = record {
+  kept = kept;
+  current = λ yes. let no = forgotten.current in absurd cc;
+}
+
 -- of which all but turn 0 was forgotten, over a setup with the same core size, patches and stride
-pub engine_anew : (p q : Past) (highest : ℕ) (before after : KeptRun) → IsEngine p before.known highest before.machine before.ladder
+pub engine_anew : (p q : Past) (highest : ℕ) (before after : KeptRun) → IsEngine p highest before
     → IsForgotten before after → IsGood q.setup → AllThere (core_size q.setup) q.setup.patches → q.setup.stride ≡ p.setup.stride
     → after.ladder.stride ≡ before.ladder.stride → AreKept q after.known after.machine after.ladder
-    → IsEngine q after.known highest after.machine after.ladder
+    → IsEngine q highest after
 engine_anew p q highest before after engine forgotten good there start stride kept = record {
   good = good;
   there = there;
   reached = rw forgotten.known (omega arith);
   limit = engine.limit;
   stride = rw (start, stride) engine.stride;
-  kept = kept;
+  run = kept_forgotten q before after forgotten kept;
 }
 
 abbrev with_those_delays : Delays → SetupData → SetupData
@@ -58,14 +65,14 @@ delays_kept p q delays before after kept setup forgotten ladder same =
     kept_anew p q before after kept forgotten first (rungs_anew q before.ladder after.ladder kept.states.rungs first (ap (λ (l : LadderData). l.stride) ladder))
     (subst (λ s. IsBuiltFrom s after.machine) (sym setup) now)
 
-pub engine_delayed : (p q : Past) (delays : Delays) (highest : ℕ) (before after : KeptRun) → IsEngine p before.known highest before.machine before.ladder
+pub engine_delayed : (p q : Past) (delays : Delays) (highest : ℕ) (before after : KeptRun) → IsEngine p highest before
     → q.setup ≡ with_those_delays delays p.setup → IsForgotten before after → after.ladder ≡ delayed delays before.ladder
-    → after.machine.state.world ≡ before.machine.state.world → IsEngine q after.known highest after.machine after.ladder
+    → after.machine.state.world ≡ before.machine.state.world → IsEngine q highest after
 engine_delayed p q delays highest before after engine setup forgotten ladder same =
     let good : IsGood (with_those_delays delays p.setup) =
     record { units = engine.good.units; some = engine.good.some; widest = engine.good.widest; core = engine.good.core; disk = engine.good.disk } in
     engine_anew p q highest before after engine forgotten (subst IsGood (sym setup) good) (rw setup engine.there) (ap (λ (s : SetupData). s.stride) setup)
-    (ap (λ (l : LadderData). l.stride) ladder) (delays_kept p q delays before after engine.kept setup forgotten ladder same)
+    (ap (λ (l : LadderData). l.stride) ladder) (delays_kept p q delays before after engine.run.kept setup forgotten ladder same)
 
 -- another tape changes no state that is saved
 tape_kept : (p q : Past) (tape : List ℕ) (before after : KeptRun) → AreKept p before.known before.machine before.ladder
@@ -85,12 +92,12 @@ tape_kept p q tape before after kept setup forgotten ladder changed =
     kept_anew p q before after kept forgotten first (rungs_anew q before.ladder after.ladder kept.states.rungs first (ap (λ (l : LadderData). l.stride) ladder))
     (subst (λ s. IsBuiltFrom s after.machine) (sym setup) now)
 
-pub engine_with_tape : (p q : Past) (tape : List ℕ) (highest : ℕ) (before after : KeptRun) → IsEngine p before.known highest before.machine before.ladder
+pub engine_with_tape : (p q : Past) (tape : List ℕ) (highest : ℕ) (before after : KeptRun) → IsEngine p highest before
     → q.setup ≡ with_that_tape tape p.setup → IsForgotten before after → after.ladder ≡ cut_to_first before.ladder
     → after.machine.state.world ≡ world before.machine.state.world.processor (with_tape before.machine.state.world.bus tape)
-    → IsEngine q after.known highest after.machine after.ladder
+    → IsEngine q highest after
 engine_with_tape p q tape highest before after engine setup forgotten ladder changed =
     let good : IsGood (with_that_tape tape p.setup) =
     record { units = engine.good.units; some = engine.good.some; widest = engine.good.widest; core = engine.good.core; disk = engine.good.disk } in
     engine_anew p q highest before after engine forgotten (subst IsGood (sym setup) good) (rw setup engine.there) (ap (λ (s : SetupData). s.stride) setup)
-    (ap (λ (l : LadderData). l.stride) ladder) (tape_kept p q tape before after engine.kept setup forgotten ladder changed)
+    (ap (λ (l : LadderData). l.stride) ladder) (tape_kept p q tape before after engine.run.kept setup forgotten ladder changed)

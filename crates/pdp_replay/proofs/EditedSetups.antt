@@ -65,12 +65,12 @@ saved_first saved = record { turn = 0; saved = saved }
 
 -- with other patches, which change one word of the state of turn 0
 engine_repatched : (p q : Past) (patches : Patches) (drive : Option ℕ) (number word highest : ℕ) (before after : KeptRun)
-    → IsEngine p before.known highest before.machine before.ladder → q.setup ≡ with_those_patches patches p.setup → AllThere (core_size p.setup) patches
+    → IsEngine p highest before → q.setup ≡ with_those_patches patches p.setup → AllThere (core_size p.setup) patches
     → first_content (with_those_patches patches p.setup) ≡ content_with_word drive number word (first_content p.setup)
     → IsForgotten before after → after.ladder ≡ patched_to 0 drive number word before.ladder → after.machine.state.world ≡ before.machine.state.world
-    → IsEngine q after.known highest after.machine after.ladder
+    → IsEngine q highest after
 engine_repatched p q patches drive number word highest before after engine setup there changed forgotten ladder same =
-    let kept = engine.kept in
+    let kept = engine.run.kept in
     let content : machine_content (at q 0) ≡ content_with_word drive number word (machine_content (at p 0)) =
     first_is q ∙ ap first_content setup ∙ changed ∙ ap (content_with_word drive number word) (sym (first_is p)) in
     let first : after.ladder.kept ≡ checkpoint_of (at q 0) ∷ [] =
@@ -88,20 +88,20 @@ engine_repatched p q patches drive number word highest before after engine setup
     (subst (λ s. IsBuiltFrom s after.machine) (sym setup) now))
 
 -- with a patch of a word that is there
-pub engine_patched : (p q : Past) (k : PatchKey) (word highest : ℕ) (before after : KeptRun) → IsEngine p before.known highest before.machine before.ladder
+pub engine_patched : (p q : Past) (k : PatchKey) (word highest : ℕ) (before after : KeptRun) → IsEngine p highest before
     → q.setup ≡ patched p.setup k word → IsThere (core_size p.setup) k → IsForgotten before after
     → after.ladder ≡ patched_to 0 (drive_of k) (number_of k) word before.ladder → after.machine.state.world ≡ before.machine.state.world
-    → IsEngine q after.known highest after.machine after.ladder
+    → IsEngine q highest after
 engine_patched p q k word highest before after engine setup inside forgotten ladder same =
     engine_repatched p q (patched p.setup k word).patches (drive_of k) (number_of k) word highest before after engine setup
     (there_inserted is_same_word (core_size p.setup) p.setup.patches k word inside engine.there) (first_of_patch p.setup k word inside) forgotten ladder same
 
 -- without the patch of a word of core, which is its image's word again as of power-up
-pub engine_reverted : (p q : Past) (i highest : ℕ) (before after : KeptRun) → IsEngine p before.known highest before.machine before.ladder
+pub engine_reverted : (p q : Past) (i highest : ℕ) (before after : KeptRun) → IsEngine p highest before
     → q.setup ≡ unpatched p.setup (core_key i)
     → first_content (unpatched p.setup (core_key i)) ≡ content_with_core (slice_set (core_words p.setup) i (slice_index p.setup.core i)) (first_content p.setup)
     → IsForgotten before after → after.ladder ≡ patched_to 0 None i (slice_index p.setup.core i) before.ladder
-    → after.machine.state.world ≡ before.machine.state.world → IsEngine q after.known highest after.machine after.ladder
+    → after.machine.state.world ≡ before.machine.state.world → IsEngine q highest after
 engine_reverted p q i highest before after engine setup changed forgotten ladder same =
     engine_repatched p q (unpatched p.setup (core_key i)).patches None i (slice_index p.setup.core i) highest before after engine setup
     (there_removed (core_size p.setup) (is_same_word (core_key i)) p.setup.patches engine.there)

@@ -3,17 +3,16 @@ use Rattle.std.proofs.Common.{◌≡◌, ℕ, ◌<◌, List, [], arith, refl, su
 use Rattle.std.specs.declared.hash.BuildHasherDefault.{BuildHasherDefault}
 use Rattle.std.specs.declared.hash.FoldHasher.{FoldHasher}
 use Rattle.indexmap.specs.IndexMap.{IndexMap}
-use Rattle.pdp_checkpoint.specs.Ladder.{LadderData}
-use Rattle.pdp_cpu.specs.Turns.MachineState.{MachineWithTexts}
 use Rattle.pdp_script.specs.Script.{ScriptData}
 use Rattle.pdp_unibus.specs.Delays.{standard_delays}
 use Rattle.pdp_unibus.specs.declared.delays.Delays.{Delays}
 use Rattle.pdp_replay.specs.FirstWords.{AllThere}
-use Rattle.pdp_replay.specs.KeptStates.{AreKept}
+use Rattle.pdp_replay.specs.KeptRuns.{IsKeptRun}
 use Rattle.pdp_replay.specs.Past.{past_from, unscripted}
 use Rattle.pdp_replay.specs.Setup.{IsGood, core_size, first_setup}
 use Rattle.pdp_replay.specs.Strides.{IsStride}
 use Rattle.pdp_replay.specs.Timeline.{IsEngine}
+use Rattle.pdp_replay.specs.declared.kept_run.KeptRun.{KeptRun}
 use Rattle.pdp_replay.specs.declared.origin.Origin.{Origin}
 use Rattle.pdp_replay.specs.declared.patch.PatchKey.{PatchKey}
 
@@ -31,30 +30,31 @@ none_there : (size : ℕ) → AllThere size []
 none_there size i p below = absurd (omega arith)
 
 -- the engine of a run as of power-up
-powered_engine : (origin : Origin) (tape : List ℕ) (m : MachineWithTexts) (l : LadderData) → IsGood (first_setup origin tape)
-    → AreKept (unscripted (first_setup origin tape)) 0 m l → l.stride ≡ origin.stride → IsEngine (unscripted (first_setup origin tape)) 0 0 m l
-powered_engine origin tape m l good kept stride = record {
+powered_engine : (origin : Origin) (tape : List ℕ) (r : KeptRun) → IsGood (first_setup origin tape)
+    → IsKeptRun (unscripted (first_setup origin tape)) r → r.ladder.stride ≡ origin.stride → r.known ≡ 0
+    → IsEngine (unscripted (first_setup origin tape)) 0 r
+powered_engine origin tape r good run stride none_known = record {
   good = good;
   there = none_there (core_size (first_setup origin tape));
-  reached = omega arith;
+  reached = omega (arith, none_known);
   limit = omega arith;
   stride = rw stride (starting_stride origin.stride good.some);
-  kept = kept;
+  run = run;
 }
 
 -- its past is that of the setup alone
-past_powered : (origin : Origin) (tape : List ℕ) (m : MachineWithTexts) (l : LadderData) (delays : Delays)
+past_powered : (origin : Origin) (tape : List ℕ) (r : KeptRun) (delays : Delays)
     (patches : IndexMap PatchKey ℕ (BuildHasherDefault FoldHasher)) (script : ScriptData)
-    → AreKept (unscripted (first_setup origin tape)) 0 m l → delays ≡ standard_delays → patches.entries ≡ [] → script.entries ≡ [] → script.given ≡ 0
-    → past_from origin m.state.world.bus.tape delays patches script ≡ unscripted (first_setup origin tape)
-past_powered origin tape m l delays patches script kept standard none empty first = rw (kept.built.tape, standard, none, empty, first) refl
+    → IsKeptRun (unscripted (first_setup origin tape)) r → delays ≡ standard_delays → patches.entries ≡ [] → script.entries ≡ [] → script.given ≡ 0
+    → past_from origin r.machine.state.world.bus.tape delays patches script ≡ unscripted (first_setup origin tape)
+past_powered origin tape r delays patches script run standard none empty first = rw (run.kept.built.tape, standard, none, empty, first) refl
 
 -- an engine as it is made
-pub fresh_engine : (origin : Origin) (tape : List ℕ) (m : MachineWithTexts) (l : LadderData) (delays : Delays)
-    (patches : IndexMap PatchKey ℕ (BuildHasherDefault FoldHasher)) (script : ScriptData) (known : ℕ) → IsGood (first_setup origin tape)
-    → AreKept (unscripted (first_setup origin tape)) 0 m l → l.stride ≡ origin.stride → known ≡ 0
+pub fresh_engine : (origin : Origin) (tape : List ℕ) (r : KeptRun) (delays : Delays)
+    (patches : IndexMap PatchKey ℕ (BuildHasherDefault FoldHasher)) (script : ScriptData) → IsGood (first_setup origin tape)
+    → IsKeptRun (unscripted (first_setup origin tape)) r → r.ladder.stride ≡ origin.stride → r.known ≡ 0
     → delays ≡ standard_delays → patches.entries ≡ [] → script.entries ≡ [] → script.given ≡ 0
-    → IsEngine (past_from origin m.state.world.bus.tape delays patches script) known 0 m l
-fresh_engine origin tape m l delays patches script known good kept stride none_known standard none empty first =
-    rw none_known (subst (λ p. IsEngine p 0 0 m l) (sym (past_powered origin tape m l delays patches script kept standard none empty first))
-    (powered_engine origin tape m l good kept stride))
+    → IsEngine (past_from origin r.machine.state.world.bus.tape delays patches script) 0 r
+fresh_engine origin tape r delays patches script good run stride none_known standard none empty first =
+    subst (λ p. IsEngine p 0 r) (sym (past_powered origin tape r delays patches script run standard none empty first))
+    (powered_engine origin tape r good run stride none_known)

@@ -25,7 +25,7 @@ same_quotient s known k le below =
     let low : known / s * s ≤ known = div-mul-le_self known s in
     sym (div-eq_of_lt-le s (omega (arith, low, le)) below)
 
-lesser_quotient : (s known k : ℕ) → 0 < s → k ≤ known → k / s < known / s + 1
+pub lesser_quotient : (s known k : ℕ) → 0 < s → k ≤ known → k / s < known / s + 1
 lesser_quotient s known k positive le =
     let low : k / s * s ≤ k = div-mul-le_self k s in
     let high : known < known / s * s + s = lt-div-mul-add positive in

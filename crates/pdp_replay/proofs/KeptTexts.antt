@@ -1,9 +1,10 @@
 -- The bytes that were printed and punched in a run, kept with their turns.
 use Rattle.std.proofs.Common.{◌≡◌, ◌∙◌, ℕ, ◌+◌, ◌≤◌, List, ap, length, max, refl, take}
 use Rattle.pdp_cpu.specs.KeptTexts.{kept_before, kept_over, without_turns}
+use Rattle.pdp_cpu.specs.Turns.MachineState.{MachineWithTexts}
 use Rattle.pdp_cpu.specs.Turns.Turn.{printed_in, punched_in}
 use Rattle.pdp_script.specs.Entries.{events_at}
-use Rattle.pdp_replay.specs.KeptStates.{text_kept_at, punched_kept_at}
+use Rattle.pdp_replay.specs.KeptStates.{KeepsTexts, ShowsTexts, text_kept_at, punched_kept_at}
 use Rattle.pdp_replay.specs.Past.{Past}
 use Rattle.pdp_replay.specs.States.{state_at, text_at, punched_at}
 use Rattle.pdp_replay.proofs.KeptBytes.{KeepsAll, text_is, first_is, before_is, length_reaches, over_is}
@@ -62,3 +63,10 @@ punched_kept_before p n known le = before_is (punched_kept_at p) (punched_at p) 
 pub punched_kept_over : (p : Past) (n known : ℕ) → n ≤ known
     → kept_over n (punched_in n (events_at p.script.entries n) (state_at p n)) (length (punched_at p n)) (punched_kept_at p known) ≡ punched_kept_at p (max known (n + 1))
 punched_kept_over p n known le = over_is (punched_kept_at p) (punched_at p) (punched_of p) (punched_keeps p) n known le
+
+-- a machine that keeps the texts of a turn shows them, without the turns of their bytes
+pub texts_shown : (p : Past) (known : ℕ) (m : MachineWithTexts) → KeepsTexts p known m → ShowsTexts p known m
+texts_shown p known m keeps = record {
+  text = ap without_turns keeps.text ∙ text_kept_is p known;
+  punched = ap without_turns keeps.punched ∙ punched_kept_is p known;
+}

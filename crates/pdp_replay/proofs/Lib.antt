@@ -23,6 +23,8 @@ pub mod UnderWay
 pub mod Ways
 pub mod Settled
 pub mod OnWay
+pub mod Coming
+pub mod Resuming
 pub mod PoweredRuns
 pub mod Forgotten
 pub mod EditedStates

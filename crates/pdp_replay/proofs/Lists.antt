@@ -1,5 +1,5 @@
 -- Lists of words as they are filled, and lists compared item by item.
-use Rattle.std.proofs.Common.{◌≡◌, ℕ, suc, zero, ◌+◌, ◌<◌, ◌≤◌, List, [], ◌∷◌, ◌++◌, ◌&&◌, Bool, length, take, drop, get_or, refl, sym, ◌∙◌, ap, replicate, slice_set, slice_get, add-one}
+use Rattle.std.proofs.Common.{◌≡◌, ℕ, suc, zero, ◌+◌, ◌<◌, ◌≤◌, List, [], ◌∷◌, ◌++◌, ◌&&◌, Bool, length, take, drop, get_or, refl, sym, ◌∙◌, ap, replicate, slice_set, slice_get, add-one, None, Option, Some, is_some, true, Result, Ok, Err, IsOk, false}
 use Rattle.std.proofs.Math.Seq.{take-suc}
 use Rattle.std.proofs.lemmas.List.{length-map, get_or-map, length-drop, get_or-drop}
 use Rattle.std.specs.Cmp.Lexicographic.{pointwise}
@@ -52,3 +52,18 @@ compared same (x ∷ xs) (y ∷ ys) (suc i) long below = compared same xs ys i (
 pub compared_next : {X : Type 0} (same : X → X → Bool) (xs ys : List X) (i : ℕ) → length xs ≡ length ys → i < length xs
     → pointwise same (drop i xs) (drop i ys) ≡ (option_eq same (slice_get xs i) (slice_get ys i) && pointwise same (drop (i + 1) xs) (drop (i + 1) ys))
 compared_next same xs ys i long below = rw add-one (compared same xs ys i long below)
+
+-- nothing that isn't there was found
+pub not_there : {X : Type 0} {Y : Type 0} (found : Option X) → found ≡ None → is_some found ≡ true → Y
+not_there None none there = absurd cc
+not_there (Some x) none there = absurd cc
+
+-- and what was found isn't missing
+pub is_there : {Y : Type 0} (found : Bool) → found ≡ true → found ≡ false → Y
+is_there true there missing = absurd cc
+is_there false there missing = absurd cc
+
+-- no success is a refusal
+pub ok_is_no_err : {T E Y : Type 0} (r : Result T E) (e : E) → r ≡ Err e → IsOk r → Y
+ok_is_no_err (Ok value) e is ok = absurd cc
+ok_is_no_err (Err refused) e is ok = absurd cc

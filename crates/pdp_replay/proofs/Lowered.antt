@@ -1,15 +1,19 @@
 -- What a turn, a cut, a load and an edit leave of the texts that a machine keeps, and of what no turn changes.
-use Rattle.std.proofs.Common.{◌≡◌, ◌∙◌, ℕ, ◌+◌, ◌≤◌, ap, length, max}
+use Rattle.std.proofs.Common.{◌≡◌, ◌∙◌, ℕ, ◌+◌, ◌≤◌, ◌&&◌, Bool, List, ap, ap₂, arith, false, length, max, nat_le, refl, subst, sym, true}
+use Rattle.std.proofs.lemmas.Bool.{leb-true}
+use Rattle.std.proofs.lemmas.List.{take_all}
 use Rattle.pdp_cpu.specs.KeptTexts.{kept_before, kept_over}
+use Rattle.pdp_cpu.specs.Saved.{state_cut}
 use Rattle.pdp_cpu.specs.Turns.MachineState.{MachineState, MachineWithTexts, printed_kept, punched_kept}
 use Rattle.pdp_cpu.specs.Turns.Turn.{printed_in, punched_in}
+use Rattle.pdp_operand.specs.Phases.World.{World}
 use Rattle.pdp_script.specs.Entries.{events_at}
-use Rattle.pdp_replay.specs.KeptStates.{IsBuiltFrom, KeepsTexts}
+use Rattle.pdp_replay.specs.KeptStates.{IsBuiltFrom, IsInRun, KeepsTexts}
 use Rattle.pdp_replay.specs.Past.{Past}
 use Rattle.pdp_replay.specs.Setup.{SetupData}
-use Rattle.pdp_replay.specs.States.{at}
+use Rattle.pdp_replay.specs.States.{at, punched_at, state_at, text_at}
 use Rattle.pdp_replay.proofs.Agreeing.{Agree, same_kept_text, same_kept_punched}
-use Rattle.pdp_replay.proofs.KeptTexts.{text_kept_over, punched_kept_over, text_kept_before, punched_kept_before}
+use Rattle.pdp_replay.proofs.KeptTexts.{text_kept_over, punched_kept_over, text_kept_before, punched_kept_before, text_kept_reaches, punched_kept_reaches}
 
 -- the texts after turn n, of which all before the known turn were there
 pub texts_turned : (p : Past) (known n : ℕ) (m now : MachineWithTexts) → KeepsTexts p known m → n ≤ known → m.state ≡ at p n
@@ -54,3 +58,37 @@ built_stays s m now built same = record {
   lasts = rw same built.lasts;
   drives = rw same built.drives;
 }
+
+abbrev state_of : ℕ → World → List ℕ → List ℕ → MachineState
+state_of n w text punched = record { turn = n; world = w; text = text; punched = punched }
+
+-- texts that are cut after a state leave it
+cut_after : (p : Past) (n printed punched : ℕ) → length (text_at p n) ≤ printed → length (punched_at p n) ≤ punched → state_cut printed punched (at p n) ≡ at p n
+cut_after p n printed punched long also =
+    ap₂ (state_of n (state_at p n)) (take_all printed (text_at p n) long) (take_all punched (punched_at p n) also)
+
+-- a machine in a state of the run is still in it where the texts are those of a lesser known turn, but not of one before it
+pub in_run_cut : (p : Past) (known k : ℕ) (m now : MachineWithTexts) → IsInRun p known m → KeepsTexts p k now → m.state.turn ≤ k
+    → now.state ≡ state_cut (length now.kept_text) (length now.kept_punched) m.state → IsInRun p k now
+in_run_cut p known k m now there texts le state =
+    let n : ℕ = m.state.turn in
+    let text_is = texts.text in
+    let punched_is = texts.punched in
+    let here : now.state ≡ at p n =
+    state
+    ∙ ap (state_cut (length now.kept_text) (length now.kept_punched)) there.here
+    ∙ cut_after p n (length now.kept_text) (length now.kept_punched) (rw text_is (text_kept_reaches p n k le)) (rw punched_is (punched_kept_reaches p n k le)) in
+    let turn : now.state.turn ≡ n = ap (λ (s : MachineState). s.turn) here in
+    record { here = here ∙ ap (at p) (sym turn); reached = omega (arith, turn, le) }
+
+pub both_true : (x y : Bool) → (x && y) ≡ true → (x ≡ true) × (y ≡ true)
+both_true true y both = (refl, both)
+both_true false y both = absurd cc
+
+-- so it is where it is said to be in one still
+pub in_run_lowered : (p : Past) (known k : ℕ) (m now : MachineWithTexts) (current : Bool) → (current ≡ true → IsInRun p known m) → KeepsTexts p k now
+    → now.state ≡ state_cut (length now.kept_text) (length now.kept_punched) m.state → (current && nat_le now.state.turn k) ≡ true → IsInRun p k now
+in_run_lowered p known k m now current run texts state still =
+    let turn : now.state.turn ≡ m.state.turn = ap (λ (s : MachineState). s.turn) state in
+    let both = both_true current (nat_le now.state.turn k) still in
+    in_run_cut p known k m now (run both.0) texts (subst (λ n. n ≤ k) turn (leb-true now.state.turn k both.1)) state

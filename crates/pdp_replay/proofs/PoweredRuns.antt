@@ -1,11 +1,11 @@
 -- What a run keeps as of power-up.
-use Rattle.std.proofs.Common.{◌≡◌, ◌∙◌, ℕ, List, [], ◌∷◌, None, Option, ap, refl, replicate, sym}
+use Rattle.std.proofs.Common.{◌≡◌, ◌∙◌, ℕ, List, [], ◌∷◌, None, Option, ap, arith, refl, replicate, sym}
 use Rattle.pdp_checkpoint.specs.Ladder.{AreRungs, LadderData, checkpoint_of}
 use Rattle.pdp_cpu.specs.Turns.MachineState.{MachineState, MachineWithTexts, powered_machine}
 use Rattle.pdp_store.specs.declared.Stamp.{Stamp}
 use Rattle.pdp_replay.specs.FirstWords.{core_words, disk_words}
 use Rattle.pdp_replay.specs.Image.{padded}
-use Rattle.pdp_replay.specs.KeptStates.{AreKept, KeepsTexts, punched_kept_at, text_kept_at}
+use Rattle.pdp_replay.specs.KeptStates.{AreKept, IsInRun, KeepsTexts, punched_kept_at, text_kept_at}
 use Rattle.pdp_replay.specs.Past.{Past, unscripted}
 use Rattle.pdp_replay.specs.Setup.{IsGood, SetupData, core_size, drive_words}
 use Rattle.pdp_replay.specs.States.{at, power, powered_up}
@@ -45,3 +45,9 @@ powered_kept p m now l state text punched same kept rungs = rw same (record {
   texts = no_texts p m text punched;
   built = at_is_built p 0 m state;
 })
+
+-- and its machine is in that state
+pub powered_in_run : (p : Past) (m now : MachineWithTexts) → m.state ≡ at p 0 → now ≡ m → IsInRun p 0 now
+powered_in_run p m now state same =
+    let turn : m.state.turn ≡ 0 = ap (λ (s : MachineState). s.turn) state in
+    rw same (record { here = state ∙ ap (at p) (sym turn); reached = omega (arith, turn) })

@@ -4,8 +4,8 @@ use Rattle.pdp_cpu.specs.Turns.MachineState.{MachineState, MachineWithTexts, aft
 use Rattle.pdp_script.specs.Entries.{events_at}
 use Rattle.pdp_unibus.specs.declared.event.Event.{Event}
 use Rattle.pdp_checkpoint.specs.Ladder.{LadderData}
-use Rattle.pdp_replay.specs.KeptRuns.{IsOnWay, IsUnderWay}
-use Rattle.pdp_replay.specs.KeptStates.{AreKept, AreStatesOf, KeepsTexts}
+use Rattle.pdp_replay.specs.KeptRuns.{IsKeptRun, IsOnWay, IsUnderWay}
+use Rattle.pdp_replay.specs.KeptStates.{AreKept, AreStatesOf, IsInRun, KeepsTexts}
 use Rattle.pdp_replay.specs.Past.{Past}
 use Rattle.pdp_replay.specs.States.{at}
 use Rattle.pdp_replay.specs.declared.kept_run.KeptRun.{KeptRun}
@@ -43,3 +43,11 @@ kept_on_way p known now m l states way is = record {
   texts = subst (λ k. KeepsTexts p k m) (sym is) way.texts;
   built = at_is_built p m.state.turn m way.here;
 }
+
+-- where it came to is a state of the run up to the known turn that is raised to there
+pub way_in_run : (p : Past) (known : ℕ) (m : MachineWithTexts) → IsUnderWay p known m → IsInRun p (max known m.state.turn) m
+way_in_run p known m way = record { here = way.here; reached = omega arith }
+
+-- a run whose machine is in one of its states is kept
+pub kept_of_way : (p : Past) (r : KeptRun) → IsOnWay p r → IsKeptRun p r
+kept_of_way p r on = record { kept = on.kept; current = λ yes. record { here = on.here; reached = on.reached } }

@@ -1,11 +1,11 @@
 -- The run that an engine keeps, between its calls and on the way (this project's profile).
-use Rattle.std.specs.Prelude.{ℕ, ◌≡◌, ◌≤◌, Option, Some, None, max, nat_le}
+use Rattle.std.specs.Prelude.{ℕ, ◌≡◌, ◌*◌, ◌-◌, ◌<◌, ◌≤◌, ◌&&◌, Bool, true, false, Option, Some, None, max, min, nat_le, if◌then◌else◌}
 use Rattle.std.specs.List.{filter}
-use Rattle.pdp_checkpoint.specs.Ladder.{LadderData}
+use Rattle.pdp_checkpoint.specs.Ladder.{LadderData, best_of, next_of}
 use Rattle.pdp_cpu.specs.KeptTexts.{kept_before}
 use Rattle.pdp_cpu.specs.Turns.MachineState.{MachineWithTexts}
 use Rattle.pdp_script.specs.Script.{ScriptData}
-use Rattle.pdp_replay.specs.KeptStates.{AreKept, KeepsTexts}
+use Rattle.pdp_replay.specs.KeptStates.{AreKept, IsInRun, KeepsTexts}
 use Rattle.pdp_replay.specs.Past.{Past}
 use Rattle.pdp_replay.specs.States.{at}
 use Rattle.pdp_replay.specs.Strides.{IsStride}
@@ -19,11 +19,20 @@ pub record IsUnderWay (p : Past) (known : ℕ) (m : MachineWithTexts) : Type 0 w
   pub here : m.state ≡ at p m.state.turn
   pub texts : KeepsTexts p (max known m.state.turn) m
 
--- what is kept is that of a run with this script
+-- what is kept is that of this run; and if the machine is said to be in a state of it, it is
+pub record IsKeptRun (p : Past) (r : KeptRun) : Type 0 where
+  pub kept : AreKept p r.known r.machine r.ladder
+  pub current : r.is_current ≡ true → IsInRun p r.known r.machine
+
+-- so it is of some run, or of one with this script
+pub record IsSomeRun (r : KeptRun) : Type 0 where
+  pub past : Past
+  pub run : IsKeptRun past r
+
 pub record IsRunOf (script : ScriptData) (r : KeptRun) : Type 0 where
   pub past : Past
   pub same : past.script ≡ script
-  pub kept : AreKept past r.known r.machine r.ladder
+  pub run : IsKeptRun past r
 
 -- what is kept is that of this run, and the machine is in a state of it, of a turn up to the known one
 pub record IsOnWay (p : Past) (r : KeptRun) : Type 0 where
@@ -33,15 +42,35 @@ pub record IsOnWay (p : Past) (r : KeptRun) : Type 0 where
 
 -- what is kept is still that of each run with this script that it was of
 abbrev pub KeepsRun : ScriptData → KeptRun → KeptRun → Type 0
-KeepsRun script before after =
-    (p : Past) → p.script ≡ script → AreKept p before.known before.machine before.ladder → AreKept p after.known after.machine after.ladder
+KeepsRun script before after = (p : Past) → p.script ≡ script → IsKeptRun p before → IsKeptRun p after
 
 -- also where the machine is in a state of it; and the machine still is
 abbrev pub LeavesKept : ScriptData → KeptRun → KeptRun → Type 0
-LeavesKept script before after = (p : Past) → p.script ≡ script → IsOnWay p before → AreKept p after.known after.machine after.ladder
+LeavesKept script before after = (p : Past) → p.script ≡ script → IsOnWay p before → IsKeptRun p after
 
 abbrev pub GoesOn : ScriptData → KeptRun → KeptRun → Type 0
 GoesOn script before after = (p : Past) → p.script ≡ script → IsOnWay p before → IsOnWay p after
+
+-- is the machine in a state of the run, of a turn up to this one?
+abbrev pub is_current_by : KeptRun → ℕ → Bool
+is_current_by r turn = r.is_current && nat_le r.machine.state.turn turn
+
+-- where a run goes on from, to this turn, if the machine is at `turn` and the best kept state is that of `kept`: from the
+-- machine, if it is in a state of the run and `turn` is from `kept` to there, otherwise from the kept state
+abbrev pub resumed_at : Bool → ℕ → ℕ → ℕ → ℕ
+resumed_at current turn kept to = if nat_le kept turn && (current && nat_le turn to) then turn else kept
+
+abbrev pub resumed_turn : KeptRun → ℕ → ℕ
+resumed_turn r to = resumed_at r.is_current r.machine.state.turn (best_of r.ladder (min to r.known) * r.ladder.stride) to
+
+-- a run came to the machine's turn, at the latest the next one whose state is to be kept. Up to the known turn, which was
+-- known before or is the greatest up to there, each multiple of the stride has its state. If that of the machine's turn
+-- wasn't refused, the machine is in a state of the run.
+pub record ComesTo (before after : KeptRun) : Type 0 where
+  pub within : after.machine.state.turn ≤ next_of after.ladder
+  pub known : after.known ≡ max before.known (min after.machine.state.turn (next_of after.ladder - 1))
+  pub ahead : next_of before.ladder ≤ next_of after.ladder
+  pub current : after.machine.state.turn < next_of after.ladder → after.is_current ≡ true
 
 -- the stride still is the one that belongs to the highest turn known
 abbrev pub KeepsStride : KeptRun → KeptRun → Type 0
@@ -61,9 +90,11 @@ number_of (Disk number) = number
 abbrev pub cut_to_first : LadderData → LadderData
 cut_to_first l = record l { kept = filter (λ c. nat_le c.turn 0) l.kept }
 
--- all that came out was dropped, and nothing is known any more
+-- all that came out was dropped, nothing is known any more, and the machine is in no state of the run
 pub record IsForgotten (before after : KeptRun) : Type 0 where
   pub known : after.known ≡ 0
+  pub turn : after.machine.state.turn ≡ before.machine.state.turn
+  pub current : after.is_current ≡ false
   pub text : after.machine.kept_text ≡ kept_before 0 before.machine.kept_text
   pub punched : after.machine.kept_punched ≡ kept_before 0 before.machine.kept_punched
   pub meter : after.meter ≡ before.meter

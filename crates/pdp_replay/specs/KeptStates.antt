@@ -1,16 +1,17 @@
 -- What an engine keeps of a run: the bytes that came out of it, with their turns, and some of its states (this project's
 -- profile).
-use Rattle.std.specs.Prelude.{ℕ, zero, suc, ◌≡◌, ◌+◌, ◌/◌, ◌++◌, List, [], ◌∷◌, length, map}
+use Rattle.std.specs.Prelude.{ℕ, zero, suc, ◌≡◌, ◌≤◌, ◌+◌, ◌/◌, ◌++◌, List, [], ◌∷◌, length, map}
 use Rattle.std.specs.List.{All}
 use Rattle.pdp_checkpoint.specs.Ladder.{AreRungs, LadderData}
 use Rattle.pdp_cpu.specs.Saved.{machine_content}
+use Rattle.pdp_cpu.specs.KeptTexts.{without_turns}
 use Rattle.pdp_cpu.specs.Turns.MachineState.{MachineWithTexts}
 use Rattle.pdp_cpu.specs.Turns.Turn.{printed_in, punched_in}
 use Rattle.pdp_cpu.specs.declared.kept_text.KeptByte.{KeptByte}
 use Rattle.pdp_script.specs.Entries.{events_at}
 use Rattle.pdp_replay.specs.Past.{Past}
 use Rattle.pdp_replay.specs.Setup.{SetupData, core_size, drive_words}
-use Rattle.pdp_replay.specs.States.{at, state_at}
+use Rattle.pdp_replay.specs.States.{at, punched_at, state_at, text_at}
 
 -- these bytes, with the turn in which they came out
 abbrev pub with_turn : ℕ → List ℕ → List KeptByte
@@ -37,6 +38,16 @@ pub record IsBuiltFrom (s : SetupData) (m : MachineWithTexts) : Type 0 where
 pub record KeepsTexts (p : Past) (known : ℕ) (m : MachineWithTexts) : Type 0 where
   pub text : m.kept_text ≡ text_kept_at p known
   pub punched : m.kept_punched ≡ punched_kept_at p known
+
+-- these bytes, without their turns, are what was printed and punched before the known turn
+pub record ShowsTexts (p : Past) (known : ℕ) (m : MachineWithTexts) : Type 0 where
+  pub text : without_turns m.kept_text ≡ text_at p known
+  pub punched : without_turns m.kept_punched ≡ punched_at p known
+
+-- the machine is in the run's state of its turn, which is not above the known one
+pub record IsInRun (p : Past) (known : ℕ) (m : MachineWithTexts) : Type 0 where
+  pub here : m.state ≡ at p m.state.turn
+  pub reached : m.state.turn ≤ known
 
 -- the kept states are those of the run at turn 0 and at each multiple of the stride up to the known turn
 pub record AreStatesOf (p : Past) (known : ℕ) (l : LadderData) : Type 0 where

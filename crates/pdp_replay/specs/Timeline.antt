@@ -1,5 +1,5 @@
 -- An engine as a contract sees it (this project's profile).
-use Rattle.std.specs.Prelude.{ℕ, ◌≤◌, Bool, true, false, List, min, unwrap_or, Result, Ok, Err}
+use Rattle.std.specs.Prelude.{ℕ, ◌≤◌, ◌&&◌, Bool, true, false, List, min, nat_le, unwrap_or, Result, Ok, Err}
 use Rattle.pdp_script.specs.Refusal.{past_left}
 use Rattle.pdp_unibus.specs.LastTurn.{last_turn}
 use Rattle.pdp_script.specs.declared.faults.Fault.{Fault}
@@ -9,22 +9,24 @@ use Rattle.pdp_replay.specs.Edit.{core_edit, disk_edit, revert_edit, tape_edit, 
 use Rattle.pdp_replay.specs.Past.{Past, unscripted}
 use Rattle.pdp_replay.specs.Setup.{SetupData, IsGood, core_size}
 use Rattle.pdp_replay.specs.FirstWords.{AllThere}
-use Rattle.pdp_replay.specs.KeptStates.{AreKept}
+use Rattle.pdp_replay.specs.KeptRuns.{IsKeptRun}
 use Rattle.pdp_replay.specs.Strides.{IsStride}
-use Rattle.pdp_checkpoint.specs.Ladder.{LadderData}
-use Rattle.pdp_cpu.specs.Turns.MachineState.{MachineWithTexts}
+use Rattle.pdp_replay.specs.declared.kept_run.KeptRun.{KeptRun}
 
--- the past, the known turn, the highest that it has been, the stride, and the turns run so far
+-- the past, the known turn, the highest that it has been, the stride, the turns run so far, and the machine's turn with
+-- whether the machine is in the run's state of it
 pub record Timeline : Type 0 where
   pub past : Past
   pub known : ℕ
   pub highest : ℕ
   pub stride : ℕ
   pub turns : ℕ
+  pub turn : ℕ
+  pub current : Bool
 
 -- an engine as it is made
 abbrev pub fresh : SetupData → Timeline
-fresh s = record { past = unscripted s; known = 0; highest = 0; stride = s.stride; turns = 0 }
+fresh s = record { past = unscripted s; known = 0; highest = 0; stride = s.stride; turns = 0; turn = 0; current = true }
 
 -- the known turn after an edit that reaches back to this turn; a refused edit leaves it
 abbrev pub known_left : ℕ → Result Past Fault → Bool → ℕ → ℕ
@@ -32,28 +34,45 @@ known_left reached (Err fault) refused known = known
 known_left reached (Ok past) true known = known
 known_left reached (Ok past) false known = min known reached
 
--- an engine after an edit that reaches back to this turn: the past and the known turn change, and nothing else
+-- whether the machine is in a state of the run after an edit; a refused edit leaves it
+abbrev pub current_left : Bool → Result Past Fault → Bool → Bool → Bool
+current_left still (Err fault) refused current = current
+current_left still (Ok past) true current = current
+current_left still (Ok past) false current = still
+
+-- an engine after an edit of the script that reaches back to this turn: the past and the known turn change, and a machine
+-- at a later turn is in no state of the run any more
 abbrev pub after_edit : ℕ → Result Past Fault → Bool → Timeline → Timeline
 after_edit reached due refused t = record t {
   past = past_left due refused t.past;
   known = known_left reached due refused t.known;
+  current = current_left (t.current && nat_le t.turn (min t.known reached)) due refused t.current;
 }
 
--- an engine after each edit, by how far back it reaches; `refused` is whether memory was refused for it
+-- an engine after an edit of what is there from power-up: nothing is known any more, and the machine is in no state of
+-- the run
+abbrev pub after_setup_edit : Result Past Fault → Bool → Timeline → Timeline
+after_setup_edit due refused t = record t {
+  past = past_left due refused t.past;
+  known = known_left 0 due refused t.known;
+  current = current_left false due refused t.current;
+}
+
+-- an engine after each edit; `refused` is whether memory was refused for it
 abbrev pub core_edited : ℕ → ℕ → Bool → Timeline → Timeline
-core_edited address word refused t = after_edit 0 (core_edit address word t.past) refused t
+core_edited address word refused t = after_setup_edit (core_edit address word t.past) refused t
 
 abbrev pub disk_edited : ℕ → ℕ → Bool → Timeline → Timeline
-disk_edited number word refused t = after_edit 0 (disk_edit number word t.past) refused t
+disk_edited number word refused t = after_setup_edit (disk_edit number word t.past) refused t
 
 abbrev pub core_reverted : ℕ → Bool → Timeline → Timeline
-core_reverted address refused t = after_edit 0 (revert_edit address t.past) refused t
+core_reverted address refused t = after_setup_edit (revert_edit address t.past) refused t
 
 abbrev pub tape_replaced : List ℕ → Timeline → Timeline
-tape_replaced tape t = after_edit 0 (tape_edit tape t.past) false t
+tape_replaced tape t = after_setup_edit (tape_edit tape t.past) false t
 
 abbrev pub delay_set : Line → ℕ → Timeline → Timeline
-delay_set line delay t = after_edit 0 (delay_edit line delay t.past) false t
+delay_set line delay t = after_setup_edit (delay_edit line delay t.past) false t
 
 abbrev pub event_inserted : ℕ → Event → Bool → Timeline → Timeline
 event_inserted turn event refused t = after_edit turn (event_insertion turn event t.past) refused t
@@ -67,10 +86,10 @@ event_dropped number t = after_edit (unwrap_or (turn_of_event number t.past) 0) 
 
 -- what every engine keeps: a setup that a run can start from, patches of words that are there, what it knows, the stride
 -- that belongs to the highest turn known, and of the run all that ought to be kept
-pub record IsEngine (p : Past) (known highest : ℕ) (m : MachineWithTexts) (l : LadderData) : Type 0 where
+pub record IsEngine (p : Past) (highest : ℕ) (r : KeptRun) : Type 0 where
   pub good : IsGood p.setup
   pub there : AllThere (core_size p.setup) p.setup.patches
-  pub reached : known ≤ highest
+  pub reached : r.known ≤ highest
   pub limit : highest ≤ last_turn
-  pub stride : IsStride p.setup.stride highest l.stride
-  pub kept : AreKept p known m l
+  pub stride : IsStride p.setup.stride highest r.ladder.stride
+  pub run : IsKeptRun p r

@@ -1,13 +1,12 @@
 //! What edits of the past leave of what is kept of a run.
 
-ghost use Rattle.std.specs.Prelude.{◌≡◌, min, OnOk, OnErr};
+ghost use Rattle.std.specs.Prelude.{◌≡◌, ◌&&◌, min, nat_le, OnOk, OnErr};
 ghost use Rattle.std.specs.List.{All};
 ghost use Rattle.pdp_checkpoint.specs.Delayed.{delayed};
 ghost use Rattle.pdp_checkpoint.specs.Patched.{patched_to};
 ghost use Rattle.pdp_cpu.specs.Saved.{HasWord};
 ghost use Rattle.pdp_operand.specs.Phases.World.{world};
-ghost use Rattle.pdp_replay.specs.KeptRuns.{cut_to_first, drive_of, number_of, IsForgotten};
-ghost use Rattle.pdp_replay.specs.KeptStates.{AreKept};
+ghost use Rattle.pdp_replay.specs.KeptRuns.{cut_to_first, drive_of, number_of, IsForgotten, IsKeptRun};
 ghost use Rattle.pdp_replay.specs.Past.{Past};
 ghost use Rattle.pdp_unibus.specs.BusContent.{with_tape};
 
@@ -18,11 +17,13 @@ use pdp_word::NoMemory;
 use std::alloc::Global;
 
 impl KeptRun {
-    /// Lowers the known turn to this one where it is above it, and drops what is kept of later turns. It runs no turn
-    /// and takes no memory.
+    /// Lowers the known turn to this one where it is above it, and drops what is kept of later turns. A machine at a later
+    /// turn is in no state of the run any more. It runs no turn and takes no memory.
     pub(crate) fn lower(&mut self, turn: u32)
-        ensures kept { (p : Past) → AreKept p self.old.known self.old.machine self.old.ladder → AreKept p self.new.known self.new.machine self.new.ladder }
+        ensures run { (p : Past) → IsKeptRun p self.old → IsKeptRun p self.new }
         ensures known { self.new.known ≡ min self.old.known turn }
+        ensures turn { self.new.machine.state.turn ≡ self.old.machine.state.turn }
+        ensures current { self.new.is_current ≡ (self.old.is_current && nat_le self.old.machine.state.turn (min self.old.known turn)) }
         ensures stride { self.new.ladder.stride ≡ self.old.ladder.stride }
         ensures world { self.new.machine.state.world ≡ self.old.machine.state.world }
         ensures meter { self.new.meter ≡ self.old.meter }
@@ -31,6 +32,7 @@ impl KeptRun {
         self.ladder.cut(known);
         self.machine.keep_text(known);
         self.known = known;
+        self.is_current = self.is_current_by(known);
     }
 
     /// Gives a word this value in the kept state of turn 0, and drops what is kept of later turns. It runs no turn.
@@ -57,6 +59,7 @@ impl KeptRun {
             .patch(alloc, &mut self.machine, 0, drive, number, word)?;
         self.machine.keep_text(0);
         self.known = 0;
+        self.is_current = false;
         Ok(())
     }
 
@@ -70,6 +73,7 @@ impl KeptRun {
         self.ladder.set_delays(delays);
         self.machine.keep_text(0);
         self.known = 0;
+        self.is_current = false;
     }
 
     /// Puts this tape into the reader, and drops what is kept of turns after turn 0. It runs no turn and takes no memory.
@@ -82,5 +86,6 @@ impl KeptRun {
         self.machine.set_tape(tape);
         self.machine.keep_text(0);
         self.known = 0;
+        self.is_current = false;
     }
 }

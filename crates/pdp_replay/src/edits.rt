@@ -1,5 +1,7 @@
-ghost use Rattle.std.specs.Prelude.{◌≡◌, ◌*◌, ◌/◌, ◌<◌, Ok, IfOk, OnErr, false};
+ghost use Rattle.std.specs.Prelude.{◌≡◌, ◌*◌, ◌/◌, ◌<◌, is_some, None, Ok, IfOk, OnErr, OnOk, false, true};
+ghost use Rattle.indexmap.specs.IndexMap.{spare};
 ghost use Rattle.pdp_script.specs.Refusal.{for_memory, edit_answer, result_map};
+ghost use Rattle.pdp_replay.specs.PatchedWords.{patch_of};
 ghost use Rattle.pdp_replay.specs.Setup.{SetupData};
 ghost use Rattle.pdp_replay.specs.Edit.{core_word_at, core_edit, revert_edit, insertion_answer, event_alteration, event_drop, patch_at, patch_count};
 ghost use Rattle.pdp_replay.specs.Timeline.{core_edited, core_reverted, event_inserted, event_altered, event_dropped};
@@ -7,8 +9,10 @@ ghost use Rattle.pdp_replay.specs.Timeline.{core_edited, core_reverted, event_in
 use crate::engine::Engine;
 use crate::patch::{Patch, PatchKey};
 use crate::setup::UNIT_WORDS;
+use indexmap::IndexMap;
 use pdp_script::Fault;
 use pdp_unibus::Event;
+use pdp_word::NoMemory;
 
 impl Engine {
     /// Makes the core word at this address (octal, bytes) equal to `word` as of power-up. A word that has a patch keeps
@@ -24,7 +28,7 @@ impl Engine {
     {
         let key = PatchKey::Core(core_word(self.origin.units, address)?);
         let alloc = *self.patches.allocator();
-        self.patches.reserve(1)?;
+        make_room(&mut self.patches, key)?;
         self.run.set_word(alloc, key, word)?;
         self.patches.insert(key, word)?;
         Ok(())
@@ -123,6 +127,24 @@ impl Engine {
             PatchKey::Disk(number) => Patch::Disk(*number, *word),
         })
     }
+}
+
+/// Makes room for the patch of a word that has none.
+///
+/// Err where the growth was refused. Takes no memory for a word that has a patch.
+pub(crate) fn make_room(
+    patches: &mut IndexMap<PatchKey, u16>,
+    key: PatchKey,
+) -> Result<(), NoMemory>
+    ensures same { patches.new.entries ≡ patches.old.entries }
+    ensures room { OnOk result (patch_of patches.new.entries key ≡ None → 0 < spare patches.new) }
+    ensures patched { is_some (patch_of patches.old.entries key) ≡ true → result ≡ Ok tt }
+{
+    if patches.contains_key(&key) {
+        return Ok(());
+    }
+    patches.reserve(1)?;
+    Ok(())
 }
 
 /// The number of the core word at this address (octal, bytes), of a core of so many units.

@@ -1,9 +1,10 @@
-ghost use Rattle.std.specs.Prelude.{◌≡◌, ◌+◌, ◌≤◌, ◌<◌, ◌^◌, max, IfOk, OnOk, IsErr, false};
+ghost use Rattle.std.specs.Prelude.{◌≡◌, ◌+◌, ◌≤◌, ◌<◌, ◌^◌, max, IfOk, OnOk, IsErr, Ok, false, true};
 ghost use Rattle.pdp_script.specs.Refusal.{for_memory, question_answer, result_map};
 ghost use Rattle.pdp_replay.specs.Setup.{given, setup_checked};
-ghost use Rattle.pdp_replay.specs.Answer.{answer_to, value_answered};
-ghost use Rattle.pdp_replay.specs.KeptStates.{AreStatesOf, IsBuiltFrom, KeepsTexts};
-ghost use Rattle.pdp_replay.specs.Known.{known_after, IsWithinBound};
+ghost use Rattle.pdp_replay.specs.Answer.{answer_to, first_turn_needed, question_checked, turn_asked, value_answered};
+ghost use Rattle.pdp_replay.specs.KeptStates.{AreStatesOf, IsBuiltFrom, KeepsTexts, ShowsTexts};
+ghost use Rattle.pdp_replay.specs.Known.{known_after, resumed_from, IsCome, IsWithinBound};
+ghost use Rattle.pdp_replay.specs.States.{at};
 ghost use Rattle.pdp_replay.specs.Strides.{IsStride};
 ghost use Rattle.pdp_replay.specs.Timeline.{fresh};
 
@@ -45,9 +46,11 @@ impl Model for Engine {
       highest = e.highest;
       stride = e.run.ladder.stride;
       turns = e.run.meter;
+      turn = e.run.machine.state.turn;
+      current = e.run.is_current;
     } };
 
-    ghost invariant = { λ e. IsEngine (past_from e.origin e.run.machine.state.world.bus.tape e.delays e.patches e.script) e.run.known e.highest e.run.machine e.run.ladder };
+    ghost invariant = { λ e. IsEngine (past_from e.origin e.run.machine.state.world.bus.tape e.delays e.patches e.script) e.highest e.run };
 }
 
 impl Engine {
@@ -107,6 +110,12 @@ impl Engine {
         ensures ran { IfOk result (λ a. self.new.turns ≡ self.old.turns + a.ran) }
         ensures counted { self.old.turns ≤ self.new.turns }
 
+        // It went on from the machine where that was in a state of the run, or from a kept state, and came to the turn
+        // that was asked about. A refusal for memory may come earlier: what was come to stays known.
+        ensures resumed { question_checked question self.old.past ≡ Ok tt → self.new.turns + resumed_from self.old (first_turn_needed question) ≤ self.old.turns + self.new.turn }
+        ensures there { OnOk result (self.new.turn ≡ turn_asked question) }
+        ensures come { question_checked question self.old.past ≡ Ok tt → IsCome self.old self.new }
+
         // What is known afterwards, and the stride.
         ensures known { OnOk result (self.new.known ≡ known_after question self.old.known) }
         ensures known_told { IfOk result (λ a. a.known ≡ self.new.known) }
@@ -142,10 +151,14 @@ impl Engine {
     }
 
     /// The machine that runs the turns. It keeps what was printed and punched before the known turn, each byte with its
-    /// turn; its own turn is that of the last question or edit (this project's profile).
+    /// turn. After an answer it is in the run's state of the turn asked about, until an edit reaches back before that
+    /// turn, or memory is refused to a later question (this project's profile).
     pub fn machine(&self) -> &PagedMachine
         ensures texts { KeepsTexts self.now.past self.now.known result.now }
+        ensures shown { ShowsTexts self.now.past self.now.known result.now }
         ensures built { IsBuiltFrom self.now.past.setup result.now }
+        ensures turn { result.now.state.turn ≡ self.now.turn }
+        ensures current { self.now.current ≡ true → result.now.state ≡ at self.now.past self.now.turn }
     {
         &self.run.machine
     }

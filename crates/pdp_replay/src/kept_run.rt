@@ -1,10 +1,10 @@
-ghost use Rattle.std.specs.Prelude.{◌≡◌, ◌+◌, ◌≤◌, ◌<◌, ℕ, max, min, IfOk, OnOk};
+ghost use Rattle.std.specs.Prelude.{◌≡◌, ◌+◌, ◌≤◌, ◌<◌, ◌&&◌, ℕ, max, min, nat_le, true, IfOk, OnOk};
 ghost use Rattle.pdp_checkpoint.specs.Ladder.{next_of};
 ghost use Rattle.pdp_cpu.specs.Turns.MachineState.{after_turn};
 ghost use Rattle.pdp_cpu.specs.Turns.Turn.{turn_act};
 ghost use Rattle.pdp_script.specs.Entries.{events_at};
-ghost use Rattle.pdp_replay.specs.KeptRuns.{GoesOn, IsRunOf, IsUnderWay, KeepsRun, KeepsStride, LeavesKept};
-ghost use Rattle.pdp_replay.specs.KeptStates.{AreKept, AreStatesOf};
+ghost use Rattle.pdp_replay.specs.KeptRuns.{is_current_by, resumed_turn, ComesTo, GoesOn, IsKeptRun, IsOnWay, IsRunOf, IsSomeRun, IsUnderWay, KeepsRun, KeepsStride, LeavesKept};
+ghost use Rattle.pdp_replay.specs.KeptStates.{AreStatesOf};
 ghost use Rattle.pdp_replay.specs.Past.{Past, unscripted};
 ghost use Rattle.pdp_replay.specs.Setup.{first_setup, IsGood};
 ghost use Rattle.pdp_replay.specs.States.{at};
@@ -14,20 +14,22 @@ use crate::origin::Origin;
 use crate::turns::run_part;
 use pdp_checkpoint::Ladder;
 use pdp_cpu::{Act, Machine, Meter, PagedMachine};
+use pdp_icache::Lines;
 use pdp_script::Script;
 use pdp_unibus::{Delays, LAST_TURN};
 use pdp_word::NoMemory;
 use std::alloc::Global;
 use std::mem;
 
-/// The machine of a run, the states of it that are kept, the count of the turns that were run, and the known turn: up
-/// to it all is kept that ought to be.
+/// The machine of a run, the states of it that are kept, the count of the turns that were run, the known turn, up to
+/// which all is kept that ought to be, and whether the machine is in the run's state of its turn.
 #[derive(Drop)]
 pub(crate) struct KeptRun {
     pub(crate) machine: PagedMachine,
     pub(crate) ladder: Ladder,
     pub(crate) meter: Meter,
     pub(crate) known: u32,
+    pub(crate) is_current: bool,
 }
 
 impl KeptRun {
@@ -36,26 +38,31 @@ impl KeptRun {
     /// Err where a growth was refused.
     pub(crate) fn power(alloc: Global, origin: &Origin, tape: Vec<u8>) -> Result<KeptRun, NoMemory>
         requires good { IsGood (first_setup origin.now tape.items) }
-        ensures kept { IfOk result (λ run. AreKept (unscripted (first_setup origin.now tape.items)) 0 run.machine run.ladder) }
+        ensures run { IfOk result (λ run. IsKeptRun (unscripted (first_setup origin.now tape.items)) run) }
         ensures known { IfOk result (λ run. run.known ≡ 0) }
+        ensures turn { IfOk result (λ run. run.machine.state.turn ≡ 0) }
+        ensures current { IfOk result (λ run. run.is_current ≡ true) }
         ensures meter { IfOk result (λ run. run.meter ≡ 0) }
         ensures stride { IfOk result (λ run. run.ladder.stride ≡ origin.now.stride) }
     {
         let core = core_store(alloc, origin)?;
         let drives = vec![in alloc; drive_store(alloc, origin)?]?;
         let delays = Delays::standard();
-        let mut machine = Machine::power(alloc, origin.start, core, drives, tape, delays);
+        let lines = Lines::new(alloc)?;
+        let mut machine = Machine::power(alloc, lines, origin.start, core, drives, tape, delays);
         let ladder = Ladder::new(alloc, origin.stride, &mut machine)?;
         Ok(KeptRun {
             machine,
             ladder,
             meter: Meter::new(),
             known: 0,
+            is_current: true,
         })
     }
 
-    /// Takes the machine to this turn: from the best kept state of the lesser of it and the known turn, with the events
-    /// of the script. All that is to be kept on the way is kept, and the meter counts each turn.
+    /// Takes the machine to this turn, with the events of the script: from where it is, or from the best kept state of
+    /// the lesser of that turn and the known one (`resume`). All that is to be kept on the way is kept, and the meter
+    /// counts each turn.
     ///
     /// Err where a growth was refused; what was kept until then stays.
     pub(crate) fn reach(
@@ -67,17 +74,52 @@ impl KeptRun {
         requires run { IsRunOf script.now self.old }
         requires limit { turn ≤ LAST_TURN }
         ensures kept { KeepsRun script.now self.old self.new }
-        ensures there { OnOk result ((p : Past) → p.script ≡ script.now → AreKept p self.old.known self.old.machine self.old.ladder → self.new.machine.state ≡ at p turn) }
+        ensures there { OnOk result ((p : Past) → p.script ≡ script.now → IsKeptRun p self.old → self.new.machine.state ≡ at p turn) }
+        ensures turn { OnOk result (self.new.machine.state.turn ≡ turn) }
+        ensures come { ComesTo self.old self.new }
+        ensures short { OnOk result (self.new.machine.state.turn < next_of self.new.ladder) }
         ensures known { OnOk result (self.new.known ≡ max self.old.known turn) }
         ensures known_least { self.old.known ≤ self.new.known }
         ensures known_most { self.new.known ≤ max self.old.known turn }
         ensures stride { KeepsStride self.old self.new }
+        ensures ran { self.new.meter + resumed_turn self.old turn ≤ self.old.meter + self.new.machine.state.turn }
         ensures bound { self.new.meter + min turn self.old.known + 1 ≤ self.old.meter + turn + self.old.ladder.stride }
         ensures counted { self.old.meter ≤ self.new.meter }
     {
-        let best = self.ladder.best(turn.min(self.known));
-        self.machine.load(&best.saved);
+        self.resume(turn);
         self.forward(alloc, script, turn)
+    }
+
+    /// Makes the machine the best kept state of the lesser of this turn and the known one. If the machine is in a later
+    /// state of the run that is not above this turn, it stays there.
+    fn resume(&mut self, turn: u32)
+        requires run { IsSomeRun self.old }
+        ensures way { (p : Past) → IsKeptRun p self.old → IsOnWay p self.new }
+        ensures turn { self.new.machine.state.turn ≡ resumed_turn self.old turn }
+        ensures most { self.new.machine.state.turn ≤ turn }
+        ensures reached { self.new.machine.state.turn ≤ self.new.known }
+        ensures near { min turn self.old.known < self.new.machine.state.turn + self.old.ladder.stride }
+        ensures short { self.new.machine.state.turn < next_of self.new.ladder }
+        ensures current { self.new.is_current ≡ true }
+        ensures ladder { self.new.ladder ≡ self.old.ladder }
+        ensures known { self.new.known ≡ self.old.known }
+        ensures meter { self.new.meter ≡ self.old.meter }
+    {
+        let stays = self.is_current_by(turn);
+        let here = self.machine.turns();
+        let best = self.ladder.best(turn.min(self.known));
+        if is_later(stays, here, best.turn) {
+            return;
+        }
+        self.machine.load(&best.saved);
+        self.is_current = true;
+    }
+
+    /// Whether the machine is in a state of the run, of a turn up to this one.
+    pub(crate) fn is_current_by(&self, turn: u32) -> bool
+        ensures { result ≡ is_current_by self.now turn }
+    {
+        self.is_current && self.machine.turns() <= turn
     }
 
     /// Runs the machine on to this turn, with the events of the script.
@@ -87,11 +129,14 @@ impl KeptRun {
         requires forward { self.old.machine.state.turn ≤ to }
         requires reached { self.old.machine.state.turn ≤ self.old.known }
         requires short { self.old.machine.state.turn < next_of self.old.ladder }
+        requires current { self.old.is_current ≡ true }
         requires limit { to ≤ LAST_TURN }
         ensures kept { LeavesKept script.now self.old self.new }
         ensures way { OnOk result (GoesOn script.now self.old self.new) }
         ensures turn { OnOk result (self.new.machine.state.turn ≡ to) }
         ensures turn_most { self.new.machine.state.turn ≤ to }
+        ensures come { ComesTo self.old self.new }
+        ensures short { OnOk result (self.new.machine.state.turn < next_of self.new.ladder) }
         ensures known { OnOk result (self.new.known ≡ max self.old.known to) }
         ensures known_least { self.old.known ≤ self.new.known }
         ensures known_most { self.new.known ≤ max self.old.known to }
@@ -111,11 +156,13 @@ impl KeptRun {
     fn leg(&mut self, alloc: Global, script: &Script, to: u32) -> Result<(), NoMemory>
         requires forward { self.old.machine.state.turn < to }
         requires short { self.old.machine.state.turn < next_of self.old.ladder }
+        requires current { self.old.is_current ≡ true }
         requires limit { to ≤ LAST_TURN }
         ensures kept { LeavesKept script.now self.old self.new }
         ensures way { OnOk result (GoesOn script.now self.old self.new) }
         ensures on { OnOk result (self.old.machine.state.turn < self.new.machine.state.turn) }
         ensures turn_most { self.new.machine.state.turn ≤ to }
+        ensures come { ComesTo self.old self.new }
         ensures short { OnOk result (self.new.machine.state.turn < next_of self.new.ladder) }
         ensures known { OnOk result (self.new.known ≡ max self.old.known self.new.machine.state.turn) }
         ensures known_least { self.old.known ≤ self.new.known }
@@ -137,18 +184,22 @@ impl KeptRun {
     ///
     /// Err where a growth was refused; what was kept until then stays.
     pub(crate) fn step(&mut self, alloc: Global, script: &Script) -> Result<Act, NoMemory>
+        requires reached { self.old.machine.state.turn ≤ self.old.known }
         requires short { self.old.machine.state.turn < next_of self.old.ladder }
+        requires current { self.old.is_current ≡ true }
         requires limit { self.old.machine.state.turn < LAST_TURN }
         ensures act { IfOk result (λ act. act ≡ turn_act self.old.machine.state.turn (events_at script.now.entries self.old.machine.state.turn) self.old.machine.state.world) }
         ensures machine { OnOk result (self.new.machine.state ≡ after_turn (events_at script.now.entries self.old.machine.state.turn) self.old.machine.state) }
         ensures kept { LeavesKept script.now self.old self.new }
         ensures way { OnOk result (GoesOn script.now self.old self.new) }
+        ensures come { ComesTo self.old self.new }
         ensures short { OnOk result (self.new.machine.state.turn < next_of self.new.ladder) }
         ensures known { OnOk result (self.new.known ≡ max self.old.known (self.old.machine.state.turn + 1)) }
         ensures known_least { self.old.known ≤ self.new.known }
         ensures known_most { self.new.known ≤ max self.old.known (self.old.machine.state.turn + 1) }
         ensures stride { KeepsStride self.old self.new }
-        ensures most { self.new.meter ≤ self.old.meter + 1 }
+        ensures turn_most { self.new.machine.state.turn ≤ self.old.machine.state.turn + 1 }
+        ensures ran { self.new.meter + self.old.machine.state.turn ≤ self.old.meter + self.new.machine.state.turn }
         ensures counted { self.old.meter ≤ self.new.meter }
     {
         self.machine.ready()?;
@@ -161,13 +212,16 @@ impl KeptRun {
     /// The machine came to a turn, at the latest the next one whose state is to be kept: keeps its state there, and
     /// raises the known turn to it.
     ///
-    /// Err where a growth was refused: the known turn is then at least the one before, up to which texts are kept.
+    /// Err where a growth was refused: the known turn is then at least the one before, up to which texts are kept, and the
+    /// machine is in no state of the run.
     fn settle(&mut self, alloc: Global) -> Result<(), NoMemory>
         requires within { self.old.machine.state.turn ≤ next_of self.old.ladder }
+        requires current { self.old.is_current ≡ true }
         requires limit { self.old.machine.state.turn ≤ LAST_TURN }
-        ensures kept { (p : Past) → AreStatesOf p self.old.known self.old.ladder → IsUnderWay p self.old.known self.old.machine → AreKept p self.new.known self.new.machine self.new.ladder }
+        ensures kept { (p : Past) → AreStatesOf p self.old.known self.old.ladder → IsUnderWay p self.old.known self.old.machine → IsKeptRun p self.new }
         ensures machine { OnOk result (self.new.machine ≡ self.old.machine) }
         ensures turn { self.new.machine.state.turn ≡ self.old.machine.state.turn }
+        ensures come { ComesTo self.old self.new }
         ensures short { OnOk result (self.new.machine.state.turn < next_of self.new.ladder) }
         ensures known { OnOk result (self.new.known ≡ max self.old.known self.old.machine.state.turn) }
         ensures known_least { self.old.known ≤ self.new.known }
@@ -180,10 +234,19 @@ impl KeptRun {
             if let Err(refused) = self.ladder.take(alloc, &mut self.machine) {
                 self.machine.keep_text(turn - 1);
                 self.known = self.known.max(turn - 1);
+                self.is_current = false;
                 return Err(refused);
             }
         }
         self.known = self.known.max(turn);
         Ok(())
     }
+}
+
+/// Whether a run goes on from its machine, which may stay or not and is at turn `here`, and not from the state that is
+/// kept of this turn.
+fn is_later(stays: bool, here: u32, kept: u32) -> bool
+    ensures { result ≡ (nat_le kept here && stays) }
+{
+    kept <= here && stays
 }

@@ -1,5 +1,6 @@
 ghost use Rattle.pdp_replay.specs.FirstWords.{CoreHasItsSize, DriveHasItsSize, CoreWordsAreFirstWords, DiskWordsAreFirstWords};
 ghost use Rattle.pdp_replay.specs.Edit.{AlterationNeedsNoMemory, DropNeedsNoMemory, TapeNeedsNoMemory, DelayNeedsNoMemory};
+ghost use Rattle.pdp_replay.specs.LastWrites.{StampsOfKeptStatesAreLastWrites, StampsOfStatesAreLastWrites};
 ghost use Rattle.pdp_replay.specs.States.{TextOnlyGrows, PunchedOnlyGrows};
 
 /// A law of setups: core as of power-up has the words of its units, each of which is its patch, else its image's word,
@@ -42,4 +43,14 @@ pub fn some_edits_need_no_memory()
 pub fn texts_only_grow()
     ensures text { TextOnlyGrows }
     ensures punched { PunchedOnlyGrows }
+{}
+
+/// A law of runs: in each state of a run the last stamp of each word of core is that of its last write, by the processor
+/// or by the disk, in the trace of the run from power-up to the turn of the state; a word that was not written has none.
+/// So it is in each state that an engine keeps.
+///
+/// This project's profile.
+pub fn stamps_of_states_are_last_writes()
+    ensures states { StampsOfStatesAreLastWrites }
+    ensures kept { StampsOfKeptStatesAreLastWrites }
 {}

@@ -1,11 +1,30 @@
-//! Edits and questions: a setup whose words of core and of the drive, tape and delays can be edited, a script of events
-//! that can be edited, and the machine's answer about any turn, always as if the edited past had run from power-up.
+//! Edits and questions: a setup whose words of core and of the drive, tape and delays can be
+//! edited, a script of events that can be edited, and the machine's answer about any turn, always
+//! as if the edited past had run from power-up. It stands on pdp_script, pdp_checkpoint and
+//! pdp_cpu, on what is below these, on indexmap for the patches, and on circular_buffer for trails.
 //!
-//! It stands on pdp_script and pdp_cpu, on what is below these, on indexmap for the patches, and on circular_buffer
-//! for trails. The contract of `Engine::ask` says that an answer is that of the run from power-up, and bounds the turns
-//! run for it; those of the edits give the whole engine after each. What can be asked are registers, words of core and
-//! of the drive, the last write to a word of core, texts, and the turns that led to a turn (`Question`). Lines of text
-//! it leaves to pdp_session.
+//! # What is proved
+//!
+//! - **The headline**: an answer of [`Engine::ask`] is that of the run from power-up of the past as
+//!   it is, and the turns run for it are bounded, also if it is then refused.
+//! - **Valid whatever is kept**: after any edits, questions and refusals the kept states are the
+//!   run's, at turn 0 and at each multiple of the stride up to the known turn and at no other; the
+//!   bytes that are kept are those that came out before the known turn (`kept_states`, `machine`).
+//! - A last write is that of the trace of the whole run, and a trail has the run's turns.
+//! - Core and the drive as of power-up have each word's patch, else the word of the image, else 0
+//!   (`core_words_are_first_words`, `disk_words_are_first_words`).
+//! - Each edit with its refusals in their order, what it leaves, and how far back it lowers the
+//!   known turn; no edit runs a turn (`set_core`, `revert_core`, `set_disk`, `set_tape`,
+//!   `set_delay`, `insert`, `alter`, `drop_event`). Patches keep the place in which they were first
+//!   given (`patches`, `patch_count`).
+//! - Alterations and drops of events, and edits of tape and delays, are never refused for memory
+//!   (`some_edits_need_no_memory`). Texts only grow from turn to turn (`texts_only_grow`).
+//!
+//! # What is only tested
+//!
+//! - That calls with ample memory are not refused for memory.
+//!
+//! Nothing is said of seconds: `bench/` measures them. Lines of text are left to pdp_session.
 #![tactic(auto)]
 
 mod answer_bytes;
@@ -31,7 +50,7 @@ pub use engine::Engine;
 pub use last_write::LastWrite;
 pub use laws::{
     core_words_are_first_words, disk_words_are_first_words, some_edits_need_no_memory,
-    texts_only_grow,
+    stamps_of_states_are_last_writes, texts_only_grow,
 };
 pub use patch::Patch;
 pub use pdp_cpu::{Act, DeviceRegisters, PageRegisters, Regs, RunState};

@@ -1,7 +1,6 @@
-ghost use Rattle.std.specs.Prelude.{◌≡◌, ◌+◌, ◌*◌, ◌/◌, ◌<◌, ◌≤◌, ℕ, length, max, min, IfOk, OnOk};
+ghost use Rattle.std.specs.Prelude.{◌≡◌, ◌+◌, ◌*◌, ◌/◌, ◌<◌, ◌≤◌, ℕ, length, max, min, true, IfOk, OnOk};
 ghost use Rattle.pdp_checkpoint.specs.Ladder.{next_of};
-ghost use Rattle.pdp_replay.specs.KeptRuns.{KeepsRun, KeepsStride, LeavesKept};
-ghost use Rattle.pdp_replay.specs.KeptStates.{AreKept};
+ghost use Rattle.pdp_replay.specs.KeptRuns.{resumed_turn, ComesTo, IsKeptRun, KeepsRun, KeepsStride, LeavesKept};
 ghost use Rattle.pdp_replay.specs.Known.{known_after, CanAnswer};
 ghost use Rattle.pdp_replay.specs.Past.{Past};
 ghost use Rattle.pdp_replay.specs.Setup.{SetupData};
@@ -122,12 +121,15 @@ impl Question {
         script: &Script,
     ) -> Result<Value, NoMemory>
         requires can { CanAnswer self script.now run.old }
-        ensures value { IfOk result (λ value. (p : Past) → p.script ≡ script.now → AreKept p run.old.known run.old.machine run.old.ladder → value ≡ answer self p) }
+        ensures value { IfOk result (λ value. (p : Past) → p.script ≡ script.now → IsKeptRun p run.old → value ≡ answer self p) }
         ensures kept { KeepsRun script.now run.old run.new }
+        ensures there { OnOk result (run.new.machine.state.turn ≡ turn_asked self) }
+        ensures come { ComesTo run.old run.new }
         ensures known { OnOk result (run.new.known ≡ known_after self run.old.known) }
         ensures known_least { run.old.known ≤ run.new.known }
         ensures known_most { run.new.known ≤ known_after self run.old.known }
         ensures stride { KeepsStride run.old run.new }
+        ensures ran { run.new.meter + resumed_turn run.old (first_turn_needed self) ≤ run.old.meter + run.new.machine.state.turn }
         ensures bound { run.new.meter + min (first_turn_needed self) run.old.known + 1 ≤ run.old.meter + turn_asked self + run.old.ladder.stride }
         ensures counted { run.old.meter ≤ run.new.meter }
     {
@@ -147,13 +149,17 @@ impl Question {
         requires limit { turn_asked self ≤ LAST_TURN }
         requires reached { run.old.machine.state.turn ≤ run.old.known }
         requires short { run.old.machine.state.turn < next_of run.old.ladder }
+        requires current { run.old.is_current ≡ true }
         ensures value { IfOk result (IsAnswerIn run.old.machine.state script.now self) }
         ensures kept { LeavesKept script.now run.old run.new }
+        ensures there { OnOk result (run.new.machine.state.turn ≡ turn_asked self) }
+        ensures turn_most { run.new.machine.state.turn ≤ turn_asked self }
+        ensures come { ComesTo run.old run.new }
         ensures known { OnOk result (run.new.known ≡ known_after self run.old.known) }
         ensures known_least { run.old.known ≤ run.new.known }
         ensures known_most { run.new.known ≤ known_after self run.old.known }
         ensures stride { KeepsStride run.old run.new }
-        ensures most { run.new.meter + first_turn_needed self ≤ run.old.meter + turn_asked self }
+        ensures ran { run.new.meter + run.old.machine.state.turn ≤ run.old.meter + run.new.machine.state.turn }
         ensures counted { run.old.meter ≤ run.new.meter }
     {
         let machine = &run.machine;

@@ -3,6 +3,7 @@ ghost use Rattle.pdp_script.specs.Refusal.{for_memory, edit_answer, result_map};
 ghost use Rattle.pdp_replay.specs.Edit.{disk_word_at, disk_edit, tape_edit, delay_edit};
 ghost use Rattle.pdp_replay.specs.Timeline.{disk_edited, tape_replaced, delay_set};
 
+use crate::edits::make_room;
 use crate::engine::Engine;
 use crate::patch::PatchKey;
 use crate::setup::{DRIVE_WORDS, TAPE_BYTES};
@@ -24,7 +25,7 @@ impl Engine {
     {
         let key = PatchKey::Disk(disk_word(number)?);
         let alloc = *self.patches.allocator();
-        self.patches.reserve(1)?;
+        make_room(&mut self.patches, key)?;
         self.run.set_word(alloc, key, word)?;
         self.patches.insert(key, word)?;
         Ok(())

@@ -1,10 +1,10 @@
-ghost use Rattle.std.specs.Prelude.{◌≡◌, ◌+◌, ◌<◌, ◌≤◌, ℕ, length, max, slice_get, IfOk, OnOk};
+ghost use Rattle.std.specs.Prelude.{◌≡◌, ◌+◌, ◌<◌, ◌≤◌, ℕ, length, max, slice_get, true, IfOk, OnOk};
 ghost use Rattle.std.specs.Cmp.{partial_equiv_from_equiv};
 ghost use Rattle.std.specs.Cmp.Lexicographic.{pointwise, lists_equiv};
 ghost use Rattle.pdp_cpu.specs.Turns.MachineState.{after_turn};
 ghost use Rattle.pdp_script.specs.Entries.{events_at};
 ghost use Rattle.pdp_checkpoint.specs.Ladder.{next_of};
-ghost use Rattle.pdp_replay.specs.KeptRuns.{GoesOn, KeepsStride, LeavesKept};
+ghost use Rattle.pdp_replay.specs.KeptRuns.{ComesTo, GoesOn, KeepsStride, LeavesKept};
 ghost use Rattle.pdp_replay.specs.Trails.{trail_entry, same_entry, IsTrailFrom};
 ghost use Rattle.pdp_replay.specs.contracts.trail.TrailEntryEq.TheImpl.Laws.{laws-law};
 
@@ -72,13 +72,17 @@ impl Trail {
         requires limit { run.old.machine.state.turn + count ≤ LAST_TURN }
         requires reached { run.old.machine.state.turn ≤ run.old.known }
         requires short { run.old.machine.state.turn < next_of run.old.ladder }
+        requires current { run.old.is_current ≡ true }
         ensures trail { IfOk result (IsTrailFrom script.now run.old.machine.state.turn count run.old.machine.state) }
         ensures kept { LeavesKept script.now run.old run.new }
+        ensures turn { OnOk result (run.new.machine.state.turn ≡ run.old.machine.state.turn + count) }
+        ensures turn_most { run.new.machine.state.turn ≤ run.old.machine.state.turn + count }
+        ensures come { ComesTo run.old run.new }
         ensures known { OnOk result (run.new.known ≡ max run.old.known (run.old.machine.state.turn + count)) }
         ensures known_least { run.old.known ≤ run.new.known }
         ensures known_most { run.new.known ≤ max run.old.known (run.old.machine.state.turn + count) }
         ensures stride { KeepsStride run.old run.new }
-        ensures most { run.new.meter ≤ run.old.meter + count }
+        ensures ran { run.new.meter + run.old.machine.state.turn ≤ run.old.meter + run.new.machine.state.turn }
         ensures counted { run.old.meter ≤ run.new.meter }
     {
         let mut entries = HeapCircularBuffer::with_capacity(alloc, count as usize)?;
@@ -94,18 +98,22 @@ impl Trail {
 ///
 /// Err where a growth was refused; what was kept until then stays.
 fn record_turn(alloc: Global, run: &mut KeptRun, script: &Script) -> Result<TrailEntry, NoMemory>
+    requires reached { run.old.machine.state.turn ≤ run.old.known }
     requires short { run.old.machine.state.turn < next_of run.old.ladder }
+    requires current { run.old.is_current ≡ true }
     requires limit { run.old.machine.state.turn < LAST_TURN }
     ensures entry { IfOk result (λ entry. entry ≡ trail_entry run.old.machine.state.turn (events_at script.now.entries run.old.machine.state.turn) run.old.machine.state.world) }
     ensures machine { OnOk result (run.new.machine.state ≡ after_turn (events_at script.now.entries run.old.machine.state.turn) run.old.machine.state) }
     ensures kept { LeavesKept script.now run.old run.new }
     ensures way { OnOk result (GoesOn script.now run.old run.new) }
+    ensures come { ComesTo run.old run.new }
     ensures short { OnOk result (run.new.machine.state.turn < next_of run.new.ladder) }
     ensures known { OnOk result (run.new.known ≡ max run.old.known (run.old.machine.state.turn + 1)) }
     ensures known_least { run.old.known ≤ run.new.known }
     ensures known_most { run.new.known ≤ max run.old.known (run.old.machine.state.turn + 1) }
     ensures stride { KeepsStride run.old run.new }
-    ensures most { run.new.meter ≤ run.old.meter + 1 }
+    ensures turn_most { run.new.machine.state.turn ≤ run.old.machine.state.turn + 1 }
+    ensures ran { run.new.meter + run.old.machine.state.turn ≤ run.old.meter + run.new.machine.state.turn }
     ensures counted { run.old.meter ≤ run.new.meter }
 {
     let turn = run.machine.turns();

@@ -1,5 +1,5 @@
 -- Moves past the end of a list go nowhere.
-use Rattle.std.proofs.Common.{◌≡◌, ℕ, ◌-◌, ◌<◌, min, List, length, get_or, arith, ap, sym, ◌∙◌}
+use Rattle.std.proofs.Common.{◌≡◌, ℕ, ◌-◌, ◌<◌, min, List, [], ◌∷◌, refl, length, get_or, arith, ap, sym, ◌∙◌}
 use Rattle.std.proofs.lemmas.Bool.Decides.{nat_tests}
 use Rattle.std.proofs.lemmas.List.{same_lists}
 use Rattle.pdp_rk11.specs.Moves.{item_after, moved}
@@ -21,7 +21,20 @@ moved_within first n value xs =
     ∙ same_item first n (length xs) value k (get_or xs k d) inside
     ∙ sym (get_or-moved first n value xs k d inside))
 
+no_items : {A : Type 0} (first n : ℕ) (value : ℕ → A) → moved first n value [] ≡ []
+unfolding moved
+no_items first n value = refl
+
 -- a list into which as many items were moved as have room
 pub moved_as_far : {A : Type 0} (first n done : ℕ) (value : ℕ → A) (xs ys : List A) → ys ≡ moved first done value xs
     → done ≡ min n (length xs - first) → ys ≡ moved first n value xs
 moved_as_far first n done value xs ys is far = is ∙ ap (λ k. moved first k value xs) far ∙ moved_within first n value xs
+
+-- a list that is empty, or as long as another one, into which as many items were moved as that one has room for
+pub moved_as_far_or_none : {A B : Type 0} (first n done : ℕ) (value : ℕ → A) (xs ys : List A) (words : List B)
+    → ys ≡ moved first done value xs → done ≡ min n (length words - first) → (0 < length xs → length xs ≡ length words)
+    → ys ≡ moved first n value xs
+moved_as_far_or_none first n done value [] ys words is far sized =
+    is ∙ no_items first done value ∙ sym (no_items first n value)
+moved_as_far_or_none first n done value (x ∷ xs) ys words is far sized =
+    moved_as_far first n done value (x ∷ xs) ys is (far ∙ ap (λ k. min n (k - first)) (sym (sized (omega arith))))

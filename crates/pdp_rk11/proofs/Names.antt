@@ -10,10 +10,10 @@ moved_length first n value xs = length-moved first n value xs
 pub map_length : {A B : Type 0} (f : A → B) (xs : List A) → length (map f xs) ≡ length xs
 map_length f xs = length-map xs f
 
--- the words of a store that is item i of a list
-pub map_get : {A : Type 0} (f : A → List ℕ) (xs : List A) (i : ℕ) (x : A) → i < length xs → x ≡ get_or xs i x
+-- the words, or the stamps, of a store that is item i of a list
+pub map_get : {A B : Type 0} (f : A → List B) (xs : List A) (i : ℕ) (x : A) → i < length xs → x ≡ get_or xs i x
     → slice_index_or (map f xs) i [] ≡ f x
 map_get f xs i x within is = get_or-map f xs i x [] within ∙ ap f (sym is)
 
-pub map_with : {A : Type 0} (f : A → List ℕ) (xs : List A) (i : ℕ) (x : A) → map f (slice_set xs i x) ≡ slice_set (map f xs) i (f x)
+pub map_with : {A B : Type 0} (f : A → List B) (xs : List A) (i : ℕ) (x : A) → map f (slice_set xs i x) ≡ slice_set (map f xs) i (f x)
 map_with f xs i x = map-set f xs i x

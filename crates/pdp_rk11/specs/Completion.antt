@@ -8,7 +8,7 @@ use Rattle.pdp_store.specs.declared.Agent.TheVariants.{Disk}
 use Rattle.pdp_store.specs.declared.Stamp.{Stamp}
 use Rattle.pdp_rk11.specs.Geometry.{address_of_sector, cylinder_in, cylinders, drive_in, sector_in, sector_number, sectors_of_track, words_of_sector}
 use Rattle.pdp_rk11.specs.Rk.{is_locked}
-use Rattle.pdp_rk11.specs.Transfer.{core_read, disk_written, is_different, lasts_read}
+use Rattle.pdp_rk11.specs.Transfer.{core_read, disk_written, is_different, lasts_read, stamps_written}
 use Rattle.pdp_rk11.specs.declared.function.Function.{Function}
 use Rattle.pdp_rk11.specs.declared.function.Function.TheVariants.{ControlReset, Write, Read, WriteCheck, Seek, ReadCheck, DriveReset, WriteLock}
 use Rattle.pdp_rk11.specs.declared.failure.Failure.{Failure}
@@ -168,3 +168,18 @@ finished_world w = with_rk w (finished w.rk)
 unfoldable pub completed : ℕ → DiskWorld → DiskWorld
 completed turn w =
     if is_under_way w.rk.operation then finished_world (performed (refusal w.rk (length w.drives)) turn w) else w
+
+-- the last stamps of each drive, where they have any, after a transfer with the drive of a number: only a write changes
+-- them, and only that drive's
+abbrev pub stamps_after : Function → Transfer → ℕ → List (List (Option Stamp)) → List (List (Option Stamp))
+stamps_after Write t drive stamps = slice_set stamps drive (stamps_written t (slice_index_or stamps drive []))
+stamps_after _ t drive stamps = stamps
+
+abbrev pub stamps_performed : Option Failure → DiskWorld → List (List (Option Stamp)) → List (List (Option Stamp))
+stamps_performed (Some failure) w stamps = stamps
+stamps_performed None w stamps = stamps_after w.rk.function (transfer_of w.rk (length w.core) (length (drive_of w))) (drive_in w.rk.disk_address) stamps
+
+-- after the completion of what is under way
+unfoldable pub stamps_completed : DiskWorld → List (List (Option Stamp)) → List (List (Option Stamp))
+stamps_completed w stamps =
+    if is_under_way w.rk.operation then stamps_performed (refusal w.rk (length w.drives)) w stamps else stamps

@@ -1,6 +1,6 @@
 -- A transfer between core and a drive, as one equation over both lists: PDP-11 Peripherals Handbook, RK11 (the zero fill of
 -- a sector is this project's profile).
-use Rattle.std.specs.Prelude.{ℕ, ◌+◌, ◌-◌, ◌*◌, ◌/◌, ◌==◌, Bool, not, List, Option, Some, slice_index, if◌then◌else◌}
+use Rattle.std.specs.Prelude.{ℕ, ◌+◌, ◌-◌, ◌*◌, ◌/◌, ◌==◌, Bool, not, List, Option, Some, None, slice_index, if◌then◌else◌}
 use Rattle.pdp_store.specs.declared.Stamp.{Stamp}
 use Rattle.pdp_rk11.specs.Moves.{any_below, moved, moved_to_one}
 use Rattle.pdp_rk11.specs.declared.transfer.Transfer.{Transfer}
@@ -34,6 +34,12 @@ moved_to_disk t core disk = moved t.disk_start t.count (λ i. slice_index core (
 
 abbrev pub disk_written : Transfer → List ℕ → List ℕ → List ℕ
 disk_written t core disk = moved (disk_word t t.count) (rest_of_sector t) (λ i. 0) (moved_to_disk t core disk)
+
+-- the last stamps of the drive after a write, where it has any: what the disk writes there takes no stamp, so the words that
+-- it writes have none, and all others theirs
+abbrev pub stamps_written : Transfer → List (Option Stamp) → List (Option Stamp)
+stamps_written t stamps =
+    moved (disk_word t t.count) (rest_of_sector t) (λ i. None) (moved t.disk_start t.count (λ i. None) stamps)
 
 -- whether core and drive differ in any of the words that are compared
 abbrev pub is_different : Transfer → List ℕ → List ℕ → Bool

@@ -1,10 +1,11 @@
 //! The completion of what is under way, as one act.
 
-ghost use Rattle.std.specs.Prelude.{◌≡◌, ℕ, ◌+◌, ◌*◌, ◌<◌, ◌≤◌, ◌-◌, true, false, ◌&&◌, length, map};
+ghost use Rattle.std.specs.Prelude.{◌≡◌, ℕ, ◌+◌, ◌*◌, ◌<◌, ◌≤◌, ◌-◌, true, false, ◌&&◌, None, length, map};
 ghost use Rattle.pdp_rk11.specs.Completion.{address_after, completed, disk_address_after, disk_world, drive_of};
 ghost use Rattle.pdp_rk11.specs.Completion.{finished, is_read_check, is_write_check, lists_after, names_sector};
 ghost use Rattle.pdp_rk11.specs.Completion.{performed, refusal, registers_after, stop_of, transfer_of, transferred};
 ghost use Rattle.pdp_rk11.specs.Completion.{core_word_at, within_core, worked, words_asked, write_locked};
+ghost use Rattle.pdp_rk11.specs.Completion.{stamps_after, stamps_completed, stamps_performed};
 ghost use Rattle.pdp_rk11.specs.Geometry.{drive_in, sector_number};
 ghost use Rattle.pdp_rk11.specs.Transfer.{core_word, disk_word, is_different};
 
@@ -29,14 +30,18 @@ impl Rk {
     /// write check sets bit 0 where any word differs.
     ///
     /// Words read into core take the stamp of this turn and of the disk. A write fills the rest of its last sector with
-    /// zeros.
+    /// zeros. No word of a drive takes a stamp; where drives have any, a write takes those of the words that it writes
+    /// away.
     ///
     /// PDP-11 Peripherals Handbook, RK11; that it is one act, the order of the tests, the fill, and where the registers
     /// are left, are this project's profile.
-    #[tactic(auto, unfolding(crate::specs::Completion::completed), using(crate::proofs::Names::map_length))]
+    #[tactic(auto, unfolding(crate::specs::Completion::completed, crate::specs::Completion::stamps_completed), using(crate::proofs::Names::map_length))]
     pub fn complete<S: Store, D: Store>(&mut self, core: &mut S, drives: &mut [D], turn: u32)
-        ensures { disk_world self.new (S.words core.new) (S.lasts core.new) (map D.words drives.new)
+        ensures world { disk_world self.new (S.words core.new) (S.lasts core.new) (map D.words drives.new)
             ≡ completed turn (disk_world self.old (S.words core.old) (S.lasts core.old) (map D.words drives.old)) }
+        ensures stamps { map D.lasts drives.new
+            ≡ stamps_completed (disk_world self.old (S.words core.old) (S.lasts core.old) (map D.words drives.old))
+            (map D.lasts drives.old) }
     {
         if self.operation.is_under_way() {
             self.perform(core, drives, turn);
@@ -54,9 +59,13 @@ impl Rk {
 
     // What is under way, or why it can't be done.
     fn perform<S: Store, D: Store>(&mut self, core: &mut S, drives: &mut [D], turn: u32)
-        ensures { disk_world self.new (S.words core.new) (S.lasts core.new) (map D.words drives.new)
+        ensures world { disk_world self.new (S.words core.new) (S.lasts core.new) (map D.words drives.new)
             ≡ performed (refusal self.old (length drives.old)) turn
             (disk_world self.old (S.words core.old) (S.lasts core.old) (map D.words drives.old)) }
+        ensures stamps { map D.lasts drives.new
+            ≡ stamps_performed (refusal self.old (length drives.old))
+            (disk_world self.old (S.words core.old) (S.lasts core.old) (map D.words drives.old))
+            (map D.lasts drives.old) }
     {
         match self.refusal(drives.len()) {
             Some(failure) => self.failure = Some(failure),
@@ -88,9 +97,13 @@ impl Rk {
     fn work<S: Store, D: Store>(&mut self, core: &mut S, drives: &mut [D], turn: u32)
         requires drive { drive_in self.old.disk_address < length drives.old }
         requires sector { names_sector self.old.function ≡ true → sector_number self.old.disk_address < 4872 }
-        ensures { disk_world self.new (S.words core.new) (S.lasts core.new) (map D.words drives.new)
+        ensures world { disk_world self.new (S.words core.new) (S.lasts core.new) (map D.words drives.new)
             ≡ worked self.old.function turn
             (disk_world self.old (S.words core.old) (S.lasts core.old) (map D.words drives.old)) }
+        ensures stamps { map D.lasts drives.new
+            ≡ stamps_performed None
+            (disk_world self.old (S.words core.old) (S.lasts core.old) (map D.words drives.old))
+            (map D.lasts drives.old) }
     {
         match self.function {
             Function::ControlReset => {}
@@ -115,8 +128,12 @@ impl Rk {
     fn transfer<S: Store, D: Store>(&mut self, core: &mut S, drives: &mut [D], turn: u32)
         requires drive { drive_in self.old.disk_address < length drives.old }
         requires sector { sector_number self.old.disk_address < 4872 }
-        ensures { disk_world self.new (S.words core.new) (S.lasts core.new) (map D.words drives.new)
+        ensures world { disk_world self.new (S.words core.new) (S.lasts core.new) (map D.words drives.new)
             ≡ transferred turn (disk_world self.old (S.words core.old) (S.lasts core.old) (map D.words drives.old)) }
+        ensures stamps { map D.lasts drives.new
+            ≡ stamps_performed None
+            (disk_world self.old (S.words core.old) (S.lasts core.old) (map D.words drives.old))
+            (map D.lasts drives.old) }
     {
         let size = drives[self.drive()].len();
         let transfer = self.transfer_of(core.len(), size);
@@ -189,6 +206,8 @@ impl Rk {
         ensures words { disk_world self.now (S.words core.new) (S.lasts core.new) (map D.words drives.new)
             ≡ lists_after self.now.function transfer turn
             (disk_world self.now (S.words core.old) (S.lasts core.old) (map D.words drives.old)) }
+        ensures stamps { map D.lasts drives.new
+            ≡ stamps_after self.now.function transfer (drive_in self.now.disk_address) (map D.lasts drives.old) }
         ensures different { result
             ≡ (is_write_check self.now.function
             && is_different transfer (S.words core.old)

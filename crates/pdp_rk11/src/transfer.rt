@@ -1,6 +1,6 @@
 //! The words of a transfer, moved or compared.
 
-ghost use Rattle.std.specs.Prelude.{◌≡◌, ℕ, ◌+◌, ◌<◌, length, slice_index};
+ghost use Rattle.std.specs.Prelude.{◌≡◌, ℕ, ◌+◌, ◌<◌, None, length, slice_index};
 
 use pdp_store::{Stamp, Store};
 
@@ -20,7 +20,7 @@ pub struct Transfer {
 impl Transfer {
     ghost use Rattle.pdp_rk11.specs.Moves.{moved, moved_to_one};
     ghost use Rattle.pdp_rk11.specs.Transfer.{core_read, core_word, disk_word, disk_written, is_different, lasts_read};
-    ghost use Rattle.pdp_rk11.specs.Transfer.{moved_to_disk, rest_of_sector};
+    ghost use Rattle.pdp_rk11.specs.Transfer.{moved_to_disk, rest_of_sector, stamps_written};
 
     /// A read: words of the drive go to core, with this stamp.
     pub(crate) fn read<S: Store, D: Store>(self, core: &mut S, disk: &D, stamp: Stamp)
@@ -71,7 +71,8 @@ impl Transfer {
     pub(crate) fn write<S: Store, D: Store>(self, core: &S, disk: &mut D)
         requires on_disk { (i : ℕ) → i < self.count → disk_word self i < length (D.words disk.old) }
         requires in_core { (i : ℕ) → i < self.count → core_word self i < length (S.words core.now) }
-        ensures { D.words disk.new ≡ disk_written self (S.words core.now) (D.words disk.old) }
+        ensures words { D.words disk.new ≡ disk_written self (S.words core.now) (D.words disk.old) }
+        ensures stamps { D.lasts disk.new ≡ stamps_written self (D.lasts disk.old) }
     {
         self.write_all(core, disk);
         self.fill_sector(disk);
@@ -82,7 +83,8 @@ impl Transfer {
     fn write_all<S: Store, D: Store>(self, core: &S, disk: &mut D)
         requires on_disk { (i : ℕ) → i < self.count → disk_word self i < length (D.words disk.old) }
         requires in_core { (i : ℕ) → i < self.count → core_word self i < length (S.words core.now) }
-        ensures { D.words disk.new ≡ moved_to_disk self (S.words core.now) (D.words disk.old) }
+        ensures words { D.words disk.new ≡ moved_to_disk self (S.words core.now) (D.words disk.old) }
+        ensures stamps { D.lasts disk.new ≡ moved self.disk_start self.count (λ i. None) (D.lasts disk.old) }
     {
         let disk_start = self.disk_start as usize;
         for i in 0..self.count as usize {
@@ -93,7 +95,10 @@ impl Transfer {
     // Zeros go to the rest of the last sector.
     #[tactic(auto, using(crate::proofs::Moves::moved_none, crate::proofs::Moves::moved_more, crate::proofs::Names::moved_length))]
     fn fill_sector<D: Store>(self, disk: &mut D)
-        ensures { D.words disk.new ≡ moved (disk_word self self.count) (rest_of_sector self) (λ i. 0) (D.words disk.old) }
+        ensures words { D.words disk.new
+            ≡ moved (disk_word self self.count) (rest_of_sector self) (λ i. 0) (D.words disk.old) }
+        ensures stamps { D.lasts disk.new
+            ≡ moved (disk_word self self.count) (rest_of_sector self) (λ i. None) (D.lasts disk.old) }
     {
         let start = self.disk_start as usize + self.count as usize;
         let left = disk.len().saturating_sub(start);

@@ -1,8 +1,9 @@
-ghost use Rattle.std.specs.Prelude.{◌≡◌, ℕ, ◌<◌, ◌≤◌, length, MatchOption, vec_len, vec_capacity};
+ghost use Rattle.std.specs.Prelude.{◌≡◌, ℕ, ◌<◌, ◌≤◌, length, IfOk, IsErr, MatchOption, vec_len, vec_capacity};
 ghost use Rattle.std.specs.List.{All, AllWithin};
 ghost use Rattle.pdp_script.specs.Labels.{IsFirstOf, IsInOrder, PutsLast};
 
 use pdp_unibus::Event;
+use pdp_word::NoMemory;
 
 /// The number and the turn of an event of the script.
 #[derive(Clone, Copy, Debug, PartialEq, Eq)]
@@ -36,6 +37,27 @@ pub fn place_of(labels: &[Label], number: u32) -> Option<usize>
     ensures { MatchOption result (All (λ (s : Label). s.number ≡ number → ⊥) labels.now) (IsFirstOf labels.now number) }
 {
     labels.iter().position(|label| label.number == number)
+}
+
+/// Puts an event last among its turn's.
+///
+/// Err(NoMemory) where a growth was refused; labels and events are then as they were.
+pub fn insert_last(
+    labels: &mut Vec<Label>,
+    events: &mut Vec<Event>,
+    label: Label,
+    event: Event,
+) -> Result<(), NoMemory>
+    requires in_step { length labels.old.items ≡ length events.old.items }
+    requires ordered { IsInOrder labels.old.items }
+    ensures put { IfOk result (λ _. PutsLast labels.old.items events.old.items label event labels.new.items events.new.items) }
+    ensures same_labels { IsErr result → labels.new.items ≡ labels.old.items }
+    ensures same_events { IsErr result → events.new.items ≡ events.old.items }
+{
+    labels.reserve(1)?;
+    events.reserve(1)?;
+    put_last(labels, events, label, event);
+    Ok(())
 }
 
 /// Puts an event last among its turn's, in the room that is there.

@@ -1,9 +1,19 @@
-//! The ordered script of a run, and the faults that its calls and those of the layers above answer.
+//! The ordered script of a run, and the faults that its calls and those of the layers above return.
+//! It stands on pdp_unibus for the events, on pdp_word and on thiserror.
 //!
-//! It stands on pdp_unibus for the events, on pdp_word and on thiserror. The contract of each edit gives its
-//! answer, its refusals and the script after it; those of `at` and `next_turn` give the events of a turn and the
-//! next turn that has any. The laws say what an edit leaves. What events do it leaves to pdp_unibus and pdp_cpu, a
-//! run of them to pdp_replay.
+//! # What is proved
+//!
+//! - Each fault has its number and name (`Fault::number`, `name`).
+//! - A script is a list of events ordered by turn, in list order within a turn. Each edit is the
+//!   list operation with its refusals (`Script::insert`, `alter`, `drop_event`), and leaves all
+//!   else (`edits_leave_other_turns`, `edits_leave_other_entries`).
+//! - The events of a turn, and the next turn that has any (`at`, `turn_of`, `next_turn`).
+//!
+//! # What is only tested
+//!
+//! - That a script holds 65,536 events and no more.
+//!
+//! What events do is left to pdp_unibus and pdp_cpu, a run of them to pdp_replay.
 #![tactic(auto)]
 
 mod faults;

@@ -5,7 +5,7 @@ ghost use Rattle.pdp_script.specs.Script.{insert_edit, insert_answer, alter_edit
 ghost use Rattle.std.specs.Option.{option_map};
 
 use crate::faults::Fault;
-use crate::labels::{Label, place_after, place_from, place_of, put_last};
+use crate::labels::{Label, insert_last, place_after, place_from, place_of, put_last};
 use pdp_unibus::{Event, LAST_TURN};
 use std::alloc::Global;
 use std::marker::Model;
@@ -101,14 +101,8 @@ impl Script {
             return Err(Fault::ScriptFull);
         }
         let number = self.given + 1;
-        self.labels.reserve(1)?;
-        self.events.reserve(1)?;
-        put_last(
-            &mut self.labels,
-            &mut self.events,
-            Label { number, turn },
-            event,
-        );
+        let label = Label { number, turn };
+        insert_last(&mut self.labels, &mut self.events, label, event)?;
         self.given = number;
         Ok(number)
     }

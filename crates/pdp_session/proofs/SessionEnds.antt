@@ -1,6 +1,5 @@
 -- How a session ends, and how it doesn't begin.
-use Rattle.std.proofs.Common.{◌≡◌, ℕ, Bool, true, false, cond, Result, Ok, Err, Option, None, Some, IfSome, List, [], refl, ap, ◌∙◌}
-use Rattle.std.specs.Io.KnownBytes.{IsAtEnd}
+use Rattle.std.proofs.Common.{◌≡◌, ℕ, Bool, true, false, cond, Result, Ok, Err, Option, List, [], refl, ap, ◌∙◌}
 use Rattle.pdp_script.specs.Refusal.{question_answer, result_map}
 use Rattle.pdp_script.specs.declared.faults.Fault.{Fault}
 use Rattle.pdp_script.specs.declared.faults.Fault.TheVariants.{BadImage, BadSetup, NoMemory}
@@ -8,15 +7,6 @@ use Rattle.pdp_session.specs.Session.{Ends, is_told_first}
 use Rattle.pdp_replay.specs.Past.{unscripted}
 use Rattle.pdp_replay.specs.Setup.{SetupData, setup_checked, has_good_numbers, has_good_images}
 use Rattle.pdp_replay.specs.Timeline.{Timeline, fresh}
-
--- at the end of the input nothing more comes
-pub at_end : (rest : Option (List ℕ)) (P : List ℕ → Type 0) → IsAtEnd rest → P [] → IfSome rest P
-at_end None P none p = tt
-at_end (Some more) P none p = rw none p
-
-pub at_any : (rest : Option (List ℕ)) (P : List ℕ → Type 0) → ((more : List ℕ) → P more) → IfSome rest P
-at_any None P p = tt
-at_any (Some more) P p = p more
 
 abbrev is_start : Result SetupData Fault → Bool
 is_start (Ok setup) = true

@@ -1,5 +1,5 @@
 -- What a session writes: from the bytes of its input to the bytes of its output (this project's profile).
-use Rattle.std.specs.Prelude.{◌≡◌, ℕ, ◌+◌, ◌≤◌, Bool, true, false, List, [], ◌∷◌, ◌++◌, length, Option, Some, IfSome, Result, Ok, Err}
+use Rattle.std.specs.Prelude.{◌≡◌, ℕ, ◌+◌, ◌≤◌, Bool, true, false, List, [], ◌∷◌, ◌++◌, length, Option, Some, Result, Ok, Err, ◌⊎◌}
 use Rattle.std.specs.List.{concat, slice_get}
 use Rattle.std.specs.Io.KnownBytes.{Appends, Consumes, IsAtEnd}
 use Rattle.pdp_script.specs.declared.faults.Fault.{Fault}
@@ -40,13 +40,20 @@ pub record BeginsReplies (past : Past) (lines : List (List ℕ)) (out : List ℕ
   pub unwritten : List ℕ
   pub text : concat (replies 0 lines refused past) ≡ out ++ unwritten
 
--- How a session that begins with this past ends that has read `read` and written `out`, with `rest` left to read
--- where that is known: after all its input; or where the reader failed, after all lines that had ended;
--- or where the writer failed, within the replies to the whole input; or before it began, where it was out of memory.
+-- The writer failed after `out`: within the replies to lines that had ended, and so to each input that begins with
+-- `read`; or, once the reader was at its end, within the replies to all lines of `read`.
+abbrev pub OutputBreaks : Past → List ℕ → List ℕ → Option (List ℕ) → Type 0
+OutputBreaks past read out rest =
+    ((next : List ℕ) → BeginsReplies past (lines_of (read ++ next)) out)
+    ⊎ (IsAtEnd rest × BeginsReplies past (lines_of read) out)
+
+-- How a session that begins with this past ends that has read `read` and written `out`, with `rest` left to read if
+-- that is known: after all its input; or if the reader failed, after all lines that had ended; or because the
+-- writer failed; or before it began, because it was out of memory.
 abbrev pub SessionEnds : Past → List ℕ → List ℕ → Option (List ℕ) → Result (Unit {0}) Fault → Type 0
 SessionEnds past read out rest (Ok x) = IsAtEnd rest × RepliesTo past (lines_of read) out
 SessionEnds past read out rest (Err Input) = RepliesTo past (ended_lines read) out
-SessionEnds past read out rest (Err Output) = IfSome rest (λ more. BeginsReplies past (lines_of (read ++ more)) out)
+SessionEnds past read out rest (Err Output) = OutputBreaks past read out rest
 SessionEnds past read out rest (Err NoMemory) = (read ≡ []) × (out ≡ [])
 SessionEnds past read out rest (Err _) = ⊥
 

@@ -1,9 +1,22 @@
-//! The session: lines of commands in, lines of replies out.
+//! The session: lines of commands in, lines of replies out. It stands on pdp_replay, whose engine
+//! it calls for each command, on pdp_word for the numbers of lines and replies, on arrayvec and
+//! itoa for their text, and on byteorder for the words of images.
 //!
-//! It stands on pdp_replay, whose engine it calls for each command, on pdp_word for the numbers of lines and
-//! replies, on arrayvec and itoa for their text, and on byteorder for the words of images. Its contracts are those of
-//! [`run`], by which what is written is the defined replies to the lines that were read, and of [`read_image`]. What a
-//! command means for the machine it leaves to the engine; where bytes come from and go to, to [`Feed`] and [`Drain`].
+//! # What is proved
+//!
+//! - **From bytes to bytes**: what [`run`] writes is the defined replies to the lines that were
+//!   read, events, texts, trails and lists of patches among them, also if the reader or the writer
+//!   fails.
+//! - The words of an image are those of its bytes, two a word, the low one first, or the image is
+//!   refused ([`read_image`]).
+//!
+//! # What is only tested
+//!
+//! - That a session with ample memory is not refused for memory; each request for memory refused in
+//!   turn, on the built program.
+//!
+//! What a command means for the machine is left to the engine; where bytes come from and go to, to
+//! [`Feed`] and [`Drain`].
 #![tactic(auto)]
 
 mod command;

@@ -2,16 +2,14 @@
 use Rattle.std.proofs.Common.{◌≡◌, ◌≢◌, ◌⊎◌, inl, inr, ℕ, suc, zero, ◌+◌, ◌-◌, ◌*◌, ◌<◌, ◌≤◌, Bool, true, false, List, [], ◌∷◌, ◌++◌, Some, length, map, take, drop, get_or, slice_get, slice_set, refl, sym, ◌∙◌, ap, subst, arith, append-nil}
 use Rattle.std.proofs.lemmas.Bool.{cases_eq}
 use Rattle.std.proofs.lemmas.Grind.{flat_map-append}
-use Rattle.std.proofs.lemmas.List.{take_more, take_all, length-set, length-append, length-take-le, length-drop}
+use Rattle.std.proofs.lemmas.List.{append_assoc, drop-drop, drop_all, drop_at, take_more, take_all, take_at, length-set, length-append, length-take-le, length-drop}
 use Rattle.std.proofs.lemmas.List.Folds.{length-flat_map-take}
 use Rattle.std.proofs.lemmas.Option.{slice_get_within}
-use Rattle.std.proofs.lemmas.Slice.{take-put_mid}
-use borrow.Rule.Slice.PartMut.{put_mid}
 use Rattle.std.specs.List.{flat_map}
 use Rattle.pdp_store.specs.declared.base.Base.{Base}
 use Rattle.pdp_store.specs.Pages.{SharedPage, serials}
-use Rattle.pdp_store.specs.Bases.{AreBases, AreBasesBelow, ArePut, IsBaseOf, bases_of}
-use Rattle.pdp_store.specs.Pieces.{piece}
+use Rattle.pdp_store.specs.Bases.{AreBases, AreBasesBelow, IsBaseOf, bases_of}
+use Rattle.pdp_store.specs.Pieces.{piece, with_items_at}
 
 pub length-piece : {X : Type 0} (k : ℕ) (xs : List X) → k * 256 + 256 ≤ length xs → length (piece k xs) ≡ 256
 unfolding piece
@@ -26,52 +24,60 @@ one_more f pages n d below =
     ap (flat_map f) (take_more pages n d below) ∙ flat_map-append f (take n pages) (get_or pages n d ∷ [])
     ∙ ap (λ xs. flat_map f (take n pages) ++ xs) (append-nil (f (get_or pages n d)))
 
--- there is room for the next page
-pub has_room : {X : Type 0} (f : SharedPage → List X) (pages : List SharedPage) (n at : ℕ) (before now : List X) (d : SharedPage)
-    → ArePut f pages n at before now → length (flat_map f pages) ≡ length before → n < length pages → at + length (f (get_or pages n d)) ≤ length now
-has_room f pages n at before now d put all below =
-    let fits : length (flat_map f (take n pages)) + length (f (get_or pages n d)) ≤ length (flat_map f pages) = length-flat_map-take f pages n d below in
-    let here : length (flat_map f (take n pages)) ≡ at = put.here in
-    let many : length now ≡ length before = put.count in
+-- how far the pages reach
+pub put_ends : {X : Type 0} (f : SharedPage → List X) (pages : List SharedPage) (n at end : ℕ) (part : List X) (page : SharedPage)
+    → end ≡ at + length part → at ≡ length (flat_map f (take n pages)) → n < length pages → page ≡ get_or pages n page → part ≡ f page
+    → end ≡ length (flat_map f (take (n + 1) pages))
+put_ends f pages n at end part page end_is here below is part_is =
+    let next : length (flat_map f (take (n + 1) pages)) ≡ length (flat_map f (take n pages)) + length (f (get_or pages n page))
+    = ap length (one_more f pages n page below) ∙ length-append (flat_map f (take n pages)) (f (get_or pages n page)) in
+    let same : length part ≡ length (f (get_or pages n page)) = ap length part_is ∙ ap (λ p. length (f p)) is in
     omega arith
 
-length-put : {X : Type 0} (at k : ℕ) (now part : List X) → length part ≡ k → at + k ≤ length now → length (put_mid at k now part) ≡ length now
-length-put at k now part many within =
-    let front : length (take at now) ≡ at = length-take-le at now (omega arith) in
-    let rest : length (drop at now) ≡ length now - at = length-drop at now in
-    let past : length (drop k (drop at now)) ≡ length (drop at now) - k = length-drop k (drop at now) in
-    let back : length (part ++ drop k (drop at now)) ≡ length part + length (drop k (drop at now)) = length-append part (drop k (drop at now)) in
-    let all : length (take at now ++ (part ++ drop k (drop at now))) ≡ length (take at now) + length (part ++ drop k (drop at now)) = length-append (take at now) (part ++ drop k (drop at now)) in
+-- there is room for the next page
+pub has_room : {X : Type 0} (f : SharedPage → List X) (pages : List SharedPage) (n at : ℕ) (before now part : List X) (page : SharedPage)
+    → at ≡ length (flat_map f (take n pages)) → now ≡ flat_map f (take n pages) ++ drop at before
+    → length (flat_map f pages) ≡ length before → n < length pages → page ≡ get_or pages n page → part ≡ f page
+    → at + length part ≤ length now
+has_room f pages n at before now part page here items all below is part_is =
+    let fits : length (flat_map f (take n pages)) + length (f (get_or pages n page)) ≤ length (flat_map f pages) = length-flat_map-take f pages n page below in
+    let same : length part ≡ length (f (get_or pages n page)) = ap length part_is ∙ ap (λ p. length (f p)) is in
+    let rest : length (drop at before) ≡ length before - at = length-drop at before in
+    let whole : length now ≡ length (flat_map f (take n pages)) + length (drop at before)
+    = ap length items ∙ length-append (flat_map f (take n pages)) (drop at before) in
     omega arith
 
 -- the next page is put after those before it
-pub put_more : {X : Type 0} (f : SharedPage → List X) (pages : List SharedPage) (n at count k : ℕ) (before now part : List X) (page : SharedPage)
-    → ArePut f pages n at before now → length (flat_map f pages) ≡ length before → n < length pages → page ≡ get_or pages n page
-    → count ≡ length (f page) → k ≡ count → part ≡ f page → ArePut f pages (n + 1) (at + count) before (put_mid at k now part)
-put_more f pages n at count k before now part page put all below is many size items =
-    let next : flat_map f (take (n + 1) pages) ≡ flat_map f (take n pages) ++ f page
-    = one_more f pages n page below ∙ ap (λ p. flat_map f (take n pages) ++ f p) (sym is) in
-    let room : at + length (f (get_or pages n page)) ≤ length now = has_room f pages n at before now page put all below in
-    let same : length (f page) ≡ length (f (get_or pages n page)) = ap (λ p. length (f p)) is in
-    let part_is : length part ≡ length (f page) = ap length items in
-    let joined : length (flat_map f (take n pages) ++ f page) ≡ length (flat_map f (take n pages)) + length (f page) = length-append (flat_map f (take n pages)) (f page) in
-    let next_count : length (flat_map f (take (n + 1) pages)) ≡ length (flat_map f (take n pages) ++ f page) = ap length next in
-    let here : length (flat_map f (take n pages)) ≡ at = put.here in
-    record {
-      here = omega arith;
-      items =
-          take-put_mid at k now part (at + count) (omega arith) (omega arith)
-          ∙ ap (λ xs. xs ++ part) put.items ∙ ap (λ xs. flat_map f (take n pages) ++ xs) items ∙ sym next;
-      count = length-put at k now part (omega arith) (omega arith) ∙ put.count;
-    }
+pub put_more : {X : Type 0} (f : SharedPage → List X) (pages : List SharedPage) (n at end : ℕ) (before now part after : List X) (page : SharedPage)
+    → after ≡ with_items_at at part now → end ≡ at + length part → at ≡ length (flat_map f (take n pages))
+    → now ≡ flat_map f (take n pages) ++ drop at before → n < length pages → page ≡ get_or pages n page → part ≡ f page
+    → after ≡ flat_map f (take (n + 1) pages) ++ drop end before
+unfolding with_items_at
+put_more f pages n at end before now part after page after_is end_is here items below is part_is =
+    let done = flat_map f (take n pages) in
+    let next : flat_map f (take (n + 1) pages) ≡ done ++ f page
+    = one_more f pages n page below ∙ ap (λ p. done ++ f p) (sym is) in
+    let front : take at now ≡ done = ap (take at) items ∙ take_at done (drop at before) at (sym here) in
+    let back : drop at now ≡ drop at before = ap (drop at) items ∙ drop_at done (drop at before) at (sym here) in
+    let past : drop (length part) (drop at now) ≡ drop end before
+    = ap (drop (length part)) back ∙ drop-drop (length part) at before ∙ ap (λ k. drop k before) (sym end_is) in
+    after_is
+    ∙ ap (λ xs. xs ++ (part ++ drop (length part) (drop at now))) front
+    ∙ ap (λ xs. done ++ (part ++ xs)) past
+    ∙ ap (λ xs. done ++ (xs ++ drop end before)) part_is
+    ∙ sym (append_assoc done (f page) (drop end before))
+    ∙ ap (λ xs. xs ++ drop end before) (sym next)
 
-pub put_all : {X : Type 0} (f : SharedPage → List X) (pages : List SharedPage) (at : ℕ) (before now : List X)
-    → ArePut f pages (length pages) at before now → length (flat_map f pages) ≡ length before → now ≡ flat_map f pages
-put_all f pages at before now put all =
-    let whole : flat_map f (take (length pages) pages) ≡ flat_map f pages = ap (flat_map f) (take_all (length pages) pages (omega arith)) in
-    let here : length (flat_map f pages) ≡ at = sym (ap length whole) ∙ put.here in
-    let many : length now ≡ length before = put.count in
-    sym (take_all at now (omega arith)) ∙ put.items ∙ whole
+pub put_all : {X : Type 0} (f : SharedPage → List X) (pages : List SharedPage) (n at : ℕ) (before now : List X)
+    → at ≡ length (flat_map f (take n pages)) → now ≡ flat_map f (take n pages) ++ drop at before
+    → length (flat_map f pages) ≡ length before → length pages ≤ n → now ≡ flat_map f pages
+put_all f pages n at before now here items all past =
+    let whole : flat_map f (take n pages) ≡ flat_map f pages = ap (flat_map f) (take_all n pages past) in
+    let end : at ≡ length before = here ∙ ap length whole ∙ all in
+    items
+    ∙ ap (λ xs. xs ++ drop at before) whole
+    ∙ ap (λ xs. flat_map f pages ++ xs) (drop_all at before (omega arith))
+    ∙ append-nil (flat_map f pages)
 
 set_here : {X : Type 0} (xs : List X) (k : ℕ) (x y : X) → slice_get (slice_set xs k x) k ≡ Some y → y ≡ x
 set_here [] k x y is = absurd (cc)

@@ -1,7 +1,6 @@
 -- The fields of a store that is taken as pages: its words and last stamps, and for each place of 256 words a base, and
 -- a mark where a word was written since. (This project's profile.)
 use Rattle.std.specs.Prelude.{ℕ, ◌≡◌, ◌<◌, ◌*◌, Bool, true, false, Option, Some, None, List, [], ◌∷◌, ◌++◌, length, map, take, drop, slice_get}
-use Rattle.std.specs.List.{flat_map}
 use Rattle.pdp_store.specs.declared.Stamp.{Stamp}
 use Rattle.pdp_store.specs.declared.base.Base.{Base}
 use Rattle.pdp_store.specs.declared.base.Base.TheVariants.{Shared, Numbered}
@@ -64,12 +63,6 @@ pub record AreBasesBelow (n : ℕ) (pages : List SharedPage) (bases : List Base)
   pub places : length marks ≡ length pages
   pub unmarked : (k : ℕ) → k < n → slice_get marks k ≡ Some false
   pub same : (k : ℕ) (base : Base) (page : SharedPage) → k < n → slice_get bases k ≡ Some base → slice_get pages k ≡ Some page → IsBaseOf base page
-
--- the items of pages that were put into a list of as many: those of the first n pages, up to a place in the list
-pub record ArePut {X : Type 0} (f : SharedPage → List X) (pages : List SharedPage) (n at : ℕ) (before now : List X) : Type 0 where
-  pub here : length (flat_map f (take n pages)) ≡ at
-  pub items : take at now ≡ flat_map f (take n pages)
-  pub count : length now ≡ length before
 
 -- the pages of the first n places as they are taken, where so many serials were given before them, and then with theirs
 pub record AreTaken (n : ℕ) (pages : List SharedPage) (given : ℕ) (store : PagedStored) : Type 0 where

@@ -1,11 +1,25 @@
-//! Stores: lists of 16-bit words, each with the stamp of the last write to it, and shared pages of such words.
+//! Stores: lists of 16-bit words, each with the stamp of the last write to it, and shared pages of
+//! such words. Core is a store, and so is each drive. It stands on pdp_word.
 //!
-//! It stands on pdp_word. The contract of [`Store`] says what each call answers and what it does to the list of
-//! words and to their last stamps; [`Flat`] keeps that contract in two arrays. Core is a store, and so is each drive.
-//! The contract of [`Paging`] says what is taken of a store as pages of 256 words ([`Page`], [`Pages`]), and what a
-//! load of them leaves: [`Paged`], for core, keeps it in flat arrays, and [`PagedDrive`], for drives, reads a place
-//! from its page until a word there is written. Addresses, and which turn and agent a stamp names, it leaves to pdp_unibus
-//! and pdp_rk11.
+//! # What is proved
+//!
+//! - A store is its list of words with the stamp of the last write to each ([`Store`]); [`Flat`]
+//!   keeps that contract in two arrays.
+//! - What is taken of a store as pages of 256 words ([`Page`], [`Pages`]) is its words with their
+//!   stamps. A load, which needs no memory, makes the store equal to the pages ([`Paging`]).
+//! - A place has as its base the page last taken or loaded there, until a word there is written,
+//!   and is taken again under its serial. Each other place is taken under a serial that was not
+//!   given before, no two of them the same, while there are serials enough
+//!   (`serials_are_given_once`).
+//! - A list of pages with one word changed has one page of its own, under the next serial
+//!   (`change_word`).
+//!
+//! [`Paged`], for core, keeps its words in flat arrays; [`PagedDrive`], for drives, reads a place
+//! from its page until a word there is written.
+//!
+//! No contract says that pages are really shared, or how much memory they take: `bench/kept`
+//! measures it. Addresses, and which turn and agent a stamp names, are left to pdp_unibus and
+//! pdp_rk11.
 #![tactic(auto)]
 
 ghost use Rattle.std.specs.Prelude.{◌≡◌, ◌<◌, length, slice_index, slice_index_or, slice_set};

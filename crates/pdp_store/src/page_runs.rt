@@ -2,8 +2,8 @@
 
 ghost use Rattle.std.specs.Prelude.{◌≡◌, ◌<◌, ◌≤◌, ◌+◌, ◌*◌, length};
 ghost use Rattle.pdp_store.specs.Bases.{AreBases};
-ghost use Rattle.pdp_store.specs.Pages.{lasts_of, words_of};
-ghost use Rattle.pdp_store.specs.Pieces.{piece};
+ghost use Rattle.pdp_store.specs.Pages.{lasts_of, page_lasts, page_words, words_of};
+ghost use Rattle.pdp_store.specs.Pieces.{piece, with_items_at};
 
 use crate::Stamp;
 use crate::base::Base;
@@ -25,29 +25,54 @@ pub(crate) fn piece_at<T>(items: &[T], place: usize) -> &[T]
 }
 
 // Puts the words of these pages, one page after the other, in place of the words that are there.
+#[tactic(auto, unfolding(crate::specs::Pages::words_of), using(crate::proofs::PageRuns::has_room, crate::proofs::PageRuns::put_all))]
 pub(crate) fn put_words(words: &mut [u16], pages: &[Rc<Page>])
     requires { length (words_of pages.now) ≡ length words.old }
     ensures { words.new ≡ words_of pages.now }
 {
     let mut at = 0;
     for page in pages {
-        let end = at + page.words.len();
-        words[at..end].copy_from_slice(&page.words);
-        at = end;
+        at = put_at(words, at, words_in(page));
     }
 }
 
 // Puts the last stamps of these pages, one page after the other, in place of the stamps that are there.
+#[tactic(auto, unfolding(crate::specs::Pages::lasts_of), using(crate::proofs::PageRuns::has_room, crate::proofs::PageRuns::put_all))]
 pub(crate) fn put_stamps(stamps: &mut [Option<Stamp>], pages: &[Rc<Page>])
     requires { length (lasts_of pages.now) ≡ length stamps.old }
     ensures { stamps.new ≡ lasts_of pages.now }
 {
     let mut at = 0;
     for page in pages {
-        let end = at + page.stamps.len();
-        stamps[at..end].copy_from_slice(&page.stamps);
-        at = end;
+        at = put_at(stamps, at, stamps_in(page));
     }
+}
+
+// The words of a page.
+#[inline(always)]
+fn words_in(page: &Rc<Page>) -> &[u16]
+    ensures { result.now ≡ page_words page.now }
+{
+    &page.words
+}
+
+// The last stamps of a page.
+#[inline(always)]
+fn stamps_in(page: &Rc<Page>) -> &[Option<Stamp>]
+    ensures { result.now ≡ page_lasts page.now }
+{
+    &page.stamps
+}
+
+// Puts these items in place of as many from item `at` on, and returns where they end.
+fn put_at<T: Copy>(items: &mut [T], at: usize, part: &[T]) -> usize
+    requires { at + length part.now ≤ length items.old }
+    ensures items { items.new ≡ with_items_at at part.now items.old }
+    ensures end { result ≡ at + length part.now }
+{
+    let end = at + part.len();
+    items[at..end].copy_from_slice(part);
+    end
 }
 
 // Makes each page the base of its place, and takes its mark away.

@@ -1,10 +1,19 @@
-//! The paper tape of the PDP-11/40 (PC11): its reader and its punch.
+//! The paper tape of the PDP-11/40 (PC11): its reader and its punch. It stands on pdp_word and
+//! pdp_device.
 //!
-//! It stands on pdp_word and pdp_device. `Pc` owns the registers: its contracts give, for each of them, what a read
-//! shows and leaves and what a write leaves, and what a completion of the reader or of the punch and RESET do. Laws say
-//! when the reader requests an interrupt, that go does nothing while it is busy, and that a read past the tape's end
-//! sets error. The tape itself, the addresses, how a byte is written to a register, when an operation completes, and
-//! which request is served are left to pdp_unibus.
+//! # What is proved
+//!
+//! - `Pc`: for each register what a read shows and leaves and what a write leaves; what a
+//!   completion of the reader or of the punch and RESET do.
+//! - The reader's request appears if its condition comes to hold, and at a go that finds error and
+//!   sets enable (`reader_requests_appear_on_a_rise`).
+//! - Go while the reader is busy changes nothing but enable
+//!   (`go_while_busy_changes_nothing_but_enable`).
+//! - A read gives the tape's next byte, and error past the tape's end
+//!   (`a_tape_is_read_to_its_end`).
+//!
+//! The tape itself, the addresses, how a byte is written to a register, when an operation
+//! completes, and which request is served are left to pdp_unibus.
 #![tactic(auto)]
 
 mod laws;

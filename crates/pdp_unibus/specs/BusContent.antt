@@ -1,5 +1,6 @@
 -- What is saved of a bus: all that turns change, so all but the bytes of its tape (this project's profile).
 use Rattle.std.specs.Prelude.{ℕ, ◌≡◌, ◌<◌, List, [], Option, Some, None, length, map, slice_index_or, slice_set}
+use Rattle.pdp_store.specs.Pages.{SharedPage, lasts_of, words_of}
 use Rattle.pdp_store.specs.declared.Stamp.{Stamp}
 use Rattle.pdp_unibus.specs.BusWorld.{BusWorld}
 use Rattle.pdp_unibus.specs.declared.board.Board.{Board}
@@ -49,6 +50,20 @@ pub record HasSizesOf (c : BusContent) (w : BusWorld) : Type 0 where
   pub core : length c.core ≡ length w.core
   pub lasts : length c.lasts ≡ length w.lasts
   pub drives : map length c.drives ≡ map length w.drives
+
+-- the pages are core: its words and their last stamps
+pub record IsCoreOf (pages : List SharedPage) (w : BusWorld) : Type 0 where
+  pub words : words_of pages ≡ w.core
+  pub lasts : lasts_of pages ≡ w.lasts
+
+-- the pages have as many words as core, and as many stamps
+pub record IsCoreOfSize (pages : List SharedPage) (w : BusWorld) : Type 0 where
+  pub words : length (words_of pages) ≡ length w.core
+  pub lasts : length (lasts_of pages) ≡ length w.lasts
+
+-- the bus with core of these pages
+abbrev pub with_core_of : List SharedPage → BusWorld → BusWorld
+with_core_of pages w = record w { core = words_of pages; lasts = lasts_of pages }
 
 -- there is such a word: of core, or of the drive of this number
 unfoldable pub HasWord : Option ℕ → ℕ → BusContent → Type 0

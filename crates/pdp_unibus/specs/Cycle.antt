@@ -1,6 +1,10 @@
 -- Bus cycles: PDP-11 Peripherals Handbook, Unibus (stamps, and that a timeout changes nothing, are this project's
 -- profile).
 use Rattle.std.specs.Prelude.{ℕ, ◌/◌, Option, Some, None, Result, Ok, Err, length, slice_index, slice_set, nat_lt, if◌then◌else◌}
+use Rattle.pdp_decode.specs.Table.{decoded}
+use Rattle.pdp_decode.specs.declared.instruction.Instr.{Instr}
+use Rattle.pdp_icache.specs.Meaning.{meaning}
+use Rattle.pdp_icache.specs.declared.line.Decoded.{Decoded}
 use Rattle.pdp_store.specs.declared.Agent.TheVariants.{Cpu}
 use Rattle.pdp_store.specs.declared.Stamp.{Stamp}
 use Rattle.pdp_unibus.specs.BusWorld.{BusWorld, with_board}
@@ -98,3 +102,12 @@ left_by_write (Some r) word turn b = after_write r word turn b
 abbrev pub left_by_byte : Option Register → ℕ → ℕ → ℕ → ℕ → Board → Board
 left_by_byte None drives address byte turn b = b
 left_by_byte (Some r) drives address byte turn b = after_byte r drives address byte turn b
+
+-- what a read is told, decoded: the instruction with what the processor dispatches on, and the instruction alone
+abbrev pub as_decoded : Result ℕ Timeout → Result Decoded Timeout
+as_decoded (Ok word) = Ok (meaning word)
+as_decoded (Err timeout) = Err timeout
+
+abbrev pub as_instr : Result ℕ Timeout → Result Instr Timeout
+as_instr (Ok word) = Ok (decoded word)
+as_instr (Err timeout) = Err timeout

@@ -174,6 +174,7 @@ impl<S: Store, D: Store> Bus<S, D> {
         self.board
             .disk
             .complete(&mut self.words, &mut self.drives, self.turn);
+        self.lines.clear();
     }
 
     // The reader completes: where it was reading, the next byte of the tape is taken.

@@ -12,7 +12,7 @@ use pdp_tape::{Pc, PcRegister};
 
 /// What the bus holds besides the lists of words, the tape and the turn: the program status word, the mapping
 /// registers, the devices with their delays, and the switches.
-#[derive(Clone, Copy, Debug)]
+#[derive(Drop)]
 pub struct Board {
     pub status: Status,
     /// Memory management.
@@ -45,6 +45,22 @@ impl Board {
             disk: Rk::quiet(),
             delays,
             switches: 0,
+        }
+    }
+
+    /// The same board, with no translation kept.
+    pub(crate) fn copy(&self) -> Board
+        ensures { result ≡ self.now }
+    {
+        Board {
+            status: self.status,
+            mapping: Kt::over(self.mapping.registers()),
+            console: self.console,
+            clock: self.clock,
+            paper_tape: self.paper_tape,
+            disk: self.disk,
+            delays: self.delays,
+            switches: self.switches,
         }
     }
 

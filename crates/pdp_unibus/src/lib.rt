@@ -1,13 +1,36 @@
-//! The Unibus of the PDP-11/40: bus cycles over core and the registers of devices and of memory management, the
-//! beginning of a turn with its events, ticks and completions, requests for interrupts, and the program status word.
+//! The Unibus of the PDP-11/40: bus cycles over core and the registers of devices and of memory
+//! management, the beginning of a turn with its events, ticks and completions, requests for
+//! interrupts, and the program status word. It stands on pdp_word, pdp_store, pdp_icache and the
+//! device crates.
 //!
-//! It stands on pdp_word, pdp_store, pdp_kt11, pdp_device, pdp_console, pdp_tape and pdp_rk11. The contracts of `Bus`
-//! give each cycle its value and the bus after it, or a timeout that changes nothing, for every store of core and of
-//! the disk's drives, and say what the beginning of a turn does, which bytes come out of it, and which request is
-//! chosen; and what is saved of a bus over stores of pages (`SavedBus`), and what a load of it leaves. It says who owns
-//! an address; what a register does, when a device requests, what a function of the disk does when it completes, and
-//! where a virtual address goes, it leaves to pdp_console, pdp_tape, pdp_rk11 and pdp_kt11, references and their traps
-//! to pdp_operand, interrupts and `Continue` to pdp_cpu.
+//! # What is proved
+//!
+//! - One bus cycle has the value and the effect of its definition, or times out and changes nothing
+//!   (`Bus::read`, `write`, `write_byte`, `timeouts_change_nothing`), for every store of core and
+//!   of the drives.
+//! - The beginning of a turn: its events, a tick, the completions that are due, and the bytes that
+//!   come out of it (`Bus::events`, `begin_quietly`). A byte comes out exactly as its operation
+//!   ends, which is in the turn in which it is due unless its event or RESET ended it before
+//!   (`bytes_come_out_as_operations_end`, `operations_end_when_due`). A read takes the tape's next
+//!   byte (`reads_take_the_next_byte`). A key waits until it is read, and is read once
+//!   (`keys_wait_and_are_read_once`).
+//! - The requests of keyboard, printer, punch and disk are there exactly by their one rule; which
+//!   request is chosen, and what serving it and RESET leave (`Bus::choose`, `serve`, `reset`,
+//!   `the_first_request_is_chosen`, `requests_go_by_the_rule`,
+//!   `requests_go_one_by_one_or_by_reset`).
+//! - The program status word, what a write of it leaves, and that a word written to it reads back
+//!   (`Status::word`, `of_word`, `written`, `status_reads_back`).
+//! - The address of a reference by the mapping registers (`Bus::place`, `fetched`).
+//! - What is fetched as an instruction is the decoding of what a read gives, with the effects of
+//!   the read (`Bus::instr`, `decoded`). That each kept line is the decoding of core now is an
+//!   invariant of `Bus`, so no write to core can forget it.
+//! - What is saved of a bus is all of it except the tape's bytes; a load makes the bus that again,
+//!   with the tape that it then has (`Bus::save`, `load`, `set_tape`, `SavedBus::set_delays`,
+//!   `with_word`).
+//!
+//! This crate says who owns an address. What a register does and when a device requests is left to
+//! the device crates, references and their traps to pdp_operand, interrupts and `Continue` to
+//! pdp_cpu.
 #![tactic(auto)]
 
 mod beginning;

@@ -1,7 +1,8 @@
 //! What is saved of a bus, so that it can be looked at again as it was.
 
 ghost use Rattle.std.specs.Prelude.{◌≡◌, ◌<◌, Some, None, [], length, slice_index_or, IfOk};
-ghost use Rattle.pdp_unibus.specs.BusContent.{HasSizesOf, HasWord, bus_content, bus_of, content_with_word, with_delays, with_tape};
+ghost use Rattle.pdp_unibus.specs.BusContent.{HasSizesOf, HasWord, bus_content, bus_of, content_with_word};
+ghost use Rattle.pdp_unibus.specs.BusContent.{IsCoreOf, IsCoreOfSize, with_core_of, with_delays, with_tape};
 
 use crate::board::Board;
 use crate::bus::Bus;
@@ -99,7 +100,7 @@ impl SavedBus {
         let core = change_word(&mut bus.words, alloc, &self.core, word, value)?;
         let drives = share_each(alloc, &self.drives)?;
         Ok(SavedBus {
-            board: self.board,
+            board: self.board.copy(),
             core,
             drives,
             bytes_read: self.bytes_read,
@@ -137,7 +138,7 @@ impl SavedBus {
         drives[number] = changed;
         let core = self.core.clone()?;
         Ok(SavedBus {
-            board: self.board,
+            board: self.board.copy(),
             core,
             drives,
             bytes_read: self.bytes_read,
@@ -147,6 +148,25 @@ impl SavedBus {
 }
 
 impl Bus<Paged, PagedDrive> {
+    /// Core as it is now. Pages that are shared already are shared again, and only others copied.
+    ///
+    /// Err(NoMemory) if a growth was refused. The bus stays as it is in any case.
+    pub fn take_core(&mut self, alloc: Global) -> Result<Pages, NoMemory>
+        ensures same { self.new ≡ self.old }
+        ensures taken { IfOk result (λ pages. IsCoreOf pages.value.items self.old) }
+    {
+        self.words.take_pages(alloc)
+    }
+
+    /// Makes core the one of these pages, with their last stamps. Takes no memory.
+    pub fn load_core(&mut self, pages: &Pages)
+        requires { IsCoreOfSize pages.now.value.items self.old }
+        ensures { self.new ≡ with_core_of pages.now.value.items self.old }
+    {
+        self.words.load_pages(pages);
+        self.lines.clear();
+    }
+
     /// The bus as it is now. Words that are shared already are shared again, and only others copied.
     ///
     /// Err(NoMemory) where a growth was refused. The bus stays as it is in any case.
@@ -154,10 +174,10 @@ impl Bus<Paged, PagedDrive> {
         ensures same { self.new ≡ self.old }
         ensures saved { IfOk result (λ saved. saved ≡ bus_content self.old) }
     {
-        let core = self.words.take_pages(alloc)?;
+        let core = self.take_core(alloc)?;
         let drives = take_each(alloc, &mut self.drives)?;
         Ok(SavedBus {
-            board: self.board,
+            board: self.board.copy(),
             core,
             drives,
             bytes_read: self.tape.taken(),
@@ -170,9 +190,9 @@ impl Bus<Paged, PagedDrive> {
         requires { HasSizesOf saved.now self.old }
         ensures { self.new ≡ bus_of self.old.tape saved.now }
     {
-        self.words.load_pages(&saved.core);
+        self.load_core(&saved.core);
         load_each(&mut self.drives, &saved.drives);
-        self.board = saved.board;
+        self.board = saved.board.copy();
         self.tape.go_to(saved.bytes_read);
         self.turn = saved.turn;
         self.watch = self.board.watch(self.turn);

@@ -1,9 +1,15 @@
-//! Numbers, words and bytes: what every part of the machine speaks of.
+//! Numbers, words and bytes: what every part of the machine speaks of. It stands on no other crate.
 //!
-//! It stands on no other crate. Its contracts say exactly which texts are numbers and which number each is, what the
-//! last six octal digits of a number are, the signed number of a word, its low byte, the word that a byte or two bytes
-//! make, and when a device's request for an interrupt appears and goes. Sizes, condition codes and `NoMemory` are plain
-//! types here: what sets or answers them it leaves to the crates above.
+//! # What is proved
+//!
+//! - A text is a number exactly if it has 1 to 10 digits, and its value goes by the place of each
+//!   digit (`read_octal`, `read_decimal`). Six octal digits show the number that is read back
+//!   (`write_octal6`).
+//! - A word as a signed number, its low byte, a byte with its sign extended, the word of two bytes
+//!   (`signed`, `low_byte`, `sign_extend`, `join`).
+//! - When the request of a device appears and goes (`request_after`).
+//!
+//! Sizes, condition codes and `NoMemory` are plain types here; the crates above set or return them.
 #![tactic(auto)]
 
 mod bits;

@@ -1,7 +1,7 @@
-ghost use Rattle.std.specs.Prelude.{◌≡◌, None, Some, false};
+ghost use Rattle.std.specs.Prelude.{◌≡◌, ◌≤◌, None, Some, IfOk, false, length, take};
 
 use super::*;
-use crate::files::FileFailure;
+use crate::files::{FileFailure, first_bytes};
 use pdp_script::Fault;
 use pdp_session::{FromRead, ToWrite};
 use std::io;
@@ -59,7 +59,7 @@ impl Files for NoFiles {
 
     ghost contents = { λ s name. None };
 
-    fn bytes(&mut self, _alloc: Global, _name: &str) -> Result<Vec<u8>, FileFailure> {
+    fn bytes(&mut self, _alloc: Global, _name: &str, _most: usize) -> Result<Vec<u8>, FileFailure> {
         self.failed = true;
         Err(FileFailure::Unreadable)
     }
@@ -226,20 +226,30 @@ struct OneFile {
 
 const NAME: &str = "file.bin";
 
+impl OneFile {
+    // The first bytes of the file, at most `most`; there is no file of another name.
+    fn read(&self, alloc: Global, name: &str, most: usize) -> Result<Vec<u8>, FileFailure>
+        ensures bound { IfOk result (λ bytes. length bytes.items ≤ most) }
+        ensures front { IfOk result (λ bytes. bytes.items ≡ take most self.now.bytes.items) }
+    {
+        if name != NAME {
+            return Err(FileFailure::Unreadable);
+        }
+        first_bytes(alloc, &mut FromRead::new(self.bytes.as_slice()), most)
+    }
+}
+
 impl Files for OneFile {
     ghost has_failed = { λ s. s.failed };
 
     ghost contents = { λ s name. Some s.bytes.items };
 
-    fn bytes(&mut self, alloc: Global, name: &str) -> Result<Vec<u8>, FileFailure> {
-        if name != NAME {
+    fn bytes(&mut self, alloc: Global, name: &str, most: usize) -> Result<Vec<u8>, FileFailure> {
+        let read = self.read(alloc, name, most);
+        if matches!(read, Err(FileFailure::Unreadable)) {
             self.failed = true;
-            return Err(FileFailure::Unreadable);
         }
-        match Vec::from_slice(alloc, &self.bytes) {
-            Ok(bytes) => Ok(bytes),
-            Err(_) => Err(FileFailure::NoMemory),
-        }
+        read
     }
 
     fn failed(&self) -> bool {

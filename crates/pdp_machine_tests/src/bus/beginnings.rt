@@ -1,12 +1,12 @@
 //! Which turns begin quietly, and a tape that is read to its end.
 
-use super::Step::{Begin, BeginQuietly, Choose, Read, Serve, Write, WriteByte};
-use super::{PPB, PRB, PRS, TKB, TPB, bus, take_steps};
+use super::Step::{Begin, BeginQuietly, Choose, MayRequest, Read, Serve, Write, WriteByte};
+use super::{PPB, PRB, PRS, TKB, TKS, TPB, bus, take_steps};
 use pdp_unibus::{Delays, Event, LAST_TURN, Line, Priority, Source};
 use pdp_word::NoMemory;
 
 // A turn begins quietly where nothing comes of it, and can't where the printer, the reader or the punch is due or the
-// clock ticks.
+// clock ticks. In such a turn a source may request exactly where one did when its devices were last asked.
 #[test]
 fn begins_quietly_where_nothing_is_due(rt: HostRuntime) -> Result<(), NoMemory> {
     for (line, begin, printed, punched) in [
@@ -25,6 +25,7 @@ fn begins_quietly_where_nothing_is_due(rt: HostRuntime) -> Result<(), NoMemory> 
             BeginQuietly(5, false),
             Begin(5, &[], printed, punched),
             BeginQuietly(6, true),
+            MayRequest(false),
             BeginQuietly(LAST_TURN, true),
         ];
         take_steps(&rt, &mut bus, &steps);
@@ -33,8 +34,12 @@ fn begins_quietly_where_nothing_is_due(rt: HostRuntime) -> Result<(), NoMemory> 
     let steps = [
         Begin(1, &[], None, None),
         BeginQuietly(2, true),
+        MayRequest(false),
         BeginQuietly(3, false),
+        Write(TKS, 0o000100),
         Begin(3, &[Event::Key(0o101)], None, None),
+        BeginQuietly(4, true),
+        MayRequest(true),
         Read(TKB, 0o101),
         BeginQuietly(5, true),
         BeginQuietly(6, false),

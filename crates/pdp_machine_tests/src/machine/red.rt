@@ -2,6 +2,7 @@
 
 use super::{halted, place, run_turns, running};
 use pdp_cpu::{Act, Machine, Meter};
+use pdp_icache::Lines;
 use pdp_store::Flat;
 use pdp_unibus::Delays;
 use pdp_word::NoMemory;
@@ -21,7 +22,8 @@ fn halts_where_the_red_sequence_faults(rt: HostRuntime) -> Result<(), NoMemory> 
         let drives: Vec<Flat> = Vec::new(rt.alloc());
         let tape = Vec::new(rt.alloc());
         let delays = Delays::standard();
-        let mut machine = Machine::power(rt.alloc(), 0, core, drives, tape, delays);
+        let lines = Lines::new(rt.alloc())?;
+        let mut machine = Machine::power(rt.alloc(), lines, 0, core, drives, tape, delays);
         let act = run_turns(&mut machine, &mut Meter::new(), 2)?;
         assert_eq!(rt; (act, machine.regs()), (Act::Instr, want), "{length} words");
     }

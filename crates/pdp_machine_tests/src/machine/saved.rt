@@ -4,6 +4,7 @@ ghost use Rattle.std.specs.Prelude.{◌≡◌, ◌≤◌, [], IfOk, length};
 
 use super::{WORDS, place, run_turns};
 use pdp_cpu::{KeptByte, Machine, Meter, PagedMachine};
+use pdp_icache::Lines;
 use pdp_store::{Paged, PagedDrive};
 use pdp_unibus::{Delays, Line};
 use pdp_word::NoMemory;
@@ -23,7 +24,16 @@ fn paged(alloc: Global, program: &[u16]) -> Result<PagedMachine, NoMemory>
     place(&mut core, 0o001000, program);
     let drives = vec![in alloc; PagedDrive::new(alloc, 512)?]?;
     let delays = Delays::standard();
-    Ok(Machine::power(alloc, 0o001000, core, drives, Vec::new(alloc), delays))
+    let lines = Lines::new(alloc)?;
+    Ok(Machine::power(
+        alloc,
+        lines,
+        0o001000,
+        core,
+        drives,
+        Vec::new(alloc),
+        delays,
+    ))
 }
 
 // With a delay of 4 the byte that is written in turn 0 comes out in turn 4.

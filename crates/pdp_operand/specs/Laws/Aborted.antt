@@ -11,8 +11,8 @@ use Rattle.pdp_unibus.specs.BusWorld.{BusWorld}
 use Rattle.pdp_unibus.specs.declared.board.Board.{Board}
 use Rattle.pdp_operand.specs.Handbook.Reference.{Reference, access_of, is_odd, perform, translation}
 use Rattle.pdp_operand.specs.Laws.Trace.{touches}
-use Rattle.pdp_operand.specs.declared.trap.Trap.{Trap}
-use Rattle.pdp_operand.specs.declared.trap.Trap.TheVariants.{MappingAbort, OddAddress}
+use Rattle.pdp_operation.specs.declared.trap.Trap.{Trap}
+use Rattle.pdp_operation.specs.declared.trap.Trap.TheVariants.{MappingAbort, OddAddress}
 
 -- the board with another SR0 of memory management
 abbrev pub with_mapping_status : MappingStatus → Board → Board

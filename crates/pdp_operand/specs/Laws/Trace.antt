@@ -11,7 +11,7 @@ use Rattle.pdp_kt11.specs.declared.place.Abort.{Abort}
 use Rattle.pdp_operand.specs.Phases.Phase.{Phase, State, Stop, Request, Nothing, Ask, Raise, Latch, step, inner_of}
 use Rattle.pdp_operand.specs.Phases.Plan.{phases_of, run_plan}
 use Rattle.pdp_operand.specs.Phases.Course.{Course, End, Go, caught_in}
-use Rattle.pdp_operand.specs.declared.trap.Trap.{Trap}
+use Rattle.pdp_operation.specs.declared.trap.Trap.{Trap}
 
 abbrev pub is_write : Access → Bool
 is_write Read = false

@@ -17,7 +17,7 @@ const PULLS: u64 = 1_000_000_000_000;
 
 impl<R: Read> FromRead<R> {
     /// A feed of what `reader` gives, with 1,000,000,000,000 pulls left. An interrupted read is made again,
-    /// within the same pull.
+    /// within the same pull. After a failed one `reader` isn't called again.
     pub fn new(reader: R) -> Self
         ensures remaining { ⟦<FromRead<R> as Feed>⟧.remaining result ≡ R.remaining reader }
         ensures pulls { ⟦<FromRead<R> as Feed>⟧.pulls result ≡ pulls_at_first }
@@ -39,7 +39,7 @@ impl<R: Read> Feed for FromRead<R> {
     ghost has_failed = { λ s. s.failed };
 
     fn pull(&mut self, buf: &mut [u8]) -> Result<usize, Failed> {
-        if self.left == 0 {
+        if self.failed || self.left == 0 {
             self.failed = true;
             return Err(Failed);
         }

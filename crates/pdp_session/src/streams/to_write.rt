@@ -11,7 +11,8 @@ pub struct ToWrite<W> {
 }
 
 impl<W: Write> ToWrite<W> {
-    /// A drain into `writer`. An interrupted write is made again.
+    /// A drain into `writer`. An interrupted write is made again. After one that failed, or took none of some
+    /// bytes, `writer` isn't called again.
     pub fn new(writer: W) -> Self
         ensures written { ⟦<ToWrite<W> as Drain>⟧.written result ≡ W.contents writer }
         ensures sound { ⟦<ToWrite<W> as Drain>⟧.has_failed result ≡ false }
@@ -29,6 +30,9 @@ impl<W: Write> Drain for ToWrite<W> {
     ghost has_failed = { λ s. s.failed };
 
     fn put(&mut self, bytes: &[u8]) -> Result<usize, Failed> {
+        if self.failed {
+            return Err(Failed);
+        }
         'tries: for _ in 0..u64::MAX {
             match self.writer.write(bytes) {
                 Ok(taken) => {

@@ -1,8 +1,5 @@
-use Rattle.std.proofs.Common.{◌≡◌, ◌<◌, ◌++◌, [], length, take, refl, arith, append-nil, rules}
+use Rattle.std.proofs.Common.{◌≡◌, ◌<◌, ◌++◌, [], inl, inr, length, take, refl, arith, append-nil, rules}
 use Rattle.std.proofs.KnownBytes.{Appends-nil, Appends-trans, Consumes-nil, Consumes-trans, Consumes-kept}
-use Rattle.pdp_session.specs.Lines.{lines_of}
-use Rattle.pdp_session.specs.Session.{BeginsReplies}
-use Rattle.pdp_session.proofs.SessionEnds.{at_end, at_any}
 use Rattle.pdp_session.proofs.Pulls.{some_read}
 use Rattle.pdp_session.proofs.Reaching.{nothing_reached, ended_answered}
 use Rattle.pdp_session.proofs.session.serve.Goals as goal
@@ -50,7 +47,7 @@ returns-in-Err-finish-clause-session g c =
       takes = rw append-nil at (Consumes-trans _ _ _ before.read [] before.takes bytes.0);
       writes = Appends-trans _ _ _ before.out finished.more before.writes finished.writes;
       pulled = omega (arith, c.in-Ok-eq0.ensures.lowers, before.pulled);
-      ends = at_end _ (λ more. BeginsReplies c.args.engine.now.past (lines_of (before.read ++ more)) out) (bytes.1 refl room) (rw append-nil finished.begins);
+      ends = inr (bytes.1 refl room, finished.begins);
     }
 
 pub loop-engine-preserved : goal.loop-engine-preserved
@@ -83,7 +80,7 @@ returns-in-Err-take_bytes-clause-session g c =
       takes = Consumes-trans _ _ _ before.read _ before.takes c.in-Ok.ensures.bytes.0;
       writes = Appends-trans _ _ _ before.out breaks.more before.writes breaks.writes;
       pulled = omega (arith, some_read _ _ _ before.read c.pull.new.buf c.in-Ok.count c.in-Ok.ensures.lowers c.in-Ok.ensures.bound some before.pulled);
-      ends = at_any _ (λ more. BeginsReplies c.args.engine.now.past (lines_of (read ++ more)) out) breaks.broken;
+      ends = inl breaks.broken;
     }
 
 pub returns-in-Err-clause-session : goal.returns-in-Err-clause-session

@@ -1,28 +1,7 @@
-use Rattle.std.proofs.Common.{rules, ◌≡◌, ◌+◌, ◌-◌, ◌≤◌, length, subst, sym, arith}
-use Rattle.pdp_store.specs.Pages.{SharedPage, words_of, page_words}
-use Rattle.pdp_store.proofs.PageRuns.{has_room, put_more, put_all}
+use Rattle.std.proofs.Common.{rules}
+use Rattle.pdp_store.proofs.PageRuns.{put_ends, put_more}
 use Rattle.pdp_store.proofs.page_runs.put_words.Goals as goal
 
-pub slice_bounds-copy_from_slice-end : goal.slice_bounds-copy_from_slice-end
-unfolding words_of
-slice_bounds-copy_from_slice-end c =
-    let room = has_room page_words c.args.pages.now c.loop-page.page-index c.loop-page.at c.args.words.now c.loop-page.words c.page-item.result c.loop-page.invariant c.requires c.loop-page-test.true in
-    let here : c.loop-page.at + length (page_words c.page-item.result) ≤ length c.loop-page.words
-    = subst (λ (p : SharedPage). c.loop-page.at + length (page_words p) ≤ length c.loop-page.words) (sym c.page-item.is) room in
-    let count : c.len.result ≡ length (page_words c.page-item.result) = search rules in
-    omega arith
-
+-- whatever the body calls
 pub loop-page-preserved : goal.loop-page-preserved
-unfolding words_of
-loop-page-preserved c =
-    let count : c.len.result ≡ length (page_words c.page-item.result) = search rules in
-    let part : c.copy_from_slice.new.self ≡ page_words c.page-item.result = search rules in
-    put_more page_words c.args.pages.now c.loop-page.page-index c.loop-page.at c.len.result (c.loop-page.at + c.len.result - c.loop-page.at)
-    c.args.words.now c.loop-page.words c.copy_from_slice.new.self c.page-item.result
-    c.loop-page.invariant c.requires c.loop-page-test.true c.page-item.is count (omega arith) part
-
-pub returns : goal.returns
-unfolding words_of
-returns c =
-    let end : c.loop-page.page-index ≡ length c.args.pages.now = omega arith in
-    put_all page_words c.args.pages.now c.loop-page.at c.args.words.now c.loop-page.words (rw (← end) c.loop-page.invariant) c.requires
+loop-page-preserved c = record { here = search (rules, put_ends); items = search (rules, put_more) }

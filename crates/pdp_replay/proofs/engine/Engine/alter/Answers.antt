@@ -24,4 +24,4 @@ invariant_of-self-2 c =
     subst (SameBefore reached old.script) (sym c.alter.ensures.after) (same_before_alteration c.args.number turn c.args.event old.script) in
     engine_edited p q reached old.highest old.run run c.self.invariant
     (ap (λ (w : World). setup_from old.origin w.bus.tape old.delays old.patches) (sym lower.world)) same
-    (lower.known ∙ ap (min old.run.known) back) lower.stride (lower.kept p c.self.invariant.kept)
+    (lower.known ∙ ap (min old.run.known) back) lower.stride (lower.run p c.self.invariant.run)

@@ -21,4 +21,4 @@ invariant_of-self-2 c =
     subst (SameBefore reached old.script) (sym c.drop_event.ensures.after) (same_before_drop c.args.number old.script) in
     engine_edited p q reached old.highest old.run run c.self.invariant
     (ap (λ (w : World). setup_from old.origin w.bus.tape old.delays old.patches) (sym lower.world)) same
-    (lower.known ∙ ap (min old.run.known) back) lower.stride (lower.kept p c.self.invariant.kept)
+    (lower.known ∙ ap (min old.run.known) back) lower.stride (lower.run p c.self.invariant.run)

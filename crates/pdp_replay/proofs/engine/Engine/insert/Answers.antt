@@ -20,4 +20,4 @@ invariant_of-self-2 c =
     subst (SameBefore turn old.script) (sym c.insert.ensures.after) (same_before_insertion turn c.args.event (for_memory c.insert.result) old.script) in
     engine_edited p q turn old.highest old.run run c.self.invariant
     (ap (λ (w : World). setup_from old.origin w.bus.tape old.delays old.patches) (sym lower.world)) same lower.known lower.stride
-    (lower.kept p c.self.invariant.kept)
+    (lower.run p c.self.invariant.run)

@@ -8,6 +8,6 @@ invariant_of-result c =
     let setup = c.args.setup in
     let run = c.in_ok-run in
     fresh_engine (record { units = setup.units; start = setup.start; core = setup.core; disk = setup.disk; stride = setup.stride }) setup.tape.items
-    run.run'.machine run.run'.ladder c.standard.result c.new.result c.new-2.result run.run'.known
-    (good_is (given setup) c.in_ok-check.ensures) run.ensures.kept run.ensures.stride run.ensures.known
+    run.run' c.standard.result c.new.result c.new-2.result
+    (good_is (given setup) c.in_ok-check.ensures) run.ensures.run run.ensures.stride run.ensures.known
     c.standard.ensures c.new.ensures.empty c.new-2.ensures.empty c.new-2.ensures.none_given

@@ -15,7 +15,7 @@ set_word-requires c =
     let old = c.self.inside in
     let p : Past = past_from old.origin old.run.machine.state.world.bus.tape old.delays old.patches old.script in
     record {
-      there = word_kept p old.run.known old.run.ladder (core_key c.in_ok-number.number) c.self.invariant.kept.states c.in_ok-number.ensures.below;
+      there = word_kept p old.run.known old.run.ladder (core_key c.in_ok-number.number) c.self.invariant.run.kept.states c.in_ok-number.ensures.below;
     }
 
 pub returns-then-not-contains_key-clause-answer : goal.returns-then-not-contains_key-clause-answer

@@ -1,10 +1,11 @@
-use Rattle.std.proofs.Common.{◌≡◌, ap₂, rules}
-use Rattle.indexmap.specs.IndexMap.{insert_entry}
+use Rattle.std.proofs.Common.{◌≡◌, ◌<◌, None, ap₂, rules}
+use Rattle.indexmap.specs.IndexMap.{insert_entry, spare}
 use Rattle.pdp_operand.specs.Phases.World.{World}
 use Rattle.pdp_replay.specs.Past.{Past, past_from}
-use Rattle.pdp_replay.specs.PatchedWords.{core_key, is_same_word}
+use Rattle.pdp_replay.specs.PatchedWords.{core_key, is_same_word, patch_of}
 use Rattle.pdp_replay.specs.Setup.{setup_of}
 use Rattle.pdp_replay.proofs.EditedSetups.{engine_patched, word_kept}
+use Rattle.pdp_replay.proofs.Lists.{ok_is_no_err}
 use Rattle.pdp_replay.proofs.PoweredWords.{patched}
 use Rattle.pdp_replay.proofs.engine.Engine.set_core.Goals as goal
 
@@ -13,7 +14,7 @@ set_word-requires c =
     let old = c.self.inside in
     let p : Past = past_from old.origin old.run.machine.state.world.bus.tape old.delays old.patches old.script in
     record {
-      there = word_kept p old.run.known old.run.ladder (core_key c.in_ok-core_word.field-0) c.self.invariant.kept.states c.in_ok-core_word.ensures.below;
+      there = word_kept p old.run.known old.run.ladder (core_key c.in_ok-core_word.field-0) c.self.invariant.run.kept.states c.in_ok-core_word.ensures.below;
     }
 
 pub invariant_of-self-2 : goal.invariant_of-self-2
@@ -29,3 +30,19 @@ invariant_of-self-2 c =
     let setup : q.setup ≡ patched p.setup (core_key number) c.args.word =
     ap₂ (λ (w : World) entries. setup_of old.origin w.bus.tape old.delays entries) set.world entries in
     engine_patched p q (core_key number) c.args.word old.highest old.run run c.self.invariant setup c.in_ok-core_word.ensures.below set.forgotten set.ladder set.world
+
+-- there was room for the patch, so it was put in
+put_in : {X : Type 0} (c : goal.After-from_residual-in_err-insert) → X
+put_in c =
+    let none : patch_of c.make_room.new.patches.entries (core_key c.in_ok-core_word.field-0) ≡ None = search rules in
+    let room : 0 < spare c.make_room.new.patches = c.in_ok-make_room.ensures.room none in
+    ok_is_no_err c.insert.result _ c.in_err-insert.was (c.insert.ensures.succeeds room)
+
+pub invariant_of-self-in_err-insert : goal.invariant_of-self-in_err-insert
+invariant_of-self-in_err-insert c = put_in c
+
+pub returns-in_err-insert-clause-after : goal.returns-in_err-insert-clause-after
+returns-in_err-insert-clause-after c = put_in c
+
+pub returns-in_err-insert-clause-refused : goal.returns-in_err-insert-clause-refused
+returns-in_err-insert-clause-refused c = put_in c

@@ -22,5 +22,15 @@ returns-clause-way c =
     on_ok_weaker c.run_part-ran.result
     (λ _ p same on.
     let way : IsUnderWay p run.known machine = c.run_part-ran.ensures.way p run.known same (way_of_run p run on) in
-    on_way_settled p run.known machine c.settle.new.self way (c.settle.ensures.kept p on.kept.states way) settled.machine settled.known)
+    on_way_settled p run.known machine c.settle.new.self way (c.settle.ensures.kept p on.kept.states way).kept settled.machine settled.known)
     c.run_part-ran.ensures.turn
+
+pub returns-in_err-settle-clause-come : goal.returns-in_err-settle-clause-come
+returns-in_err-settle-clause-come c =
+    let come = c.settle.ensures.come in
+    record { within = come.within; known = come.known; ahead = come.ahead; current = come.current }
+
+pub returns-clause-come : goal.returns-clause-come
+returns-clause-come c =
+    let come = c.settle.ensures.come in
+    record { within = come.within; known = come.known; ahead = come.ahead; current = come.current }

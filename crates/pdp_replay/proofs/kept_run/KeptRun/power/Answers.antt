@@ -4,11 +4,11 @@ use Rattle.pdp_replay.specs.Image.{padded}
 use Rattle.pdp_replay.specs.Past.{Past, unscripted}
 use Rattle.pdp_replay.specs.Setup.{SetupData, drive_words, first_setup}
 use Rattle.pdp_replay.specs.States.{at}
-use Rattle.pdp_replay.proofs.PoweredRuns.{powered_kept, powered_over}
+use Rattle.pdp_replay.proofs.PoweredRuns.{powered_in_run, powered_kept, powered_over}
 use Rattle.pdp_replay.proofs.kept_run.KeptRun.power.Goals as goal
 
-pub returns-clause-kept : goal.returns-clause-kept
-returns-clause-kept c =
+pub returns-clause-run : goal.returns-clause-run
+returns-clause-run c =
     let s : SetupData = first_setup c.args.origin.now c.args.tape.items in
     let p : Past = unscripted s in
     let m = c.power-machine.result in
@@ -20,4 +20,7 @@ returns-clause-kept c =
     let state : m.state ≡ at p 0 =
     first ∙ powered_over s core.words core.lasts drives c.requires.good refl c.in_ok-core.ensures.words c.in_ok-core.ensures.lasts drives_are in
     let new = c.in_ok-ladder.ensures in
-    powered_kept p m c.new.new.machine c.in_ok-ladder.ladder state c.power-machine.ensures.kept_text c.power-machine.ensures.kept_punched new.machine new.kept new.rungs
+    record {
+      kept = powered_kept p m c.new-2.new.machine c.in_ok-ladder.ladder state c.power-machine.ensures.kept_text c.power-machine.ensures.kept_punched new.machine new.kept new.rungs;
+      current = λ yes. powered_in_run p m c.new-2.new.machine state new.machine;
+    }

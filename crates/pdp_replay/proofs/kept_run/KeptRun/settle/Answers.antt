@@ -2,6 +2,7 @@ use Rattle.std.proofs.Common.{◌≡◌, ◌∙◌, ◌-◌, ◌<◌, arith, len
 use Rattle.pdp_cpu.specs.KeptTexts.{kept_before}
 use Rattle.pdp_cpu.specs.Saved.{state_cut}
 use Rattle.pdp_checkpoint.specs.Ladder.{next_of}
+use Rattle.pdp_replay.proofs.UnderWay.{way_in_run}
 use Rattle.pdp_replay.proofs.Settled.{settled, settled_refused, settled_taken, stride_settled, stride_taken}
 use Rattle.pdp_replay.proofs.kept_run.KeptRun.settle.Goals as goal
 use Rattle.pdp_replay.proofs.kept_run.KeptRun.settle.Goals.{then-turn-next+in_default, else-turn-next}
@@ -15,8 +16,11 @@ returns-in-Err-clause-kept c = λ p are way.
     let text : now.kept_text ≡ kept_before (m.state.turn - 1) m.kept_text = rw (← c.turns-turn.ensures, ← taken.machine) c.keep_text.ensures.kept_text in
     let punched : now.kept_punched ≡ kept_before (m.state.turn - 1) m.kept_punched = rw (← c.turns-turn.ensures, ← taken.machine) c.keep_text.ensures.kept_punched in
     let state : now.state ≡ state_cut (length now.kept_text) (length now.kept_punched) m.state = rw (← taken.machine) c.keep_text.ensures.state in
-    rw (c.max-self.ensures, taken.refused, c.turns-turn.ensures)
-    (settled_refused p c.args.self.now.known (length now.kept_text) (length now.kept_punched) m now c.args.self.now.ladder are way here text punched state)
+    record {
+      kept = rw (c.max-self.ensures, taken.refused, c.turns-turn.ensures)
+          (settled_refused p c.args.self.now.known (length now.kept_text) (length now.kept_punched) m now c.args.self.now.ladder are way here text punched state);
+      current = λ yes. absurd cc;
+    }
 
 pub returns-clause-kept : goal.returns-clause-kept
 returns-clause-kept c = λ p are way.
@@ -26,10 +30,16 @@ returns-clause-kept c = λ p are way.
           let here : r.machine.state.turn ≡ next_of r.ladder = sym c.turns-turn.ensures ∙ w.if-turn-next.true ∙ c.next.ensures.next in
           let machine = w.take.ensures.machine in
           rw (c.max-self-2.ensures, w.self-is, c.turns-turn.ensures, machine)
-          (settled_taken p r.known r.machine r.ladder w.take.new.self are way here w.in_default.ensures.kept w.take.ensures.rungs w.in_default.ensures.next)
+          (record {
+            kept = settled_taken p r.known r.machine r.ladder w.take.new.self are way here w.in_default.ensures.kept w.take.ensures.rungs w.in_default.ensures.next;
+            current = λ yes. way_in_run p r.known r.machine way;
+          })
       | else-turn-next w ↦
           let below : r.machine.state.turn < next_of r.ladder = omega (arith, c.requires.within, c.turns-turn.ensures, w.if-turn-next.false, c.next.ensures.next) in
-          rw (c.max-self-2.ensures, w.self-is, c.turns-turn.ensures) (settled p r.known r.machine r.ladder are way below)
+          rw (c.max-self-2.ensures, w.self-is, c.turns-turn.ensures) (record {
+            kept = settled p r.known r.machine r.ladder are way below;
+            current = λ yes. way_in_run p r.known r.machine way;
+          })
     ]
 
 pub returns-clause-stride : goal.returns-clause-stride

@@ -31,4 +31,14 @@ returns-clause-way c = λ p same on.
     way_stepped p c.args.script.now run c.ready.new.self c.turn-act.new.self c.turns-turn.result c.at.result.now same on
     ready.same ready.same_text ready.same_punched c.turns-turn.ensures c.at.ensures.events turn.turn turn.kept_text turn.kept_punched in
     let settled = c.in_ok-settle.ensures in
-    on_way_settled p run.known c.turn-act.new.self c.settle.new.self way (c.settle.ensures.kept p on.kept.states way) settled.machine settled.known
+    on_way_settled p run.known c.turn-act.new.self c.settle.new.self way (c.settle.ensures.kept p on.kept.states way).kept settled.machine settled.known
+
+pub returns-in_err-settle-clause-come : goal.returns-in_err-settle-clause-come
+returns-in_err-settle-clause-come c =
+    let come = c.settle.ensures.come in
+    record { within = come.within; known = come.known; ahead = come.ahead; current = come.current }
+
+pub returns-clause-come : goal.returns-clause-come
+returns-clause-come c =
+    let come = c.settle.ensures.come in
+    record { within = come.within; known = come.known; ahead = come.ahead; current = come.current }

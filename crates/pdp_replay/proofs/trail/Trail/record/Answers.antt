@@ -2,6 +2,7 @@ use Rattle.std.proofs.Common.{◌≡◌, ◌+◌, ◌∙◌, ap, arith, length, 
 use Rattle.pdp_cpu.specs.Turns.MachineState.{MachineState, after_turn}
 use Rattle.pdp_script.specs.Entries.{events_at}
 use Rattle.pdp_replay.specs.Trails.{trail_entry}
+use Rattle.pdp_replay.proofs.Coming.{comes_on}
 use Rattle.pdp_replay.proofs.Trails.{length_pushed, listed_next, reached_next}
 use Rattle.pdp_replay.proofs.trail.Trail.record.Goals as goal
 
@@ -23,6 +24,8 @@ loop-done-preserved c =
       way = λ p same on. stepped.way p same (before.way p same on);
       short = stepped.short;
       known = omega (arith, known_now, known_before, turn_before);
+      come = comes_on c.args.run.now c.loop-done.run c.record_turn.new.run before.come c.record_turn.ensures.come (omega (arith, known_before, turn_before)) before.short (omega (arith, turn));
+      current = c.record_turn.ensures.come.current stepped.short;
       stride = λ start high is. stepped.stride start high (before.stride start high is);
       here = λ p same begun. reached_next p script first c.loop-done._done machine _ same (before.here p same begun) next;
       listed = λ p same begun.
@@ -32,6 +35,6 @@ loop-done-preserved c =
       size = ap (λ b. length b.items) c.push_back.ensures.items
           ∙ length_pushed c.loop-done.entries.capacity c.loop-done.entries.items c.in_ok-entry.entry (omega arith) ∙ ap (λ n. n + 1) before.size;
       capacity = ap (λ b. b.capacity) c.push_back.ensures.items ∙ before.capacity;
-      most = omega arith;
+      ran = omega arith;
       counted = omega arith;
     }

@@ -12,6 +12,6 @@ pub returns-clause-saved : goal.returns-clause-saved
 unfolding content_with_word
 returns-clause-saved c =
     let shared = c.in_ok-drives.ensures ∙ ap lists_shared c.deref.ensures.value in
-    alike_contents _ _ refl c.in_ok-core.ensures.changed_words c.in_ok-core.ensures.same_lasts
+    alike_contents _ _ c.copy.ensures c.in_ok-core.ensures.changed_words c.in_ok-core.ensures.same_lasts
     (same_words c.in_ok-drives.drives.items c.self.inside.drives.items shared) refl refl
     ∙ ap (λ (v : BusContent). record v { core = slice_set v.core c.args.word c.args.value }) c.self.view_is

@@ -24,7 +24,7 @@ returns-clause-saved c =
     let below = list_there pages_words old k w
     (subst (λ (v : BusContent). w < length (slice_index_or v.drives k [])) (sym c.self.view_is) c.requires) in
     let words = c.in_ok-changed.ensures.words ∙ ap (λ ws. slice_set ws w c.args.value) (words_there old k c.index-pages.result.now c.index-pages.ensures below) in
-    alike_contents _ _ refl (ap (λ (v : Vec SharedPage Global). words_of v.items) c.in_ok-core.ensures.cases)
+    alike_contents _ _ c.copy.ensures (ap (λ (v : Vec SharedPage Global). words_of v.items) c.in_ok-core.ensures.cases)
     (ap (λ (v : Vec SharedPage Global). lasts_of v.items) c.in_ok-core.ensures.cases)
     (words_put c.in_ok-drives.drives.items old k c.in_ok-changed.changed _ shared words) refl refl
     ∙ ap (λ (v : BusContent). record v { drives = slice_set v.drives k (slice_set (slice_index_or v.drives k []) w c.args.value) }) c.self.view_is

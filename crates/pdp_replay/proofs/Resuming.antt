@@ -1,0 +1,47 @@
+-- Where a run goes on from: the machine, or the best kept state.
+use Rattle.std.proofs.Common.{◌≡◌, ℕ, ◌+◌, ◌*◌, ◌/◌, ◌<◌, ◌&&◌, Bool, ap, arith, false, min, nat_le}
+use Rattle.pdp_checkpoint.specs.Ladder.{best_of, next_of}
+use Rattle.pdp_replay.specs.KeptRuns.{ComesTo, IsSomeRun, is_current_by, resumed_at, resumed_turn}
+use Rattle.pdp_replay.specs.KeptStates.{AreStatesOf}
+use Rattle.pdp_replay.specs.Known.{IsCome, next_kept}
+use Rattle.pdp_replay.specs.Past.{Past}
+use Rattle.pdp_replay.specs.Timeline.{Timeline}
+use Rattle.pdp_replay.specs.declared.kept_run.KeptRun.{KeptRun}
+use Rattle.pdp_replay.proofs.KeptStates.{lesser_quotient}
+use Rattle.pdp_replay.proofs.OnWay.{known_below_next}
+
+-- is a machine in a state of a run, of a turn between two?
+abbrev pub says_between : KeptRun → ℕ → ℕ → Bool
+says_between r first last = nat_le first r.machine.state.turn && is_current_by r last
+
+-- otherwise a run goes on from the kept state
+pub resumed_kept : (r : KeptRun) (to kept : ℕ) → kept ≡ best_of r.ladder (min to r.known) * r.ladder.stride → says_between r kept to ≡ false
+    → kept ≡ resumed_turn r to
+resumed_kept r to kept is earlier =
+    let now : says_between r (best_of r.ladder (min to r.known) * r.ladder.stride) to ≡ false = rw (← is) earlier in
+    rw now is
+
+-- the known turn is below the next one whose state is to be kept
+pub known_is_below : (r : KeptRun) → IsSomeRun r → r.known < next_of r.ladder
+known_is_below r some = known_below_next some.past r.known r.ladder some.run.kept.states
+
+-- the turn of the best kept state, by the known turn and the stride alone
+kept_turn_is : (p : Past) (r : KeptRun) (to : ℕ) → AreStatesOf p r.known r.ladder → best_of r.ladder (min to r.known) ≡ min to r.known / r.ladder.stride
+kept_turn_is p r to are =
+    let count = are.count in
+    let less : min to r.known / r.ladder.stride < r.known / r.ladder.stride + 1 =
+    lesser_quotient r.ladder.stride r.known (min to r.known) are.rungs.positive (omega arith) in
+    omega (arith, count, less)
+
+pub resumed_is : (p : Past) (r : KeptRun) (to : ℕ) → AreStatesOf p r.known r.ladder
+    → resumed_turn r to ≡ resumed_at r.is_current r.machine.state.turn (min to r.known / r.ladder.stride * r.ladder.stride) to
+resumed_is p r to are = ap (λ n. resumed_at r.is_current r.machine.state.turn (n * r.ladder.stride) to) (kept_turn_is p r to are)
+
+-- where a run came to, as a contract of an engine tells it
+pub come_is : (before after : KeptRun) (t now : Timeline) → ComesTo before after → t.known ≡ before.known → now.known ≡ after.known
+    → now.turn ≡ after.machine.state.turn → now.current ≡ after.is_current → next_kept now ≡ next_of after.ladder → IsCome t now
+come_is before after t now come known_before known turn current next = record {
+  within = rw (next, turn) come.within;
+  known = rw (next, turn, known_before, known) come.known;
+  current = λ below. let short : after.machine.state.turn < next_of after.ladder = rw (next, turn) at below in rw current (come.current short);
+}

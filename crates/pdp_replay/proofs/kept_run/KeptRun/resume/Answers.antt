@@ -1,0 +1,50 @@
+use Rattle.std.proofs.Common.{◌≡◌, ◌<◌, ◌∙◌, ◌&&◌, ap₂, arith, false, nat_le, refl, sym}
+use Rattle.pdp_checkpoint.specs.Ladder.{next_of}
+use Rattle.pdp_replay.proofs.KeptStates.{found_fits}
+use Rattle.pdp_replay.proofs.OnWay.{on_way_loaded, turn_loaded}
+use Rattle.pdp_replay.proofs.Resuming.{known_is_below, resumed_kept, says_between}
+use Rattle.pdp_replay.proofs.kept_run.KeptRun.resume.Goals as goal
+
+-- the machine is at the turn of the state that was loaded
+at_kept : (c : goal.After-self-1) → c.load.new.self.state.turn ≡ c.best-best.result.now.turn
+at_kept c =
+    turn_loaded c.requires.run.past c.args.self.now c.load.new.self _ _ c.requires.run.run.kept c.best-best.ensures.state c.load.ensures.state
+
+pub load-requires : goal.load-requires
+load-requires c =
+    let run = c.args.self.now in
+    found_fits c.requires.run.past run.known run.machine run.ladder _ _ c.requires.run.run.kept c.best-best.ensures.state
+
+pub returns-clause-way : goal.returns-clause-way
+returns-clause-way c = λ p run.
+    let best = c.best-best.ensures in
+    let load = c.load.ensures in
+    on_way_loaded p c.args.self.now _ _ _ run.kept best.state (omega (arith, best.below, c.min.ensures)) refl refl load.state load.kept_text load.kept_punched
+
+pub returns-clause-turn : goal.returns-clause-turn
+returns-clause-turn c =
+    let r = c.args.self.now in
+    let earlier : says_between r c.best-best.result.now.turn c.args.turn ≡ false =
+    ap₂ (λ turn stays. nat_le c.best-best.result.now.turn turn && stays) (sym c.turns-here.ensures) (sym c.is_current_by-stays.ensures)
+    ∙ sym c.is_later.ensures ∙ c.if-is_later.false in
+    at_kept c ∙ resumed_kept r c.args.turn c.best-best.result.now.turn (rw (← c.min.ensures) c.best-best.ensures.turn) earlier
+
+pub returns-clause-most : goal.returns-clause-most
+returns-clause-most c = let turn = at_kept c in omega (arith, turn, c.best-best.ensures.below, c.min.ensures)
+
+pub returns-clause-reached : goal.returns-clause-reached
+returns-clause-reached c = let turn = at_kept c in omega (arith, turn, c.best-best.ensures.below, c.min.ensures)
+
+pub returns-clause-near : goal.returns-clause-near
+returns-clause-near c =
+    let turn = at_kept c in
+    let next = known_is_below c.args.self.now c.requires.run in
+    let low : c.min.result < next_of c.args.self.now.ladder = omega (arith, c.min.ensures, next) in
+    let near = c.best-best.ensures.near low in
+    omega (arith, turn, near, c.min.ensures)
+
+pub returns-clause-short : goal.returns-clause-short
+returns-clause-short c =
+    let turn = at_kept c in
+    let next = known_is_below c.args.self.now c.requires.run in
+    omega (arith, turn, next, c.best-best.ensures.below, c.min.ensures)
