@@ -5,3 +5,4 @@ pub mod Saved
 -- where the answers of functions are kept in the latch
 pub mod KeptAnswers
 pub mod Laws
+pub mod Drives

@@ -18,6 +18,8 @@
 //! - What was printed and punched is kept, byte by byte, with the turn of each. A load makes a
 //!   machine the one that was saved, on the tape that it then has (`PagedMachine::save`, `load`,
 //!   `keep_text`, `set_tape`, `Saved::set_delays`, `with_word`).
+//! - Drives are added after those of the machine, or the last ones removed, and all else stays
+//!   (`Machine::add_drives`, `keep_drives`).
 //! - What is read of a machine (`text`, `punched`, `devices`, `pages`).
 //!
 //! Which events a turn has, and how many turns are run, is left to pdp_replay.
@@ -28,6 +30,7 @@ mod branch;
 mod change_codes;
 mod control;
 mod devices;
+mod drives;
 mod due;
 mod execute;
 mod extended;

@@ -113,3 +113,27 @@ fn loaded_drive(rt: HostRuntime) -> Result<(), NoMemory> {
     assert_eq!(rt; (serial(&third, 0), serial(&third, 1)), (Some(1), Some(4)));
     Ok(())
 }
+
+// A write to a blank drive changes neither its other places nor the pages that were taken before.
+#[test]
+fn blank_drive(rt: HostRuntime) -> Result<(), NoMemory> {
+    let mut drive = PagedDrive::blank(rt.alloc(), WORDS)?;
+    assert_eq!(rt; (word(&drive, 0), word(&drive, 511)), (Some(0), Some(0)));
+    assert_eq!(rt; word(&drive, 512), None);
+    let first = drive.take_pages(rt.alloc())?;
+    assert_eq!(rt; (serial(&first, 0), serial(&first, 1)), (Some(1), Some(1)));
+    put(&mut drive, 300, 7);
+    assert_eq!(rt; (word(&drive, 300), word(&drive, 301)), (Some(7), Some(0)));
+    assert_eq!(rt;
+        (word(&drive, 44), word_of(&first, 300)),
+        (Some(0), Some(0))
+    );
+    let second = drive.take_pages(rt.alloc())?;
+    assert_eq!(rt;
+        (serial(&second, 0), serial(&second, 1)),
+        (Some(1), Some(2))
+    );
+    drive.load_pages(&first);
+    assert_eq!(rt; word(&drive, 300), Some(0));
+    Ok(())
+}

@@ -7,7 +7,6 @@ use pdp_icache::Lines;
 use pdp_kt11::{Access, Kt, KtRegister, Mode, PageNumber, Space};
 use pdp_store::Flat;
 use pdp_word::NoMemory;
-use std::alloc::Global;
 
 // A line has 32 bytes: 001000 to 001037.
 #[test]
@@ -38,30 +37,33 @@ fn no_line_is_kept_once_all_are_dropped(rt: HostRuntime) -> Result<(), NoMemory>
 fn ask_for_600(core: &Flat, lines: &mut Lines)
     requires in_core { 9600 ≤ length core.now.words }
     requires current { AreCurrent core.now.words lines.old }
+    ensures { AreCurrent core.now.words lines.new }
 {
     for number in 0..600 {
         let _instr = lines.get(core, number * 32);
     }
 }
 
-// How many of the first 600 lines are kept after that.
-fn kept_of_600(alloc: Global) -> Result<usize, NoMemory> {
-    let core = Flat::new(alloc, 9600, true)?;
-    let mut lines = Lines::new(alloc)?;
-    ask_for_600(&core, &mut lines);
+// How many of the first 600 lines are kept.
+fn kept_of_600(lines: &Lines) -> usize {
     let mut kept = 0usize;
     for number in 0..600 {
         if lines.held(number * 32) {
             kept = kept.saturating_add(1);
         }
     }
-    Ok(kept)
+    kept
 }
 
-// The last 448 are kept behind, and the last 64 of them in front too.
+// The last 64 are kept in front. As they come again, the last 448 are kept behind.
 #[test]
 fn at_most_512_lines_are_kept(rt: HostRuntime) -> Result<(), NoMemory> {
-    assert_eq!(rt; kept_of_600(rt.alloc())?, 448);
+    let core = Flat::new(rt.alloc(), 9600, true)?;
+    let mut lines = Lines::new(rt.alloc())?;
+    ask_for_600(&core, &mut lines);
+    assert_eq!(rt; kept_of_600(&lines), 64);
+    ask_for_600(&core, &mut lines);
+    assert_eq!(rt; kept_of_600(&lines), 448);
     Ok(())
 }
 

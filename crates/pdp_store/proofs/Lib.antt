@@ -7,3 +7,4 @@ pub mod PageRuns
 pub mod PagedTakes
 pub mod SerialLaws
 pub mod ChangedWord
+pub mod BlankDrives

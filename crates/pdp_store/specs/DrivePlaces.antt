@@ -74,3 +74,9 @@ pub record AreTaken (pages : List SharedPage) (after : ℕ) (words : List ℕ) (
   pub has_lasts : lasts_of pages ≡ []
   pub has_serials : serials pages ≡ serials_taken bases given
   pub is_after : after ≡ given_after bases given
+
+-- `count` pages of zeros without stamps, each with the first serial
+pub record AreZeros (count : ℕ) (pages : List SharedPage) : Type 0 where
+  pub zeros : words_of pages ≡ replicate (count * 256) 0
+  pub no_lasts : lasts_of pages ≡ []
+  pub first : serials pages ≡ replicate count 1

@@ -56,6 +56,10 @@ pub record PagedWords : Type 0 where
 abbrev pub blank_words : ℕ → PagedWords
 blank_words len = record { words = replicate len 0; bases = replicate (len / 256) None; given = 0 }
 
+-- a drive as it is made if one page of zeros, the first that it numbers, is the base of each place
+abbrev pub blank_drive : ℕ → PagedWords
+blank_drive len = record { words = replicate len 0; bases = replicate (len / 256) (Some 1); given = 1 }
+
 -- the most serials that a store gives
 abbrev pub most_serials : ℕ
 most_serials = 18446744073709551615

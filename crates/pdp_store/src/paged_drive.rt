@@ -1,9 +1,9 @@
 //! A store for a drive: read through shared pages, and from words of its own once a place was written.
 
 ghost use Rattle.std.specs.Prelude.{◌≡◌, ◌<◌, ◌≤◌, ◌+◌, ◌*◌, ◌/◌, ◌%◌, [], Some, None, length, map, slice_get, slice_index, slice_index_or, slice_set, replicate, IfOk, IfSome, false};
-ghost use Rattle.pdp_store.specs.Pages.{blank_words, without_base, next_given, next_serial, words_of, lasts_of, serials, serials_taken, given_after};
+ghost use Rattle.pdp_store.specs.Pages.{blank_drive, blank_words, without_base, next_given, next_serial, words_of, lasts_of, serials, serials_taken, given_after};
 ghost use Rattle.pdp_store.specs.declared.paged_drive.Place.TheVariants.{Shared};
-ghost use Rattle.pdp_store.specs.DrivePlaces.{AreTaken, base_from, copied_from, loaded, unshared, with_part};
+ghost use Rattle.pdp_store.specs.DrivePlaces.{AreTaken, AreZeros, base_from, copied_from, loaded, unshared, with_part};
 ghost use Rattle.pdp_store.specs.Bases.{IsPageOf, given_there, serial_there};
 ghost use Rattle.pdp_store.specs.Pieces.{piece};
 
@@ -87,6 +87,45 @@ impl PagedDrive {
             changed: true,
         })
     }
+
+    /// Makes a drive of `len` zero words; `len` is a whole number of pages. (This project's profile.)
+    ///
+    /// Each place reads one page of zeros, which all of them own. So the drive takes memory for that
+    /// page, for the list of its owners, and for the words of its own that a write needs. Pages that
+    /// are taken of the drive share the list.
+    ///
+    /// Err(NoMemory) if a growth was refused, or if the page would have more owners than can be
+    /// counted.
+    pub fn blank(alloc: Global, len: usize) -> Result<PagedDrive, NoMemory>
+        requires { (len / 256) * 256 ≡ len }
+        ensures { IfOk result (λ drive. drive ≡ blank_drive len) }
+    {
+        let list = zero_pages(alloc, len / PAGE_WORDS)?;
+        let pages = Rc::new(alloc, list)?;
+        let places = vec![in alloc; Place::Shared; len / PAGE_WORDS]?;
+        let own = vec![in alloc; 0; len]?;
+        Ok(PagedDrive {
+            pages,
+            places,
+            own,
+            given: 1,
+            changed: false,
+        })
+    }
+}
+
+// `count` owners of one page of zeros, which has the first serial.
+//
+// Err(NoMemory) as above.
+fn zero_pages(alloc: Global, count: usize) -> Result<Vec<Rc<Page>>, NoMemory>
+    ensures { IfOk result (λ pages. AreZeros count pages.items) }
+{
+    let page = new_page(alloc, next_serial(0), &[0; PAGE_WORDS], &[])?;
+    let mut pages = Vec::with_capacity(alloc, count)?;
+    for _ in 0..count {
+        pages.push(page.clone()?)?;
+    }
+    Ok(pages)
 }
 
 impl Store for PagedDrive {

@@ -12,3 +12,4 @@ pub mod Watching
 pub mod Kept
 pub mod Pairs
 mod SavedDrives
+pub mod FewerDrives

@@ -3,6 +3,7 @@ pub mod Source
 pub mod BusWorld
 pub mod Register
 pub mod Cycle
+pub mod Fetch
 pub mod Delays
 pub mod Tape
 pub mod Beginning
@@ -19,3 +20,4 @@ pub mod Page
 pub mod Touched
 pub mod BusContent
 pub mod SavedDrives
+pub mod Drives

@@ -27,6 +27,8 @@
 //! - What is saved of a bus is all of it except the tape's bytes; a load makes the bus that again,
 //!   with the tape that it then has (`Bus::save`, `load`, `set_tape`, `SavedBus::set_delays`,
 //!   `with_word`).
+//! - Drives are added after those of the bus, or the last ones removed, and all else stays
+//!   (`Bus::add_drives`, `keep_drives`).
 //!
 //! This crate says who owns an address. What a register does and when a device requests is left to
 //! the device crates, references and their traps to pdp_operand, interrupts and `Continue` to
@@ -37,6 +39,7 @@ mod beginning;
 mod board;
 mod bus;
 mod delays;
+mod drives;
 mod event;
 mod last_turn;
 mod laws;

@@ -1,0 +1,7 @@
+-- The drives of a bus, exchanged for others (this project's profile).
+use Rattle.std.specs.Prelude.{ℕ, List}
+use Rattle.pdp_unibus.specs.BusWorld.{BusWorld}
+
+-- the bus with drives of these words
+abbrev pub with_drives : BusWorld → List (List ℕ) → BusWorld
+with_drives w drives = record w { drives = drives }
