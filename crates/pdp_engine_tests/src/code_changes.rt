@@ -19,7 +19,7 @@ struct Part<'a> {
     words: &'a [u16],
 }
 
-// A program that starts at 001000, the first word of the drive, and the last turn that is asked about.
+// A program that starts at 001000, the first word of drive 0, and the last turn that is asked about.
 #[derive(Clone, Copy)]
 struct Program<'a> {
     parts: &'a [Part<'a>],
@@ -187,7 +187,7 @@ fn check(rt: &impl Abort, alloc: Global, program: Program, stride: u32) -> Resul
         set_words(&mut engine, *part)?;
     }
     engine.ask(alloc, Question::Regs(program.last))?;
-    engine.set_disk(0, program.disk)?;
+    engine.set_disk(0, 0, program.disk)?;
     let answered = answers_without_lines(alloc, program)?;
     ask_forward(rt, alloc, &mut engine, &answered)?;
     ask_backward(rt, alloc, &mut engine, &answered)

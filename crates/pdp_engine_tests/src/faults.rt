@@ -13,6 +13,8 @@ fn numbers_and_names(rt: HostRuntime) -> Result<(), Fail> {
     assert_eq!(rt; Fault::TurnTooLarge.name(), "TurnTooLarge");
     assert_eq!(rt; Fault::BadSetup.number(), 15);
     assert_eq!(rt; Fault::BadSetup.name(), "BadSetup");
+    assert_eq!(rt; Fault::NoSuchDrive.number(), 16);
+    assert_eq!(rt; Fault::NoSuchDrive.name(), "NoSuchDrive");
     Ok(())
 }
 

@@ -11,6 +11,8 @@ mod code_changes;
 #[cfg(test)]
 mod cut_streams;
 #[cfg(test)]
+mod drives;
+#[cfg(test)]
 mod faults;
 #[cfg(test)]
 mod jumps;

@@ -54,7 +54,7 @@ fn questions_at_one_turn_run_once(rt: HostRuntime) -> Result<(), Fail> {
         Step::Ran(Question::Pages(300), 0, 300),
         Step::Ran(Question::Devices(300), 0, 300),
         Step::Ran(Question::Core(300, 0o1000, 4), 0, 300),
-        Step::Ran(Question::Disk(300, 0, 256), 0, 300),
+        Step::Ran(Question::Disk(300, 0, 0, 256), 0, 300),
         Step::Ran(Question::Trail(310, 10), 10, 310),
         Step::Ran(Question::Text(310), 0, 310),
         Step::Edit(Edit::Insert(310, Event::Tick), Ok(1)),
@@ -92,24 +92,36 @@ fn refused_numbers(rt: HostRuntime) -> Result<(), Fail> {
     Ok(())
 }
 
+// So many images of drives, each of so many words.
+fn images(alloc: Global, count: usize, words: usize) -> Result<Vec<Vec<u16>>, Fail> {
+    let mut images = Vec::new(alloc);
+    for _ in 0..count {
+        images.push(vec![in alloc; 0; words]?)?;
+    }
+    Ok(images)
+}
+
 #[test]
 fn refused_images(rt: HostRuntime) -> Result<(), Fail> {
     let alloc = rt.alloc();
-    for (units, words, disk_words, tape_bytes, want) in [
-        (1, 4_097, 0, 0, Some(Fault::BadImage)),
-        (31, 0, 1_247_233, 0, Some(Fault::BadImage)),
-        (31, 0, 0, 1_048_577, Some(Fault::BadImage)),
-        (0, 4_097, 0, 0, Some(Fault::BadSetup)),
-        (1, 4_096, 1_247_232, 1_048_576, None),
+    for (units, words, disks, disk_words, tape_bytes, want) in [
+        (1, 4_097, 0, 0, 0, Some(Fault::BadImage)),
+        (31, 0, 1, 1_247_233, 0, Some(Fault::BadImage)),
+        (31, 0, 8, 1_247_233, 0, Some(Fault::BadImage)),
+        (31, 0, 9, 0, 0, Some(Fault::BadImage)),
+        (31, 0, 0, 0, 1_048_577, Some(Fault::BadImage)),
+        (0, 4_097, 0, 0, 0, Some(Fault::BadSetup)),
+        (1, 4_096, 1, 1_247_232, 1_048_576, None),
+        (1, 0, 8, 1, 0, None),
     ] {
         let mut setup = blank(alloc, units);
         setup.core = vec![in alloc; 0; words]?;
-        setup.disk = vec![in alloc; 0; disk_words]?;
+        setup.disks = images(alloc, disks, disk_words)?;
         setup.tape = vec![in alloc; 0; tape_bytes]?;
         assert_eq!(rt;
             refusal(alloc, setup),
             want,
-            "{units} {words} {disk_words} {tape_bytes}"
+            "{units} {words} {disks} {disk_words} {tape_bytes}"
         );
     }
     Ok(())
@@ -119,7 +131,7 @@ fn refused_images(rt: HostRuntime) -> Result<(), Fail> {
 fn turn_of_a_question(rt: HostRuntime) {
     assert_eq!(rt; Question::Regs(300).turn(), 300);
     assert_eq!(rt; Question::Core(7, 0o1000, 3).turn(), 7);
-    assert_eq!(rt; Question::Disk(6, 0, 3).turn(), 6);
+    assert_eq!(rt; Question::Disk(6, 7, 0, 3).turn(), 6);
     assert_eq!(rt; Question::Text(8).turn(), 8);
     assert_eq!(rt; Question::Punched(9).turn(), 9);
     assert_eq!(rt; Question::Devices(10).turn(), 10);

@@ -12,7 +12,7 @@ fn bare(alloc: Global) -> Setup {
         units: 31,
         start: 0o1000,
         core: Vec::new(alloc),
-        disk: Vec::new(alloc),
+        disks: Vec::new(alloc),
         tape: Vec::new(alloc),
         stride: 2_000_000_000,
     }

@@ -15,7 +15,7 @@ pub(crate) fn blank(alloc: Global, units: u8) -> Setup {
         units,
         start: 0o1000,
         core: Vec::new(alloc),
-        disk: Vec::new(alloc),
+        disks: Vec::new(alloc),
         tape: Vec::new(alloc),
         stride: STRIDE,
     }
@@ -55,6 +55,10 @@ pub(crate) enum Step<'a> {
     RanAtMost(Question, u64, u32, u32),
     /// The known turn after this question, with the widest stride.
     Known(Question, u32),
+    /// RKDS before this turn, of the drive that RKDA names then.
+    DriveStatus(u32, u16),
+    /// The words that this question of a drive is answered.
+    Words(Question, &'a [u16]),
     /// What this edit answers.
     Edit(Edit<'a>, Result<u32, Fault>),
 }
@@ -64,6 +68,10 @@ pub(crate) enum Step<'a> {
 pub(crate) enum Edit<'a> {
     /// Makes the core word at this address this word.
     Patch(u32, u16),
+    /// Makes the word of this number, on the drive of this number, this word.
+    Disk(u8, u32, u16),
+    /// Gives the run eight drives.
+    EightDrives,
     /// Puts an event into the script at this turn.
     Insert(u32, Event),
     /// Gives the event of this number this turn and event.
@@ -114,6 +122,12 @@ fn take(
         Step::Regs(turn, want) => assert_same(rt, number, &regs_at(engine, alloc, turn)?, &want),
         Step::Bytes(asked, want) => {
             assert_same(rt, number, &bytes_of(engine, alloc, asked)?.bytes(), &want);
+        }
+        Step::DriveStatus(turn, want) => {
+            assert_same(rt, number, &drive_status_at(engine, alloc, turn)?, &want);
+        }
+        Step::Words(asked, want) => {
+            assert_same(rt, number, &words_of(engine, alloc, asked)?.words(), &want);
         }
         Step::Edit(edit, want) => assert_same(rt, number, &make(engine, alloc, edit), &want),
         _ => return ask_what_it_took(rt, alloc, engine, number, step),
@@ -170,6 +184,20 @@ fn bytes_of(engine: &mut Engine, alloc: Global, question: Question) -> Result<By
     }
 }
 
+fn drive_status_at(engine: &mut Engine, alloc: Global, turn: u32) -> Result<u16, Fail> {
+    match engine.ask(alloc, Question::Devices(turn))?.value {
+        Value::Devices(devices) => Ok(devices.drive_status),
+        _ => Err(Fail::new("another value in place of the devices")),
+    }
+}
+
+fn words_of(engine: &mut Engine, alloc: Global, question: Question) -> Result<Words, Fail> {
+    match engine.ask(alloc, question)?.value {
+        Value::Disk(words) => Ok(words),
+        _ => Err(Fail::new("another value in place of words of a drive")),
+    }
+}
+
 /// How many turns were run for a question, and the known turn and the stride after it.
 fn took(engine: &mut Engine, alloc: Global, question: Question) -> Result<(u64, u32, u32), Fault> {
     let answer = engine.ask(alloc, question)?;
@@ -180,6 +208,8 @@ fn took(engine: &mut Engine, alloc: Global, question: Question) -> Result<(u64, 
 pub(crate) fn make(engine: &mut Engine, alloc: Global, edit: Edit) -> Result<u32, Fault> {
     match edit {
         Edit::Patch(address, word) => engine.set_core(address, word)?,
+        Edit::Disk(drive, number, word) => engine.set_disk(drive, number, word)?,
+        Edit::EightDrives => engine.eight_drives()?,
         Edit::Insert(turn, event) => return engine.insert(turn, event),
         Edit::Alter(number, turn, event) => engine.alter(number, turn, event)?,
         Edit::Drop(number) => engine.drop_event(number)?,

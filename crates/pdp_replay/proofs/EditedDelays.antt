@@ -11,7 +11,7 @@ use Rattle.pdp_replay.specs.FirstWords.{AllThere}
 use Rattle.pdp_replay.specs.KeptRuns.{IsForgotten, IsKeptRun, cut_to_first}
 use Rattle.pdp_replay.specs.KeptStates.{AreKept, IsBuiltFrom}
 use Rattle.pdp_replay.specs.Past.{Past}
-use Rattle.pdp_replay.specs.Setup.{IsGood, SetupData, core_size}
+use Rattle.pdp_replay.specs.Setup.{IsGood, SetupData}
 use Rattle.pdp_replay.specs.States.{at}
 use Rattle.pdp_replay.specs.Timeline.{IsEngine}
 use Rattle.pdp_replay.specs.declared.kept_run.KeptRun.{KeptRun}
@@ -27,7 +27,7 @@ kept_forgotten q before after forgotten kept = record {
 
 -- of which all but turn 0 was forgotten, over a setup with the same core size, patches and stride
 pub engine_anew : (p q : Past) (highest : ℕ) (before after : KeptRun) → IsEngine p highest before
-    → IsForgotten before after → IsGood q.setup → AllThere (core_size q.setup) q.setup.patches → q.setup.stride ≡ p.setup.stride
+    → IsForgotten before after → IsGood q.setup → AllThere q.setup q.setup.patches → q.setup.stride ≡ p.setup.stride
     → after.ladder.stride ≡ before.ladder.stride → AreKept q after.known after.machine after.ladder
     → IsEngine q highest after
 engine_anew p q highest before after engine forgotten good there start stride kept = record {
@@ -70,7 +70,7 @@ pub engine_delayed : (p q : Past) (delays : Delays) (highest : ℕ) (before afte
     → after.machine.state.world ≡ before.machine.state.world → IsEngine q highest after
 engine_delayed p q delays highest before after engine setup forgotten ladder same =
     let good : IsGood (with_those_delays delays p.setup) =
-    record { units = engine.good.units; some = engine.good.some; widest = engine.good.widest; core = engine.good.core; disk = engine.good.disk } in
+    record { units = engine.good.units; some = engine.good.some; widest = engine.good.widest; core = engine.good.core; disks = engine.good.disks } in
     engine_anew p q highest before after engine forgotten (subst IsGood (sym setup) good) (rw setup engine.there) (ap (λ (s : SetupData). s.stride) setup)
     (ap (λ (l : LadderData). l.stride) ladder) (delays_kept p q delays before after engine.run.kept setup forgotten ladder same)
 
@@ -98,6 +98,6 @@ pub engine_with_tape : (p q : Past) (tape : List ℕ) (highest : ℕ) (before af
     → IsEngine q highest after
 engine_with_tape p q tape highest before after engine setup forgotten ladder changed =
     let good : IsGood (with_that_tape tape p.setup) =
-    record { units = engine.good.units; some = engine.good.some; widest = engine.good.widest; core = engine.good.core; disk = engine.good.disk } in
+    record { units = engine.good.units; some = engine.good.some; widest = engine.good.widest; core = engine.good.core; disks = engine.good.disks } in
     engine_anew p q highest before after engine forgotten (subst IsGood (sym setup) good) (rw setup engine.there) (ap (λ (s : SetupData). s.stride) setup)
     (ap (λ (l : LadderData). l.stride) ladder) (tape_kept p q tape before after engine.run.kept setup forgotten ladder changed)

@@ -4,7 +4,7 @@ use Rattle.pdp_replay.specs.FirstWords.{AllThere}
 use Rattle.pdp_replay.specs.KeptRuns.{IsKeptRun}
 use Rattle.pdp_replay.specs.KeptStates.{IsInRun}
 use Rattle.pdp_replay.specs.Past.{Past}
-use Rattle.pdp_replay.specs.Setup.{IsGood, SetupData, core_size}
+use Rattle.pdp_replay.specs.Setup.{IsGood, SetupData}
 use Rattle.pdp_replay.specs.Strides.{IsStride}
 use Rattle.pdp_replay.specs.Timeline.{IsEngine}
 use Rattle.pdp_replay.specs.declared.kept_run.KeptRun.{KeptRun}
@@ -32,7 +32,7 @@ engine_edited p q turn highest before after engine setup same known stride run =
     let agree : Agree p q after.known = record { setup = setup; events = λ t below. same t (omega (arith, below, known)) } in
     record {
       good = subst IsGood setup engine.good;
-      there = subst (λ (s : SetupData). AllThere (core_size s) s.patches) setup engine.there;
+      there = subst (λ (s : SetupData). AllThere s s.patches) setup engine.there;
       reached = omega (arith, reached, known);
       limit = engine.limit;
       stride = subst (λ (s : SetupData). IsStride s.stride highest after.ladder.stride) setup (rw stride engine.stride);

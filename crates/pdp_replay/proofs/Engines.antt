@@ -9,7 +9,7 @@ use Rattle.pdp_unibus.specs.declared.delays.Delays.{Delays}
 use Rattle.pdp_replay.specs.FirstWords.{AllThere}
 use Rattle.pdp_replay.specs.KeptRuns.{IsKeptRun}
 use Rattle.pdp_replay.specs.Past.{past_from, unscripted}
-use Rattle.pdp_replay.specs.Setup.{IsGood, core_size, first_setup}
+use Rattle.pdp_replay.specs.Setup.{IsGood, SetupData, first_setup}
 use Rattle.pdp_replay.specs.Strides.{IsStride}
 use Rattle.pdp_replay.specs.Timeline.{IsEngine}
 use Rattle.pdp_replay.specs.declared.kept_run.KeptRun.{KeptRun}
@@ -26,8 +26,8 @@ starting_stride start some = record {
 }
 
 -- no word has a patch
-none_there : (size : ℕ) → AllThere size []
-none_there size i p below = absurd (omega arith)
+none_there : (s : SetupData) → AllThere s []
+none_there s i p below = absurd (omega arith)
 
 -- the engine of a run as of power-up
 powered_engine : (origin : Origin) (tape : List ℕ) (r : KeptRun) → IsGood (first_setup origin tape)
@@ -35,7 +35,7 @@ powered_engine : (origin : Origin) (tape : List ℕ) (r : KeptRun) → IsGood (f
     → IsEngine (unscripted (first_setup origin tape)) 0 r
 powered_engine origin tape r good run stride none_known = record {
   good = good;
-  there = none_there (core_size (first_setup origin tape));
+  there = none_there (first_setup origin tape);
   reached = omega (arith, none_known);
   limit = omega arith;
   stride = rw stride (starting_stride origin.stride good.some);

@@ -1,11 +1,14 @@
--- Core and the drive as of power-up, word by word, and as the code fills them from an image.
-use Rattle.std.proofs.Common.{◌≡◌, ℕ, ◌<◌, ◌≤◌, List, [], ◌++◌, drop, length, replicate, refl, ◌∙◌, ap, arith, length-append}
-use Rattle.std.specs.Prelude.{slice_index}
+-- Core and the drives as of power-up, word by word, and as the code fills them from an image.
+use Rattle.std.proofs.Common.{◌≡◌, ℕ, ◌+◌, ◌<◌, ◌≤◌, zero, suc, List, [], ◌∷◌, ◌++◌, None, ap₂, drop, length, map, replicate, refl, ◌∙◌, ap, arith, length-append, sym}
+use Rattle.std.specs.Prelude.{slice_index, slice_index_or, unwrap_or}
+use Rattle.std.specs.List.{All, range_with_len}
+use Rattle.std.proofs.lemmas.List.Elements.{All-tail}
 use Rattle.std.proofs.lemmas.Grind.{common_steps}
 use Rattle.std.proofs.lemmas.List.{drop-replicate, length-replicate}
 use Rattle.std.proofs.lemmas.List.FromFn.{fill_by_all, get_or-map-range_with_len, length-map-range_with_len}
-use Rattle.pdp_replay.specs.Setup.{SetupData, core_size, drive_words}
-use Rattle.pdp_replay.specs.FirstWords.{words_by_number, core_words, first_core_word, disk_words, first_disk_word}
+use Rattle.pdp_replay.specs.Setup.{SetupData, core_size, drive_words, image_of}
+use Rattle.pdp_replay.specs.FirstWords.{words_by_number, core_words, first_core_word, disk_words, drives_words, first_disk_word}
+use Rattle.pdp_replay.specs.PatchedWords.{disk_key, patch_of}
 use Rattle.pdp_replay.specs.Image.{padded}
 
 pub length_by_number : (value : ℕ → ℕ) (size : ℕ) → length (words_by_number value size) ≡ size
@@ -26,17 +29,47 @@ pub core_has_size : (s : SetupData) → length (core_words s) ≡ core_size s
 unfolding core_words
 core_has_size s = length_by_number (first_core_word s) (core_size s)
 
-pub drive_has_size : (s : SetupData) → length (disk_words s) ≡ drive_words
+pub drive_has_size : (s : SetupData) (drive : ℕ) → length (disk_words s drive) ≡ drive_words
 unfolding disk_words
-drive_has_size s = length_by_number (first_disk_word s) drive_words
+drive_has_size s drive = length_by_number (first_disk_word s drive) drive_words
 
 pub core_word_is : (s : SetupData) (number : ℕ) → number < core_size s → slice_index (core_words s) number ≡ first_core_word s number
 unfolding core_words
 core_word_is s number below = word_by_number (first_core_word s) (core_size s) number below
 
-pub disk_word_is : (s : SetupData) (number : ℕ) → number < drive_words → slice_index (disk_words s) number ≡ first_disk_word s number
+pub disk_word_is : (s : SetupData) (drive number : ℕ) → number < drive_words → slice_index (disk_words s drive) number ≡ first_disk_word s drive number
 unfolding disk_words
-disk_word_is s number below = word_by_number (first_disk_word s) drive_words number below
+disk_word_is s drive number below = word_by_number (first_disk_word s drive) drive_words number below
+
+-- the drives, by their numbers
+pub drives_so_many : (s : SetupData) → length (drives_words s) ≡ s.drives
+unfolding drives_words
+drives_so_many s = length-map-range_with_len (disk_words s) 0 s.drives
+
+pub drive_by_number : (s : SetupData) (drive : ℕ) → drive < s.drives → slice_index_or (drives_words s) drive [] ≡ disk_words s drive
+unfolding drives_words
+drive_by_number s drive below = get_or-map-range_with_len (disk_words s) 0 s.drives drive drive [] below (omega arith)
+
+-- where there is one drive, it is drive 0
+pub one_drive : (s : SetupData) → s.drives ≡ 1 → drives_words s ≡ disk_words s 0 ∷ []
+unfolding drives_words
+one_drive s one = rw one refl
+
+-- lists of one length
+alike : (words : ℕ → List ℕ) (size : ℕ) → ((number : ℕ) → length (words number) ≡ size) → (first count : ℕ)
+    → map length (map words (range_with_len first count)) ≡ replicate count size
+alike words size long first zero = refl
+alike words size long first (suc count) = ap₂ (λ n ns. n ∷ ns) (long first) (alike words size long (first + 1) count)
+
+pub drives_have_sizes : (s : SetupData) → map length (drives_words s) ≡ replicate s.drives drive_words
+unfolding drives_words
+drives_have_sizes s = alike (disk_words s) drive_words (drive_has_size s) 0 s.drives
+
+-- the image of a drive is within it, also where there is none
+pub image_fits : (disks : List (List ℕ)) (drive : ℕ) → All (λ image. length image ≤ drive_words) disks → length (image_of disks drive) ≤ drive_words
+image_fits [] drive fit = omega arith
+image_fits (image ∷ disks) zero fit = fit 0 image (omega arith)
+image_fits (image ∷ disks) (suc drive) fit = image_fits disks drive (All-tail (λ image. length image ≤ drive_words) image disks fit)
 
 pub length_padded : (n : ℕ) (image : List ℕ) → length image ≤ n → length (padded n image) ≡ n
 length_padded n image within = rw (length-append, length-replicate) (omega arith)
@@ -61,6 +94,11 @@ pub core_is_padded : (s : SetupData) → length s.core ≤ core_size s → s.pat
 unfolding core_words
 core_is_padded s within none = filled s.core (core_size s) within ∙ rw none refl
 
-pub drive_is_padded : (s : SetupData) → length s.disk ≤ drive_words → s.patches ≡ [] → padded drive_words s.disk ≡ disk_words s
+-- and so of a drive of which no word has one
+pub drive_is_padded : (s : SetupData) (drive : ℕ) → length (image_of s.disks drive) ≤ drive_words
+    → ((number : ℕ) → patch_of s.patches (disk_key drive number) ≡ None) → padded drive_words (image_of s.disks drive) ≡ disk_words s drive
 unfolding disk_words
-drive_is_padded s within none = filled s.disk drive_words within ∙ rw none refl
+drive_is_padded s drive within none =
+    filled_by_number (first_disk_word s drive) (padded drive_words (image_of s.disks drive)) drive_words (length_padded drive_words (image_of s.disks drive) within)
+    (λ number below. padded_at drive_words (image_of s.disks drive) number within below
+    ∙ sym (ap (λ found. unwrap_or found (slice_index (image_of s.disks drive) number)) (none number)))

@@ -16,7 +16,7 @@ use Rattle.pdp_replay.proofs.KeptStates.{states_first}
 use Rattle.pdp_replay.proofs.Lowered.{texts_cut}
 
 -- before turn 0 nothing came out of any run
-texts_of_none : (p q : Past) (m : MachineWithTexts) → KeepsTexts p 0 m → KeepsTexts q 0 m
+pub texts_of_none : (p q : Past) (m : MachineWithTexts) → KeepsTexts p 0 m → KeepsTexts q 0 m
 unfolding text_kept_at punched_kept_at
 texts_of_none p q m keeps = record { text = keeps.text; punched = keeps.punched }
 

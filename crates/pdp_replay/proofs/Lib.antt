@@ -32,3 +32,4 @@ pub mod EditedEngines
 pub mod EditedDelays
 pub mod EditedSetups
 pub mod Engines
+pub mod MoreDrives

@@ -63,7 +63,7 @@ abbrev state_of : ℕ → World → List ℕ → List ℕ → MachineState
 state_of n w text punched = record { turn = n; world = w; text = text; punched = punched }
 
 -- texts that are cut after a state leave it
-cut_after : (p : Past) (n printed punched : ℕ) → length (text_at p n) ≤ printed → length (punched_at p n) ≤ punched → state_cut printed punched (at p n) ≡ at p n
+pub cut_after : (p : Past) (n printed punched : ℕ) → length (text_at p n) ≤ printed → length (punched_at p n) ≤ punched → state_cut printed punched (at p n) ≡ at p n
 cut_after p n printed punched long also =
     ap₂ (state_of n (state_at p n)) (take_all printed (text_at p n) long) (take_all punched (punched_at p n) also)
 

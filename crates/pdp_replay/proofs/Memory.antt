@@ -5,7 +5,7 @@ use Rattle.pdp_script.specs.Refusal.{for_memory, result_map}
 use Rattle.pdp_script.specs.Script.{ScriptData, of_entry}
 use Rattle.pdp_unibus.specs.LastTurn.{last_turn}
 use Rattle.pdp_script.specs.declared.faults.Fault.{Fault}
-use Rattle.pdp_script.specs.declared.faults.Fault.TheVariants.{NoMemory, OutsideCore, OddAddress, OutsideDisk, NoSuchEvent, ScriptFull, TurnTooLarge, CountOutOfRange, NoSuchPatch, BadLine, LineTooLong, Input, Output, BadImage, BadSetup}
+use Rattle.pdp_script.specs.declared.faults.Fault.TheVariants.{NoMemory, OutsideCore, OddAddress, OutsideDisk, NoSuchEvent, ScriptFull, TurnTooLarge, CountOutOfRange, NoSuchPatch, BadLine, LineTooLong, Input, Output, BadImage, BadSetup, NoSuchDrive}
 use Rattle.pdp_unibus.specs.declared.event.Event.{Event}
 use Rattle.pdp_unibus.specs.declared.delays.Line.{Line}
 use Rattle.pdp_replay.specs.Edit.{event_alteration, event_drop, tape_edit, delay_edit}
@@ -29,6 +29,7 @@ mapped f (Err Input) = refl
 mapped f (Err Output) = refl
 mapped f (Err BadImage) = refl
 mapped f (Err BadSetup) = refl
+mapped f (Err NoSuchDrive) = refl
 
 entry_edit : (found : Option Entry) (edited : Entry → List Entry) (script : ScriptData) → for_memory (of_entry found edited script) ≡ false
 entry_edit None edited script = refl

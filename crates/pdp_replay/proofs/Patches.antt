@@ -5,6 +5,7 @@ use Rattle.indexmap.specs.IndexMap.{insert_entry, shift_remove_entry}
 use Rattle.std.proofs.lemmas.List.Elements.{All-cons, All-tail}
 use Rattle.pdp_replay.specs.FirstWords.{AllThere, IsThere}
 use Rattle.pdp_replay.specs.PatchedWords.{Patches}
+use Rattle.pdp_replay.specs.Setup.{SetupData}
 use Rattle.pdp_replay.specs.declared.patch.PatchKey.{PatchKey}
 
 -- what holds of every patch
@@ -36,25 +37,25 @@ module _ (Good : PatchKey × ℕ → Type 0) where
   good_taken true p ps qs here good good_qs = good
   good_taken false p ps qs here good good_qs = both_good p qs here good_qs
 
-abbrev is_there : ℕ → PatchKey × ℕ → Type 0
-is_there n p = IsThere n p.0
+abbrev is_there : SetupData → PatchKey × ℕ → Type 0
+is_there s p = IsThere s p.0
 
 -- a patch of a word that is there keeps all patches so
-pub there_inserted : (same : PatchKey → PatchKey → Bool) (n : ℕ) (ps : Patches) (k : PatchKey) (word : ℕ) → IsThere n k → AllThere n ps
-    → AllThere n (insert_entry same ps k word)
-there_inserted same n [] k word here there = both_good (is_there n) (k, word) [] here (none_good (is_there n))
-there_inserted same n (p ∷ ps) k word here there =
-    let first : IsThere n p.0 = first_good (is_there n) p ps there in
-    let rest : AllThere n ps = rest_good (is_there n) p ps there in
-    good_when (is_there n) (same k p.0) (p.0, word) p ps (insert_entry same ps k word) first first rest
-    (there_inserted same n ps k word here rest)
+pub there_inserted : (same : PatchKey → PatchKey → Bool) (s : SetupData) (ps : Patches) (k : PatchKey) (word : ℕ) → IsThere s k → AllThere s ps
+    → AllThere s (insert_entry same ps k word)
+there_inserted same s [] k word here there = both_good (is_there s) (k, word) [] here (none_good (is_there s))
+there_inserted same s (p ∷ ps) k word here there =
+    let first : IsThere s p.0 = first_good (is_there s) p ps there in
+    let rest : AllThere s ps = rest_good (is_there s) p ps there in
+    good_when (is_there s) (same k p.0) (p.0, word) p ps (insert_entry same ps k word) first first rest
+    (there_inserted same s ps k word here rest)
 
 -- so does taking a patch back
-pub there_removed : (n : ℕ) (test : PatchKey → Bool) (ps : Patches) → AllThere n ps → AllThere n (shift_remove_entry test ps)
-there_removed n test [] there = none_good (is_there n)
-there_removed n test (p ∷ ps) there =
-    let rest : AllThere n ps = rest_good (is_there n) p ps there in
-    good_taken (is_there n) (test p.0) p ps (shift_remove_entry test ps) (first_good (is_there n) p ps there) rest (there_removed n test ps rest)
+pub there_removed : (s : SetupData) (test : PatchKey → Bool) (ps : Patches) → AllThere s ps → AllThere s (shift_remove_entry test ps)
+there_removed s test [] there = none_good (is_there s)
+there_removed s test (p ∷ ps) there =
+    let rest : AllThere s ps = rest_good (is_there s) p ps there in
+    good_taken (is_there s) (test p.0) p ps (shift_remove_entry test ps) (first_good (is_there s) p ps there) rest (there_removed s test ps rest)
 
-pub entry_there : (n : ℕ) (ps : Patches) (i : ℕ) (p : PatchKey × ℕ) → AllThere n ps → slice_get ps i ≡ Some p → IsThere n p.0
-entry_there n ps i p there is = entry_good (is_there n) ps i p there is
+pub entry_there : (s : SetupData) (ps : Patches) (i : ℕ) (p : PatchKey × ℕ) → AllThere s ps → slice_get ps i ≡ Some p → IsThere s p.0
+entry_there s ps i p there is = entry_good (is_there s) ps i p there is

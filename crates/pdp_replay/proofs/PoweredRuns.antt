@@ -3,13 +3,13 @@ use Rattle.std.proofs.Common.{◌≡◌, ◌∙◌, ℕ, List, [], ◌∷◌, No
 use Rattle.pdp_checkpoint.specs.Ladder.{AreRungs, LadderData, checkpoint_of}
 use Rattle.pdp_cpu.specs.Turns.MachineState.{MachineState, MachineWithTexts, powered_machine}
 use Rattle.pdp_store.specs.declared.Stamp.{Stamp}
-use Rattle.pdp_replay.specs.FirstWords.{core_words, disk_words}
+use Rattle.pdp_replay.specs.FirstWords.{core_words, disk_words, drives_words}
 use Rattle.pdp_replay.specs.Image.{padded}
 use Rattle.pdp_replay.specs.KeptStates.{AreKept, IsInRun, KeepsTexts, punched_kept_at, text_kept_at}
 use Rattle.pdp_replay.specs.Past.{Past, unscripted}
-use Rattle.pdp_replay.specs.Setup.{IsGood, SetupData, core_size, drive_words}
+use Rattle.pdp_replay.specs.Setup.{IsGood, SetupData, core_size, drive_words, image_of}
 use Rattle.pdp_replay.specs.States.{at, power, powered_up}
-use Rattle.pdp_replay.proofs.FirstWords.{core_is_padded, drive_is_padded}
+use Rattle.pdp_replay.proofs.FirstWords.{core_is_padded, drive_is_padded, image_fits, one_drive}
 use Rattle.pdp_replay.proofs.KeptStates.{states_first}
 use Rattle.pdp_replay.proofs.StateSizes.{at_is_built}
 use Rattle.pdp_replay.proofs.States.{at_first}
@@ -18,18 +18,20 @@ use Rattle.pdp_replay.proofs.States.{at_first}
 abbrev pub machine_over : SetupData → List ℕ → List (Option Stamp) → List (List ℕ) → MachineState
 machine_over s core lasts drives = powered_machine s.start core lasts drives s.tape s.delays
 
-machine_is_powered : (s : SetupData) → machine_over s (core_words s) (replicate (core_size s) None) (disk_words s ∷ []) ≡ powered_up s
+machine_is_powered : (s : SetupData) → machine_over s (core_words s) (replicate (core_size s) None) (drives_words s) ≡ powered_up s
 unfolding power
 machine_is_powered s = refl
 
--- over padded images it is in the first state of the run
-pub powered_over : (s : SetupData) (core : List ℕ) (lasts : List (Option Stamp)) (drives : List (List ℕ)) → IsGood s → s.patches ≡ []
-    → core ≡ padded (core_size s) s.core → lasts ≡ replicate (core_size s) None → drives ≡ padded drive_words s.disk ∷ []
+-- over padded images, of one drive, it is in the first state of the run
+pub powered_over : (s : SetupData) (core : List ℕ) (lasts : List (Option Stamp)) (drives : List (List ℕ)) → IsGood s → s.patches ≡ [] → s.drives ≡ 1
+    → core ≡ padded (core_size s) s.core → lasts ≡ replicate (core_size s) None → drives ≡ padded drive_words (image_of s.disks 0) ∷ []
     → machine_over s core lasts drives ≡ at (unscripted s) 0
-powered_over s core lasts drives good none core_is lasts_are drives_are =
+powered_over s core lasts drives good none one core_is lasts_are drives_are =
     ap (λ words. machine_over s words lasts drives) (core_is ∙ core_is_padded s good.core none)
     ∙ ap (λ stamps. machine_over s (core_words s) stamps drives) lasts_are
-    ∙ ap (λ words. machine_over s (core_words s) (replicate (core_size s) None) words) (drives_are ∙ ap (λ words. words ∷ []) (drive_is_padded s good.disk none))
+    ∙ ap (λ words. machine_over s (core_words s) (replicate (core_size s) None) words) (drives_are
+    ∙ ap (λ words. words ∷ []) (drive_is_padded s 0 (image_fits s.disks 0 good.disks) (λ number. rw none refl))
+    ∙ sym (one_drive s one))
     ∙ machine_is_powered s
     ∙ sym (at_first (unscripted s))
 

@@ -1,27 +1,31 @@
 -- What a patch of a word, a patch less, other delays and another tape make of the state as of power-up.
-use Rattle.std.proofs.Common.{◌≡◌, ◌∙◌, ℕ, ◌<◌, Bool, true, false, [], ◌∷◌, None, Some, ap, length, nat_eq, refl, subst, sym, unwrap_or}
-use Rattle.std.specs.Prelude.{slice_index, slice_set}
+use Rattle.std.proofs.Common.{◌≡◌, ◌∙◌, ℕ, ◌<◌, ◌&&◌, Bool, true, false, List, [], ◌∷◌, None, Some, ap, ap₂, get_or, length, map, nat_eq, refl, subst, sym, unwrap_or, arith}
+use Rattle.std.specs.Prelude.{slice_index, slice_index_or, slice_set}
+use Rattle.std.specs.List.{range_with_len}
 use Rattle.std.proofs.lemmas.Bool.{eqb-true, eq-eqb, false≢true}
 use Rattle.std.proofs.lemmas.Grind.{get_or-set_at}
 use Rattle.std.proofs.lemmas.List.{get_or-set_other, length-set}
+use Rattle.std.proofs.lemmas.List.FromFn.{fill_by_all, get_or-map-range_with_len, length-map-range_with_len}
 use Rattle.indexmap.specs.IndexMap.{insert_entry, shift_remove_entry}
-use Rattle.pdp_replay.specs.FirstWords.{words_by_number, core_words, first_core_word, disk_words, first_disk_word}
+use Rattle.pdp_replay.specs.FirstWords.{words_by_number, core_words, first_core_word, disk_words, drives_words, first_disk_word}
 use Rattle.pdp_replay.specs.PatchedWords.{Patches, core_key, disk_key, is_same_word, patch_of}
-use Rattle.pdp_replay.specs.Setup.{SetupData, core_size, drive_words}
+use Rattle.pdp_replay.specs.Setup.{SetupData, core_size, drive_words, image_of}
 use Rattle.pdp_replay.specs.declared.patch.PatchKey.{PatchKey}
 use Rattle.pdp_replay.specs.declared.patch.PatchKey.TheVariants as key
-use Rattle.pdp_replay.proofs.FirstWords.{filled_by_number, length_by_number, word_by_number}
+use Rattle.pdp_replay.proofs.FirstWords.{drive_by_number, filled_by_number, length_by_number, word_by_number}
+use Rattle.pdp_replay.proofs.Lowered.{both_true}
 
 -- the same word has the same key, and is itself
 same_key : (k other : PatchKey) → is_same_word k other ≡ true → k ≡ other
 same_key (key.Core n) (key.Core m) is = ap core_key (eqb-true n m is)
-same_key (key.Disk n) (key.Disk m) is = ap disk_key (eqb-true n m is)
-same_key (key.Core n) (key.Disk m) is = absurd cc
-same_key (key.Disk n) (key.Core m) is = absurd cc
+same_key (key.Disk d n) (key.Disk e m) is =
+    let both = both_true (nat_eq d e) (nat_eq n m) is in ap₂ disk_key (eqb-true d e both.0) (eqb-true n m both.1)
+same_key (key.Core n) (key.Disk e m) is = absurd cc
+same_key (key.Disk d n) (key.Core m) is = absurd cc
 
 itself : (k : PatchKey) → is_same_word k k ≡ true
 itself (key.Core n) = eq-eqb n n refl
-itself (key.Disk n) = eq-eqb n n refl
+itself (key.Disk d n) = ap₂ ◌&&◌ (eq-eqb d d refl) (eq-eqb n n refl)
 
 -- one patch more: its word has it, and no other word another one
 abbrev put : Patches → PatchKey → ℕ → Patches
@@ -68,25 +72,41 @@ taken_elsewhere [] k q other = refl
 taken_elsewhere (p ∷ ps) k q other =
     taken_first_elsewhere p ps k q other (is_same_word k p.0) (is_same_word q p.0) refl refl (taken_elsewhere ps k q other)
 
--- values by number, of which one is another, and of which none is
+-- what is listed by number, of which one is another, and of which none is
+changed_at : {X : Type 0} (blank : X) (value now : ℕ → X) (size i : ℕ) (x : X) → i < size → now i ≡ x
+    → ((number : ℕ) → nat_eq number i ≡ false → now number ≡ value number)
+    → map now (range_with_len 0 size) ≡ slice_set (map value (range_with_len 0 size)) i x
+changed_at {X} blank value now size i x inside here elsewhere =
+    sym (fill_by_all now (slice_set before i x) size blank long (λ number below. each number below (nat_eq number i) refl))
+  where
+    before : List X
+    before = map value (range_with_len 0 size)
+
+    so_many : length before ≡ size
+    so_many = length-map-range_with_len value 0 size
+
+    long : length (slice_set before i x) ≡ size
+    long = length-set before i x ∙ so_many
+
+    each : (number : ℕ) → number < size → (same : Bool) → nat_eq number i ≡ same → get_or (slice_set before i x) number blank ≡ now number
+    each number below true is =
+        let at : number ≡ i = eqb-true number i is in
+        let within : i < length before = rw so_many inside in
+        rw at (get_or-set_at before i i x blank refl within ∙ sym here)
+    each number below false is =
+        get_or-set_other before i number x blank (λ same. false≢true (sym is ∙ eq-eqb number i same))
+        ∙ get_or-map-range_with_len value 0 size number number blank below (omega arith)
+        ∙ sym (elsewhere number is)
+
 one_changed : (value now : ℕ → ℕ) (size i word : ℕ) → i < size → now i ≡ word
     → ((number : ℕ) → nat_eq number i ≡ false → now number ≡ value number)
     → words_by_number now size ≡ slice_set (words_by_number value size) i word
-one_changed value now size i word inside here elsewhere =
-    sym (filled_by_number now (slice_set (words_by_number value size) i word) size long (λ number below. each number below (nat_eq number i) refl))
-  where
-    long : length (slice_set (words_by_number value size) i word) ≡ size
-    long = length-set (words_by_number value size) i word ∙ length_by_number value size
+unfolding words_by_number
+one_changed value now size i word inside here elsewhere = changed_at 0 value now size i word inside here elsewhere
 
-    each : (number : ℕ) → number < size → (same : Bool) → nat_eq number i ≡ same → slice_index (slice_set (words_by_number value size) i word) number ≡ now number
-    each number below true is =
-        let at : number ≡ i = eqb-true number i is in
-        let within : i < length (words_by_number value size) = rw (length_by_number value size) inside in
-        rw at (get_or-set_at (words_by_number value size) i i word 0 refl within ∙ sym here)
-    each number below false is =
-        get_or-set_other (words_by_number value size) i number word 0 (λ same. false≢true (sym is ∙ eq-eqb number i same))
-        ∙ word_by_number value size number below
-        ∙ sym (elsewhere number is)
+same_lists : {X : Type 0} (value now : ℕ → X) (numbers : List ℕ) → ((number : ℕ) → now number ≡ value number) → map now numbers ≡ map value numbers
+same_lists value now [] same = refl
+same_lists value now (number ∷ numbers) same = ap₂ (λ x xs. x ∷ xs) (same number) (same_lists value now numbers same)
 
 none_changed : (value now : ℕ → ℕ) (size : ℕ) → ((number : ℕ) → now number ≡ value number) → words_by_number now size ≡ words_by_number value size
 none_changed value now size same =
@@ -107,24 +127,47 @@ core_patched s i word inside =
     (ap (λ found. unwrap_or found (slice_index s.core i)) (put_here s.patches (core_key i) word))
     (λ number other. ap (λ found. unwrap_or found (slice_index s.core number)) (put_elsewhere s.patches (core_key i) (core_key number) word other))
 
-pub core_stays : (s : SetupData) (i word : ℕ) → core_words (patched s (disk_key i) word) ≡ core_words s
+pub core_stays : (s : SetupData) (drive i word : ℕ) → core_words (patched s (disk_key drive i) word) ≡ core_words s
 unfolding core_words
-core_stays s i word =
-    none_changed (first_core_word s) (first_core_word (patched s (disk_key i) word)) (core_size s)
-    (λ number. ap (λ found. unwrap_or found (slice_index s.core number)) (put_elsewhere s.patches (disk_key i) (core_key number) word refl))
+core_stays s drive i word =
+    none_changed (first_core_word s) (first_core_word (patched s (disk_key drive i) word)) (core_size s)
+    (λ number. ap (λ found. unwrap_or found (slice_index s.core number)) (put_elsewhere s.patches (disk_key drive i) (core_key number) word refl))
 
-pub disk_patched : (s : SetupData) (i word : ℕ) → i < drive_words → disk_words (patched s (disk_key i) word) ≡ slice_set (disk_words s) i word
+disk_patched : (s : SetupData) (drive i word : ℕ) → i < drive_words
+    → disk_words (patched s (disk_key drive i) word) drive ≡ slice_set (disk_words s drive) i word
 unfolding disk_words
-disk_patched s i word inside =
-    one_changed (first_disk_word s) (first_disk_word (patched s (disk_key i) word)) drive_words i word inside
-    (ap (λ found. unwrap_or found (slice_index s.disk i)) (put_here s.patches (disk_key i) word))
-    (λ number other. ap (λ found. unwrap_or found (slice_index s.disk number)) (put_elsewhere s.patches (disk_key i) (disk_key number) word other))
+disk_patched s drive i word inside =
+    one_changed (first_disk_word s drive) (first_disk_word (patched s (disk_key drive i) word) drive) drive_words i word inside
+    (ap (λ found. unwrap_or found (slice_index (image_of s.disks drive) i)) (put_here s.patches (disk_key drive i) word))
+    (λ number other. ap (λ found. unwrap_or found (slice_index (image_of s.disks drive) number))
+    (put_elsewhere s.patches (disk_key drive i) (disk_key drive number) word (ap₂ ◌&&◌ (eq-eqb drive drive refl) other)))
 
-pub disk_stays : (s : SetupData) (i word : ℕ) → disk_words (patched s (core_key i) word) ≡ disk_words s
+-- a patch of a word of one drive leaves every other drive
+disk_beside : (s : SetupData) (drive other i word : ℕ) → nat_eq other drive ≡ false → disk_words (patched s (disk_key drive i) word) other ≡ disk_words s other
 unfolding disk_words
-disk_stays s i word =
-    none_changed (first_disk_word s) (first_disk_word (patched s (core_key i) word)) drive_words
-    (λ number. ap (λ found. unwrap_or found (slice_index s.disk number)) (put_elsewhere s.patches (core_key i) (disk_key number) word refl))
+disk_beside s drive other i word beside =
+    none_changed (first_disk_word s other) (first_disk_word (patched s (disk_key drive i) word) other) drive_words
+    (λ number. ap (λ found. unwrap_or found (slice_index (image_of s.disks other) number))
+    (put_elsewhere s.patches (disk_key drive i) (disk_key other number) word (ap (λ same. same && nat_eq number i) beside)))
+
+pub drives_patched : (s : SetupData) (drive i word : ℕ) → drive < s.drives → i < drive_words
+    → drives_words (patched s (disk_key drive i) word) ≡ slice_set (drives_words s) drive (slice_set (slice_index_or (drives_words s) drive []) i word)
+unfolding drives_words
+drives_patched s drive i word there inside =
+    let here : slice_index_or (drives_words s) drive [] ≡ disk_words s drive = drive_by_number s drive there in
+    changed_at [] (disk_words s) (disk_words (patched s (disk_key drive i) word)) s.drives drive (slice_set (slice_index_or (drives_words s) drive []) i word) there
+    (disk_patched s drive i word inside ∙ ap (λ words. slice_set words i word) (sym here))
+    (λ other beside. disk_beside s drive other i word beside)
+
+disk_stays : (s : SetupData) (i word drive : ℕ) → disk_words (patched s (core_key i) word) drive ≡ disk_words s drive
+unfolding disk_words
+disk_stays s i word drive =
+    none_changed (first_disk_word s drive) (first_disk_word (patched s (core_key i) word) drive) drive_words
+    (λ number. ap (λ found. unwrap_or found (slice_index (image_of s.disks drive) number)) (put_elsewhere s.patches (core_key i) (disk_key drive number) word refl))
+
+pub drives_stay : (s : SetupData) (i word : ℕ) → drives_words (patched s (core_key i) word) ≡ drives_words s
+unfolding drives_words
+drives_stay s i word = same_lists (disk_words s) (disk_words (patched s (core_key i) word)) (range_with_len 0 s.drives) (disk_stays s i word)
 
 pub core_reverted : (s : SetupData) (i : ℕ) → i < core_size s → patch_of (taken s.patches (core_key i)) (core_key i) ≡ None
     → core_words (unpatched s (core_key i)) ≡ slice_set (core_words s) i (slice_index s.core i)
@@ -134,8 +177,12 @@ core_reverted s i inside none =
     (ap (λ found. unwrap_or found (slice_index s.core i)) none)
     (λ number other. ap (λ found. unwrap_or found (slice_index s.core number)) (taken_elsewhere s.patches (core_key i) (core_key number) other))
 
-pub disk_stays_reverted : (s : SetupData) (i : ℕ) → disk_words (unpatched s (core_key i)) ≡ disk_words s
+disk_stays_reverted : (s : SetupData) (i drive : ℕ) → disk_words (unpatched s (core_key i)) drive ≡ disk_words s drive
 unfolding disk_words
-disk_stays_reverted s i =
-    none_changed (first_disk_word s) (first_disk_word (unpatched s (core_key i))) drive_words
-    (λ number. ap (λ found. unwrap_or found (slice_index s.disk number)) (taken_elsewhere s.patches (core_key i) (disk_key number) refl))
+disk_stays_reverted s i drive =
+    none_changed (first_disk_word s drive) (first_disk_word (unpatched s (core_key i)) drive) drive_words
+    (λ number. ap (λ found. unwrap_or found (slice_index (image_of s.disks drive) number)) (taken_elsewhere s.patches (core_key i) (disk_key drive number) refl))
+
+pub drives_stay_reverted : (s : SetupData) (i : ℕ) → drives_words (unpatched s (core_key i)) ≡ drives_words s
+unfolding drives_words
+drives_stay_reverted s i = same_lists (disk_words s) (disk_words (unpatched s (core_key i))) (range_with_len 0 s.drives) (disk_stays_reverted s i)

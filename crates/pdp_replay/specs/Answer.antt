@@ -1,5 +1,5 @@
 -- What a question must be answered, from the run from power-up alone (this project's profile).
-use Rattle.std.specs.Prelude.{ℕ, ◌≡◌, ◌+◌, ◌-◌, ◌/◌, ◌%◌, ◌==◌, ◌<◌, ◌≤◌, ◌&&◌, List, take, drop, Result, Ok, Err, nat_le, if◌then◌else◌}
+use Rattle.std.specs.Prelude.{ℕ, ◌≡◌, ◌+◌, ◌-◌, ◌/◌, ◌%◌, ◌==◌, ◌<◌, ◌≤◌, ◌&&◌, List, length, map, replicate, take, drop, Result, Ok, Err, nat_le, nat_lt, if◌then◌else◌}
 use Rattle.pdp_cpu.specs.Turns.Devices.{devices_of}
 use Rattle.pdp_cpu.specs.Turns.MachineState.{MachineState}
 use Rattle.pdp_cpu.specs.Turns.Pages.{page_registers_of}
@@ -7,7 +7,7 @@ use Rattle.pdp_cpu.specs.Turns.Regs.{regs_of}
 use Rattle.pdp_script.specs.Refusal.{result_map}
 use Rattle.pdp_unibus.specs.LastTurn.{last_turn}
 use Rattle.pdp_script.specs.declared.faults.Fault.{Fault}
-use Rattle.pdp_script.specs.declared.faults.Fault.TheVariants.{OutsideCore, OddAddress, OutsideDisk, TurnTooLarge, CountOutOfRange}
+use Rattle.pdp_script.specs.declared.faults.Fault.TheVariants.{OutsideCore, OddAddress, OutsideDisk, TurnTooLarge, CountOutOfRange, NoSuchDrive}
 use Rattle.pdp_script.specs.Script.{ScriptData}
 use Rattle.pdp_replay.specs.Edit.{core_word_at}
 use Rattle.pdp_replay.specs.LastWrites.{last_write_at}
@@ -25,7 +25,7 @@ use Rattle.pdp_replay.specs.declared.question.Value.TheVariants as value
 abbrev pub turn_asked : Question → ℕ
 turn_asked (question.Regs turn) = turn
 turn_asked (question.Core turn address count) = turn
-turn_asked (question.Disk turn first count) = turn
+turn_asked (question.Disk turn drive first count) = turn
 turn_asked (question.Text turn) = turn
 turn_asked (question.Punched turn) = turn
 turn_asked (question.Devices turn) = turn
@@ -38,7 +38,7 @@ abbrev pub first_turn_needed : Question → ℕ
 first_turn_needed (question.Trail turn count) = turn - count
 first_turn_needed q = turn_asked q
 
--- so many words of core or of the drive, from the word of this number on
+-- so many words of core or of a drive, from the word of this number on
 abbrev pub words_from : ℕ → ℕ → List ℕ → List ℕ
 words_from first count words = take count (drop first words)
 
@@ -46,7 +46,7 @@ words_from first count words = take count (drop first words)
 unfoldable pub answer : Question → Past → Value
 answer (question.Regs turn) p = value.Regs (regs_of (state_at p turn))
 answer (question.Core turn address count) p = value.Core (words_from (address / 2) count (state_at p turn).bus.core)
-answer (question.Disk turn first count) p = value.Disk (words_from first count (disk_of (state_at p turn)))
+answer (question.Disk turn drive first count) p = value.Disk (words_from first count (disk_of (state_at p turn) drive))
 answer (question.Text turn) p = value.Text (text_at p turn)
 answer (question.Punched turn) p = value.Punched (punched_at p turn)
 answer (question.Devices turn) p = value.Devices (devices_of (state_at p turn))
@@ -68,12 +68,15 @@ range_checked address count s = (
     else Err OutsideCore
     else Err CountOutOfRange)
 
--- can so many words of the drive from this number on be asked for? From one to the most, each on the drive
-unfoldable pub disk_range_checked : ℕ → ℕ → Result (Unit {0}) Fault
-disk_range_checked first count = (
+-- can so many words of a drive from this number on be asked for? From one to the most, of a drive that is there, each on
+-- the drive
+unfoldable pub disk_range_checked : ℕ → ℕ → ℕ → SetupData → Result (Unit {0}) Fault
+disk_range_checked drive first count s = (
     if nat_le 1 count && nat_le count most_words then
+    if nat_lt drive s.drives then
     if nat_le (first + count) drive_words then Ok tt
     else Err OutsideDisk
+    else Err NoSuchDrive
     else Err CountOutOfRange)
 
 -- the most turns that a trail lists
@@ -89,7 +92,7 @@ trail_checked turn count = (
 -- the range rule of a question, where it has one
 abbrev pub range_rule : Question → SetupData → Result (Unit {0}) Fault
 range_rule (question.Core turn address count) s = range_checked address count s
-range_rule (question.Disk turn first count) s = disk_range_checked first count
+range_rule (question.Disk turn drive first count) s = disk_range_checked drive first count s
 range_rule (question.Last turn address) s = result_map (λ _. tt) (core_word_at address s)
 range_rule (question.Trail turn count) s = trail_checked turn count
 range_rule _ s = Ok tt
@@ -102,14 +105,18 @@ question_checked q p = (if nat_le (turn_asked q) last_turn then range_rule q p.s
 unfoldable pub answer_to : Question → Past → Result Value Fault
 answer_to q p = result_map (λ _. answer q p) (question_checked q p)
 
--- what a question asks for is there: its words in a core of so many words or on the drive, and its turns before the one
--- asked about
-abbrev pub IsWithin : Question → ℕ → Type 0
-IsWithin (question.Core turn address count) size = address / 2 + count ≤ size
-IsWithin (question.Disk turn first count) size = first + count ≤ drive_words
-IsWithin (question.Last turn address) size = address / 2 < size
-IsWithin (question.Trail turn count) size = count ≤ turn
-IsWithin _ size = Unit {0}
+-- what a question asks for is there: its words in a core of so many words or on one of so many drives, and its turns
+-- before the one asked about
+abbrev pub IsWithin : Question → ℕ → ℕ → Type 0
+IsWithin (question.Core turn address count) size drives = address / 2 + count ≤ size
+IsWithin (question.Disk turn drive first count) size drives = (drive < drives) × (first + count ≤ drive_words)
+IsWithin (question.Last turn address) size drives = address / 2 < size
+IsWithin (question.Trail turn count) size drives = count ≤ turn
+IsWithin _ size drives = Unit {0}
+
+-- each drive of these has all words of a drive
+abbrev pub AreDrives : List (List ℕ) → Type 0
+AreDrives drives = map length drives ≡ replicate (length drives) drive_words
 
 -- the answer, of every past with this script whose machine before the first turn needed is this one
 abbrev pub IsAnswerIn : MachineState → ScriptData → Question → Value → Type 0

@@ -6,13 +6,13 @@ use Rattle.pdp_script.specs.Entries.{entry_of}
 use Rattle.pdp_script.specs.Refusal.{edit_answer, for_memory}
 use Rattle.pdp_script.specs.Script.{insert_edit, alter_edit, drop_edit}
 use Rattle.pdp_script.specs.declared.faults.Fault.{Fault}
-use Rattle.pdp_script.specs.declared.faults.Fault.TheVariants.{BadImage, OutsideCore, OddAddress, OutsideDisk, NoSuchPatch, TurnTooLarge}
+use Rattle.pdp_script.specs.declared.faults.Fault.TheVariants.{BadImage, OutsideCore, OddAddress, OutsideDisk, NoSuchPatch, TurnTooLarge, NoSuchDrive}
 use Rattle.pdp_unibus.specs.Delays.{with_delay}
 use Rattle.pdp_unibus.specs.LastTurn.{last_turn}
 use Rattle.pdp_unibus.specs.declared.delays.Line.{Line}
 use Rattle.pdp_unibus.specs.declared.event.Event.{Event}
 use Rattle.pdp_replay.specs.PatchedWords.{core_key, disk_key, is_same_word, patch_of}
-use Rattle.pdp_replay.specs.Setup.{SetupData, core_size, drive_words, tape_bytes}
+use Rattle.pdp_replay.specs.Setup.{SetupData, core_size, drive_words, most_drives, tape_bytes}
 use Rattle.pdp_replay.specs.Past.{Past, of_setup, of_script}
 use Rattle.pdp_replay.specs.declared.patch.Patch.{Patch}
 use Rattle.pdp_replay.specs.declared.patch.Patch.TheVariants as patch
@@ -27,9 +27,13 @@ core_word_at address s = (
     else Err OddAddress
     else Err OutsideCore)
 
--- the number of a word of the drive: refused past its last word
-unfoldable pub disk_word_at : ℕ → Result ℕ Fault
-disk_word_at number = (if nat_lt number drive_words then Ok number else Err OutsideDisk)
+-- the number of a word of a drive: refused where there is no such drive, and then past its last word
+unfoldable pub disk_word_at : ℕ → ℕ → SetupData → Result ℕ Fault
+disk_word_at drive number s = (
+    if nat_lt drive s.drives then
+    if nat_lt number drive_words then Ok number
+    else Err OutsideDisk
+    else Err NoSuchDrive)
 
 -- an edit of the word of this number, or the refusal where there is no such word
 abbrev pub edited_at : Result ℕ Fault → (ℕ → Result SetupData Fault) → Result SetupData Fault
@@ -43,8 +47,9 @@ with_patch word s key = Ok (record s { patches = insert_entry is_same_word s.pat
 unfoldable pub core_edit : ℕ → ℕ → Past → Result Past Fault
 core_edit address word p = of_setup p (edited_at (core_word_at address p.setup) (λ number. with_patch word p.setup (core_key number)))
 
-unfoldable pub disk_edit : ℕ → ℕ → Past → Result Past Fault
-disk_edit number word p = of_setup p (edited_at (disk_word_at number) (λ number. with_patch word p.setup (disk_key number)))
+unfoldable pub disk_edit : ℕ → ℕ → ℕ → Past → Result Past Fault
+disk_edit drive number word p =
+    of_setup p (edited_at (disk_word_at drive number p.setup) (λ number. with_patch word p.setup (disk_key drive number)))
 
 -- a word loses its patch, if it has one; the other patches keep their order
 abbrev pub without_patch : SetupData → PatchKey → Result SetupData Fault
@@ -54,6 +59,13 @@ without_patch s key = (
 
 unfoldable pub revert_edit : ℕ → Past → Result Past Fault
 revert_edit address p = of_setup p (edited_at (core_word_at address p.setup) (λ number. without_patch p.setup (core_key number)))
+
+-- there are eight drives from power-up on, whether there were one or eight: this is never refused but for memory
+abbrev pub with_eight_drives : SetupData → SetupData
+with_eight_drives s = record s { drives = most_drives }
+
+abbrev pub drives_edit : Past → Result Past Fault
+drives_edit p = of_setup p (Ok (with_eight_drives p.setup))
 
 -- another paper tape is put into the reader, which is there from power-up on
 abbrev pub with_tape : List ℕ → SetupData → Result SetupData Fault
@@ -107,13 +119,14 @@ abbrev pub lesser_turn : Option ℕ → ℕ → ℕ
 lesser_turn (Some old) turn = min old turn
 lesser_turn None turn = turn
 
--- how many patches there are, and the one of this index: of core its address and its word, of the drive its number
+-- how many patches there are, and the one of this index: of core its address and its word, of a drive the drive and its
+-- number
 abbrev pub patch_count : Past → ℕ
 patch_count p = length p.setup.patches
 
 abbrev pub patch_shown : PatchKey → ℕ → Patch
 patch_shown (key.Core number) word = patch.Core (number * 2) word
-patch_shown (key.Disk number) word = patch.Disk number word
+patch_shown (key.Disk drive number) word = patch.Disk drive number word
 
 abbrev pub patch_at : Past → ℕ → Option Patch
 patch_at p index = option_map (λ p. patch_shown p.0 p.1) (slice_get p.setup.patches index)

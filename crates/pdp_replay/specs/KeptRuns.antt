@@ -1,9 +1,11 @@
 -- The run that an engine keeps, between its calls and on the way (this project's profile).
-use Rattle.std.specs.Prelude.{ℕ, ◌≡◌, ◌*◌, ◌-◌, ◌<◌, ◌≤◌, ◌&&◌, Bool, true, false, Option, Some, None, max, min, nat_le, if◌then◌else◌}
+use Rattle.std.specs.Prelude.{ℕ, ◌≡◌, ◌*◌, ◌-◌, ◌<◌, ◌≤◌, ◌&&◌, Bool, true, false, Option, Some, None, ◌++◌, List, [], ◌∷◌, length, max, min, nat_le, if◌then◌else◌}
 use Rattle.std.specs.List.{filter}
-use Rattle.pdp_checkpoint.specs.Ladder.{LadderData, best_of, next_of}
+use Rattle.pdp_checkpoint.specs.Ladder.{AreRungs, LadderData, best_of, checkpoint_of, next_of}
+use Rattle.pdp_cpu.specs.Drives.{state_with_drives}
 use Rattle.pdp_cpu.specs.KeptTexts.{kept_before}
-use Rattle.pdp_cpu.specs.Turns.MachineState.{MachineWithTexts}
+use Rattle.pdp_cpu.specs.Saved.{state_cut}
+use Rattle.pdp_cpu.specs.Turns.MachineState.{MachineState, MachineWithTexts}
 use Rattle.pdp_script.specs.Script.{ScriptData}
 use Rattle.pdp_replay.specs.KeptStates.{AreKept, IsInRun, KeepsTexts}
 use Rattle.pdp_replay.specs.Past.{Past}
@@ -80,15 +82,30 @@ KeepsStride before after =
 -- the drive of a word that can be patched, none for a word of core, and its number
 abbrev pub drive_of : PatchKey → Option ℕ
 drive_of (Core number) = None
-drive_of (Disk number) = Some 0
+drive_of (Disk drive number) = Some drive
 
 abbrev pub number_of : PatchKey → ℕ
 number_of (Core number) = number
-number_of (Disk number) = number
+number_of (Disk drive number) = number
 
 -- the state of turn 0 alone
 abbrev pub cut_to_first : LadderData → LadderData
 cut_to_first l = record l { kept = filter (λ c. nat_le c.turn 0) l.kept }
+
+-- the state with these drives behind those that are there
+abbrev pub with_more_drives : List (List ℕ) → MachineState → MachineState
+with_more_drives drives m = state_with_drives (m.world.bus.drives ++ drives) m
+
+-- with these drives more a run begins anew: its first state alone is kept, all that came out was dropped, and nothing is
+-- known
+pub record BeginsAnew (drives : List (List ℕ)) (before after : KeptRun) : Type 0 where
+  pub kept : after.ladder.kept ≡ checkpoint_of (with_more_drives drives before.machine.state) ∷ []
+  pub rungs : AreRungs after.ladder
+  pub state : after.machine.state
+      ≡ state_cut (length after.machine.kept_text) (length after.machine.kept_punched) (with_more_drives drives before.machine.state)
+  pub text : after.machine.kept_text ≡ kept_before 0 before.machine.kept_text
+  pub punched : after.machine.kept_punched ≡ kept_before 0 before.machine.kept_punched
+  pub known : after.known ≡ 0
 
 -- all that came out was dropped, nothing is known any more, and the machine is in no state of the run
 pub record IsForgotten (before after : KeptRun) : Type 0 where

@@ -1,6 +1,6 @@
 -- What an engine keeps of a run: the bytes that came out of it, with their turns, and some of its states (this project's
 -- profile).
-use Rattle.std.specs.Prelude.{ℕ, zero, suc, ◌≡◌, ◌≤◌, ◌+◌, ◌/◌, ◌++◌, List, [], ◌∷◌, length, map}
+use Rattle.std.specs.Prelude.{ℕ, zero, suc, ◌≡◌, ◌≤◌, ◌+◌, ◌/◌, ◌++◌, List, [], length, map, replicate}
 use Rattle.std.specs.List.{All}
 use Rattle.pdp_checkpoint.specs.Ladder.{AreRungs, LadderData}
 use Rattle.pdp_cpu.specs.Saved.{machine_content}
@@ -27,12 +27,13 @@ unfoldable pub punched_kept_at : Past → ℕ → List KeptByte
 punched_kept_at p zero = []
 punched_kept_at p (suc n) = punched_kept_at p n ++ with_turn n (punched_in n (events_at p.script.entries n) (state_at p n))
 
--- the machine has what no turn changes: the tape of this setup, and the sizes of its core, its stamps and its drive
+-- the machine has what no turn changes: the tape of this setup, and the sizes of its core and its stamps, and as
+-- many drives as there are, each with its words
 pub record IsBuiltFrom (s : SetupData) (m : MachineWithTexts) : Type 0 where
   pub tape : m.state.world.bus.tape ≡ s.tape
   pub core : length m.state.world.bus.core ≡ core_size s
   pub lasts : length m.state.world.bus.lasts ≡ core_size s
-  pub drives : map length m.state.world.bus.drives ≡ drive_words ∷ []
+  pub drives : map length m.state.world.bus.drives ≡ replicate s.drives drive_words
 
 -- the machine keeps what was printed and punched before the known turn
 pub record KeepsTexts (p : Past) (known : ℕ) (m : MachineWithTexts) : Type 0 where

@@ -41,5 +41,5 @@ pub record CanAnswer (q : Question) (script : ScriptData) (r : KeptRun) : Type 0
   pub past : Past
   pub same : past.script ≡ script
   pub run : IsKeptRun past r
-  pub within : IsWithin q (core_size past.setup)
+  pub within : IsWithin q (core_size past.setup) past.setup.drives
   pub limit : turn_asked q ≤ last_turn

@@ -1,5 +1,5 @@
 -- The states of a run, its texts and its trace (this project's profile).
-use Rattle.std.specs.Prelude.{ℕ, ◌≡◌, zero, suc, ◌+◌, ◌++◌, List, [], ◌∷◌, length, slice_index_or, take, None, replicate}
+use Rattle.std.specs.Prelude.{ℕ, ◌≡◌, zero, suc, ◌+◌, ◌++◌, List, [], length, slice_index_or, take, None, replicate}
 use Rattle.pdp_store.specs.Touch.{Touch}
 use Rattle.pdp_operand.specs.Phases.World.{World}
 use Rattle.pdp_cpu.specs.Turns.Turn.{one_turn, printed_in, punched_in, turn_trace}
@@ -7,12 +7,12 @@ use Rattle.pdp_cpu.specs.Turns.MachineState.{MachineState, powered_world}
 use Rattle.pdp_script.specs.Entries.{events_at}
 use Rattle.pdp_script.specs.Script.{ScriptData}
 use Rattle.pdp_replay.specs.Setup.{SetupData, core_size}
-use Rattle.pdp_replay.specs.FirstWords.{core_words, disk_words}
+use Rattle.pdp_replay.specs.FirstWords.{core_words, drives_words}
 use Rattle.pdp_replay.specs.Past.{Past}
 
--- power-up: core and the drive with the patches, the tape in the reader, and the delays
+-- power-up: core and the drives with the patches, the tape in the reader, and the delays
 unfoldable pub power : SetupData → World
-power s = powered_world s.start (core_words s) (replicate (core_size s) None) (disk_words s ∷ []) s.tape s.delays
+power s = powered_world s.start (core_words s) (replicate (core_size s) None) (drives_words s) s.tape s.delays
 
 -- the state before turn n: that of power-up, taken through the turns 0 to n - 1, each with its events of the script
 unfoldable pub state_at : Past → ℕ → World
@@ -34,9 +34,9 @@ unfoldable pub trace_at : Past → ℕ → List Touch
 trace_at p zero = []
 trace_at p (suc n) = trace_at p n ++ turn_trace n (events_at p.script.entries n) (state_at p n)
 
--- the words of the drive
-abbrev pub disk_of : World → List ℕ
-disk_of w = slice_index_or w.bus.drives 0 []
+-- the words of a drive
+abbrev pub disk_of : World → ℕ → List ℕ
+disk_of w drive = slice_index_or w.bus.drives drive []
 
 -- the machine as of power-up: no byte was printed or punched
 abbrev pub powered_up : SetupData → MachineState

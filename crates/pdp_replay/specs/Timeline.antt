@@ -5,9 +5,9 @@ use Rattle.pdp_unibus.specs.LastTurn.{last_turn}
 use Rattle.pdp_script.specs.declared.faults.Fault.{Fault}
 use Rattle.pdp_unibus.specs.declared.delays.Line.{Line}
 use Rattle.pdp_unibus.specs.declared.event.Event.{Event}
-use Rattle.pdp_replay.specs.Edit.{core_edit, disk_edit, revert_edit, tape_edit, delay_edit, event_insertion, event_alteration, event_drop, turn_of_event, lesser_turn}
+use Rattle.pdp_replay.specs.Edit.{core_edit, disk_edit, drives_edit, revert_edit, tape_edit, delay_edit, event_insertion, event_alteration, event_drop, turn_of_event, lesser_turn}
 use Rattle.pdp_replay.specs.Past.{Past, unscripted}
-use Rattle.pdp_replay.specs.Setup.{SetupData, IsGood, core_size}
+use Rattle.pdp_replay.specs.Setup.{SetupData, IsGood}
 use Rattle.pdp_replay.specs.FirstWords.{AllThere}
 use Rattle.pdp_replay.specs.KeptRuns.{IsKeptRun}
 use Rattle.pdp_replay.specs.Strides.{IsStride}
@@ -62,8 +62,19 @@ after_setup_edit due refused t = record t {
 abbrev pub core_edited : ℕ → ℕ → Bool → Timeline → Timeline
 core_edited address word refused t = after_setup_edit (core_edit address word t.past) refused t
 
-abbrev pub disk_edited : ℕ → ℕ → Bool → Timeline → Timeline
-disk_edited number word refused t = after_setup_edit (disk_edit number word t.past) refused t
+abbrev pub disk_edited : ℕ → ℕ → ℕ → Bool → Timeline → Timeline
+disk_edited drive number word refused t = after_setup_edit (disk_edit drive number word t.past) refused t
+
+-- an engine whose machine was taken to the state of turn 0
+abbrev pub restarted : Timeline → Timeline
+restarted t = record t { turn = 0; current = true }
+
+-- an engine after it was to get eight drives: its machine is in the state of turn 0, also where memory was refused
+abbrev pub drives_given : Bool → Timeline → Timeline
+drives_given refused t = record (restarted t) {
+  past = past_left (drives_edit t.past) refused t.past;
+  known = known_left 0 (drives_edit t.past) refused t.known;
+}
 
 abbrev pub core_reverted : ℕ → Bool → Timeline → Timeline
 core_reverted address refused t = after_setup_edit (revert_edit address t.past) refused t
@@ -88,7 +99,7 @@ event_dropped number t = after_edit (unwrap_or (turn_of_event number t.past) 0) 
 -- that belongs to the highest turn known, and of the run all that ought to be kept
 pub record IsEngine (p : Past) (highest : ℕ) (r : KeptRun) : Type 0 where
   pub good : IsGood p.setup
-  pub there : AllThere (core_size p.setup) p.setup.patches
+  pub there : AllThere p.setup p.setup.patches
   pub reached : r.known ≤ highest
   pub limit : highest ≤ last_turn
   pub stride : IsStride p.setup.stride highest r.ladder.stride

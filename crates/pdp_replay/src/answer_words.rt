@@ -9,10 +9,7 @@ use pdp_word::NoMemory;
 use std::alloc::Global;
 use std::marker::Model;
 
-/// The number of the one drive.
-const DRIVE: usize = 0;
-
-/// Words of core or of the drive, one after another (this project's profile). A contract sees the list of them.
+/// Words of core or of a drive, one after another (this project's profile). A contract sees the list of them.
 #[derive(Debug, Drop)]
 pub struct Words {
     items: Vec<u16>,
@@ -56,24 +53,26 @@ impl Words {
         Ok(Words { items })
     }
 
-    /// So many words of the machine's drive, from the word of this number on.
+    /// `count` words of a drive of the machine, from its word `first` on (both numbers from 0).
     ///
     /// Err where there is no memory for them.
     #[tactic(auto, using(crate::proofs::Lists::words_one_more))]
     pub(crate) fn read_disk(
         alloc: Global,
         machine: &PagedMachine,
+        drive: u8,
         first: u32,
         count: u32,
     ) -> Result<Words, NoMemory>
-        requires { first + count ≤ length (disk_of machine.now.state.world) }
-        ensures { IfOk result (λ words. words ≡ words_from first count (disk_of machine.now.state.world)) }
+        requires { first + count ≤ length (disk_of machine.now.state.world drive) }
+        ensures { IfOk result (λ words. words ≡ words_from first count (disk_of machine.now.state.world drive)) }
     {
+        let drive = usize::from(drive);
         let first = first as usize;
         let count = count as usize;
         let mut items = Vec::with_capacity(alloc, count)?;
         for index in 0..count {
-            items.push(machine.disk_word(DRIVE, first + index))?;
+            items.push(machine.disk_word(drive, first + index))?;
         }
         Ok(Words { items })
     }

@@ -1,17 +1,19 @@
 //! What edits of the past leave of what is kept of a run.
 
-ghost use Rattle.std.specs.Prelude.{◌≡◌, ◌&&◌, min, nat_le, OnOk, OnErr};
+ghost use Rattle.std.specs.Prelude.{◌≡◌, ◌&&◌, length, map, min, nat_le, OnOk, OnErr};
 ghost use Rattle.std.specs.List.{All};
 ghost use Rattle.pdp_checkpoint.specs.Delayed.{delayed};
 ghost use Rattle.pdp_checkpoint.specs.Patched.{patched_to};
 ghost use Rattle.pdp_cpu.specs.Saved.{HasWord};
 ghost use Rattle.pdp_operand.specs.Phases.World.{world};
-ghost use Rattle.pdp_replay.specs.KeptRuns.{cut_to_first, drive_of, number_of, IsForgotten, IsKeptRun};
+ghost use Rattle.pdp_replay.specs.KeptRuns.{cut_to_first, drive_of, number_of, BeginsAnew, IsForgotten, IsKeptRun};
 ghost use Rattle.pdp_replay.specs.Past.{Past};
 ghost use Rattle.pdp_unibus.specs.BusContent.{with_tape};
 
 use crate::kept_run::KeptRun;
 use crate::patch::PatchKey;
+use pdp_checkpoint::Ladder;
+use pdp_store::PagedDrive;
 use pdp_unibus::Delays;
 use pdp_word::NoMemory;
 use std::alloc::Global;
@@ -52,7 +54,7 @@ impl KeptRun {
     {
         let drive = match key {
             PatchKey::Core(_) => None,
-            PatchKey::Disk(_) => Some(0),
+            PatchKey::Disk(drive, _) => Some(drive),
         };
         let number = key.number() as usize;
         self.ladder
@@ -60,6 +62,37 @@ impl KeptRun {
         self.machine.keep_text(0);
         self.known = 0;
         self.is_current = false;
+        Ok(())
+    }
+
+    /// Adds these drives after drive 0 of a machine at turn 0. Its state is then the only one that is kept, and nothing is
+    /// known. It runs no turn.
+    ///
+    /// Err if a growth was refused; nothing changes then.
+    pub(crate) fn add_drives(
+        &mut self,
+        alloc: Global,
+        drives: Vec<PagedDrive>,
+    ) -> Result<(), NoMemory>
+        requires start { self.old.machine.state.turn ≡ 0 }
+        requires one { length self.old.machine.state.world.bus.drives ≡ 1 }
+        ensures anew { OnOk result (BeginsAnew (map (λ drive. drive.words) drives.items) self.old self.new) }
+        ensures current { self.new.is_current ≡ self.old.is_current }
+        ensures stride { self.new.ladder.stride ≡ self.old.ladder.stride }
+        ensures meter { self.new.meter ≡ self.old.meter }
+        ensures refused { OnErr result (self.new ≡ self.old) }
+    {
+        let stride = self.ladder.stride();
+        self.machine.add_drives(drives)?;
+        match Ladder::new(alloc, stride, &mut self.machine) {
+            Ok(ladder) => self.ladder = ladder,
+            Err(refused) => {
+                self.machine.keep_drives(1);
+                return Err(refused);
+            }
+        }
+        self.machine.keep_text(0);
+        self.known = 0;
         Ok(())
     }
 

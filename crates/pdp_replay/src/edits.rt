@@ -124,7 +124,7 @@ impl Engine {
         let (key, word) = self.patches.get_index(index)?;
         Some(match key {
             PatchKey::Core(number) => Patch::Core(number * 2, *word),
-            PatchKey::Disk(number) => Patch::Disk(*number, *word),
+            PatchKey::Disk(drive, number) => Patch::Disk(*drive, *number, *word),
         })
     }
 }

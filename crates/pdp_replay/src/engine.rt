@@ -9,7 +9,7 @@ ghost use Rattle.pdp_replay.specs.Strides.{IsStride};
 ghost use Rattle.pdp_replay.specs.Timeline.{fresh};
 
 use crate::kept_run::KeptRun;
-use crate::origin::Origin;
+use crate::origin::{DriveCount, Origin};
 use crate::patch::PatchKey;
 use crate::question::{Answer, Question};
 use crate::setup::Setup;
@@ -54,10 +54,11 @@ impl Model for Engine {
 }
 
 impl Engine {
-    /// An engine over this setup with the standard delays, without patches or events; nothing is known yet.
+    /// An engine over this setup with one drive and the standard delays, without patches or events; nothing is known yet.
     ///
     /// Err(BadSetup) where units, start or stride is out of range; else Err(BadImage) where an image or the tape is too
-    /// long; else Err(NoMemory) where a growth was refused. (This project's profile.)
+    /// long, or there are more than eight images of drives; else Err(NoMemory) where a growth was refused. (This
+    /// project's profile.)
     #[tactic(auto, using(crate::proofs::Setups::good_is), unfolding(crate::specs::Setup::setup_checked))]
     pub fn new(alloc: Global, setup: Setup) -> Result<Engine, Fault>
         ensures engine { result ≡ result_map fresh (question_answer (setup_checked (given setup)) (for_memory result)) }
@@ -67,7 +68,7 @@ impl Engine {
             units,
             start,
             core,
-            disk,
+            disks,
             tape,
             stride,
         } = setup;
@@ -75,7 +76,8 @@ impl Engine {
             units,
             start,
             core,
-            disk,
+            disks,
+            drives: DriveCount::One,
             stride,
         };
         let run = KeptRun::power(alloc, &origin, tape)?;
@@ -92,12 +94,12 @@ impl Engine {
     /// Answers a question about the run from power-up of the past as it is now. Once answered, the known turn is the
     /// larger of what it was and the turn asked about.
     ///
-    /// Err(TurnTooLarge) where its turn is above 1,000,000,000; else Err(CountOutOfRange) where a count of words is not
-    /// 1 to 256, or one of turns of a trail not 1 to 64 or above the turn asked about; else Err(OutsideCore) where a
-    /// word of core that is asked for is not in core, else Err(OddAddress) where its address is odd; else
-    /// Err(OutsideDisk) where the number of a word of the drive that is asked for is 4604000 (octal; 1,247,232) or
-    /// above; else Err(NoMemory) where a growth was refused. No refusal changes the past, and one for another cause
-    /// than memory changes nothing. (This project's profile.)
+    /// The refusals, in their order: Err(TurnTooLarge) if its turn is above 1,000,000,000; Err(CountOutOfRange) if a
+    /// count of words is not 1 to 256, or one of turns of a trail not 1 to 64 or above the turn asked about;
+    /// Err(OutsideCore) if a word of core that is asked for is not in core, else Err(OddAddress) if its address is odd;
+    /// Err(NoSuchDrive) if the drive that is asked for is not below the number of drives, else Err(OutsideDisk) if the
+    /// number of a word of the drive is 4604000 (octal; 1,247,232) or above; Err(NoMemory) if a growth was refused.
+    /// No refusal changes the past, and one for another cause than memory changes nothing. (This project's profile.)
     #[tactic(auto, unfolding(crate::specs::Answer::answer_to))]
     pub fn ask(&mut self, alloc: Global, question: Question) -> Result<Answer, Fault>
         // The answer is that of the run from power-up, and out of memory is the last refusal.
@@ -129,7 +131,7 @@ impl Engine {
         ensures refused { IsErr result → for_memory result ≡ false → self.new ≡ self.old }
     {
         let before = self.run.meter.count();
-        question.check(self.origin.units)?;
+        question.check(self.origin.units, self.origin.drives.count())?;
         let answered = question.answer(alloc, &mut self.run, &self.script);
         self.highest = self.highest.max(self.run.known);
         let value = answered?;
@@ -139,6 +141,13 @@ impl Engine {
             known: self.run.known,
             stride: self.run.ladder.stride(),
         })
+    }
+
+    /// How many drives there are (this project's profile): drive 0 alone, until `eight_drives` gives eight.
+    pub fn drives(&self) -> usize
+        ensures { result ≡ self.now.past.setup.drives }
+    {
+        self.origin.drives.count()
     }
 
     /// The states that are kept of the run of the past as it is now: those of turn 0 and of each multiple of the stride

@@ -1,8 +1,10 @@
-ghost use Rattle.std.specs.Prelude.{◌≡◌, ◌*◌, ◌≤◌, ◌++◌, ℕ, drop, length, replicate, None, IfOk};
-ghost use Rattle.pdp_replay.specs.Image.{padded};
+ghost use Rattle.std.specs.Prelude.{◌≡◌, ◌*◌, ◌≤◌, ◌++◌, ℕ, drop, length, map, replicate, None, IfOk};
+ghost use Rattle.std.specs.List.{All};
+ghost use Rattle.pdp_replay.specs.Image.{more_drives, padded};
+ghost use Rattle.pdp_replay.specs.Setup.{images_of};
 
 use crate::origin::Origin;
-use crate::setup::{DRIVE_WORDS, UNIT_WORDS};
+use crate::setup::{DRIVE_WORDS, MOST_DRIVES, UNIT_WORDS};
 use pdp_store::{Paged, PagedDrive, Store};
 use pdp_word::NoMemory;
 use std::alloc::Global;
@@ -21,16 +23,31 @@ pub(crate) fn core_store(alloc: Global, origin: &Origin) -> Result<Paged, NoMemo
     Ok(store)
 }
 
-/// The drive as of power-up without patches.
+/// The drive with this image as of power-up without patches.
 ///
 /// Err where there is no memory for it.
-pub(crate) fn drive_store(alloc: Global, origin: &Origin) -> Result<PagedDrive, NoMemory>
-    requires { length origin.now.disk.items ≤ DRIVE_WORDS }
-    ensures { IfOk result (λ store. store.words ≡ padded DRIVE_WORDS origin.now.disk.items) }
+pub(crate) fn drive_store(alloc: Global, image: &[u16]) -> Result<PagedDrive, NoMemory>
+    requires { length image.now ≤ DRIVE_WORDS }
+    ensures { IfOk result (λ store. store.words ≡ padded DRIVE_WORDS image.now) }
 {
-    let mut store = PagedDrive::new(alloc, DRIVE_WORDS)?;
-    fill(&mut store, &origin.disk);
+    let mut store = PagedDrive::blank(alloc, DRIVE_WORDS)?;
+    fill(&mut store, image);
     Ok(store)
+}
+
+/// Drives 1 to 7 as of power-up without patches, in the order of their numbers.
+///
+/// Err if there is no memory for them.
+#[tactic(auto, unfolding(crate::specs::Image::more_drives))]
+pub(crate) fn more_drives(alloc: Global, origin: &Origin) -> Result<Vec<PagedDrive>, NoMemory>
+    requires { All (λ image. length image ≤ DRIVE_WORDS) (images_of origin.now.disks.items) }
+    ensures { IfOk result (λ drives. map (λ drive. drive.words) drives.items ≡ more_drives (images_of origin.now.disks.items)) }
+{
+    let mut drives = Vec::with_capacity(alloc, MOST_DRIVES)?;
+    for number in 1..MOST_DRIVES {
+        drives.push(drive_store(alloc, origin.image(number))?)?;
+    }
+    Ok(drives)
 }
 
 /// Puts the words of an image into a store, from its first word on.

@@ -7,6 +7,7 @@ ghost use Rattle.pdp_replay.specs.KeptRuns.{is_current_by, resumed_turn, ComesTo
 ghost use Rattle.pdp_replay.specs.KeptStates.{AreStatesOf};
 ghost use Rattle.pdp_replay.specs.Past.{Past, unscripted};
 ghost use Rattle.pdp_replay.specs.Setup.{first_setup, IsGood};
+ghost use Rattle.pdp_replay.specs.declared.origin.DriveCount.TheVariants.{One};
 ghost use Rattle.pdp_replay.specs.States.{at};
 
 use crate::image::{core_store, drive_store};
@@ -33,11 +34,12 @@ pub(crate) struct KeptRun {
 }
 
 impl KeptRun {
-    /// A run as of power-up with the standard delays and without patches, of which the first state is kept.
+    /// A run as of power-up with one drive and the standard delays and without patches, of which the first state is kept.
     ///
     /// Err where a growth was refused.
     pub(crate) fn power(alloc: Global, origin: &Origin, tape: Vec<u8>) -> Result<KeptRun, NoMemory>
         requires good { IsGood (first_setup origin.now tape.items) }
+        requires one { origin.now.drives ≡ One }
         ensures run { IfOk result (λ run. IsKeptRun (unscripted (first_setup origin.now tape.items)) run) }
         ensures known { IfOk result (λ run. run.known ≡ 0) }
         ensures turn { IfOk result (λ run. run.machine.state.turn ≡ 0) }
@@ -46,7 +48,7 @@ impl KeptRun {
         ensures stride { IfOk result (λ run. run.ladder.stride ≡ origin.now.stride) }
     {
         let core = core_store(alloc, origin)?;
-        let drives = vec![in alloc; drive_store(alloc, origin)?]?;
+        let drives = vec![in alloc; drive_store(alloc, origin.image(0))?]?;
         let delays = Delays::standard();
         let lines = Lines::new(alloc)?;
         let mut machine = Machine::power(alloc, lines, origin.start, core, drives, tape, delays);
@@ -92,7 +94,7 @@ impl KeptRun {
 
     /// Makes the machine the best kept state of the lesser of this turn and the known one. If the machine is in a later
     /// state of the run that is not above this turn, it stays there.
-    fn resume(&mut self, turn: u32)
+    pub(crate) fn resume(&mut self, turn: u32)
         requires run { IsSomeRun self.old }
         ensures way { (p : Past) → IsKeptRun p self.old → IsOnWay p self.new }
         ensures turn { self.new.machine.state.turn ≡ resumed_turn self.old turn }

@@ -1,4 +1,4 @@
-ghost use Rattle.pdp_replay.specs.FirstWords.{CoreHasItsSize, DriveHasItsSize, CoreWordsAreFirstWords, DiskWordsAreFirstWords};
+ghost use Rattle.pdp_replay.specs.FirstWords.{CoreHasItsSize, DriveHasItsSize, CoreWordsAreFirstWords, DiskWordsAreFirstWords, DrivesAreByNumber, DrivesAreSoMany};
 ghost use Rattle.pdp_replay.specs.Edit.{AlterationNeedsNoMemory, DropNeedsNoMemory, TapeNeedsNoMemory, DelayNeedsNoMemory};
 ghost use Rattle.pdp_replay.specs.LastWrites.{StampsOfKeptStatesAreLastWrites, StampsOfStatesAreLastWrites};
 ghost use Rattle.pdp_replay.specs.States.{TextOnlyGrows, PunchedOnlyGrows};
@@ -13,14 +13,16 @@ pub fn core_words_are_first_words()
     ensures words { CoreWordsAreFirstWords }
 {}
 
-/// A law of setups: the drive as of power-up has 1,247,232 words, each of which is its patch, else its image's word,
-/// else 0.
+/// A law of setups: there are as many drives as of power-up as the setup says, and each has 1,247,232 words, each of
+/// which is its patch, else the word of the drive's image, else 0.
 ///
 /// This project's profile.
-#[tactic(auto, using(crate::proofs::FirstWords::disk_word_is, crate::proofs::FirstWords::drive_has_size))]
+#[tactic(auto, using(crate::proofs::FirstWords::disk_word_is, crate::proofs::FirstWords::drive_has_size, crate::proofs::FirstWords::drive_by_number, crate::proofs::FirstWords::drives_so_many))]
 pub fn disk_words_are_first_words()
     ensures size { DriveHasItsSize }
     ensures words { DiskWordsAreFirstWords }
+    ensures drives { DrivesAreByNumber }
+    ensures count { DrivesAreSoMany }
 {}
 
 /// A law of edits: no alteration and no drop of an event is refused as out of memory, and no edit of the tape or of a

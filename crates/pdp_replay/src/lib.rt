@@ -1,7 +1,8 @@
-//! Edits and questions: a setup whose words of core and of the drive, tape and delays can be
-//! edited, a script of events that can be edited, and the machine's answer about any turn, always
-//! as if the edited past had run from power-up. It stands on pdp_script, pdp_checkpoint and
-//! pdp_cpu, on what is below these, on indexmap for the patches, and on circular_buffer for trails.
+//! Edits and questions: a setup whose words of core and of the drives, number of drives, tape and
+//! delays can be edited, a script of events that can be edited, and the machine's answer about any
+//! turn, always as if the edited past had run from power-up. It stands on pdp_script,
+//! pdp_checkpoint and pdp_cpu, on what is below these, on indexmap for the patches, and on
+//! circular_buffer for trails.
 //!
 //! # What is proved
 //!
@@ -11,12 +12,12 @@
 //!   run's, at turn 0 and at each multiple of the stride up to the known turn and at no other; the
 //!   bytes that are kept are those that came out before the known turn (`kept_states`, `machine`).
 //! - A last write is that of the trace of the whole run, and a trail has the run's turns.
-//! - Core and the drive as of power-up have each word's patch, else the word of the image, else 0
+//! - Core and each drive as of power-up have each word's patch, else the word of the image, else 0
 //!   (`core_words_are_first_words`, `disk_words_are_first_words`).
 //! - Each edit with its refusals in their order, what it leaves, and how far back it lowers the
-//!   known turn; no edit runs a turn (`set_core`, `revert_core`, `set_disk`, `set_tape`,
-//!   `set_delay`, `insert`, `alter`, `drop_event`). Patches keep the place in which they were first
-//!   given (`patches`, `patch_count`).
+//!   known turn; no edit runs a turn (`set_core`, `revert_core`, `set_disk`, `eight_drives`,
+//!   `set_tape`, `set_delay`, `insert`, `alter`, `drop_event`). Patches keep the place in which
+//!   they were first given (`patches`, `patch_count`).
 //! - Alterations and drops of events, and edits of tape and delays, are never refused for memory
 //!   (`some_edits_need_no_memory`). Texts only grow from turn to turn (`texts_only_grow`).
 //!

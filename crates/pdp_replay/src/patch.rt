@@ -6,8 +6,8 @@ ghost use Rattle.pdp_replay.specs.KeptRuns.{number_of};
 pub enum Patch {
     /// The core word at this address (octal, bytes, even) is this word.
     Core(u32, u16),
-    /// The word of the drive of this number (counted from 0) is this word.
-    Disk(u32, u16),
+    /// Of the drive of this number, the word of this number (both counted from 0) is this word.
+    Disk(u8, u32, u16),
 }
 
 /// A word that can have a patch, by which patches are kept (this project's profile).
@@ -15,8 +15,8 @@ pub enum Patch {
 pub enum PatchKey {
     /// The core word of this number, which is half its address.
     Core(u32),
-    /// The word of the drive of this number.
-    Disk(u32),
+    /// Of the drive of this number, the word of this number.
+    Disk(u8, u32),
 }
 
 impl PatchKey {
@@ -25,7 +25,7 @@ impl PatchKey {
         ensures { result ≡ number_of self }
     {
         match self {
-            PatchKey::Core(number) | PatchKey::Disk(number) => number,
+            PatchKey::Core(number) | PatchKey::Disk(_, number) => number,
         }
     }
 }

@@ -4,8 +4,7 @@ ghost use Rattle.pdp_replay.specs.KeptRuns.{resumed_turn, ComesTo, IsKeptRun, Ke
 ghost use Rattle.pdp_replay.specs.Known.{known_after, CanAnswer};
 ghost use Rattle.pdp_replay.specs.Past.{Past};
 ghost use Rattle.pdp_replay.specs.Setup.{SetupData};
-ghost use Rattle.pdp_replay.specs.States.{disk_of};
-ghost use Rattle.pdp_replay.specs.Answer.{answer, question_checked, range_checked, disk_range_checked, trail_checked, first_turn_needed, turn_asked, IsWithin, IsAnswerIn};
+ghost use Rattle.pdp_replay.specs.Answer.{answer, question_checked, range_checked, disk_range_checked, trail_checked, first_turn_needed, turn_asked, AreDrives, IsWithin, IsAnswerIn};
 
 use crate::answer_bytes::Bytes;
 use crate::answer_words::Words;
@@ -20,7 +19,7 @@ use pdp_unibus::LAST_TURN;
 use pdp_word::NoMemory;
 use std::alloc::Global;
 
-/// The most words of core or of the drive that a question may ask for.
+/// The most words of core or of a drive that a question may ask for.
 const MOST_WORDS: u32 = 256;
 
 /// The most turns that a trail lists.
@@ -34,8 +33,9 @@ pub enum Question {
     Regs(u32),
     /// Words of core before this turn: from this address (octal, bytes, even) on, so many (1 to 256).
     Core(u32, u32, u32),
-    /// Words of the drive before this turn: from the word of this number (counted from 0) on, so many (1 to 256).
-    Disk(u32, u32, u32),
+    /// Words of a drive before this turn: the drive and its first word that is asked for (both counted from 0), and how
+    /// many words (1 to 256).
+    Disk(u32, u8, u32, u32),
     /// The bytes printed on the console before this turn.
     Text(u32),
     /// The bytes punched before this turn.
@@ -58,7 +58,7 @@ impl Question {
         match self {
             Question::Regs(turn)
             | Question::Core(turn, _, _)
-            | Question::Disk(turn, _, _)
+            | Question::Disk(turn, _, _, _)
             | Question::Text(turn)
             | Question::Punched(turn)
             | Question::Devices(turn)
@@ -80,23 +80,23 @@ impl Question {
         }
     }
 
-    /// Whether the question can be asked of a run over a core of so many units.
+    /// Whether the question can be asked of a run with `units` units of core and `drives` drives.
     ///
     /// Err(TurnTooLarge) where its turn is above 1,000,000,000; else of words of core what `check_range` refuses, of
-    /// words of the drive what `check_disk_range` does, of a last write what `core_word` does, and of a trail what
+    /// words of a drive what `check_disk_range` does, of a last write what `core_word` does, and of a trail what
     /// `check_trail` does.
     #[tactic(auto, unfolding(crate::specs::Answer::question_checked))]
-    pub(crate) fn check(self, units: u8) -> Result<(), Fault>
-        ensures refusal { (p : Past) → p.setup.units ≡ units → question_checked self p ≡ result }
+    pub(crate) fn check(self, units: u8, drives: usize) -> Result<(), Fault>
+        ensures refusal { (p : Past) → p.setup.units ≡ units → p.setup.drives ≡ drives → question_checked self p ≡ result }
         ensures turn { OnOk result (turn_asked self ≤ LAST_TURN) }
-        ensures within { OnOk result (IsWithin self (units * UNIT_WORDS)) }
+        ensures within { OnOk result (IsWithin self (units * UNIT_WORDS) drives) }
     {
         if self.turn() > LAST_TURN {
             return Err(Fault::TurnTooLarge);
         }
         match self {
             Question::Core(_, address, count) => check_range(units, address, count),
-            Question::Disk(_, first, count) => check_disk_range(first, count),
+            Question::Disk(_, drive, first, count) => check_disk_range(drives, drive, first, count),
             Question::Last(_, address) => {
                 core_word(units, address)?;
                 Ok(())
@@ -143,8 +143,8 @@ impl Question {
     /// Err where a growth was refused; what was kept until then stays.
     #[tactic(auto, unfolding(crate::specs::Answer::answer))]
     fn read(self, alloc: Global, run: &mut KeptRun, script: &Script) -> Result<Value, NoMemory>
-        requires within { IsWithin self (length run.old.machine.state.world.bus.core) }
-        requires drive { length (disk_of run.old.machine.state.world) ≡ DRIVE_WORDS }
+        requires within { IsWithin self (length run.old.machine.state.world.bus.core) (length run.old.machine.state.world.bus.drives) }
+        requires drives { AreDrives run.old.machine.state.world.bus.drives }
         requires here { run.old.machine.state.turn ≡ first_turn_needed self }
         requires limit { turn_asked self ≤ LAST_TURN }
         requires reached { run.old.machine.state.turn ≤ run.old.known }
@@ -169,8 +169,8 @@ impl Question {
                 let words = Words::read_core(alloc, machine, address / 2, count)?;
                 Ok(Value::Core(words))
             }
-            Question::Disk(_, first, count) => {
-                let words = Words::read_disk(alloc, machine, first, count)?;
+            Question::Disk(_, drive, first, count) => {
+                let words = Words::read_disk(alloc, machine, drive, first, count)?;
                 Ok(Value::Disk(words))
             }
             Question::Text(_) => Ok(Value::Text(Bytes::read(alloc, machine.text())?)),
@@ -211,17 +211,21 @@ fn check_range(units: u8, address: u32, count: u32) -> Result<(), Fault>
     Ok(())
 }
 
-/// Whether so many words of the drive from the word of this number on can be asked for.
+/// Whether `count` words of a drive, from its word `first` on, can be asked for of a run with `drives` drives.
 ///
-/// Err(CountOutOfRange) where the count is not 1 to 256; else Err(OutsideDisk) where a word of the range is past the
-/// drive's last.
+/// Err(CountOutOfRange) if the count is not 1 to 256; else Err(NoSuchDrive) if there is no drive of this number; else
+/// Err(OutsideDisk) if a word of the range is past the drive's last.
 #[tactic(auto, unfolding(crate::specs::Answer::disk_range_checked))]
-fn check_disk_range(first: u32, count: u32) -> Result<(), Fault>
-    ensures refusal { disk_range_checked first count ≡ result }
+fn check_disk_range(drives: usize, drive: u8, first: u32, count: u32) -> Result<(), Fault>
+    ensures refusal { (s : SetupData) → s.drives ≡ drives → disk_range_checked drive first count s ≡ result }
+    ensures there { OnOk result (drive < drives) }
     ensures within { OnOk result (first + count ≤ DRIVE_WORDS) }
 {
     if count < 1 || count > MOST_WORDS {
         return Err(Fault::CountOutOfRange);
+    }
+    if usize::from(drive) >= drives {
+        return Err(Fault::NoSuchDrive);
     }
     let end = first as usize + count as usize;
     if end > DRIVE_WORDS {
@@ -250,7 +254,7 @@ pub enum Value {
     Regs(Regs),
     /// The words of core that were asked for.
     Core(Words),
-    /// The words of the drive that were asked for.
+    /// The words of a drive that were asked for.
     Disk(Words),
     /// The bytes printed on the console since power-up, in their order.
     Text(Bytes),

@@ -1,6 +1,7 @@
 ghost use Rattle.std.specs.Prelude.{◌≡◌, Result};
+ghost use Rattle.std.specs.List.{list_all};
 ghost use Rattle.pdp_script.specs.Refusal.{result_map};
-ghost use Rattle.pdp_replay.specs.Setup.{given, setup_checked};
+ghost use Rattle.pdp_replay.specs.Setup.{fits_drive, given, has_good_disks, images_of, setup_checked};
 
 use pdp_checkpoint::WIDEST_STRIDE;
 use pdp_script::Fault;
@@ -10,6 +11,9 @@ const MOST_UNITS: u8 = 31;
 
 /// The words of one unit of core.
 pub(crate) const UNIT_WORDS: usize = 4_096;
+
+/// The most drives of a controller.
+pub(crate) const MOST_DRIVES: usize = 8;
 
 /// The words of a drive: 203 cylinders of 2 surfaces of 12 sectors of 256 words.
 pub(crate) const DRIVE_WORDS: usize = 1_247_232;
@@ -29,8 +33,10 @@ pub struct Setup {
     pub start: u16,
     /// The words of core from address 0 on, at most those of its units; core past them is 0.
     pub core: Vec<u16>,
-    /// The words of the drive from its first word on, at most 1,247,232; the drive past them is 0.
-    pub disk: Vec<u16>,
+    /// The images of drives by their numbers, at most eight: of each the words from its first word on, at most 1,247,232.
+    /// A drive is 0 past its image, and all 0 if it has none. A run begins with drive 0 alone; the images of the others are
+    /// read once there are eight drives.
+    pub disks: Vec<Vec<u16>>,
     /// The bytes of the paper tape: at most 1,048,576.
     pub tape: Vec<u8>,
     /// How many turns apart states are kept at first: 1 to 2,000,000,000.
@@ -41,7 +47,7 @@ impl Setup {
     /// Whether a run can start from this setup.
     ///
     /// Err(BadSetup) where the units, the start or the stride is out of range; else Err(BadImage) where core's image,
-    /// the drive's or the tape is too long.
+    /// a drive's or the tape is too long, or there are more than eight images of drives.
     #[tactic(auto, unfolding(crate::specs::Setup::setup_checked))]
     pub(crate) fn check(&self) -> Result<(), Fault>
         ensures { result ≡ result_map (λ _. tt) (setup_checked (given self.now)) }
@@ -54,12 +60,23 @@ impl Setup {
             return Err(Fault::BadSetup);
         }
         let words = usize::from(units) * UNIT_WORDS;
-        if self.core.len() > words
-            || self.disk.len() > DRIVE_WORDS
-            || self.tape.len() > TAPE_BYTES
-        {
+        if self.core.len() > words || !are_good_disks(&self.disks) || self.tape.len() > TAPE_BYTES {
             return Err(Fault::BadImage);
         }
         Ok(())
     }
+}
+
+/// Whether these can be the images of drives: at most eight, each within a drive.
+fn are_good_disks(disks: &[Vec<u16>]) -> bool
+    ensures { result ≡ has_good_disks (images_of disks.now) }
+{
+    disks.len() <= MOST_DRIVES && all_fit(disks)
+}
+
+/// Whether each of these images is within a drive.
+fn all_fit(images: &[Vec<u16>]) -> bool
+    ensures { result ≡ list_all (λ image. fits_drive image.items) images.now }
+{
+    images.iter().all(|image| image.len() <= DRIVE_WORDS)
 }

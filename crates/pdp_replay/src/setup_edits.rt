@@ -1,33 +1,62 @@
-ghost use Rattle.std.specs.Prelude.{◌≡◌, ◌<◌, IfOk, OnErr};
+ghost use Rattle.std.specs.Prelude.{◌≡◌, ◌<◌, IfOk, OnErr, OnOk};
 ghost use Rattle.pdp_script.specs.Refusal.{for_memory, edit_answer, result_map};
-ghost use Rattle.pdp_replay.specs.Edit.{disk_word_at, disk_edit, tape_edit, delay_edit};
-ghost use Rattle.pdp_replay.specs.Timeline.{disk_edited, tape_replaced, delay_set};
+ghost use Rattle.pdp_replay.specs.Edit.{disk_word_at, disk_edit, drives_edit, tape_edit, delay_edit};
+ghost use Rattle.pdp_replay.specs.Setup.{SetupData};
+ghost use Rattle.pdp_replay.specs.Timeline.{disk_edited, drives_given, restarted, tape_replaced, delay_set};
 
 use crate::edits::make_room;
 use crate::engine::Engine;
+use crate::image::more_drives;
+use crate::origin::DriveCount;
 use crate::patch::PatchKey;
 use crate::setup::{DRIVE_WORDS, TAPE_BYTES};
 use pdp_script::Fault;
 use pdp_unibus::{LAST_TURN, Line};
 
 impl Engine {
-    /// Makes the word of the drive of this number (counted from 0) equal to `word` as of power-up. A word that has a
-    /// patch keeps its place among the patches. No edit takes a patch of the drive back: the word of the drive's image,
-    /// 0 past its end, undoes what it does, and it stays among the patches. The known turn becomes 0; no turn is run.
+    /// Makes the word of this number on the drive of this number (both counted from 0) equal to `word` as of power-up. A
+    /// word that has a patch keeps its place among the patches. No edit takes a patch of a drive back: the word of the
+    /// drive's image, 0 past its end, undoes what it does, and it stays among the patches. The known turn becomes 0; no
+    /// turn is run.
     ///
-    /// Err(OutsideDisk) where the number is 4604000 (octal; 1,247,232) or above; else Err(NoMemory) where a growth was
-    /// refused. A refused edit changes nothing. (This project's profile.)
+    /// Err(NoSuchDrive) if the drive is not below the number of drives; else Err(OutsideDisk) if the word's number is
+    /// 4604000 (octal; 1,247,232) or above; else Err(NoMemory) if a growth was refused. A refused edit changes nothing.
+    /// (This project's profile.)
     #[tactic(auto, unfolding(crate::specs::Edit::disk_edit))]
-    pub fn set_disk(&mut self, number: u32, word: u16) -> Result<(), Fault>
-        ensures answer { result ≡ edit_answer (disk_edit number word self.old.past) (for_memory result) tt }
-        ensures after { self.new ≡ disk_edited number word (for_memory result) self.old }
+    pub fn set_disk(&mut self, drive: u8, number: u32, word: u16) -> Result<(), Fault>
+        ensures answer { result ≡ edit_answer (disk_edit drive number word self.old.past) (for_memory result) tt }
+        ensures after { self.new ≡ disk_edited drive number word (for_memory result) self.old }
         ensures refused { OnErr result (self.new ≡ self.old) }
     {
-        let key = PatchKey::Disk(disk_word(number)?);
+        let key = PatchKey::Disk(drive, disk_word(self.origin.drives.count(), drive, number)?);
         let alloc = *self.patches.allocator();
         make_room(&mut self.patches, key)?;
         self.run.set_word(alloc, key, word)?;
         self.patches.insert(key, word)?;
+        Ok(())
+    }
+
+    /// Gives the run eight drives as of power-up. Drive 0 stays as it is; each other drive has the words of its image, and
+    /// is 0 past them. If there are eight drives already, they stay. The known turn becomes 0, and the machine goes back
+    /// to the state of turn 0; no turn is run.
+    ///
+    /// Err(NoMemory) if a growth was refused. The past, the known turn and all that is kept of the run then stay; the next
+    /// question goes on from a kept state, and not from the turn of the last one. (This project's profile.)
+    pub fn eight_drives(&mut self) -> Result<(), Fault>
+        ensures answer { result ≡ edit_answer (drives_edit self.old.past) (for_memory result) tt }
+        ensures after { self.new ≡ drives_given (for_memory result) self.old }
+        ensures refused { OnErr result (self.new ≡ restarted self.old) }
+    {
+        self.run.resume(0);
+        match self.origin.drives {
+            DriveCount::One => {
+                let alloc = *self.patches.allocator();
+                let drives = more_drives(alloc, &self.origin)?;
+                self.run.add_drives(alloc, drives)?;
+                self.origin.drives = DriveCount::Eight;
+            }
+            DriveCount::Eight => self.run.lower(0),
+        }
         Ok(())
     }
 
@@ -68,15 +97,19 @@ impl Engine {
     }
 }
 
-/// The number of a word of the drive.
+/// The number of a word of a drive, of a run with `drives` drives.
 ///
-/// Err(OutsideDisk) where the drive has no word of this number.
+/// Err(NoSuchDrive) if there is no drive of this number; else Err(OutsideDisk) if the drive has no word of this number.
 #[tactic(auto, unfolding(crate::specs::Edit::disk_word_at))]
-fn disk_word(number: u32) -> Result<u32, Fault>
-    ensures word { disk_word_at number ≡ result }
+fn disk_word(drives: usize, drive: u8, number: u32) -> Result<u32, Fault>
+    ensures word { (s : SetupData) → s.drives ≡ drives → disk_word_at drive number s ≡ result }
     ensures same { IfOk result (λ word. word ≡ number) }
+    ensures there { OnOk result (drive < drives) }
     ensures below { IfOk result (λ word. word < DRIVE_WORDS) }
 {
+    if usize::from(drive) >= drives {
+        return Err(Fault::NoSuchDrive);
+    }
     if number as usize >= DRIVE_WORDS {
         return Err(Fault::OutsideDisk);
     }

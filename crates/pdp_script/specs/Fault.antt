@@ -1,7 +1,7 @@
 -- The faults by number and by name, as a reply shows them (this project's profile).
 use Rattle.std.specs.Prelude.{ℕ, List, codes}
 use Rattle.pdp_script.specs.declared.faults.Fault.{Fault}
-use Rattle.pdp_script.specs.declared.faults.Fault.TheVariants.{NoMemory, OutsideCore, OddAddress, OutsideDisk, NoSuchEvent, ScriptFull, TurnTooLarge, CountOutOfRange, NoSuchPatch, BadLine, LineTooLong, Input, Output, BadImage, BadSetup}
+use Rattle.pdp_script.specs.declared.faults.Fault.TheVariants.{NoMemory, OutsideCore, OddAddress, OutsideDisk, NoSuchEvent, ScriptFull, TurnTooLarge, CountOutOfRange, NoSuchPatch, BadLine, LineTooLong, Input, Output, BadImage, BadSetup, NoSuchDrive}
 
 abbrev pub number_of_fault : Fault → ℕ
 number_of_fault NoMemory = 1
@@ -19,6 +19,7 @@ number_of_fault Input = 12
 number_of_fault Output = 13
 number_of_fault BadImage = 14
 number_of_fault BadSetup = 15
+number_of_fault NoSuchDrive = 16
 
 abbrev pub name_of_fault : Fault → List ℕ
 name_of_fault NoMemory = codes "NoMemory"
@@ -36,3 +37,4 @@ name_of_fault Input = codes "Input"
 name_of_fault Output = codes "Output"
 name_of_fault BadImage = codes "BadImage"
 name_of_fault BadSetup = codes "BadSetup"
+name_of_fault NoSuchDrive = codes "NoSuchDrive"

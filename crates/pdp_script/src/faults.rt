@@ -18,7 +18,7 @@ pub enum Fault {
     /// A core address is odd.
     #[error("odd address")]
     OddAddress = 3,
-    /// The number of a word of the drive, or one of the range, is past its last word: octal 4604000 or above.
+    /// The number of a word of a drive, or one of the range, is past its last word: octal 4604000 or above.
     #[error("outside the disk")]
     OutsideDisk = 4,
     /// No event has this number now.
@@ -54,13 +54,16 @@ pub enum Fault {
     /// The units, the start address or the stride is out of range.
     #[error("bad setup")]
     BadSetup = 15,
+    /// The drive's number is not below the number of drives, which is one or eight.
+    #[error("no such drive")]
+    NoSuchDrive = 16,
 }
 
 impl Fault {
     ghost use Rattle.std.specs.Prelude.{◌≡◌, ◌≤◌, length};
     ghost use Rattle.pdp_script.specs.Fault.{number_of_fault, name_of_fault};
 
-    /// The number of the fault, 1 to 15, as a reply shows it (this project's profile).
+    /// The number of the fault, 1 to 16, as a reply shows it (this project's profile).
     pub fn number(self) -> u8
         ensures { result ≡ number_of_fault self }
     {
@@ -88,6 +91,7 @@ impl Fault {
             Fault::Output => "Output",
             Fault::BadImage => "BadImage",
             Fault::BadSetup => "BadSetup",
+            Fault::NoSuchDrive => "NoSuchDrive",
         }
     }
 }

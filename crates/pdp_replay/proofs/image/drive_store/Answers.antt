@@ -7,9 +7,9 @@ use Rattle.pdp_replay.proofs.image.drive_store.Goals as goal
 pub fill-requires : goal.fill-requires
 fill-requires c =
     let blank : c.in_ok-store.store.words ≡ replicate drive_words 0 = ap (λ (s : PagedWords). s.words) c.in_ok-store.ensures in
-    rw c.deref.ensures.value (fits_blank drive_words c.args.origin.now.disk.items c.in_ok-store.store.words blank c.requires)
+    (fits_blank drive_words c.args.image.now c.in_ok-store.store.words blank c.requires)
 
 pub returns : goal.returns
 returns c =
     let blank : c.in_ok-store.store.words ≡ replicate drive_words 0 = ap (λ (s : PagedWords). s.words) c.in_ok-store.ensures in
-    rw (c.fill.ensures.words, c.deref.ensures.value) (padded_over drive_words c.args.origin.now.disk.items c.in_ok-store.store.words blank)
+    rw c.fill.ensures.words (padded_over drive_words c.args.image.now c.in_ok-store.store.words blank)

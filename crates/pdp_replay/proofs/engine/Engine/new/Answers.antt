@@ -1,13 +1,14 @@
 use Rattle.pdp_replay.proofs.Engines.{fresh_engine}
 use Rattle.pdp_replay.proofs.Setups.{good_is}
 use Rattle.pdp_replay.specs.Setup.{given}
+use Rattle.pdp_replay.specs.declared.origin.DriveCount.TheVariants.{One}
 use Rattle.pdp_replay.proofs.engine.Engine.new.Goals as goal
 
 pub invariant_of-result : goal.invariant_of-result
 invariant_of-result c =
     let setup = c.args.setup in
     let run = c.in_ok-run in
-    fresh_engine (record { units = setup.units; start = setup.start; core = setup.core; disk = setup.disk; stride = setup.stride }) setup.tape.items
+    fresh_engine (record { units = setup.units; start = setup.start; core = setup.core; disks = setup.disks; drives = One; stride = setup.stride }) setup.tape.items
     run.run' c.standard.result c.new.result c.new-2.result
     (good_is (given setup) c.in_ok-check.ensures) run.ensures.run run.ensures.stride run.ensures.known
     c.standard.ensures c.new.ensures.empty c.new-2.ensures.empty c.new-2.ensures.none_given

@@ -1,4 +1,4 @@
-use Rattle.std.proofs.Common.{◌≡◌, ◌<◌, None, ap₂, rules}
+use Rattle.std.proofs.Common.{◌≡◌, ◌<◌, None, ap₂, rules, subst}
 use Rattle.indexmap.specs.IndexMap.{insert_entry, spare}
 use Rattle.pdp_operand.specs.Phases.World.{World}
 use Rattle.pdp_replay.specs.Past.{Past, past_from}
@@ -14,7 +14,7 @@ set_word-requires c =
     let old = c.self.inside in
     let p : Past = past_from old.origin old.run.machine.state.world.bus.tape old.delays old.patches old.script in
     record {
-      there = word_kept p old.run.known old.run.ladder (disk_key c.in_ok-disk_word.field-0) c.self.invariant.run.kept.states c.in_ok-disk_word.ensures.below;
+      there = word_kept p old.run.known old.run.ladder (disk_key c.args.drive c.in_ok-disk_word.field-0) c.self.invariant.run.kept.states (subst (λ drives. c.args.drive < drives) c.count.ensures c.in_ok-disk_word.ensures.there, c.in_ok-disk_word.ensures.below);
     }
 
 pub invariant_of-self-2 : goal.invariant_of-self-2
@@ -22,19 +22,20 @@ invariant_of-self-2 c =
     let old = c.self.inside in
     let run = c.set_word.new.self in
     let patches = c.insert.new.self in
+    let drive = c.args.drive in
     let number = c.in_ok-disk_word.field-0 in
     let p : Past = past_from old.origin old.run.machine.state.world.bus.tape old.delays old.patches old.script in
     let q : Past = past_from old.origin run.machine.state.world.bus.tape old.delays patches old.script in
     let set = c.in_ok-set_word.ensures in
-    let entries : patches.entries ≡ insert_entry is_same_word old.patches.entries (disk_key number) c.args.word = search rules in
-    let setup : q.setup ≡ patched p.setup (disk_key number) c.args.word =
+    let entries : patches.entries ≡ insert_entry is_same_word old.patches.entries (disk_key drive number) c.args.word = search rules in
+    let setup : q.setup ≡ patched p.setup (disk_key drive number) c.args.word =
     ap₂ (λ (w : World) entries. setup_of old.origin w.bus.tape old.delays entries) set.world entries in
-    engine_patched p q (disk_key number) c.args.word old.highest old.run run c.self.invariant setup c.in_ok-disk_word.ensures.below set.forgotten set.ladder set.world
+    engine_patched p q (disk_key drive number) c.args.word old.highest old.run run c.self.invariant setup (subst (λ drives. c.args.drive < drives) c.count.ensures c.in_ok-disk_word.ensures.there, c.in_ok-disk_word.ensures.below) set.forgotten set.ladder set.world
 
 -- there was room for the patch, so it was put in
 put_in : {X : Type 0} (c : goal.After-from_residual-in_err-insert) → X
 put_in c =
-    let none : patch_of c.make_room.new.patches.entries (disk_key c.in_ok-disk_word.field-0) ≡ None = search rules in
+    let none : patch_of c.make_room.new.patches.entries (disk_key c.args.drive c.in_ok-disk_word.field-0) ≡ None = search rules in
     let room : 0 < spare c.make_room.new.patches = c.in_ok-make_room.ensures.room none in
     ok_is_no_err c.insert.result _ c.in_err-insert.was (c.insert.ensures.succeeds room)
 

@@ -2,7 +2,7 @@ use Rattle.std.proofs.Common.{◌≡◌, ◌∙◌, [], ◌∷◌, List, ℕ, ap
 use Rattle.pdp_cpu.specs.Turns.MachineState.{powered_machine}
 use Rattle.pdp_replay.specs.Image.{padded}
 use Rattle.pdp_replay.specs.Past.{Past, unscripted}
-use Rattle.pdp_replay.specs.Setup.{SetupData, drive_words, first_setup}
+use Rattle.pdp_replay.specs.Setup.{SetupData, drive_count, drive_words, first_setup, image_of}
 use Rattle.pdp_replay.specs.States.{at}
 use Rattle.pdp_replay.proofs.PoweredRuns.{powered_in_run, powered_kept, powered_over}
 use Rattle.pdp_replay.proofs.kept_run.KeptRun.power.Goals as goal
@@ -14,11 +14,11 @@ returns-clause-run c =
     let m = c.power-machine.result in
     let core = c.in_ok-core.core in
     let drives : List (List ℕ) = c.in_ok-drive_store.field-0.words ∷ [] in
-    let drives_are : drives ≡ padded drive_words s.disk ∷ [] = ap (λ (words : List ℕ). words ∷ []) c.in_ok-drive_store.ensures in
+    let drives_are : drives ≡ padded drive_words (image_of s.disks 0) ∷ [] = ap (λ (words : List ℕ). words ∷ []) (c.in_ok-drive_store.ensures ∙ ap (padded drive_words) c.image.ensures) in
     let first : m.state ≡ powered_machine s.start core.words core.lasts drives s.tape s.delays =
     c.power-machine.ensures.state ∙ rw (c.in_ok-drives.ensures.items, c.standard-delays.ensures) refl in
     let state : m.state ≡ at p 0 =
-    first ∙ powered_over s core.words core.lasts drives c.requires.good refl c.in_ok-core.ensures.words c.in_ok-core.ensures.lasts drives_are in
+    first ∙ powered_over s core.words core.lasts drives c.requires.good refl (ap drive_count c.requires.one) c.in_ok-core.ensures.words c.in_ok-core.ensures.lasts drives_are in
     let new = c.in_ok-ladder.ensures in
     record {
       kept = powered_kept p m c.new-2.new.machine c.in_ok-ladder.ladder state c.power-machine.ensures.kept_text c.power-machine.ensures.kept_punched new.machine new.kept new.rungs;

@@ -1,0 +1,27 @@
+use Rattle.std.proofs.Common.{◌≡◌, ◌∙◌, ap, arith, subst}
+use Rattle.pdp_cpu.specs.Turns.MachineState.{MachineState}
+use Rattle.pdp_replay.specs.Edit.{with_eight_drives}
+use Rattle.pdp_replay.specs.KeptRuns.{BeginsAnew}
+use Rattle.pdp_replay.specs.Past.{Past, past_from}
+use Rattle.pdp_replay.specs.Setup.{drive_count, setup_from}
+use Rattle.pdp_replay.specs.declared.origin.DriveCount.TheVariants.{Eight}
+use Rattle.pdp_replay.specs.declared.origin.Origin.{Origin}
+use Rattle.pdp_replay.proofs.MoreDrives.{engine_begun}
+use Rattle.pdp_replay.proofs.engine.Engine.eight_drives.Goals as goal
+
+pub invariant_of-self-in-One : goal.invariant_of-self-in-One
+invariant_of-self-in-One c =
+    let old = c.self.inside in
+    let before = c.resume.new.self in
+    let run = c.add_drives.new.self in
+    let origin : Origin = record old.origin { drives = Eight } in
+    let p : Past = past_from old.origin old.run.machine.state.world.bus.tape old.delays old.patches old.script in
+    let q : Past = past_from origin run.machine.state.world.bus.tape old.delays old.patches old.script in
+    let on = c.resume.ensures.way p c.self.invariant.run in
+    let most = c.resume.ensures.most in
+    let added = c.in_ok-add_drives-in-One.ensures in
+    let anew = subst (λ drives. BeginsAnew drives before run) c.in_ok-drives-in-One.ensures added.anew in
+    let tape = ap (λ (m : MachineState). m.world.bus.tape) anew.state ∙ on.kept.built.tape in
+    let setup : q.setup ≡ with_eight_drives p.setup = ap (λ tape. setup_from origin tape old.delays old.patches) tape in
+    engine_begun p q old.highest old.run before run c.self.invariant on (omega (arith, most)) c.resume.ensures.ladder
+    (ap drive_count c.in-One.is) setup anew added.stride
