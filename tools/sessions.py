@@ -37,6 +37,9 @@ LANGUAGE = [
     Line("devices N", QUESTION, ONE_LINE),
     Line("pages N", QUESTION, ONE_LINE),
     Line("trail N C", QUESTION, COUNTED_LINES),
+    Line("version 2", EDIT, ONE_LINE),
+    Line("disk D I W", EDIT, ONE_LINE),
+    Line("dsk N D I C", QUESTION, ONE_LINE),
 ]
 
 

@@ -1,5 +1,5 @@
 -- What the words of the command line ask for (this project's profile).
-use Rattle.std.specs.Prelude.{◌≡◌, ◌≢◌, List, [], Option, Some, None, Result, Ok, Err, ◌⊎◌, codes, option_map, string_bytes}
+use Rattle.std.specs.Prelude.{◌≡◌, ◌≢◌, List, [], ◌∷◌, map, Option, Some, None, Result, Ok, Err, ◌⊎◌, codes, option_map, string_bytes}
 use Rattle.clap.specs.Words.{App, Kinds, IsAmong, Row, Rule, Text, first_of, matches_of, new_app, new_rule, with_rule}
 use Rattle.clap.specs.declared.builder.action.ArgAction.TheVariants.{Set}
 use Rattle.clap.specs.declared.error.kind.ErrorKind.{ErrorKind}
@@ -16,9 +16,21 @@ use Rattle.pdp11.specs.declared.command_line.Request.TheVariants.{Help, Session}
 abbrev pub option_rule : Text → Rule
 option_rule name = record (new_rule name) { long = Some name; action = Some Set; value_names = 1 }
 
+-- the options that name the images of the drives, by drive
+abbrev pub drive_options : List Text
+drive_options =
+    codes "disk" ∷ codes "disk1" ∷ codes "disk2" ∷ codes "disk3"
+    ∷ codes "disk4" ∷ codes "disk5" ∷ codes "disk6" ∷ codes "disk7" ∷ []
+
+-- with options of one value more
+abbrev pub with_options : List Text → App → App
+with_options [] app = app
+with_options (name ∷ names) app = with_options names (with_rule app (option_rule name))
+
 -- the options that name files, and those that are numbers
 abbrev pub with_files : App → App
-with_files app = with_rule (with_rule (with_rule app (option_rule (codes "core"))) (option_rule (codes "disk"))) (option_rule (codes "tape"))
+with_files app =
+    with_rule (with_options drive_options (with_rule app (option_rule (codes "core")))) (option_rule (codes "tape"))
 
 abbrev pub with_numbers : App → App
 with_numbers app = with_rule (with_rule (with_rule app (option_rule (codes "units"))) (option_rule (codes "start"))) (option_rule (codes "stride"))
@@ -36,7 +48,7 @@ options_in words =
 -- the names of the files that the words of these rows give, each where its option is given
 pub record AreNamesIn (rows : List Row) (names : FileNames) : Type 0 where
   pub core : option_map string_bytes names.core ≡ first_of (codes "core") rows
-  pub disk : option_map string_bytes names.disk ≡ first_of (codes "disk") rows
+  pub drives : map (λ name. option_map string_bytes name) names.drives.items ≡ map (λ option. first_of option rows) drive_options
   pub tape : option_map string_bytes names.tape ≡ first_of (codes "tape") rows
 
 -- a fault that is not asking for help

@@ -25,7 +25,8 @@ line_of BadSetup = codes "pdp11: refused 15 BadSetup"
 abbrev pub IsListed : ℕ → List ℕ → Type 0
 IsListed status line = (exit : Exit) × (status ≡ status_of exit) × (line ≡ line_of exit)
 
--- how the program ends after a session: faults 2 to 11 are replies, and end none, so the last row is 12 and 13
+-- how the program ends after a session: faults 2 to 11 and 16 are replies, and end none, so the last row is 12 and
+-- 13
 abbrev pub exit_of : Result (Unit {0}) Fault → Exit
 exit_of (Ok x) = Done
 exit_of (Err FaultNoMemory) = NoMemory

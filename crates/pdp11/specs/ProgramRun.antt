@@ -17,15 +17,16 @@ use Rattle.pdp11.specs.declared.options.Options.{Options}
 use Rattle.pdp11.specs.declared.command_line.Request.{Request}
 use Rattle.pdp11.specs.declared.command_line.Request.TheVariants.{Help, Session as SessionWith}
 
--- what a run with these options, images and tape starts from: no patch, and the standard delays
+-- what a run with these options, images and tape starts from: one drive, no patch, and the standard delays
 abbrev pub setup_with : Options → Contents → SetupData
 setup_with options media = record {
   units = options.units;
   start = options.start;
   core = media.core;
-  disk = media.disk;
+  disks = media.drives;
   tape = media.tape;
   stride = options.stride;
+  drives = 1;
   delays = standard_delays;
   patches = [];
 }

@@ -1,6 +1,6 @@
 ghost use Rattle.std.specs.Prelude.{◌≡◌, false, map, option_map, string_bytes, IfOk};
-ghost use Rattle.clap.specs.Words.{FailsBy, app_of, fault_of, found_of, matches_of, rows_of, rule_of};
-ghost use Rattle.pdp11.specs.CommandLine.{AreNamesIn, Asks, command_line, option_rule, with_files, with_numbers};
+ghost use Rattle.clap.specs.Words.{FailsBy, app_of, fault_of, found_of, matches_of, first_of, rows_of, rule_of, with_rule};
+ghost use Rattle.pdp11.specs.CommandLine.{AreNamesIn, Asks, command_line, drive_options, option_rule, with_files, with_numbers, with_options};
 
 use crate::exit::Exit;
 use crate::options::{Options, read_options};
@@ -15,7 +15,7 @@ const ABOUT: &str = "A PDP-11/40 whose past can be edited: session lines in, rep
 const LINES: &str = "\
 An image file holds words of two bytes each, the low byte first.
 
-Lines of a session (A, I, W and B are octal; N, T, C and E are decimal):
+Lines of a session (A, D, I, W and B are octal; N, T, C and E are decimal):
   core A W         the core word at address A is W as of power-up
   uncore A         take that back
   disk I W         word I of the drive is W as of power-up
@@ -36,6 +36,10 @@ Lines of a session (A, I, W and B are octal; N, T, C and E are decimal):
   devices N        the registers of the devices before turn N
   pages N          the registers of memory management before turn N
   trail N C        the last C turns before turn N: PC and act of each
+  version 2        eight drives from here on, and these lines in place of those
+                   of the one drive
+  disk D I W       word I of drive D is W as of power-up
+  dsk N D I C      C words of drive D from word I on, before turn N
 
 EVENT is key B, tick, printer, reader, punch, disk, switches W or continue.";
 
@@ -53,8 +57,8 @@ pub enum Request {
 pub struct FileNames {
     /// The image of core.
     pub core: Option<String>,
-    /// The image of the drive.
-    pub disk: Option<String>,
+    /// The images of the drives, by drive.
+    pub drives: Vec<Option<String>>,
     /// The paper tape.
     pub tape: Option<String>,
 }
@@ -90,9 +94,37 @@ fn names_of(alloc: Global, matches: &ArgMatches<'_>) -> Result<FileNames, AllocE
     ensures { IfOk result (λ names. AreNamesIn (rows_of (found_of matches.now)) names) }
 {
     let core = owned_name(alloc, matches.get_str("core"))?;
-    let disk = owned_name(alloc, matches.get_str("disk"))?;
+    let drives = drive_names(alloc, matches)?;
     let tape = owned_name(alloc, matches.get_str("tape"))?;
-    Ok(FileNames { core, disk, tape })
+    Ok(FileNames { core, drives, tape })
+}
+
+fn drive_names(alloc: Global, matches: &ArgMatches<'_>) -> Result<Vec<Option<String>>, AllocError>
+    ensures { IfOk result (λ names. map (λ name. option_map string_bytes name) names.items
+        ≡ map (λ option. first_of option (rows_of (found_of matches.now))) drive_options) }
+{
+    let names = [
+        matches.get_str("disk"),
+        matches.get_str("disk1"),
+        matches.get_str("disk2"),
+        matches.get_str("disk3"),
+        matches.get_str("disk4"),
+        matches.get_str("disk5"),
+        matches.get_str("disk6"),
+        matches.get_str("disk7"),
+    ];
+    owned_names(alloc, names)
+}
+
+fn owned_names(alloc: Global, names: [Option<&str>; 8]) -> Result<Vec<Option<String>>, AllocError>
+    ensures { IfOk result (λ owned. map (λ name. option_map string_bytes name) owned.items
+        ≡ map (λ name. option_map (λ text. text.now) name) names.entry) }
+{
+    let mut owned = Vec::new(alloc);
+    for name in names {
+        owned.push(owned_name(alloc, name)?)?;
+    }
+    Ok(owned)
 }
 
 fn owned_name(alloc: Global, name: Option<&str>) -> Result<Option<String>, AllocError>
@@ -124,25 +156,39 @@ fn command<'a>(alloc: Global) -> Result<Command<'a>, AllocError>
 fn with_files<'a>(alloc: Global, command: Command<'a>) -> Result<Command<'a>, AllocError>
     ensures { IfOk result (λ more. app_of more ≡ with_files (app_of command.entry)) }
 {
-    let core = option(
-        alloc,
-        "core",
-        "FILE",
-        "Words of core from address 0 on [default: zeros]",
-    );
-    let disk = option(
-        alloc,
-        "disk",
-        "FILE",
-        "Words of the drive from word 0 on [default: zeros]",
-    );
-    let tape = option(
-        alloc,
-        "tape",
-        "FILE",
-        "Paper tape, a file of plain bytes [default: empty]",
-    );
-    command.arg(core)?.arg(disk)?.arg(tape)
+    let core = "Words of core from address 0 on [default: zeros]";
+    let tape = "Paper tape, a file of plain bytes [default: empty]";
+    let command = with_file(alloc, command, "core", core)?;
+    let command = with_drives(alloc, command)?;
+    with_file(alloc, command, "tape", tape)
+}
+
+// With the options that name the images of the drives.
+fn with_drives<'a>(alloc: Global, command: Command<'a>) -> Result<Command<'a>, AllocError>
+    ensures { IfOk result (λ more. app_of more ≡ with_options drive_options (app_of command.entry)) }
+{
+    let first = "Words of the drive from word 0 on [default: zeros]";
+    let second = "Words of drive 1, which version 2 has [default: zeros]";
+    let command = with_file(alloc, command, "disk", first)?;
+    let command = with_file(alloc, command, "disk1", second)?;
+    let command = with_file(alloc, command, "disk2", "The same of drive 2")?;
+    let command = with_file(alloc, command, "disk3", "The same of drive 3")?;
+    let command = with_file(alloc, command, "disk4", "The same of drive 4")?;
+    let command = with_file(alloc, command, "disk5", "The same of drive 5")?;
+    let command = with_file(alloc, command, "disk6", "The same of drive 6")?;
+    with_file(alloc, command, "disk7", "The same of drive 7")
+}
+
+// With an option that names a file.
+fn with_file<'a>(
+    alloc: Global,
+    command: Command<'a>,
+    name: &'a str,
+    help: &'a str,
+) -> Result<Command<'a>, AllocError>
+    ensures { IfOk result (λ more. app_of more ≡ with_rule (app_of command.entry) (option_rule name.entry.now)) }
+{
+    command.arg(option(alloc, name, "FILE", help))
 }
 
 // With the options that are numbers.

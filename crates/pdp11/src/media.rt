@@ -1,6 +1,6 @@
-ghost use Rattle.std.specs.Prelude.{◌≡◌, true, Err, option_map, string_bytes};
+ghost use Rattle.std.specs.Prelude.{◌≡◌, true, Err, map, option_map, string_bytes};
 ghost use Rattle.pdp_script.specs.Refusal.{result_map};
-ghost use Rattle.pdp11.specs.Media.{IsFileOf, IsImageOf, AreMediaOf, contents_of, most_of_core};
+ghost use Rattle.pdp11.specs.Media.{AreFilesOf, AreImagesOf, IsFileOf, IsImageOf, AreMediaOf, contents_of, most_of_core, most_of_disk};
 
 use crate::command_line::FileNames;
 use crate::exit::Exit;
@@ -9,12 +9,13 @@ use pdp_script::Fault;
 use pdp_session::read_image;
 use std::alloc::Global;
 
-/// What the files of a session hold: the words of the images of core and of the drive, and the bytes of the tape.
+/// What the files of a session hold: the words of the images of core and of each drive, and the bytes of the tape.
 /// Each is empty where no file is named.
 #[derive(Drop)]
 pub struct Media {
     pub core: Vec<u16>,
-    pub disk: Vec<u16>,
+    /// By drive.
+    pub drives: Vec<Vec<u16>>,
     pub tape: Vec<u8>,
 }
 
@@ -34,7 +35,7 @@ const TAPE_BYTES: usize = 1_048_576;
 const WORD_BYTES: usize = 2;
 
 /// Reads the files of these names, for a core of `units` units. Of an image it reads at most one word more than core
-/// or the drive has room for, and of the tape one byte more than its limit: the setup is refused with that.
+/// or a drive has room for, and of the tape one byte more than its limit: the setup is refused with that.
 ///
 /// All files are read before an image is looked at: a file that can't be read is told before an image of an odd number
 /// of bytes. `NoMemory` as soon as it is out of memory.
@@ -48,11 +49,11 @@ pub fn read_media<F: Files>(
     ensures failed { result ≡ Err Exit.InputOrOutput → F.has_failed files.new ≡ true }
 {
     let core = read_file(alloc, names.core, most_of_core(units), files)?;
-    let disk = read_file(alloc, names.disk, DRIVE_BYTES + WORD_BYTES, files)?;
+    let drives = read_drives(alloc, names.drives, files)?;
     let tape = read_file(alloc, names.tape, TAPE_BYTES + 1, files)?;
     let core = image_of(alloc, core)?;
-    let disk = image_of(alloc, disk)?;
-    Ok(Media { core, disk, tape })
+    let drives = images_of(alloc, drives)?;
+    Ok(Media { core, drives, tape })
 }
 
 // How many bytes of core's image are read at most.
@@ -87,6 +88,36 @@ fn read_file<F: Files>(
         Err(FileFailure::NoMemory) => Err(Exit::NoMemory),
         Err(FileFailure::Unreadable) => Err(Exit::InputOrOutput),
     }
+}
+
+// The bytes of the files of these names, each as an image of a drive.
+fn read_drives<F: Files>(
+    alloc: Global,
+    names: Vec<Option<String>>,
+    files: &mut F,
+) -> Result<Vec<Vec<u8>>, Exit>
+    ensures read { AreFilesOf (F.contents files.old) most_of_disk (map (λ name. option_map string_bytes name) names.items)
+        (result_map (λ drives. map (λ bytes. bytes.items) drives.items) result) }
+    ensures failed { result ≡ Err Exit.InputOrOutput → F.has_failed files.new ≡ true }
+    ensures same { F.contents files.new ≡ F.contents files.old }
+{
+    let mut drives = Vec::new(alloc);
+    for name in names {
+        drives.push(read_file(alloc, name, DRIVE_BYTES + WORD_BYTES, files)?)?;
+    }
+    Ok(drives)
+}
+
+// The words of these images. Their bytes are dropped.
+fn images_of(alloc: Global, images: Vec<Vec<u8>>) -> Result<Vec<Vec<u16>>, Exit>
+    ensures { AreImagesOf (map (λ bytes. bytes.items) images.items)
+        (result_map (λ drives. map (λ words. words.items) drives.items) result) }
+{
+    let mut drives = Vec::new(alloc);
+    for bytes in images {
+        drives.push(image_of(alloc, bytes)?)?;
+    }
+    Ok(drives)
 }
 
 // The words of an image. Its bytes are dropped.

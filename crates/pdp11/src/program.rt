@@ -115,7 +115,7 @@ fn setup_of(options: Options, media: Media) -> Setup
         units: options.units,
         start: options.start,
         core: media.core,
-        disk: media.disk,
+        disks: media.drives,
         tape: media.tape,
         stride: options.stride,
     }

@@ -10,6 +10,7 @@ use Rattle.pdp_session.specs.Command.{reply_to, past_after}
 use Rattle.pdp_session.specs.Lines.{is_line_feed, without_return, ended_lines, lines_of}
 use Rattle.pdp_session.specs.Inside.Progress.{most_held, Replied, Reached}
 use Rattle.pdp_session.specs.Reply.{text_to}
+use Rattle.pdp_session.specs.Version.{version_of}
 use Rattle.pdp_session.specs.Session.{RepliesTo, BeginsReplies}
 use Rattle.pdp_session.proofs.HeldLines.{line_means-held, line_means-held_returned, held-push}
 use Rattle.pdp_session.proofs.LineLists.{ended_lines-feed, ended_lines-open, lines_of-feed, lines_of-open, lines_of-nil}
@@ -63,7 +64,7 @@ line_reached past done out held now flag memory before =
       ended = λ next. ap ended_lines (feed next) ∙ before.ended (tail ++ 10 ∷ next) ∙ ap (λ back. before.lines ++ back) (ended_lines-feed tail next before.is_open)
           ∙ sym (append_assoc before.lines (without_return tail ∷ []) (ended_lines next));
       replied = next_replied past before.lines out now (without_return tail) (without_return held) flag
-          (rw before.kept (line_means-held_returned tail)) memory before.replied;
+          (rw before.kept (line_means-held_returned (version_of now) tail)) memory before.replied;
     }
 
 -- the lines of all that was read, whatever comes next
@@ -107,7 +108,7 @@ last_replied past done out held now flag memory some r =
     let all : lines_of done ≡ r.lines ++ r.tail ∷ [] =
     ap lines_of (sym (append-nil done)) ∙ lines_of-done past done out held now [] r
     ∙ ap (λ back. r.lines ++ lines_of back) (append-nil r.tail) ∙ ap (λ back. r.lines ++ back) (lines_of-open r.tail r.is_open (tail_has held r.tail r.kept some)) in
-    rw all (next_replied past r.lines out now r.tail held flag (rw r.kept (line_means-held r.tail)) memory r.replied)
+    rw all (next_replied past r.lines out now r.tail held flag (rw r.kept (line_means-held (version_of now) r.tail)) memory r.replied)
 
 -- the reader failed: the line that was open has no reply
 pub ended_answered : (past : Past) (done out held : List ℕ) (now : Past) → Reached past done out held now → RepliesTo past (ended_lines done) out

@@ -12,6 +12,7 @@ use Rattle.pdp_session.specs.Command.{edit_reply, reply_to, past_after}
 use Rattle.pdp_session.specs.Grammar.{line_means}
 use Rattle.pdp_session.specs.Inside.Progress.{Replied}
 use Rattle.pdp_session.specs.Reply.{text_of, text_to, refusal_text}
+use Rattle.pdp_session.specs.Version.{version_of}
 use Rattle.pdp_session.specs.Session.{replies, RepliesTo, BeginsReplies}
 
 slice_get-front : {X : Type 0} (xs ys : List X) (k : ℕ) (x : X) → slice_get xs k ≡ Some x → slice_get (xs ++ ys) k ≡ Some x
@@ -59,7 +60,7 @@ nothing_replied past = record {
 
 -- one line more, that means what was heard of it
 pub next_replied : (past : Past) (lines : List (List ℕ)) (out : List ℕ) (now : Past) (line heard : List ℕ) (flag : Bool)
-    → line_means heard ≡ line_means line → (flag ≡ true → reply_to heard flag now ≡ Refused NoMemory) → Replied past lines out now
+    → line_means (version_of now) heard ≡ line_means (version_of now) line → (flag ≡ true → reply_to heard flag now ≡ Refused NoMemory) → Replied past lines out now
     → Replied past (lines ++ line ∷ []) (out ++ text_to heard flag now) (past_after heard flag now)
 unfolding replies reply_to past_after text_of
 next_replied past lines out now line heard flag means memory before =

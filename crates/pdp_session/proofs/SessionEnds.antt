@@ -1,5 +1,6 @@
 -- How a session ends, and how it doesn't begin.
-use Rattle.std.proofs.Common.{◌≡◌, ℕ, Bool, true, false, cond, Result, Ok, Err, Option, List, [], refl, ap, ◌∙◌}
+use Rattle.std.proofs.Common.{◌≡◌, ℕ, Bool, true, false, cond, IfErr, Result, Ok, Err, Option, List, [], refl, sym, ap, ◌∙◌}
+use Rattle.std.proofs.lemmas.Bool.{false≢true}
 use Rattle.pdp_script.specs.Refusal.{question_answer, result_map}
 use Rattle.pdp_script.specs.declared.faults.Fault.{Fault}
 use Rattle.pdp_script.specs.declared.faults.Fault.TheVariants.{BadImage, BadSetup, NoMemory}
@@ -49,3 +50,8 @@ pub ends_refused : (checked : Result SetupData Fault) (refused : Bool) (fault : 
 ends_refused (Ok setup) true fault rest is = let same : fault ≡ NoMemory = cc in rw same (refl, refl)
 ends_refused (Ok setup) false fault rest is = cc
 ends_refused (Err other) refused fault rest is = let same : fault ≡ other = cc in rw same (refl, refl, refl)
+
+-- a session that has begun ends by no fault of a start
+pub ends_begun : {T : Type 0} (P : Type 0) (r : Result T Fault) → IfErr r (λ fault. is_told_first fault ≡ false) → IfErr r (λ fault. is_told_first fault ≡ true → P)
+ends_begun P (Ok x) began = tt
+ends_begun P (Err fault) began = λ told. absurd (false≢true (sym began ∙ told))

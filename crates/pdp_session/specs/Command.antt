@@ -5,14 +5,15 @@ use Rattle.pdp_script.specs.Refusal.{edit_answer, question_answer, past_left}
 use Rattle.pdp_script.specs.declared.faults.Fault.{Fault}
 use Rattle.pdp_script.specs.declared.faults.Fault.TheVariants.{NoMemory}
 use Rattle.pdp_replay.specs.Answer.{answer_to}
-use Rattle.pdp_replay.specs.Edit.{core_edit, revert_edit, disk_edit, tape_edit, delay_edit, event_insertion, event_alteration, event_drop}
+use Rattle.pdp_replay.specs.Edit.{core_edit, revert_edit, disk_edit, tape_edit, delay_edit, drives_edit, event_insertion, event_alteration, event_drop}
 use Rattle.pdp_replay.specs.Past.{Past}
 use Rattle.pdp_replay.specs.declared.question.Value.{Value}
 use Rattle.pdp_session.specs.declared.command.Command.{Command}
-use Rattle.pdp_session.specs.declared.command.Command.TheVariants.{SetCore, RevertCore, SetDisk, SetTape, SetDelay, Insert, Alter, DropEvent, ListPatches, Ask}
+use Rattle.pdp_session.specs.declared.command.Command.TheVariants.{SetCore, RevertCore, SetDisk, SetTape, SetDelay, UseEightDrives, Insert, Alter, DropEvent, ListPatches, Ask}
 use Rattle.pdp_session.specs.declared.reply.Reply.{Reply}
 use Rattle.pdp_session.specs.declared.reply.Reply.TheVariants.{Nothing, Done, Inserted, Shown, Listed, Refused}
 use Rattle.pdp_session.specs.Grammar.{line_means}
+use Rattle.pdp_session.specs.Version.{version_of}
 
 -- of an edit's result
 abbrev pub edit_reply : {X : Type 0} → Result X Fault → Reply
@@ -32,9 +33,10 @@ ask_reply (Err fault) = Refused fault
 abbrev pub command_reply : Command → Bool → Past → Reply
 command_reply (SetCore address word) refused past = edit_reply {X = Unit {0}} (edit_answer (core_edit address word past) refused tt)
 command_reply (RevertCore address) refused past = edit_reply {X = Unit {0}} (edit_answer (revert_edit address past) refused tt)
-command_reply (SetDisk number word) refused past = edit_reply {X = Unit {0}} (edit_answer (disk_edit number word past) refused tt)
+command_reply (SetDisk drive number word) refused past = edit_reply {X = Unit {0}} (edit_answer (disk_edit drive number word past) refused tt)
 command_reply (SetTape tape) refused past = edit_reply {X = Unit {0}} (edit_answer (tape_edit tape.items past) refused tt)
 command_reply (SetDelay line turns) refused past = edit_reply (delay_edit line turns past)
+command_reply UseEightDrives refused past = edit_reply {X = Unit {0}} (edit_answer (drives_edit past) refused tt)
 command_reply (Insert turn event) refused past = insertion_reply (edit_answer (event_insertion turn event past) refused (past.script.given + 1))
 command_reply (Alter number turn event) refused past = edit_reply (event_alteration number turn event past)
 command_reply (DropEvent number) refused past = edit_reply (event_drop number past)
@@ -44,9 +46,10 @@ command_reply (Ask question) refused past = ask_reply (question_answer (answer_t
 abbrev pub command_leaves : Command → Bool → Past → Past
 command_leaves (SetCore address word) refused past = past_left (core_edit address word past) refused past
 command_leaves (RevertCore address) refused past = past_left (revert_edit address past) refused past
-command_leaves (SetDisk number word) refused past = past_left (disk_edit number word past) refused past
+command_leaves (SetDisk drive number word) refused past = past_left (disk_edit drive number word past) refused past
 command_leaves (SetTape tape) refused past = past_left (tape_edit tape.items past) refused past
 command_leaves (SetDelay line turns) refused past = past_left (delay_edit line turns past) false past
+command_leaves UseEightDrives refused past = past_left (drives_edit past) refused past
 command_leaves (Insert turn event) refused past = past_left (event_insertion turn event past) refused past
 command_leaves (Alter number turn event) refused past = past_left (event_alteration number turn event past) false past
 command_leaves (DropEvent number) refused past = past_left (event_drop number past) false past
@@ -63,12 +66,12 @@ past_meant (Err fault) refused past = past
 past_meant (Ok None) refused past = past
 past_meant (Ok (Some command)) refused past = command_leaves command refused past
 
--- what a line is answered, and the past after it
+-- what a line is answered, and the past after it: it is read in the version that the session has then
 unfoldable pub reply_to : List ℕ → Bool → Past → Reply
-reply_to line refused past = reply_meant (line_means line) refused past
+reply_to line refused past = reply_meant (line_means (version_of past) line) refused past
 
 unfoldable pub past_after : List ℕ → Bool → Past → Past
-past_after line refused past = past_meant (line_means line) refused past
+past_after line refused past = past_meant (line_means (version_of past) line) refused past
 
 -- was this line refused as out of memory?
 abbrev pub wants_memory : Reply → Bool

@@ -8,8 +8,9 @@ use Rattle.pdp_word.specs.Number.{number_of}
 use Rattle.pdp_script.specs.declared.faults.Fault.{Fault}
 use Rattle.pdp_script.specs.declared.faults.Fault.TheVariants.{BadLine, LineTooLong}
 use Rattle.pdp_session.specs.declared.command.Command.{Command}
-use Rattle.pdp_session.specs.declared.command.Command.TheVariants.{SetCore, RevertCore, SetDisk, SetTape, SetDelay, Insert, Alter, DropEvent, ListPatches, Ask}
-use Rattle.pdp_session.specs.Grammar.Arguments.{◌>>=◌, first_of, one_of, two_of, word_named, bytes_named, line_named, event_named, turn_named}
+use Rattle.pdp_session.specs.declared.command.Command.TheVariants.{SetCore, RevertCore, SetDisk, SetTape, SetDelay, UseEightDrives, Insert, Alter, DropEvent, ListPatches, Ask}
+use Rattle.pdp_session.specs.declared.version.Version.{Version}
+use Rattle.pdp_session.specs.Grammar.Arguments.{◌>>=◌, first_of, one_of, two_of, drive_first, word_named, bytes_named, line_named, event_named, turn_named}
 use Rattle.pdp_session.specs.Grammar.Events.{event_of}
 use Rattle.pdp_session.specs.Grammar.Questions.{question_with}
 use Rattle.pdp_session.specs.Grammar.Words.{words_of}
@@ -27,13 +28,14 @@ core_form arguments = do
   w ← word_named word
   Some (SetCore a w)
 
--- `disk I W`: the number of a word of the drive and a word, in octal
-abbrev pub disk_form : List (List ℕ) → Option Command
-disk_form arguments = do
-  (number, word) ← two_of arguments
+-- `disk I W`, in version 2 `disk D I W`: a drive, the number of a word of it and a word, in octal
+abbrev pub disk_form : Version → List (List ℕ) → Option Command
+disk_form version arguments = do
+  (d, others) ← drive_first version arguments
+  (number, word) ← two_of others
   i ← number_of 8 number
   w ← word_named word
-  Some (SetDisk i w)
+  Some (SetDisk d i w)
 
 -- `uncore A`: an address, in octal
 abbrev pub uncore_form : List (List ℕ) → Option Command
@@ -82,37 +84,46 @@ drop_form arguments = do
   n ← event_named number
   Some (DropEvent n)
 
+-- `version 2`, in decimal: no other version can be asked for
+abbrev pub version_form : List (List ℕ) → Option Command
+version_form arguments = do
+  version ← one_of arguments
+  number ← number_of 10 version
+  if number == 2 then Some UseEightDrives else None
+
 -- `patches`
 abbrev pub patches_form : List (List ℕ) → Option Command
 patches_form [] = Some ListPatches
 patches_form _ = None
 
 -- a command by its name and the words that follow it; a name that is none of these may be a question's
-unfoldable pub command_with : List ℕ → List (List ℕ) → Option Command
-command_with name arguments =
+unfoldable pub command_with : Version → List ℕ → List (List ℕ) → Option Command
+command_with version name arguments =
     if bytes_eq name (codes "core") then core_form arguments
     else if bytes_eq name (codes "uncore") then uncore_form arguments
-    else if bytes_eq name (codes "disk") then disk_form arguments
+    else if bytes_eq name (codes "disk") then disk_form version arguments
     else if bytes_eq name (codes "tape") then tape_form arguments
     else if bytes_eq name (codes "delay") then delay_form arguments
+    else if bytes_eq name (codes "version") then version_form arguments
     else if bytes_eq name (codes "at") then at_form arguments
     else if bytes_eq name (codes "alter") then alter_form arguments
     else if bytes_eq name (codes "drop") then drop_form arguments
     else if bytes_eq name (codes "patches") then patches_form arguments
-    else option_map Ask (question_with name arguments)
+    else option_map Ask (question_with version name arguments)
 
 -- its first byte is `#`
 abbrev pub is_comment : List ℕ → Bool
 is_comment line = slice_index line 0 == 35
 
 -- no words are no command
-abbrev pub command_of : List (List ℕ) → Result (Option Command) Fault
-command_of [] = Ok None
-command_of (name ∷ arguments) = ok_or (option_map (λ command. Some command) (command_with name arguments)) BadLine
+abbrev pub command_of : Version → List (List ℕ) → Result (Option Command) Fault
+command_of version [] = Ok None
+command_of version (name ∷ arguments) =
+    ok_or (option_map (λ command. Some command) (command_with version name arguments)) BadLine
 
--- a line, without what ended it
-unfoldable pub line_means : List ℕ → Result (Option Command) Fault
-line_means line =
+-- a line, without what ended it, in this version
+unfoldable pub line_means : Version → List ℕ → Result (Option Command) Fault
+line_means version line =
     if nat_lt longest_line (length line) then Err LineTooLong
     else if is_comment line then Ok None
-    else command_of (words_of line)
+    else command_of version (words_of line)

@@ -24,7 +24,10 @@ use Rattle.pdp_replay.specs.declared.question.Value.TheVariants.{Regs as RegsAre
 use Rattle.pdp_replay.specs.declared.trail.TrailEntry.{TrailEntry}
 use Rattle.pdp_session.specs.declared.reply.Reply.{Reply}
 use Rattle.pdp_session.specs.declared.reply.Reply.TheVariants.{Nothing, Done, Inserted, Shown, Listed, Refused}
+use Rattle.pdp_session.specs.declared.version.Version.{Version}
+use Rattle.pdp_session.specs.declared.version.Version.TheVariants.{One, Two}
 use Rattle.pdp_session.specs.Command.{reply_to, past_after}
+use Rattle.pdp_session.specs.Version.{version_of}
 
 -- a name, a word in six octal digits, and the space after it
 abbrev pub register_text : List ℕ → ℕ → List ℕ
@@ -55,13 +58,20 @@ refusal_line fault = codes "refused " ++ decimal (number_of_fault fault) ++ code
 abbrev pub refusal_text : Fault → List ℕ
 refusal_text fault = refusal_line fault ++ codes "\n"
 
--- a patch as the line that makes it
-abbrev pub patch_line : Patch → List ℕ
-patch_line (Core address word) = codes "core " ++ octal_digits 6 address ++ codes " " ++ octal_digits 6 word ++ codes "\n"
-patch_line (Disk number word) = codes "disk " ++ octal_digits 7 number ++ codes " " ++ octal_digits 6 word ++ codes "\n"
+-- the number of a drive and the space after it; in version 1 there is one drive, and no line names it
+abbrev pub drive_text : Version → ℕ → List ℕ
+drive_text One drive = []
+drive_text Two drive = octal_digits 1 drive ++ codes " "
 
-abbrev pub kept_patch_line : PatchKey × ℕ → List ℕ
-kept_patch_line entry = patch_line (patch_shown entry.0 entry.1)
+-- a patch as the line that makes it, in this version
+abbrev pub patch_line : Version → Patch → List ℕ
+patch_line version (Core address word) =
+    codes "core " ++ octal_digits 6 address ++ codes " " ++ octal_digits 6 word ++ codes "\n"
+patch_line version (Disk drive number word) =
+    codes "disk " ++ drive_text version drive ++ octal_digits 7 number ++ codes " " ++ octal_digits 6 word ++ codes "\n"
+
+abbrev pub kept_patch_line : Version → PatchKey × ℕ → List ℕ
+kept_patch_line version entry = patch_line version (patch_shown entry.0 entry.1)
 
 -- what a list is of, and how many lines follow
 abbrev pub count_line : List ℕ → ℕ → List ℕ
@@ -77,7 +87,7 @@ line_at line items index = flat_map line (option_to_list (slice_get items index)
 
 -- the patches
 abbrev pub patches_text : Past → List ℕ
-patches_text past = list_text (codes "patches") kept_patch_line past.setup.patches
+patches_text past = list_text (codes "patches") (kept_patch_line (version_of past)) past.setup.patches
 
 -- a word in six octal digits, after a space
 abbrev pub word_text : ℕ → List ℕ

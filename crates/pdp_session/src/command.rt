@@ -5,6 +5,7 @@ ghost use Rattle.pdp_session.specs.Command.{edit_reply, command_reply, command_l
 
 use crate::grammar::{LONGEST_LINE, read_line};
 use crate::reply::Reply;
+use crate::version::Version;
 use arrayvec::ArrayVec;
 use pdp_replay::{Engine, Event, Fault, Line, Question};
 use std::alloc::Global;
@@ -23,6 +24,7 @@ pub enum Command {
         address: u32,
     },
     SetDisk {
+        drive: u8,
         number: u32,
         word: u16,
     },
@@ -31,6 +33,7 @@ pub enum Command {
         line: Line,
         delay: u32,
     },
+    UseEightDrives,
     Insert {
         turn: u32,
         event: Event,
@@ -53,7 +56,7 @@ pub fn answer_line(alloc: Global, engine: &mut Engine, line: &[u8]) -> Reply
     ensures reply { result ≡ reply_to line.now (wants_memory result) engine.old.past }
     ensures after { engine.new.past ≡ past_after line.now (wants_memory result) engine.old.past }
 {
-    match read_line(line) {
+    match read_line(Version::of(engine), line) {
         Ok(None) => Reply::Nothing,
         Ok(Some(command)) => run_command(alloc, engine, command),
         Err(fault) => Reply::Refused(fault),
@@ -68,9 +71,14 @@ fn run_command(alloc: Global, engine: &mut Engine, command: Command) -> Reply
     match command {
         Command::SetCore { address, word } => edit_reply(engine.set_core(address, word)),
         Command::RevertCore { address } => edit_reply(engine.revert_core(address)),
-        Command::SetDisk { number, word } => edit_reply(engine.set_disk(number, word)),
+        Command::SetDisk {
+            drive,
+            number,
+            word,
+        } => edit_reply(engine.set_disk(drive, number, word)),
         Command::SetTape(tape) => edit_reply(set_tape(alloc, engine, &tape)),
         Command::SetDelay { line, delay } => edit_reply(engine.set_delay(line, delay)),
+        Command::UseEightDrives => edit_reply(engine.eight_drives()),
         Command::Insert { turn, event } => match engine.insert(turn, event) {
             Ok(number) => Reply::Inserted(number),
             Err(fault) => Reply::Refused(fault),

@@ -2,7 +2,7 @@
 //! it; a question is one row of `read_question` and one form below that.
 
 ghost use Rattle.std.specs.Prelude.{◌≡◌, ◌≤◌, length};
-ghost use Rattle.pdp_session.specs.Grammar.{core_form, uncore_form, disk_form, at_form, alter_form, drop_form, patches_form, tape_form, delay_form, command_with, line_means};
+ghost use Rattle.pdp_session.specs.Grammar.{core_form, uncore_form, disk_form, at_form, alter_form, drop_form, version_form, patches_form, tape_form, delay_form, command_with, line_means};
 ghost use Rattle.pdp_session.specs.Lines.{longest_line};
 ghost use Rattle.pdp_session.specs.Grammar.Words.{words_of};
 
@@ -12,23 +12,25 @@ mod questions;
 mod words;
 
 use crate::command::Command;
+use crate::version::Version;
 use arguments::{
-    one_word, read_bytes, read_event_number, read_line_name, read_turn, read_word, two_words,
+    drive_first, one_word, read_bytes, read_event_number, read_line_name, read_turn, read_word,
+    two_words,
 };
 use events::read_event;
 use pdp_replay::Fault;
-use pdp_word::read_octal;
+use pdp_word::{read_decimal, read_octal};
 use questions::read_question;
 use words::next_word;
 
 // The most bytes that a line may have.
 pub const LONGEST_LINE: usize = 200;
 
-// A line, less what ended it, as a command; `None` for a line without words and for a comment.
+// A line, less what ended it, as a command in this version; `None` for a line without words and for a comment.
 // `LineTooLong` comes where the line has more than 200 bytes, and `BadLine` where it is not in the grammar.
 #[tactic(auto, unfolding(crate::specs::Grammar::line_means))]
-pub fn read_line(line: &[u8]) -> Result<Option<Command>, Fault>
-    ensures { result ≡ line_means line.now }
+pub fn read_line(version: Version, line: &[u8]) -> Result<Option<Command>, Fault>
+    ensures { result ≡ line_means version line.now }
 {
     if line.len() > LONGEST_LINE {
         return Err(Fault::LineTooLong);
@@ -39,7 +41,7 @@ pub fn read_line(line: &[u8]) -> Result<Option<Command>, Fault>
     match next_word(line) {
         None => Ok(None),
         Some((name, arguments)) => {
-            let command = read_command(name, arguments).ok_or(Fault::BadLine)?;
+            let command = read_command(version, name, arguments).ok_or(Fault::BadLine)?;
             Ok(Some(command))
         }
     }
@@ -47,20 +49,22 @@ pub fn read_line(line: &[u8]) -> Result<Option<Command>, Fault>
 
 // The command of a name, with the words that follow it.
 #[tactic(auto, unfolding(crate::specs::Grammar::command_with))]
-fn read_command(name: &[u8], arguments: &[u8]) -> Option<Command>
+fn read_command(version: Version, name: &[u8], arguments: &[u8]) -> Option<Command>
     requires { length arguments.now ≤ longest_line }
-    ensures { result ≡ command_with name.now (words_of arguments.now) }
+    ensures { result ≡ command_with version name.now (words_of arguments.now) }
 {
     if name == b"core".as_slice() {
         read_core(arguments)
     } else if name == b"uncore".as_slice() {
         read_uncore(arguments)
     } else if name == b"disk".as_slice() {
-        read_disk(arguments)
+        read_disk(version, arguments)
     } else if name == b"tape".as_slice() {
         read_tape(arguments)
     } else if name == b"delay".as_slice() {
         read_delay(arguments)
+    } else if name == b"version".as_slice() {
+        read_version(arguments)
     } else if name == b"at".as_slice() {
         read_at(arguments)
     } else if name == b"alter".as_slice() {
@@ -70,7 +74,7 @@ fn read_command(name: &[u8], arguments: &[u8]) -> Option<Command>
     } else if name == b"patches".as_slice() {
         read_patches(arguments)
     } else {
-        let question = read_question(name, arguments)?;
+        let question = read_question(version, name, arguments)?;
         Some(Command::Ask(question))
     }
 }
@@ -93,14 +97,19 @@ fn read_uncore(arguments: &[u8]) -> Option<Command>
     Some(Command::RevertCore { address })
 }
 
-// `disk I W`
-fn read_disk(arguments: &[u8]) -> Option<Command>
-    ensures { result ≡ disk_form (words_of arguments.now) }
+// `disk I W`, in version 2 `disk D I W`
+fn read_disk(version: Version, arguments: &[u8]) -> Option<Command>
+    ensures { result ≡ disk_form version (words_of arguments.now) }
 {
-    let (number, word) = two_words(arguments)?;
+    let (drive, others) = drive_first(version, arguments)?;
+    let (number, word) = two_words(others)?;
     let number = read_octal(number)?;
     let word = read_word(word)?;
-    Some(Command::SetDisk { number, word })
+    Some(Command::SetDisk {
+        drive,
+        number,
+        word,
+    })
 }
 
 // `tape B B ..`
@@ -154,6 +163,16 @@ fn read_drop(arguments: &[u8]) -> Option<Command>
 {
     let number = read_event_number(one_word(arguments)?)?;
     Some(Command::DropEvent { number })
+}
+
+// `version 2`; there is no line that leads back to version 1
+fn read_version(arguments: &[u8]) -> Option<Command>
+    ensures { result ≡ version_form (words_of arguments.now) }
+{
+    match read_decimal(one_word(arguments)?)? {
+        2 => Some(Command::UseEightDrives),
+        _ => None,
+    }
 }
 
 // `patches`

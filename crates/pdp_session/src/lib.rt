@@ -26,6 +26,7 @@ mod lines;
 mod reply;
 mod session;
 mod streams;
+mod version;
 
 pub use image::read_image;
 pub use pdp_replay::{

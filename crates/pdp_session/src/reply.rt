@@ -1,12 +1,14 @@
 ghost use Rattle.std.specs.Prelude.{◌≡◌, ◌||◌, is_err};
 ghost use Rattle.pdp_session.specs.Reply.{text_of, value_text, patches_text, kept_patch_line, line_at, words_line};
 ghost use Rattle.pdp_session.specs.Inside.Sends.{Sends};
+ghost use Rattle.pdp_session.specs.Version.{version_of};
 
 mod bytes;
 mod history;
 mod texts;
 
 use crate::streams::{Drain, Failed, send};
+use crate::version::Version;
 use bytes::send_bytes;
 use history::{last_text, send_trail};
 use pdp_replay::{Engine, Fault, Value};
@@ -83,11 +85,12 @@ fn send_patches<W: Drain>(engine: &Engine, writer: &mut W) -> Result<(), Failed>
 
 // Writes the line of the patch of this index, where there is one.
 fn send_patch<W: Drain>(engine: &Engine, index: usize, writer: &mut W) -> Result<(), Failed>
-    ensures sends { Sends (line_at kept_patch_line engine.now.past.setup.patches index) (W.written writer.old) (W.written writer.new) result }
+    ensures sends { Sends (line_at (kept_patch_line (version_of engine.now.past)) engine.now.past.setup.patches index)
+        (W.written writer.old) (W.written writer.new) result }
     ensures fails { W.has_failed writer.new ≡ (W.has_failed writer.old || is_err result) }
 {
     let text = match engine.patches(index) {
-        Some(patch) => patch_text(patch),
+        Some(patch) => patch_text(Version::of(engine), patch),
         None => Text::new(),
     };
     send(writer, text.as_slice())

@@ -14,17 +14,24 @@ A PDP-11/40 whose past can be edited: session lines in, replies out
 Usage: pdp11 [OPTIONS]
 
 Options:
-      --core <FILE>  Words of core from address 0 on [default: zeros]
-      --disk <FILE>  Words of the drive from word 0 on [default: zeros]
-      --tape <FILE>  Paper tape, a file of plain bytes [default: empty]
-      --units <N>    Units of core of 4096 words, 1 to 31 [default: 31]
-      --start <A>    Start address, octal and even [default: 1000]
-      --stride <N>   Turns between kept states, 1 to 2000000000 [default: 10000]
-  -h, --help         Print help
+      --core <FILE>   Words of core from address 0 on [default: zeros]
+      --disk <FILE>   Words of the drive from word 0 on [default: zeros]
+      --disk1 <FILE>  Words of drive 1, which version 2 has [default: zeros]
+      --disk2 <FILE>  The same of drive 2
+      --disk3 <FILE>  The same of drive 3
+      --disk4 <FILE>  The same of drive 4
+      --disk5 <FILE>  The same of drive 5
+      --disk6 <FILE>  The same of drive 6
+      --disk7 <FILE>  The same of drive 7
+      --tape <FILE>   Paper tape, a file of plain bytes [default: empty]
+      --units <N>     Units of core of 4096 words, 1 to 31 [default: 31]
+      --start <A>     Start address, octal and even [default: 1000]
+      --stride <N>    Turns between kept states, 1 to 2000000000 [default: 10000]
+  -h, --help          Print help
 
 An image file holds words of two bytes each, the low byte first.
 
-Lines of a session (A, I, W and B are octal; N, T, C and E are decimal):
+Lines of a session (A, D, I, W and B are octal; N, T, C and E are decimal):
   core A W         the core word at address A is W as of power-up
   uncore A         take that back
   disk I W         word I of the drive is W as of power-up
@@ -45,6 +52,10 @@ Lines of a session (A, I, W and B are octal; N, T, C and E are decimal):
   devices N        the registers of the devices before turn N
   pages N          the registers of memory management before turn N
   trail N C        the last C turns before turn N: PC and act of each
+  version 2        eight drives from here on, and these lines in place of those
+                   of the one drive
+  disk D I W       word I of drive D is W as of power-up
+  dsk N D I C      C words of drive D from word I on, before turn N
 
 EVENT is key B, tick, printer, reader, punch, disk, switches W or continue.
 ";
@@ -271,7 +282,7 @@ fn outcome_with(alloc: Global, words: &[&str], length: usize) -> Result<(u8, &'s
 
 #[test]
 fn reads_files(rt: HostRuntime) -> Result<(), Fail> {
-    let rows: [(&[&str], usize, (u8, &str)); 9] = [
+    let rows: [(&[&str], usize, (u8, &str)); 11] = [
         (&["pdp11", "--tape=file.bin"], 3, DONE),
         (&["pdp11", "--tape", "file.bin"], 1_048_577, BAD_IMAGE),
         (&["pdp11", "--core", "file.bin"], 253_952, DONE),
@@ -279,6 +290,8 @@ fn reads_files(rt: HostRuntime) -> Result<(), Fail> {
         (&["pdp11", "--core", "file.bin"], 3, BAD_IMAGE),
         (&["pdp11", "--disk", "file.bin"], 2_494_464, DONE),
         (&["pdp11", "--disk", "file.bin"], 2_494_466, BAD_IMAGE),
+        (&["pdp11", "--disk7", "file.bin"], 2_494_464, DONE),
+        (&["pdp11", "--disk7", "file.bin"], 2_494_466, BAD_IMAGE),
         (&["pdp11", "--tape", "missing"], 0, INPUT_OR_OUTPUT),
         (&["pdp11", "--core"], 0, BAD_ARGUMENTS),
     ];

@@ -7,6 +7,8 @@ use Rattle.pdp_word.specs.Size.{span}
 use Rattle.pdp_unibus.specs.declared.delays.Line.{Line}
 use Rattle.pdp_unibus.specs.declared.delays.Line.TheVariants.{Printer, Reader, Punch, Disk, Clock}
 use Rattle.pdp_word.specs.declared.size.Size.TheVariants.{Word, Byte}
+use Rattle.pdp_session.specs.declared.version.Version.{Version}
+use Rattle.pdp_session.specs.declared.version.Version.TheVariants.{One, Two}
 
 -- in a `do` block: the first `None` is the block's
 abbrev pub ◌>>=◌ : {T U : Type 0} → Option T → (T → Option U) → Option U
@@ -42,6 +44,19 @@ abbrev pub byte_named : List ℕ → Option ℕ
 byte_named text = do
   number ← number_of 8 text
   if nat_lt number (span Byte) then Some number else None
+
+-- a drive by its number, in octal: one that 8 bits can't hold stands for the largest that they hold, which no drive has
+abbrev pub drive_named : List ℕ → Option ℕ
+drive_named text = option_map (λ number. min number 255) (number_of 8 text)
+
+-- The drive that some words are about, and the words that say what: in version 2 the first of them is its number, and
+-- in version 1 they name none and are about drive 0.
+abbrev pub drive_first : Version → List (List ℕ) → Option (ℕ × List (List ℕ))
+drive_first One words = Some (0, words)
+drive_first Two words = do
+  (drive, others) ← first_of words
+  d ← drive_named drive
+  Some (d, others)
 
 -- bytes, in octal: none where one of the words is no byte
 unfoldable pub bytes_named : List (List ℕ) → Option (List ℕ)

@@ -5,25 +5,33 @@ use Rattle.std.specs.Str.{bytes_eq}
 use Rattle.pdp_word.specs.Number.{number_of}
 use Rattle.pdp_replay.specs.declared.question.Question.{Question}
 use Rattle.pdp_replay.specs.declared.question.Question.TheVariants.{Regs, Core, Text, Punched, Devices, Pages, Last, Trail, Disk}
-use Rattle.pdp_session.specs.Grammar.Arguments.{◌>>=◌, first_of, one_of, two_of, turn_named, count_named}
+use Rattle.pdp_session.specs.declared.version.Version.{Version}
+use Rattle.pdp_session.specs.Grammar.Arguments.{◌>>=◌, first_of, one_of, two_of, drive_first, turn_named, count_named}
 
--- a turn, in decimal, the first of some words, in octal, and their count, in decimal
-abbrev pub range_named : List (List ℕ) → Option (ℕ × ℕ × ℕ)
+-- the first of some words, in octal, and their count, in decimal
+abbrev pub range_named : List (List ℕ) → Option (ℕ × ℕ)
 range_named arguments = do
-  (turn, others) ← first_of arguments
-  (first, count) ← two_of others
-  n ← turn_named turn
+  (first, count) ← two_of arguments
   i ← number_of 8 first
   c ← count_named count
-  Some (n, i, c)
+  Some (i, c)
 
--- `mem N A C`: the first word by its address
+-- `mem N A C`: a turn, in decimal, and the first word by its address
 abbrev pub mem_form : List (List ℕ) → Option Question
-mem_form arguments = option_map (λ range. Core range.0 range.1 range.2) (range_named arguments)
+mem_form arguments = do
+  (turn, others) ← first_of arguments
+  n ← turn_named turn
+  (a, c) ← range_named others
+  Some (Core n a c)
 
--- `dsk N I C`: the first word by its number
-abbrev pub dsk_form : List (List ℕ) → Option Question
-dsk_form arguments = option_map (λ range. Disk range.0 range.1 range.2) (range_named arguments)
+-- `dsk N I C`, in version 2 `dsk N D I C`: a turn, in decimal, a drive, and the first word by its number
+abbrev pub dsk_form : Version → List (List ℕ) → Option Question
+dsk_form version arguments = do
+  (turn, others) ← first_of arguments
+  n ← turn_named turn
+  (d, range) ← drive_first version others
+  (i, c) ← range_named range
+  Some (Disk n d i c)
 
 -- `last N A`: a turn, in decimal, and an address, in octal
 abbrev pub last_form : List (List ℕ) → Option Question
@@ -48,11 +56,11 @@ only_turn arguments = do
   turn_named turn
 
 -- a question by its name and the words that follow it
-unfoldable pub question_with : List ℕ → List (List ℕ) → Option Question
-question_with name arguments =
+unfoldable pub question_with : Version → List ℕ → List (List ℕ) → Option Question
+question_with version name arguments =
     if bytes_eq name (codes "regs") then option_map Regs (only_turn arguments)
     else if bytes_eq name (codes "mem") then mem_form arguments
-    else if bytes_eq name (codes "dsk") then dsk_form arguments
+    else if bytes_eq name (codes "dsk") then dsk_form version arguments
     else if bytes_eq name (codes "text") then option_map Text (only_turn arguments)
     else if bytes_eq name (codes "punched") then option_map Punched (only_turn arguments)
     else if bytes_eq name (codes "devices") then option_map Devices (only_turn arguments)

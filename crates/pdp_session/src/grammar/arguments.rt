@@ -1,11 +1,12 @@
 ghost use Rattle.std.specs.Prelude.{◌≡◌, ◌≤◌, length};
 ghost use Rattle.std.specs.Option.{option_map};
-ghost use Rattle.pdp_session.specs.Grammar.Arguments.{one_of, two_of, word_named, byte_named, bytes_named, line_named, event_named, turn_named, count_named};
+ghost use Rattle.pdp_session.specs.Grammar.Arguments.{one_of, two_of, drive_named, drive_first, word_named, byte_named, bytes_named, line_named, event_named, turn_named, count_named};
 ghost use Rattle.pdp_session.specs.Grammar.Words.{words_of};
 ghost use Rattle.pdp_session.specs.Lines.{longest_line};
 
 use super::words::next_word;
 use crate::command::TapeBytes;
+use crate::version::Version;
 use pdp_replay::Line;
 use pdp_word::{read_decimal, read_octal};
 
@@ -43,6 +44,28 @@ pub fn read_byte(text: &[u8]) -> Option<u8>
 {
     let number = read_octal(text)?;
     u8::try_from(number).ok()
+}
+
+// A drive by its number, in octal; one that 8 bits can't hold becomes the largest that they hold, which no drive has.
+fn read_drive(text: &[u8]) -> Option<u8>
+    ensures { result ≡ drive_named text.now }
+{
+    let number = read_octal(text)?;
+    Some(u8::try_from(number).unwrap_or(u8::MAX))
+}
+
+// The drive that a text's words are about, and the words that say what: in version 1 they name no drive.
+pub fn drive_first(version: Version, text: &[u8]) -> Option<(u8, &[u8])>
+    ensures { option_map (λ found. (found.0, words_of found.1.now)) result ≡ drive_first version (words_of text.now) }
+{
+    match version {
+        Version::One => Some((0, text)),
+        Version::Two => {
+            let (drive, others) = next_word(text)?;
+            let drive = read_drive(drive)?;
+            Some((drive, others))
+        }
+    }
 }
 
 // The bytes that a text's words are, in octal; `None` where one of its words is no byte.

@@ -2,22 +2,23 @@ ghost use Rattle.std.specs.Prelude.{◌≡◌};
 ghost use Rattle.pdp_session.specs.Grammar.Questions.{only_turn, range_named, mem_form, dsk_form, last_form, trail_form, question_with};
 ghost use Rattle.pdp_session.specs.Grammar.Words.{words_of};
 
-use super::arguments::{one_word, read_count, read_turn, two_words};
+use super::arguments::{drive_first, one_word, read_count, read_turn, two_words};
 use super::words::next_word;
+use crate::version::Version;
 use pdp_replay::Question;
 use pdp_word::read_octal;
 
 // The question of a name, with the words that follow it.
 #[tactic(auto, unfolding(crate::specs::Grammar::Questions::question_with))]
-pub fn read_question(name: &[u8], arguments: &[u8]) -> Option<Question>
-    ensures { result ≡ question_with name.now (words_of arguments.now) }
+pub fn read_question(version: Version, name: &[u8], arguments: &[u8]) -> Option<Question>
+    ensures { result ≡ question_with version name.now (words_of arguments.now) }
 {
     if name == b"regs".as_slice() {
         Some(Question::Regs(read_only_turn(arguments)?))
     } else if name == b"mem".as_slice() {
         read_mem(arguments)
     } else if name == b"dsk".as_slice() {
-        read_dsk(arguments)
+        read_dsk(version, arguments)
     } else if name == b"text".as_slice() {
         Some(Question::Text(read_only_turn(arguments)?))
     } else if name == b"punched".as_slice() {
@@ -46,28 +47,31 @@ fn read_only_turn(arguments: &[u8]) -> Option<u32>
 fn read_mem(arguments: &[u8]) -> Option<Question>
     ensures { result ≡ mem_form (words_of arguments.now) }
 {
-    let (turn, address, count) = read_range(arguments)?;
+    let (turn, others) = next_word(arguments)?;
+    let turn = read_turn(turn)?;
+    let (address, count) = read_range(others)?;
     Some(Question::Core(turn, address, count))
 }
 
-// `dsk N I C`
-fn read_dsk(arguments: &[u8]) -> Option<Question>
-    ensures { result ≡ dsk_form (words_of arguments.now) }
-{
-    let (turn, number, count) = read_range(arguments)?;
-    Some(Question::Disk(turn, number, count))
-}
-
-// A turn, the number of the first of some words, and how many.
-fn read_range(arguments: &[u8]) -> Option<(u32, u32, u32)>
-    ensures { result ≡ range_named (words_of arguments.now) }
+// `dsk N I C`, in version 2 `dsk N D I C`
+fn read_dsk(version: Version, arguments: &[u8]) -> Option<Question>
+    ensures { result ≡ dsk_form version (words_of arguments.now) }
 {
     let (turn, others) = next_word(arguments)?;
-    let (first, count) = two_words(others)?;
     let turn = read_turn(turn)?;
+    let (drive, range) = drive_first(version, others)?;
+    let (number, count) = read_range(range)?;
+    Some(Question::Disk(turn, drive, number, count))
+}
+
+// The number of the first of some words, and how many.
+fn read_range(arguments: &[u8]) -> Option<(u32, u32)>
+    ensures { result ≡ range_named (words_of arguments.now) }
+{
+    let (first, count) = two_words(arguments)?;
     let first = read_octal(first)?;
     let count = read_count(count)?;
-    Some((turn, first, count))
+    Some((first, count))
 }
 
 // `last N A`

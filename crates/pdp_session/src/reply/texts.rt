@@ -1,7 +1,8 @@
 ghost use Rattle.std.specs.Prelude.{◌≡◌, ◌+◌, ◌*◌, ◌≤◌, ◌++◌, length, codes, decimal};
 ghost use Rattle.pdp_word.specs.Number.{octal_digits};
-ghost use Rattle.pdp_session.specs.Reply.{register_text, regs_line, state_name, refusal_text, count_line, patch_line, word_text, word_texts, named_word_text, disk_register_texts, devices_line, page_words_text, pages_line};
+ghost use Rattle.pdp_session.specs.Reply.{register_text, regs_line, state_name, refusal_text, count_line, drive_text, patch_line, word_text, word_texts, named_word_text, disk_register_texts, devices_line, page_words_text, pages_line};
 
+use crate::version::Version;
 use arrayvec::ArrayVec;
 use itoa::Buffer;
 use pdp_replay::{DeviceRegisters, Fault, PageRegisters, Patch, Regs, RunState};
@@ -78,9 +79,9 @@ pub fn count_text(name: &str, count: usize) -> Text
     text
 }
 
-// A patch as the line that makes it.
-pub fn patch_text(patch: Patch) -> Text
-    ensures { result.items ≡ patch_line patch }
+// A patch as the line that makes it in this version.
+pub fn patch_text(version: Version, patch: Patch) -> Text
+    ensures { result.items ≡ patch_line version patch }
 {
     let mut text = Text::new();
     let word = match patch {
@@ -89,8 +90,9 @@ pub fn patch_text(patch: Patch) -> Text
             add(&mut text, &write_octal6(address));
             word
         }
-        Patch::Disk(number, word) => {
+        Patch::Disk(drive, number, word) => {
             add(&mut text, b"disk ");
+            add_drive(&mut text, version, drive);
             add_octal7(&mut text, number);
             word
         }
@@ -98,6 +100,22 @@ pub fn patch_text(patch: Patch) -> Text
     add_word(&mut text, word);
     add(&mut text, b"\n");
     text
+}
+
+// The number of a drive, one octal digit, and the space after it; nothing in version 1.
+#[tactic(auto, unfolding(pdp_word::specs::Number::octal_digits))]
+fn add_drive(text: &mut Text, version: Version, drive: u8)
+    requires { length text.old.items + 2 ≤ LONGEST_TEXT }
+    ensures drive_text { text.new.items ≡ text.old.items ++ drive_text version drive }
+    ensures length { length text.new.items ≤ length text.old.items + 2 }
+{
+    match version {
+        Version::One => {}
+        Version::Two => {
+            text.push(b'0' + drive % 8);
+            text.push(b' ');
+        }
+    }
 }
 
 // The last seven octal digits of a number: all of those of the number of a word of the drive.

@@ -7,6 +7,6 @@ use Rattle.pdp11.proofs.command_line.names_of.Goals as goal
 pub returns : goal.returns
 returns c = record {
   core = c.in_ok-core.ensures ∙ c.get_str.ensures ∙ first_value-rows (found_of c.args.matches.now) (codes "core");
-  disk = c.in_ok-disk.ensures ∙ c.get_str-2.ensures ∙ first_value-rows (found_of c.args.matches.now) (codes "disk");
-  tape = c.in_ok-tape.ensures ∙ c.get_str-3.ensures ∙ first_value-rows (found_of c.args.matches.now) (codes "tape");
+  drives = c.in_ok-drives.ensures;
+  tape = c.in_ok-tape.ensures ∙ c.get_str-2.ensures ∙ first_value-rows (found_of c.args.matches.now) (codes "tape");
 }

@@ -1,7 +1,7 @@
 -- A session ends by a fault of its start or of its streams.
 use Rattle.std.proofs.Common.{ℕ, List, Option, Bool, true, false, Result, Ok, Err, rules, if◌then◌else◌}
 use Rattle.pdp_script.specs.declared.faults.Fault.{Fault}
-use Rattle.pdp_script.specs.declared.faults.Fault.TheVariants.{NoMemory, OutsideCore, OddAddress, OutsideDisk, NoSuchEvent, ScriptFull, TurnTooLarge, CountOutOfRange, NoSuchPatch, BadLine, LineTooLong, Input, Output, BadImage, BadSetup}
+use Rattle.pdp_script.specs.declared.faults.Fault.TheVariants.{NoMemory, OutsideCore, OddAddress, OutsideDisk, NoSuchEvent, ScriptFull, TurnTooLarge, CountOutOfRange, NoSuchPatch, BadLine, LineTooLong, Input, Output, BadImage, BadSetup, NoSuchDrive}
 use Rattle.pdp_script.specs.Refusal.{result_map}
 use Rattle.pdp_replay.specs.Past.{Past, unscripted, starting_past}
 use Rattle.pdp_replay.specs.Setup.{SetupData, given, setup_checked, has_good_images, has_good_numbers}
@@ -26,6 +26,7 @@ ends_good p read out rest (Err CountOutOfRange) h = absurd h
 ends_good p read out rest (Err NoSuchPatch) h = absurd h
 ends_good p read out rest (Err BadLine) h = absurd h
 ends_good p read out rest (Err LineTooLong) h = absurd h
+ends_good p read out rest (Err NoSuchDrive) h = absurd h
 
 ends_started : (b c : Bool) (s : SetupData) (read out : List ℕ) (rest : Option (List ℕ)) (r : Result (Unit {0}) Fault)
     → Ends (result_map unscripted (if b then if c then Ok s else Err BadImage else Err BadSetup)) read out rest r → CanEnd r

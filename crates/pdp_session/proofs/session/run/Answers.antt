@@ -3,7 +3,7 @@ use Rattle.pdp_script.specs.declared.faults.Fault.TheVariants.{Input, Output}
 use Rattle.pdp_replay.specs.Setup.{given, setup_checked}
 use Rattle.pdp_replay.specs.Timeline.{fresh}
 use Rattle.pdp_session.specs.Session.{is_told_first}
-use Rattle.pdp_session.proofs.SessionEnds.{ends_refused, start_refuses, starts_with}
+use Rattle.pdp_session.proofs.SessionEnds.{ends_begun, ends_refused, start_refuses, starts_with}
 use Rattle.pdp_session.proofs.session.run.Goals as goal
 
 pub returns-in-Err-clause-input : goal.returns-in-Err-clause-input
@@ -33,3 +33,9 @@ returns-in-Err-clause-session g c = record {
   pulled = omega arith;
   ends = ends_refused _ _ c.in-Err.fault _ c.in-Err.ensures.engine;
 }
+
+pub returns-in-Ok-clause-unread : goal.returns-in-Ok-clause-unread
+returns-in-Ok-clause-unread g c = ends_begun _ c.serve.result c.serve.ensures.began
+
+pub returns-in-Ok-clause-unwritten : goal.returns-in-Ok-clause-unwritten
+returns-in-Ok-clause-unwritten g c = ends_begun _ c.serve.result c.serve.ensures.began
