@@ -3,3 +3,5 @@ pub mod Rungs
 pub mod Changed
 pub mod PatchedRungs
 pub mod DelayedRungs
+pub mod SharedPages
+pub mod PagesAlike

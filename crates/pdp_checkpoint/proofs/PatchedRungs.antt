@@ -13,12 +13,17 @@ pub record IsPatchedTo (turn : ℕ) (drive : Option ℕ) (word value : ℕ) (bef
   pub is : after ≡ patched_to turn drive word value before
   pub rungs : AreRungs after
 
+-- the first so many are those of turns that are not above this one
+pub first_are_low : (l : LadderData) (turn : ℕ) (first : List Checkpoint) → AreRungs l
+    → first ≡ take (min (turn / l.stride + 1) (length l.kept)) l.kept → first ≡ filter (λ c. nat_le c.turn turn) l.kept
+first_are_low l turn first rungs is = is ∙ take_min (turn / l.stride + 1) l.kept ∙ sym (below_is_first l turn rungs)
+
 pub is_patched_to : (l : LadderData) (turn : ℕ) (drive : Option ℕ) (word value : ℕ) (first now : List Checkpoint)
     → AreRungs l → first ≡ take (min (turn / l.stride + 1) (length l.kept)) l.kept → now ≡ map (with_word drive word value) first
     → IsPatchedTo turn drive word value l (record l { kept = now })
 is_patched_to l turn drive word value first now rungs first_is now_is =
     let low : first ≡ take (turn / l.stride + 1) l.kept = first_is ∙ take_min (turn / l.stride + 1) l.kept in
-    let below : first ≡ filter (λ c. nat_le c.turn turn) l.kept = low ∙ sym (below_is_first l turn rungs) in
+    let below = first_are_low l turn first rungs first_is in
     let cut : AreRungs (record l { kept = first }) = rw low (rungs_cut l (turn / l.stride + 1) rungs (omega arith)) in
     record {
       is = rw (now_is, below) refl;

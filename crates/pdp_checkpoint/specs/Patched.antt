@@ -1,6 +1,8 @@
 -- Kept states with another value in a word (this project's profile).
-use Rattle.std.specs.Prelude.{ℕ, Option, nat_le, map}
-use Rattle.std.specs.List.{filter}
+use Rattle.std.specs.Prelude.{ℕ, Option, List, nat_le, map}
+use Rattle.std.specs.List.{All, filter}
+use Rattle.pdp_unibus.specs.BusContent.{BusContent}
+use Rattle.pdp_unibus.specs.PatchedPages.{HasPageOf}
 use Rattle.pdp_cpu.specs.Saved.{content_with_word}
 use Rattle.pdp_checkpoint.specs.declared.checkpoint.Checkpoint.{Checkpoint}
 use Rattle.pdp_checkpoint.specs.Ladder.{LadderData}
@@ -12,3 +14,9 @@ with_word drive word value c = record c { saved = content_with_word drive word v
 -- the states of turns that are not above this one, each with this value in the word
 abbrev pub patched_to : ℕ → Option ℕ → ℕ → ℕ → LadderData → LadderData
 patched_to turn drive word value l = record l { kept = map (with_word drive word value) (filter (λ c. nat_le c.turn turn) l.kept) }
+
+-- these states have the page of this word alike: there each has the words of one content, and in
+-- core its last stamps
+pub record HavePageAlike (drive : Option ℕ) (word : ℕ) (kept : List Checkpoint) : Type 0 where
+  pub content : BusContent
+  pub all : All (λ c. HasPageOf drive word content c.saved.bus) kept

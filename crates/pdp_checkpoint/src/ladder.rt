@@ -2,7 +2,7 @@ ghost use Rattle.std.specs.Prelude.{◌≡◌, ◌+◌, ◌*◌, ◌/◌, ◌<�
 ghost use Rattle.std.specs.List.{All, filter};
 ghost use Rattle.pdp_unibus.specs.LastTurn.{last_turn};
 ghost use Rattle.pdp_checkpoint.specs.Delayed.{delayed};
-ghost use Rattle.pdp_checkpoint.specs.Patched.{patched_to};
+ghost use Rattle.pdp_checkpoint.specs.Patched.{HavePageAlike, patched_to};
 ghost use Rattle.pdp_cpu.specs.Saved.{HasWord};
 ghost use Rattle.pdp_checkpoint.specs.Ladder.{widest_stride, checkpoint_of, next_of, best_of, kept_with, AreRungs};
 
@@ -140,13 +140,14 @@ impl Ladder {
         self.kept[0].saved.set_delays(delays);
     }
 
-    /// Gives a word of core, or of this drive, this value in the kept states up to `turn`, and drops those of turns above
-    /// it. All the new states are made before the first is replaced. The machine numbers the new pages, and is left as
-    /// it is.
+    /// Gives a word of core, or of this drive, this value in the kept states up to `turn`, and drops
+    /// those of turns above it. The states up to `turn` have the page of the word alike: they share
+    /// the one page that is made. All the new states are made before the first is replaced. The
+    /// machine numbers the new page, and is left as it is. (This project's profile.)
     ///
     /// # Errors
     ///
-    /// `NoMemory` where a growth was refused. The ladder is then as it was.
+    /// `NoMemory` if a growth was refused. The ladder is then as it was.
     pub fn patch(
         &mut self,
         alloc: Global,
@@ -157,6 +158,7 @@ impl Ladder {
         value: u16,
     ) -> Result<(), NoMemory>
         requires there { All (λ c. HasWord drive word c.saved) self.old.kept }
+        requires alike { HavePageAlike drive word (filter (λ c. nat_le c.turn turn) self.old.kept) }
         ensures machine { machine.new ≡ machine.old }
         ensures kept { OnOk result (self.new ≡ patched_to turn drive word value self.old) }
         ensures count { OnOk result (length self.new.kept ≡ min (length self.old.kept) (turn / self.old.stride + 1)) }

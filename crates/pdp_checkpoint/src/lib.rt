@@ -10,7 +10,7 @@
 //! - A cut drops those above a turn, and no other (`cut`).
 //! - Other delays are put into the state of turn 0, and the later ones go (`set_delays`).
 //! - A patch changes a word in each state up to a turn and drops the others, or is refused and
-//!   changes nothing (`patch`).
+//!   changes nothing. It asks that these states have the page of the word alike (`patch`).
 //!
 //! How a machine runs from one state to the next is left to pdp_cpu, which turns are wanted to
 //! pdp_replay.

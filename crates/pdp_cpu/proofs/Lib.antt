@@ -1,3 +1,4 @@
+pub mod Carried
 pub mod Steps
 pub mod Endings
 pub mod Events

@@ -1,6 +1,7 @@
 -- The drives of a machine, exchanged for others (this project's profile).
 use Rattle.std.specs.Prelude.{ℕ, List}
 use Rattle.pdp_operand.specs.Phases.World.{world}
+use Rattle.pdp_store.specs.Firsts.{firsts_of}
 use Rattle.pdp_unibus.specs.Drives.{with_drives}
 use Rattle.pdp_cpu.specs.Turns.MachineState.{MachineState, MachineWithTexts}
 
@@ -8,6 +9,10 @@ use Rattle.pdp_cpu.specs.Turns.MachineState.{MachineState, MachineWithTexts}
 abbrev pub state_with_drives : List (List ℕ) → MachineState → MachineState
 state_with_drives drives m = record m { world = world m.world.processor (with_drives m.world.bus drives) }
 
--- the machine in that state
-abbrev pub machine_with_drives : List (List ℕ) → MachineWithTexts → MachineWithTexts
-machine_with_drives drives m = record m { state = state_with_drives drives m.state }
+-- the machine in that state, with these first touches of the pages of its drives
+abbrev pub machine_with_drives : List (List ℕ) → List (List ℕ) → MachineWithTexts
+    → MachineWithTexts
+machine_with_drives drives firsts m = record m {
+  state = state_with_drives drives m.state;
+  firsts = firsts_of m.firsts.core firsts;
+}

@@ -7,6 +7,9 @@
 //!   the drives: what is due (a trap, an interrupt, an instruction or nothing), one plan for each
 //!   row of the opcode table, and what follows a trap, the red sequence too. It tells with which
 //!   act it began, and the meter counts it (`Machine::turn`, `ready`).
+//! - A turn touches the page of every word that it reads, writes, moves or compares, in core and on
+//!   the drives: the first touches after it are those before it with its trace (`Machine::turn`).
+//!   A load leaves them; `first` returns the first touch of a page, and `forget` drops late ones.
 //! - A turn has at most 32 phases (`turns_end_within_32_phases`).
 //! - Stamps are the last writes of the trace, in which are the accesses of the processor and those
 //!   of the disk (`stamps_are_last_writes`, `touches_are_of_their_turn`).
@@ -17,9 +20,10 @@
 //!   nothing is under way on the disk (`halted_machines_stay`).
 //! - What was printed and punched is kept, byte by byte, with the turn of each. A load makes a
 //!   machine the one that was saved, on the tape that it then has (`PagedMachine::save`, `load`,
-//!   `keep_text`, `set_tape`, `Saved::set_delays`, `with_word`).
-//! - Drives are added after those of the machine, or the last ones removed, and all else stays
-//!   (`Machine::add_drives`, `keep_drives`).
+//!   `keep_text`, `set_tape`, `Saved::set_delays`). A page with one word changed is put into each
+//!   saved machine that has this page alike (`Saved::patched_page`, `with_page`).
+//! - Drives are added after those of the machine, with their first touches, or the last ones
+//!   removed, and all else stays (`Machine::add_drives`, `keep_drives`).
 //! - What is read of a machine (`text`, `punched`, `devices`, `pages`).
 //!
 //! Which events a turn has, and how many turns are run, is left to pdp_replay.
@@ -51,6 +55,7 @@ mod regs;
 mod return_from_trap;
 mod saved;
 mod serving;
+mod touched_pages;
 mod trap_sequence;
 mod two_operands;
 

@@ -1,14 +1,20 @@
-ghost use Rattle.std.specs.Prelude.{◌≡◌, ◌+◌, ◌-◌, ◌^◌, ◌<◌, ◌≤◌, length, map, min, slice_index, slice_index_or, take, [], None, Ok, OnOk};
+ghost use Rattle.std.specs.Prelude.{◌≡◌, ◌+◌, ◌-◌, ◌^◌, ◌<◌, ◌≤◌, length, map, min};
+ghost use Rattle.std.specs.Prelude.{slice_index, slice_index_or, take, [], None, Ok, OnOk};
+ghost use Rattle.pdp_store.specs.Firsts.{firsts_after, firsts_of, no_firsts};
 ghost use Rattle.pdp_unibus.specs.BusWorld.{powered};
+ghost use Rattle.pdp_operand.specs.Phases.Phase.{inner_of};
 ghost use Rattle.pdp_cpu.specs.KeptTexts.{without_turns};
 ghost use Rattle.pdp_cpu.specs.Turns.Devices.{devices_of};
-ghost use Rattle.pdp_cpu.specs.Turns.MachineState.{IsReady, powered_machine, after_turn, printed_kept, punched_kept};
+ghost use Rattle.pdp_cpu.specs.Turns.Due.{act_of, due_of};
+ghost use Rattle.pdp_cpu.specs.Turns.MachineState.{IsReady, powered_machine, after_turn};
+ghost use Rattle.pdp_cpu.specs.Turns.MachineState.{machine_world, printed_kept, punched_kept};
+ghost use Rattle.pdp_cpu.specs.Turns.MachineState.{touched_machine, with_begun};
 ghost use Rattle.pdp_cpu.specs.Turns.Pages.{of_each_page, page_registers_of};
 ghost use Rattle.pdp_kt11.specs.declared.register.KtRegister.TheVariants.{Address, Descriptor};
 ghost use Rattle.pdp_unibus.specs.Register.{value_in};
 ghost use Rattle.pdp_unibus.specs.declared.register.Register.TheVariants.{Mapping};
 ghost use Rattle.pdp_cpu.specs.Turns.Regs.{regs_of};
-ghost use Rattle.pdp_cpu.specs.Turns.Turn.{turn_act};
+ghost use Rattle.pdp_cpu.specs.Turns.Turn.{act_end, started, turn_act, turn_trace};
 
 use crate::act::Act;
 use crate::devices::DeviceRegisters;
@@ -34,7 +40,8 @@ use std::marker::Model;
 /// The machine: processor, bus, core and drives, for any stores of words.
 ///
 /// A contract sees it as a `MachineWithTexts`: the turns that it has run, its world, what was printed and punched,
-/// the bytes that it keeps of later turns too, and for how many more of them there is room.
+/// the bytes that it keeps of later turns too, for how many more of them there is room, and the first touches of
+/// the pages of core and of the drives.
 #[derive(Drop)]
 pub struct Machine<S: Store, D: Store> {
     pub(crate) processor: Processor,
@@ -45,17 +52,23 @@ pub struct Machine<S: Store, D: Store> {
 }
 
 impl<S: Store, D: Store> Model for Machine<S, D> {
-    ghost use Rattle.pdp_cpu.specs.Turns.MachineState.{MachineWithTexts};
+    ghost use Rattle.pdp_cpu.specs.Turns.MachineState.{MachineWithTexts, without_firsts};
     ghost use Rattle.pdp_operand.specs.Phases.World.{world};
 
     ghost Value = { MachineWithTexts };
 
     ghost view = { λ m. record {
-      state = record { turn = m.turn; world = world m.processor m.bus; text = m.text.text; punched = m.punched.text };
+      state = record {
+        turn = m.turn;
+        world = without_firsts (world m.processor m.bus);
+        text = m.text.text;
+        punched = m.punched.text;
+      };
       kept_text = m.text.bytes;
       kept_punched = m.punched.bytes;
       text_room = m.text.room;
       punched_room = m.punched.room;
+      firsts = m.bus.firsts;
     } };
 }
 
@@ -76,6 +89,7 @@ impl<S: Store, D: Store> Machine<S, D> {
         ensures state { result.state ≡ powered_machine start (S.words words) (S.lasts words) (map D.words drives.items) tape.items delays }
         ensures kept_text { result.kept_text ≡ [] }
         ensures kept_punched { result.kept_punched ≡ [] }
+        ensures firsts { result.firsts ≡ firsts_of (S.firsts words) (map D.firsts drives.items) }
     {
         Machine {
             processor: Processor::power(start),
@@ -97,6 +111,7 @@ impl<S: Store, D: Store> Machine<S, D> {
         ensures same { self.new.state ≡ self.old.state }
         ensures same_text { self.new.kept_text ≡ self.old.kept_text }
         ensures same_punched { self.new.kept_punched ≡ self.old.kept_punched }
+        ensures same_firsts { self.new.firsts ≡ self.old.firsts }
     {
         if self.text.has_room() && self.punched.has_room() {
             return Ok(());
@@ -112,6 +127,7 @@ impl<S: Store, D: Store> Machine<S, D> {
         ensures same { self.new.state ≡ self.old.state }
         ensures same_text { self.new.kept_text ≡ self.old.kept_text }
         ensures same_punched { self.new.kept_punched ≡ self.old.kept_punched }
+        ensures same_firsts { self.new.firsts ≡ self.old.firsts }
     {
         self.text.make_room()?;
         self.punched.make_room()?;
@@ -123,13 +139,12 @@ impl<S: Store, D: Store> Machine<S, D> {
     /// that is pending, an interrupt, one instruction with its trap if it has one, or nothing where the machine waits
     /// or is halted. `Continue` ends a halt, and the act of that turn is chosen after it; the turns of a halted
     /// machine begin like others. The bytes that come out are kept, over those of later turns that are kept in their
-    /// places. It asks for the room that `ready` makes, and that fewer than 1,000,000,000 turns were run; then it
-    /// always takes place.
+    /// places. Every access to a word of core or of a drive touches the page of the word. It asks for the room that
+    /// `ready` makes, and that fewer than 1,000,000,000 turns were run; then it always takes place.
     ///
     /// DEC PDP-11/40 Processor Handbook (1972), Processor traps and Interrupts; that a turn is one act, and their
     /// order, are this project's profile.
     #[inline(always)]
-    #[tactic(auto, unfolding(crate::specs::Turns::Turn::one_turn, crate::specs::Turns::Turn::turn_act, crate::specs::Turns::Turn::printed_in, crate::specs::Turns::Turn::punched_in))]
     pub fn turn(&mut self, meter: &mut Meter, events: &[Event]) -> Act
         requires ready { IsReady self.old }
         requires limit { self.old.state.turn < LAST_TURN }
@@ -137,21 +152,72 @@ impl<S: Store, D: Store> Machine<S, D> {
         ensures turn { self.new.state ≡ after_turn events.now self.old.state }
         ensures kept_text { self.new.kept_text ≡ printed_kept events.now self.old }
         ensures kept_punched { self.new.kept_punched ≡ punched_kept events.now self.old }
+        ensures firsts { self.new.firsts ≡ firsts_after
+            (turn_trace self.old.state.turn events.now self.old.state.world) self.old.firsts }
         ensures counted { meter.new ≡ min (meter.old + 1) (2 ^ 64 - 1) }
         ensures grows { meter.old ≤ meter.new }
+    {
+        let _turn = self.turn;
+        self.turn_whole(meter, events)
+    }
+
+    // One whole turn of the machine with the first touches in its world.
+    #[inline(always)]
+    #[tactic(auto, unfolding(crate::specs::Turns::Turn::one_turn, crate::specs::Turns::Turn::turn_act, crate::specs::Turns::Turn::printed_in, crate::specs::Turns::Turn::punched_in))]
+    fn turn_whole(&mut self, meter: &mut Meter, events: &[Event]) -> Act
+        requires ready { IsReady self.old }
+        requires limit { self.old.state.turn < LAST_TURN }
+        ensures act { result ≡ turn_act self.old.state.turn events.now (machine_world self.old) }
+        ensures turn { (touched_machine self.new).state
+            ≡ after_turn events.now (touched_machine self.old).state }
+        ensures without_firsts { self.new.state.world.bus.firsts ≡ no_firsts }
+        ensures kept_text { self.new.kept_text ≡ printed_kept events.now (touched_machine self.old) }
+        ensures kept_punched { self.new.kept_punched
+            ≡ punched_kept events.now (touched_machine self.old) }
+        ensures counted { meter.new ≡ min (meter.old + 1) (2 ^ 64 - 1) }
+        ensures grows { meter.old ≤ meter.new }
+    {
+        self.begin_any(events);
+        let act = self.act();
+        self.turn += 1;
+        meter.tick();
+        act
+    }
+
+    // A turn begins, with or without events.
+    #[inline(always)]
+    #[tactic(auto, unfolding(crate::specs::Turns::Turn::printed_in, crate::specs::Turns::Turn::punched_in))]
+    fn begin_any(&mut self, events: &[Event])
+        requires ready { IsReady self.old }
+        ensures state { (touched_machine self.new).state
+            ≡ with_begun events.now (touched_machine self.old).state }
+        ensures kept_text { self.new.kept_text ≡ printed_kept events.now (touched_machine self.old) }
+        ensures kept_punched { self.new.kept_punched
+            ≡ punched_kept events.now (touched_machine self.old) }
     {
         if !events.is_empty() || !self.bus.begin_quietly(self.turn) {
             self.begin(events);
         }
-        let act = if nothing_is_pending(&self.processor, &self.bus) {
+    }
+
+    // The act of a turn that has begun.
+    #[inline(always)]
+    fn act(&mut self) -> Act
+        ensures act { result ≡ act_of (due_of (inner_of (started (machine_world self.old)))) }
+        ensures world { machine_world self.new ≡ act_end (machine_world self.old) }
+        ensures without_firsts { self.new.state.world.bus.firsts ≡ no_firsts }
+        ensures turn { self.new.state.turn ≡ self.old.state.turn }
+        ensures text { self.new.state.text ≡ self.old.state.text }
+        ensures punched { self.new.state.punched ≡ self.old.state.punched }
+        ensures kept_text { self.new.kept_text ≡ self.old.kept_text }
+        ensures kept_punched { self.new.kept_punched ≡ self.old.kept_punched }
+    {
+        if nothing_is_pending(&self.processor, &self.bus) {
             instruct(&mut self.processor, &mut self.bus);
             Act::Instr
         } else {
             take_what_is_due(&mut self.processor, &mut self.bus)
-        };
-        self.turn += 1;
-        meter.tick();
-        act
+        }
     }
 
     /// Drops all decoded lines. In all that a contract sees the machine stays as it is.
@@ -327,9 +393,11 @@ impl<S: Store, D: Store> Machine<S, D> {
     #[tactic(auto, unfolding(crate::specs::Turns::Turn::printed_in, crate::specs::Turns::Turn::punched_in))]
     fn begin(&mut self, events: &[Event])
         requires ready { IsReady self.old }
-        ensures state { self.new.state ≡ with_begun events.now self.old.state }
-        ensures kept_text { self.new.kept_text ≡ printed_kept events.now self.old }
-        ensures kept_punched { self.new.kept_punched ≡ punched_kept events.now self.old }
+        ensures state { (touched_machine self.new).state
+            ≡ with_begun events.now (touched_machine self.old).state }
+        ensures kept_text { self.new.kept_text ≡ printed_kept events.now (touched_machine self.old) }
+        ensures kept_punched { self.new.kept_punched
+            ≡ punched_kept events.now (touched_machine self.old) }
     {
         take_events(&mut self.processor, events);
         let output = self.bus.events(self.turn, events);
@@ -338,7 +406,6 @@ impl<S: Store, D: Store> Machine<S, D> {
     }
 }
 
-ghost use Rattle.pdp_cpu.specs.Turns.MachineState.{with_begun};
 ghost use Rattle.pdp_cpu.specs.Turns.Turn.{processor_after, processor_after_events};
 
 /// What events do to the processor, in their order.

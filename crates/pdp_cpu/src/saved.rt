@@ -2,7 +2,7 @@
 
 ghost use Rattle.std.specs.Prelude.{◌≡◌, ◌≤◌, length, IfOk};
 ghost use Rattle.pdp_cpu.specs.KeptTexts.{kept_before};
-ghost use Rattle.pdp_cpu.specs.Saved.{CanHold, HasWord, content_with_delays, content_with_word, machine_content, state_cut, state_on};
+ghost use Rattle.pdp_cpu.specs.Saved.{CanHold, content_with_delays, machine_content, state_cut, state_on};
 ghost use Rattle.pdp_cpu.specs.Turns.MachineState.{state_with_tape};
 
 use crate::machine::Machine;
@@ -12,6 +12,8 @@ use pdp_unibus::{Delays, SavedBus};
 use pdp_word::NoMemory;
 use std::alloc::Global;
 use std::marker::Model;
+
+mod patched_page;
 
 /// The machine whose core and drives can be taken as shared pages.
 pub type PagedMachine = Machine<Paged, PagedDrive>;
@@ -52,48 +54,6 @@ impl Saved {
     {
         self.bus.set_delays(delays);
     }
-
-    /// The same machine with this value in a word: of core, or of the drive of this number (from 0). The word counts
-    /// from 0 there. All pages but the one of that word are shared, and stamps are kept. `machine` numbers the new
-    /// page, and stays as it is.
-    ///
-    /// Err(NoMemory) where a growth was refused; that words have as many owners as can be counted counts as one. (This
-    /// project's profile.)
-    #[tactic(auto, unfolding(crate::specs::Saved::HasWord, crate::specs::Saved::content_with_word))]
-    pub fn with_word(
-        &self,
-        alloc: Global,
-        machine: &mut PagedMachine,
-        drive: Option<u8>,
-        word: usize,
-        value: u16,
-    ) -> Result<Saved, NoMemory>
-        requires { HasWord drive word self.now }
-        ensures same { machine.new ≡ machine.old }
-        ensures saved { IfOk result (λ saved. saved ≡ content_with_word drive word value self.now) }
-    {
-        let number = drive_number(drive);
-        let bus = self
-            .bus
-            .with_word(alloc, &mut machine.bus, number, word, value)?;
-        Ok(Saved {
-            turn: self.turn,
-            processor: self.processor,
-            bus,
-            text_length: self.text_length,
-            punched_length: self.punched_length,
-        })
-    }
-}
-
-// The number of a drive, as the bus counts.
-fn drive_number(drive: Option<u8>) -> Option<usize>
-    ensures { result ≡ drive }
-{
-    match drive {
-        None => None,
-        Some(number) => Some(usize::from(number)),
-    }
 }
 
 impl Machine<Paged, PagedDrive> {
@@ -115,13 +75,14 @@ impl Machine<Paged, PagedDrive> {
     }
 
     /// Makes the machine the one that was saved, on its own tape, its texts the first of the bytes that it keeps: none
-    /// of these goes. It asks for a core and drives of the same sizes, and for as many kept bytes. Takes no memory.
-    /// (This project's profile.)
+    /// of these goes, and first touches stay. It asks for a core and drives of the same sizes, and for as many kept
+    /// bytes. Takes no memory. (This project's profile.)
     pub fn load(&mut self, saved: &Saved)
         requires { CanHold self.old saved.now }
         ensures state { self.new.state ≡ state_on self.old saved.now }
         ensures kept_text { self.new.kept_text ≡ self.old.kept_text }
         ensures kept_punched { self.new.kept_punched ≡ self.old.kept_punched }
+        ensures firsts { self.new.firsts ≡ self.old.firsts }
     {
         self.turn = saved.turn;
         self.processor = saved.processor;
@@ -135,6 +96,7 @@ impl Machine<Paged, PagedDrive> {
     pub fn keep_text(&mut self, turn: u32)
         ensures kept_text { self.new.kept_text ≡ kept_before turn self.old.kept_text }
         ensures kept_punched { self.new.kept_punched ≡ kept_before turn self.old.kept_punched }
+        ensures firsts { self.new.firsts ≡ self.old.firsts }
         ensures state { self.new.state ≡ state_cut (length self.new.kept_text) (length self.new.kept_punched) self.old.state }
     {
         self.text.keep_before(turn);
@@ -147,6 +109,7 @@ impl Machine<Paged, PagedDrive> {
         ensures state { self.new.state ≡ state_with_tape tape.items self.old.state }
         ensures kept_text { self.new.kept_text ≡ self.old.kept_text }
         ensures kept_punched { self.new.kept_punched ≡ self.old.kept_punched }
+        ensures firsts { self.new.firsts ≡ self.old.firsts }
     {
         self.bus.set_tape(tape);
     }

@@ -28,3 +28,5 @@ mod script;
 mod sessions;
 #[cfg(test)]
 mod steps;
+#[cfg(test)]
+mod untouched;

@@ -37,7 +37,10 @@ fn what_an_answer_took(rt: HostRuntime) -> Result<(), Fail> {
         Step::Ran(Question::Regs(5), 5, 300),
         Step::Ran(Question::Regs(0), 0, 300),
         Step::Ran(Question::Regs(301), 301, 301),
+        // No turn touched the page of this word.
         Step::Edit(Edit::Patch(0o2000, 1), Ok(0)),
+        Step::Ran(Question::Regs(0), 0, 301),
+        Step::Edit(Edit::Patch(0o1002, 1), Ok(0)),
         Step::Ran(Question::Regs(0), 0, 0),
         Step::Ran(Question::Regs(5), 5, 5),
     ];

@@ -57,7 +57,7 @@ pub(crate) enum Step<'a> {
     Known(Question, u32),
     /// RKDS before this turn, of the drive that RKDA names then.
     DriveStatus(u32, u16),
-    /// The words that this question of a drive is answered.
+    /// The words, of core or of a drive, that this question is answered.
     Words(Question, &'a [u16]),
     /// What this edit answers.
     Edit(Edit<'a>, Result<u32, Fault>),
@@ -193,8 +193,8 @@ fn drive_status_at(engine: &mut Engine, alloc: Global, turn: u32) -> Result<u16,
 
 fn words_of(engine: &mut Engine, alloc: Global, question: Question) -> Result<Words, Fail> {
     match engine.ask(alloc, question)?.value {
-        Value::Disk(words) => Ok(words),
-        _ => Err(Fail::new("another value in place of words of a drive")),
+        Value::Core(words) | Value::Disk(words) => Ok(words),
+        _ => Err(Fail::new("another value in place of words")),
     }
 }
 

@@ -26,6 +26,7 @@ apart_fails r b status trap is = record {
   tape = rw (perform_is r b, is) refl;
   bytes_read = rw (perform_is r b, is) refl;
   turn = rw (perform_is r b, is) refl;
+  firsts = rw (perform_is r b, is) refl;
   board = rw (perform_is r b, is) refl;
   touches_none = rw (touches_is r b, is) refl;
 }

@@ -3,7 +3,7 @@ use Rattle.std.proofs.Common.{ℕ, ◌<◌, true, false, List, [], ◌∷◌, �
 use Rattle.pdp_store.specs.Touch.{Touch}
 use Rattle.pdp_unibus.specs.BusWorld.{BusWorld, with_board}
 use Rattle.pdp_unibus.specs.declared.board.Board.{Board}
-use Rattle.pdp_unibus.specs.Cycle.{core_written}
+use Rattle.pdp_unibus.specs.Cycle.{core_read, core_written}
 use Rattle.pdp_unibus.specs.Trace.{processor_touch}
 use Rattle.pdp_operand.specs.Handbook.Reference.{Reference, perform}
 use Rattle.pdp_operand.specs.Phases.Phase.{Phase, Inner, State, Stop, Request, Nothing, Ask, Raise, Latch, run, step, and_then, by_request, settled, inner_of, state_of}
@@ -24,14 +24,14 @@ bus_after (Err stop) = stop.world.bus
 pub record Goes (K : List Touch → BusWorld → BusWorld → Type 0) : Type 0 where
   pub stays : (b : BusWorld) → K [] b b
   pub changes : (xs : List Touch) (b c : BusWorld) (board : Board) → K xs b c → K xs b (with_board c board)
-  pub looks : (b : BusWorld) (k : ℕ) → k < length b.core → K (processor_touch false b k ∷ []) b b
+  pub looks : (b : BusWorld) (k : ℕ) → k < length b.core → K (processor_touch false b k ∷ []) b (core_read b k)
   pub writes : (b : BusWorld) (k word : ℕ) → k < length b.core → K (processor_touch true b k ∷ []) b (core_written b k word)
   pub joins : (xs ys : List Touch) (b c d : BusWorld) → K xs b c → K ys c d → K (xs ++ ys) b d
 
 module _ (K : List Touch → BusWorld → BusWorld → Type 0) (goes : Goes K) where
   by_shape : (shape : Shape) (b : BusWorld) → InCore (length b.core) shape → K (touches_by shape b) b (reply_by shape b).after
   by_shape (Apart board value) b within = goes.changes [] b b board (goes.stays b)
-  by_shape (Looked board f k) b within = goes.changes _ b b board (goes.looks b k within)
+  by_shape (Looked board f k) b within = goes.changes _ b (core_read b k) board (goes.looks b k within)
   by_shape (Wrote board told f k) b within = goes.changes _ b _ board (goes.writes b k _ within)
 
   along_reference : (r : Reference) (b : BusWorld) → K (touches r b) b (perform r b).after

@@ -1,11 +1,11 @@
 -- What every course keeps, and what its trace says.
-use Rattle.std.proofs.Common.{◌≡◌, ℕ, ◌<◌, ◌==◌, Bool, true, false, List, [], ◌∷◌, ◌++◌, Option, None, refl, sym, ◌∙◌, All, length, slice_index_or, slice_set, if◌then◌else◌, length-set, get_or-set_same, get_or-set_other}
+use Rattle.std.proofs.Common.{◌≡◌, ℕ, ◌<◌, ◌==◌, Bool, true, false, List, [], ◌∷◌, Option, None, refl, sym, ◌∙◌, All, length, slice_index_or, slice_set, if◌then◌else◌, length-set, get_or-set_same, get_or-set_other}
 use Rattle.std.proofs.lemmas.Bool.{eqb-true, eqb-false}
 use Rattle.std.proofs.lemmas.List.Elements.{All-nil, All-cons, All-append}
 use Rattle.pdp_store.specs.Touch.{Avoids, Part, Touch, last_write}
 use Rattle.pdp_store.specs.Touch.{Part as parts}
 use Rattle.pdp_store.specs.declared.Stamp.{Stamp}
-use Rattle.pdp_unibus.proofs.Kept.{Begins, KeepsPage, KeepsStamps, keeps_page, keeps_stamps}
+use Rattle.pdp_unibus.proofs.Kept.{KeepsPage, KeepsStamps, keeps_page, keeps_stamps}
 use Rattle.pdp_unibus.specs.BusWorld.{BusWorld}
 use Rattle.pdp_unibus.specs.Cycle.{core_written}
 use Rattle.pdp_unibus.specs.Page.{SamePage}

@@ -1,5 +1,6 @@
 pub mod Steps
 pub mod Flattening
+pub mod Carried
 pub mod Shape
 pub mod Along
 pub mod Kept

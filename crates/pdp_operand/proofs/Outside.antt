@@ -1,5 +1,5 @@
 -- A course leaves a page that it never touches, and is the same whatever the page holds.
-use Rattle.std.proofs.Common.{◌≡◌, ℕ, List, sym, ap, subst}
+use Rattle.std.proofs.Common.{ℕ, List, sym, ap, subst}
 use Rattle.pdp_store.specs.Parts.{AlikeWords}
 use Rattle.pdp_store.specs.Touch.{Avoids, Part}
 use Rattle.pdp_unibus.specs.BusWorld.{BusWorld}

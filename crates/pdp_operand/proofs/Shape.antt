@@ -3,7 +3,7 @@ use Rattle.std.proofs.Common.{◌≡◌, ◌∙◌, ℕ, ◌<◌, ◌/◌, Bool,
 use Rattle.pdp_kt11.specs.declared.place.Access.TheVariants.{Read, Write}
 use Rattle.pdp_unibus.specs.BusWorld.{BusWorld, with_board, with_mapping}
 use Rattle.pdp_unibus.specs.declared.board.Board.{Board}
-use Rattle.pdp_unibus.specs.Cycle.{Slave, Core, Device, Nobody, Answer, device_slave, slave_at, read_from, write_to, write_byte_to, core_written}
+use Rattle.pdp_unibus.specs.Cycle.{Slave, Core, Device, Nobody, Answer, device_slave, slave_at, read_from, write_to, write_byte_to, core_read, core_written}
 use Rattle.pdp_unibus.specs.Register.{register_at, value_in, after_byte, after_read, after_write, word_with_byte}
 use Rattle.pdp_unibus.specs.declared.register.Register.{Register}
 use Rattle.pdp_operand.specs.Handbook.Reference.{Kind, ReadWord, ReadByte, WriteWord, WriteByte, Reference, Reply, half_at, reply_of, at_place, perform, is_odd, translation, access_of}
@@ -24,7 +24,7 @@ pub data Shape : Type 0 where
 
 abbrev pub reply_by : Shape → BusWorld → Reply
 reply_by (Apart board value) b = record { value = value; after = with_board b board }
-reply_by (Looked board f k) b = record { value = Ok (f (slice_index b.core k)); after = with_board b board }
+reply_by (Looked board f k) b = record { value = Ok (f (slice_index b.core k)); after = with_board (core_read b k) board }
 reply_by (Wrote board told f k) b =
     record { value = Ok told; after = with_board (core_written b k (f (slice_index b.core k))) board }
 

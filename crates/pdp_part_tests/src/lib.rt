@@ -13,6 +13,8 @@ mod disk;
 #[cfg(test)]
 mod drives;
 #[cfg(test)]
+mod first_touches;
+#[cfg(test)]
 mod flat_stores;
 #[cfg(test)]
 mod kept_lines;

@@ -1,6 +1,6 @@
 //! A store taken as pages, loaded from them, and a page patched.
 
-use pdp_store::{Agent, Paged, Pages, Paging, Stamp, Store, change_word};
+use pdp_store::{Agent, Paged, Pages, Paging, Stamp, Store};
 use pdp_word::NoMemory;
 use std::rc::Rc;
 
@@ -12,6 +12,14 @@ const FIVE: Stamp = Stamp {
 // The serial of the page at this place.
 fn serial_at(pages: &Pages, place: usize) -> Option<u64> {
     pages.get(place).map(|page| page.serial)
+}
+
+// Whether both have one and the same page at this place.
+fn is_shared_at(these: &Pages, those: &Pages, place: usize) -> bool {
+    match (these.get(place), those.get(place)) {
+        (Some(this), Some(that)) => Rc::ptr_eq(this, that),
+        _ => false,
+    }
 }
 
 // Two pages are taken, word 0 is written, and they are taken again: the second page is the same, and the first is new.
@@ -27,6 +35,8 @@ fn taken_twice(rt: HostRuntime) -> Result<(), NoMemory> {
     assert_eq!(rt; serial_at(&before, 1), Some(2));
     assert_eq!(rt; serial_at(&after, 0), Some(3));
     assert_eq!(rt; serial_at(&after, 1), Some(2));
+    assert!(rt; !is_shared_at(&after, &before, 0));
+    assert!(rt; is_shared_at(&after, &before, 1));
     Ok(())
 }
 
@@ -58,33 +68,5 @@ fn patched(rt: HostRuntime) -> Result<(), NoMemory> {
         assert_eq!(rt; patched.stamps.get(3).copied().flatten(), Some(FIVE));
     }
     assert_eq!(rt; store.read(3), 5);
-    Ok(())
-}
-
-// Whether both have one and the same page at this place.
-fn is_shared_at(these: &Pages, those: &Pages, place: usize) -> bool {
-    match (these.get(place), those.get(place)) {
-        (Some(this), Some(that)) => Rc::ptr_eq(this, that),
-        _ => false,
-    }
-}
-
-// Word 300 of two pages is changed: the first page is the same, and the second new; the pages that were taken stay.
-#[test]
-fn changed_word(rt: HostRuntime) -> Result<(), NoMemory> {
-    let mut store = Paged::new(rt.alloc(), 512, true)?;
-    store.write(300, 5, FIVE);
-    let pages = store.take_pages(rt.alloc())?;
-    let changed = change_word(&mut store, rt.alloc(), &pages, 300, 0o177777)?;
-    assert!(rt; is_shared_at(&changed, &pages, 0));
-    assert!(rt; !is_shared_at(&changed, &pages, 1));
-    assert_eq!(rt; serial_at(&changed, 1), Some(3));
-    assert_eq!(rt; store.read(300), 5);
-    store.load_pages(&changed);
-    assert_eq!(rt; store.read(300), 0o177777);
-    assert_eq!(rt; store.last(300), Some(FIVE));
-    assert_eq!(rt; store.read(44), 0);
-    store.load_pages(&pages);
-    assert_eq!(rt; store.read(300), 5);
     Ok(())
 }

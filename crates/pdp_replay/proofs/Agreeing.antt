@@ -2,11 +2,13 @@
 use Rattle.std.proofs.Common.{◌≡◌, ◌∙◌, ℕ, zero, suc, ◌<◌, ◌≤◌, List, ◌++◌, ap, ap₂, refl, arith}
 use Rattle.pdp_operand.specs.Phases.World.{World}
 use Rattle.pdp_cpu.specs.Turns.MachineState.{MachineState}
-use Rattle.pdp_cpu.specs.Turns.Turn.{one_turn, printed_in, punched_in}
+use Rattle.pdp_cpu.specs.Turns.Turn.{one_turn, printed_in, punched_in, turn_trace}
 use Rattle.pdp_script.specs.Entries.{events_at}
+use Rattle.pdp_store.specs.Firsts.{firsts_after}
+use Rattle.pdp_replay.specs.FirstTouches.{firsts_at, untouched_all}
 use Rattle.pdp_replay.specs.KeptStates.{with_turn, text_kept_at, punched_kept_at}
 use Rattle.pdp_replay.specs.Past.{Past}
-use Rattle.pdp_replay.specs.States.{at, power, state_at, text_at, punched_at}
+use Rattle.pdp_replay.specs.States.{at, power, state_at, text_at, punched_at, trace_at}
 
 -- the two have the same setup, and the same events in each turn before this one
 pub record Agree (p q : Past) (n : ℕ) : Type 0 where
@@ -51,6 +53,17 @@ same_kept_punched p q (suc n) agree =
     let before : Agree p q n = agree_before p q (suc n) n agree (omega arith) in
     ap₂ ◌++◌ (same_kept_punched p q n before)
     (ap (with_turn n) (ap₂ (punched_in n) (agree.events n (omega arith)) (same_state p q n before)))
+
+pub same_trace : (p q : Past) (n : ℕ) → Agree p q n → trace_at p n ≡ trace_at q n
+unfolding trace_at
+same_trace p q zero agree = refl
+same_trace p q (suc n) agree =
+    let before : Agree p q n = agree_before p q (suc n) n agree (omega arith) in
+    ap₂ ◌++◌ (same_trace p q n before) (ap₂ (turn_trace n) (agree.events n (omega arith)) (same_state p q n before))
+
+-- the first touches of both are the same
+pub same_firsts : (p q : Past) (n : ℕ) → Agree p q n → firsts_at p n ≡ firsts_at q n
+same_firsts p q n agree = ap₂ firsts_after (same_trace p q n agree) (ap untouched_all agree.setup)
 
 abbrev state_of : ℕ → World → List ℕ → List ℕ → MachineState
 state_of n w text punched = record { turn = n; world = w; text = text; punched = punched }

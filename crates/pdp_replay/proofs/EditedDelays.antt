@@ -11,11 +11,12 @@ use Rattle.pdp_replay.specs.FirstWords.{AllThere}
 use Rattle.pdp_replay.specs.KeptRuns.{IsForgotten, IsKeptRun, cut_to_first}
 use Rattle.pdp_replay.specs.KeptStates.{AreKept, IsBuiltFrom}
 use Rattle.pdp_replay.specs.Past.{Past}
-use Rattle.pdp_replay.specs.Setup.{IsGood, SetupData}
+use Rattle.pdp_replay.specs.Setup.{IsGood, SetupData, core_size}
 use Rattle.pdp_replay.specs.States.{at}
 use Rattle.pdp_replay.specs.Timeline.{IsEngine}
 use Rattle.pdp_replay.specs.declared.kept_run.KeptRun.{KeptRun}
 use Rattle.pdp_replay.proofs.Forgotten.{first_kept, kept_anew, rungs_anew}
+use Rattle.pdp_replay.proofs.RunFirsts.{untouched_alike}
 use Rattle.pdp_replay.proofs.PoweredContents.{first_content, first_is, first_of_delays, first_of_tape}
 
 -- the machine is said to be in no state of the run
@@ -62,7 +63,7 @@ delays_kept p q delays before after kept setup forgotten ladder same =
     let built = kept.built in
     let now : IsBuiltFrom (with_those_delays delays p.setup) after.machine =
     record { tape = rw same built.tape; core = rw same built.core; lasts = rw same built.lasts; drives = rw same built.drives } in
-    kept_anew p q before after kept forgotten first (rungs_anew q before.ladder after.ladder kept.states.rungs first (ap (λ (l : LadderData). l.stride) ladder))
+    kept_anew p q before after (untouched_alike q.setup p.setup (ap core_size setup) (ap (λ (s : SetupData). s.drives) setup)) kept forgotten first (rungs_anew q before.ladder after.ladder kept.states.rungs first (ap (λ (l : LadderData). l.stride) ladder))
     (subst (λ s. IsBuiltFrom s after.machine) (sym setup) now)
 
 pub engine_delayed : (p q : Past) (delays : Delays) (highest : ℕ) (before after : KeptRun) → IsEngine p highest before
@@ -89,7 +90,7 @@ tape_kept p q tape before after kept setup forgotten ladder changed =
     let built = kept.built in
     let now : IsBuiltFrom (with_that_tape tape p.setup) after.machine =
     record { tape = rw changed refl; core = rw changed built.core; lasts = rw changed built.lasts; drives = rw changed built.drives } in
-    kept_anew p q before after kept forgotten first (rungs_anew q before.ladder after.ladder kept.states.rungs first (ap (λ (l : LadderData). l.stride) ladder))
+    kept_anew p q before after (untouched_alike q.setup p.setup (ap core_size setup) (ap (λ (s : SetupData). s.drives) setup)) kept forgotten first (rungs_anew q before.ladder after.ladder kept.states.rungs first (ap (λ (l : LadderData). l.stride) ladder))
     (subst (λ s. IsBuiltFrom s after.machine) (sym setup) now)
 
 pub engine_with_tape : (p q : Past) (tape : List ℕ) (highest : ℕ) (before after : KeptRun) → IsEngine p highest before

@@ -1,29 +1,43 @@
 -- An engine after a word of its setup got a patch, or lost one.
-use Rattle.std.proofs.Common.{◌≡◌, ◌∙◌, ℕ, ◌<◌, [], ◌∷◌, None, Option, Some, ap, map, refl, subst, sym}
-use Rattle.std.specs.Prelude.{slice_index, slice_set}
-use Rattle.std.specs.List.{All}
-use Rattle.pdp_checkpoint.specs.Ladder.{LadderData, checkpoint_of}
-use Rattle.pdp_checkpoint.specs.Patched.{patched_to, with_word}
-use Rattle.pdp_checkpoint.specs.declared.checkpoint.Checkpoint.{Checkpoint}
-use Rattle.pdp_cpu.specs.Saved.{HasWord, MachineContent, content_with_word, machine_content}
-use Rattle.pdp_replay.specs.FirstWords.{AllThere, IsThere, core_words, drives_words}
-use Rattle.pdp_replay.specs.KeptRuns.{IsForgotten, drive_of, number_of}
-use Rattle.pdp_replay.specs.KeptStates.{AreStatesOf, IsBuiltFrom}
-use Rattle.pdp_replay.specs.Past.{Past}
-use Rattle.pdp_replay.specs.PatchedWords.{Patches, core_key, is_same_word}
-use Rattle.pdp_replay.specs.Setup.{IsGood, SetupData, core_size, drive_words}
-use Rattle.pdp_replay.specs.States.{at}
-use Rattle.pdp_replay.specs.Timeline.{IsEngine}
+use Rattle.std.proofs.Common.{◌≡◌, ◌∙◌, ℕ, zero, suc, ◌+◌, ◌/◌, ◌<◌, ◌≤◌, List, [], None, Some, ap, ap₂, arith, false, true, is_some, Ok, Result, length, min, nat_le, refl, replicate, subst, sym}
+use Rattle.std.specs.Prelude.{slice_index, slice_index_or}
+use Rattle.std.specs.List.{All, filter}
+use Rattle.std.proofs.lemmas.List.{length-replicate}
+use Rattle.pdp_checkpoint.specs.Ladder.{LadderData}
+use Rattle.pdp_checkpoint.specs.Patched.{HavePageAlike}
+use Rattle.pdp_cpu.specs.Saved.{HasWord, machine_content}
+use Rattle.pdp_cpu.specs.Turns.MachineState.{powered_world}
+use Rattle.pdp_operand.specs.Phases.World.{World}
+use Rattle.pdp_script.specs.Script.{ScriptData}
+use Rattle.pdp_script.specs.declared.faults.Fault.{Fault}
+use Rattle.pdp_store.specs.Firsts.{firsts_in, never}
+use Rattle.pdp_unibus.specs.Page.{part_of}
+use Rattle.pdp_store.specs.Stored.{untouched}
+use Rattle.pdp_replay.specs.Edit.{core_edit, core_word_at, disk_edit, disk_word_at, revert_edit}
+use Rattle.pdp_replay.specs.FirstTouches.{first_of, first_touch, untouched_all}
+use Rattle.pdp_replay.specs.FirstWords.{AllThere, IsThere, drives_words}
+use Rattle.pdp_replay.specs.KeptRuns.{IsPatchedRun, drive_of, number_of, page_of, reached_by}
+use Rattle.pdp_replay.specs.KeptStates.{AreKept, AreStatesOf}
+use Rattle.pdp_replay.specs.Past.{Past, with_setup}
+use Rattle.pdp_replay.specs.PatchedWords.{Patches, core_key, disk_key, is_same_word, patch_of}
+use Rattle.pdp_replay.specs.Setup.{SetupData, core_size, drive_words}
+use Rattle.pdp_replay.specs.States.{at, power}
+use Rattle.pdp_replay.specs.Timeline.{IsEngine, Timeline, after_setup_edit}
 use Rattle.pdp_replay.specs.declared.kept_run.KeptRun.{KeptRun}
 use Rattle.pdp_replay.specs.declared.patch.PatchKey.{PatchKey}
 use Rattle.pdp_replay.specs.declared.patch.PatchKey.TheVariants as key
 use Rattle.pdp_replay.proofs.CoreSizes.{core_keeps_size}
-use Rattle.pdp_replay.proofs.DriveSizes.{drive_keeps_size}
-use Rattle.pdp_replay.proofs.EditedDelays.{engine_anew}
-use Rattle.pdp_replay.proofs.Forgotten.{first_kept, kept_anew, rungs_anew}
+use Rattle.pdp_replay.proofs.DriveSizes.{drive_keeps_size, drives_counted}
+use Rattle.pdp_replay.proofs.FirstWords.{core_has_size, drive_by_number, drive_has_size}
+use Rattle.pdp_replay.proofs.PatchedStates.{PowersWith, states_patched, texts_patched}
 use Rattle.pdp_replay.proofs.Patches.{there_inserted, there_removed}
-use Rattle.pdp_replay.proofs.PoweredContents.{content_with_core, content_with_drives, first_content, first_core_is, first_drives_are, first_is, first_of_core_patch, first_of_disk_patch, with_disk_word}
-use Rattle.pdp_replay.proofs.PoweredWords.{patched, unpatched}
+use Rattle.pdp_replay.proofs.PoweredWords.{patched, unpatched, core_patched, core_stays, drives_patched, drives_stay, core_reverted, drives_stay_reverted}
+use Rattle.pdp_replay.proofs.RunFirsts.{firsts_tell, reached_is, untouched_alike}
+use Rattle.pdp_replay.proofs.SamePages.{kept_have_page}
+use Rattle.pdp_replay.proofs.Untouched.{first_touch_le}
+
+abbrev past_of : SetupData → ScriptData → Past
+past_of setup script = record { setup = setup; script = script }
 
 -- a word that is there is in each saved state of a run
 core_saved : (p : Past) (n i : ℕ) → i < core_size p.setup → HasWord None i (machine_content (at p n))
@@ -43,67 +57,177 @@ pub word_kept : (p : Past) (known : ℕ) (l : LadderData) (k : PatchKey) → Are
     → All (λ c. HasWord (drive_of k) (number_of k) c.saved) l.kept
 word_kept p known l k are inside = λ i d below. rw (are.states i d below) (word_saved p _ k inside)
 
--- one word of what is saved as of power-up
-core_set : (s : SetupData) (i word : ℕ) → content_with_word None i word (first_content s) ≡ content_with_core (slice_set (core_words s) i word) (first_content s)
-unfolding content_with_word Rattle.pdp_unibus.specs.BusContent.content_with_word
-core_set s i word = ap (λ words. content_with_core (slice_set words i word) (first_content s)) (first_core_is s)
-
-disk_set : (s : SetupData) (drive i word : ℕ)
-    → content_with_word (Some drive) i word (first_content s) ≡ content_with_drives (with_disk_word (drives_words s) drive i word) (first_content s)
-unfolding content_with_word Rattle.pdp_unibus.specs.BusContent.content_with_word
-disk_set s drive i word = ap (λ drives. content_with_drives (with_disk_word drives drive i word) (first_content s)) (first_drives_are s)
-
-first_of_patch : (s : SetupData) (k : PatchKey) (word : ℕ) → IsThere s k
-    → first_content (patched s k word) ≡ content_with_word (drive_of k) (number_of k) word (first_content s)
-first_of_patch s (key.Core i) word inside = first_of_core_patch s i word inside ∙ sym (core_set s i word)
-first_of_patch s (key.Disk drive i) word inside = first_of_disk_patch s drive i word inside.0 inside.1 ∙ sym (disk_set s drive i word)
+-- and its drive is one of the machine's
+pub drive_there : (p : Past) (r : KeptRun) (k : PatchKey) → AreKept p r.known r.machine r.ladder → IsThere p.setup k
+    → (number : ℕ) → drive_of k ≡ Some number → number < length r.machine.state.world.bus.drives
+drive_there p r (key.Core i) kept inside number is = absurd cc
+drive_there p r (key.Disk drive i) kept inside number is =
+    let count = drives_counted r.machine.state.world.bus.drives p.setup.drives drive_words kept.built.drives in
+    let same : drive ≡ number = cc is in
+    let below = inside.0 in
+    omega (arith, count, same, below)
 
 abbrev with_those_patches : Patches → SetupData → SetupData
 with_those_patches patches s = record s { patches = patches }
 
-abbrev saved_first : MachineContent → Checkpoint
-saved_first saved = record { turn = 0; saved = saved }
+-- the world as of power-up over these words
+abbrev power_over : SetupData → List ℕ → List (List ℕ) → World
+power_over s core drives = powered_world s.start core (replicate (core_size s) None) drives s.tape s.delays
 
--- with other patches, which change one word of the state of turn 0
-engine_repatched : (p q : Past) (patches : Patches) (drive : Option ℕ) (number word highest : ℕ) (before after : KeptRun)
-    → IsEngine p highest before → q.setup ≡ with_those_patches patches p.setup → AllThere p.setup patches
-    → first_content (with_those_patches patches p.setup) ≡ content_with_word drive number word (first_content p.setup)
-    → IsForgotten before after → after.ladder ≡ patched_to 0 drive number word before.ladder → after.machine.state.world ≡ before.machine.state.world
-    → IsEngine q highest after
-engine_repatched p q patches drive number word highest before after engine setup there changed forgotten ladder same =
+powers_with_core : (s : SetupData) (i word : ℕ) → i < core_size s → PowersWith None i word s (patched s (core_key i) word)
+unfolding power
+powers_with_core s i word inside = record {
+  is = ap₂ (power_over s) (core_patched s i word inside) (drives_stay s i word);
+  there = rw (core_has_size s) inside;
+}
+
+length_at : (s : SetupData) (drive : ℕ) → drive < s.drives → length (slice_index_or (drives_words s) drive []) ≡ drive_words
+length_at s drive there = ap length (drive_by_number s drive there) ∙ drive_has_size s drive
+
+powers_with_disk : (s : SetupData) (drive i word : ℕ) → drive < s.drives → i < drive_words
+    → PowersWith (Some drive) i word s (patched s (disk_key drive i) word)
+unfolding power
+powers_with_disk s drive i word there inside = record {
+  is = ap₂ (power_over s) (core_stays s drive i word) (drives_patched s drive i word there inside);
+  there = rw (length_at s drive there) inside;
+}
+
+powers_of : (s : SetupData) (k : PatchKey) (word : ℕ) → IsThere s k → PowersWith (drive_of k) (number_of k) word s (patched s k word)
+powers_of s (key.Core i) word inside = powers_with_core s i word inside
+powers_of s (key.Disk drive i) word inside = powers_with_disk s drive i word inside.0 inside.1
+
+powers_reverted : (s : SetupData) (i : ℕ) → i < core_size s → patch_of (unpatched s (core_key i)).patches (core_key i) ≡ None
+    → PowersWith None i (slice_index s.core i) s (unpatched s (core_key i))
+unfolding power
+powers_reverted s i inside none = record {
+  is = ap₂ (power_over s) (core_reverted s i inside none) (drives_stay_reverted s i);
+  there = rw (core_has_size s) inside;
+}
+
+-- a page that is there
+each_alike : {X : Type 0} (count k : ℕ) (x blank : X) → k < count → slice_index_or (replicate count x) k blank ≡ x
+each_alike zero k x blank below = absurd (omega arith)
+each_alike (suc count) zero x blank below = refl
+each_alike (suc count) (suc k) x blank below = each_alike count k x blank (omega arith)
+
+page_within : (s : SetupData) (k : PatchKey) → IsThere s k → page_of k < length (firsts_in (part_of (drive_of k)) (untouched_all s))
+unfolding untouched_all
+page_within s (key.Core i) inside = rw (length-replicate ((core_size s + 255) / 256) never) (omega (arith, inside))
+page_within s (key.Disk drive i) inside =
+    let below = inside.1 in
+    rw (each_alike s.drives drive (untouched drive_words) [] inside.0, length-replicate ((drive_words + 255) / 256) never)
+    (omega (arith, below))
+
+-- how far a patch reaches is told by the first touches that are kept
+reached_first : (p : Past) (k : PatchKey) (r : KeptRun) → AreKept p r.known r.machine r.ladder → IsThere p.setup k → r.known ≤ never
+    → reached_by k r ≡ first_touch p (part_of (drive_of k)) (page_of k) r.known
+reached_first p k r kept inside small =
+    let part = part_of (drive_of k) in
+    reached_is (first_touch p part (page_of k) r.known) r.known (first_of part (page_of k) r.machine.firsts) (first_touch_le p part (page_of k) r.known) small
+    (ap (first_of part (page_of k)) kept.texts.firsts ∙ firsts_tell p part (page_of k) r.known small (page_within p.setup k inside))
+
+-- so the states that are kept up to there have the page of the word alike
+pub pages_kept : (p : Past) (k : PatchKey) (highest : ℕ) (r : KeptRun) → IsEngine p highest r → IsThere p.setup k
+    → HavePageAlike (drive_of k) (number_of k) (filter (λ c. nat_le c.turn (reached_by k r)) r.ladder.kept)
+pages_kept p k highest r engine inside =
+    let small : r.known ≤ never = omega (arith, engine.reached, engine.limit) in
+    let first = reached_first p k r engine.run.kept inside small in
+    kept_have_page (drive_of k) (number_of k) p r.known (reached_by k r) r.ladder engine.run.kept.states (omega (arith, first))
+
+-- with other patches, which change one word as of power-up
+engine_repatched : (p : Past) (patches : Patches) (k : PatchKey) (word highest : ℕ) (before after : KeptRun)
+    → IsEngine p highest before → AllThere p.setup patches → IsThere p.setup k
+    → PowersWith (drive_of k) (number_of k) word p.setup (with_those_patches patches p.setup)
+    → IsPatchedRun k word before after
+    → IsEngine (with_setup p (with_those_patches patches p.setup)) highest after
+engine_repatched p patches k word highest before after engine there inside powers done =
+    let s = with_those_patches patches p.setup in
     let kept = engine.run.kept in
-    let content : machine_content (at q 0) ≡ content_with_word drive number word (machine_content (at p 0)) =
-    first_is q ∙ ap first_content setup ∙ changed ∙ ap (content_with_word drive number word) (sym (first_is p)) in
-    let first : after.ladder.kept ≡ checkpoint_of (at q 0) ∷ [] =
-    ap (λ (l : LadderData). l.kept) ladder
-    ∙ ap (map (with_word drive number word)) (first_kept p before.known before.ladder kept.states)
-    ∙ ap (λ s. saved_first s ∷ []) (sym content) in
-    let stride = ap (λ (l : LadderData). l.stride) ladder in
+    let small : before.known ≤ never = omega (arith, engine.reached, engine.limit) in
+    let first = reached_first p k before kept inside small in
+    let known : after.known ≡ first_touch p (part_of (drive_of k)) (page_of k) before.known = done.known ∙ first in
+    let le : after.known ≤ before.known = omega (arith, known, first_touch_le p (part_of (drive_of k)) (page_of k) before.known) in
+    let low : after.known ≤ first_touch p (part_of (drive_of k)) (page_of k) before.known = omega (arith, known) in
+    let reached = engine.reached in
     let built = kept.built in
-    let now : IsBuiltFrom (with_those_patches patches p.setup) after.machine =
-    record { tape = rw same built.tape; core = rw same built.core; lasts = rw same built.lasts; drives = rw same built.drives } in
-    let good : IsGood (with_those_patches patches p.setup) =
-    record { units = engine.good.units; some = engine.good.some; widest = engine.good.widest; core = engine.good.core; disks = engine.good.disks } in
-    engine_anew p q highest before after engine forgotten (subst IsGood (sym setup) good) (rw setup there) (ap (λ (s : SetupData). s.stride) setup) stride
-    (kept_anew p q before after kept forgotten first (rungs_anew q before.ladder after.ladder kept.states.rungs first stride)
-    (subst (λ s. IsBuiltFrom s after.machine) (sym setup) now))
+    let same = done.world in
+    record {
+      good = record { units = engine.good.units; some = engine.good.some; widest = engine.good.widest; core = engine.good.core; disks = engine.good.disks };
+      there = there;
+      reached = omega (arith, le, reached);
+      limit = engine.limit;
+      stride = rw (ap (λ (l : LadderData). l.stride) done.ladder) engine.stride;
+      run = record {
+        kept = record {
+          states = states_patched (drive_of k) (number_of k) word p s before.known after.known before.ladder after.ladder powers kept.states le low done.ladder done.count done.rungs;
+          texts = texts_patched (drive_of k) (number_of k) word p s before.known after.known before.machine after.machine powers kept.texts (untouched_alike s p.setup refl refl) le done.small low done.text done.punched done.firsts;
+          built = record { tape = rw same built.tape; core = rw same built.core; lasts = rw same built.lasts; drives = rw same built.drives };
+        };
+        current = λ yes. let no = done.current in absurd cc;
+      };
+    }
 
 -- with a patch of a word that is there
 pub engine_patched : (p q : Past) (k : PatchKey) (word highest : ℕ) (before after : KeptRun) → IsEngine p highest before
-    → q.setup ≡ patched p.setup k word → IsThere p.setup k → IsForgotten before after
-    → after.ladder ≡ patched_to 0 (drive_of k) (number_of k) word before.ladder → after.machine.state.world ≡ before.machine.state.world
+    → q.setup ≡ patched p.setup k word → q.script ≡ p.script → IsThere p.setup k → IsPatchedRun k word before after
     → IsEngine q highest after
-engine_patched p q k word highest before after engine setup inside forgotten ladder same =
-    engine_repatched p q (patched p.setup k word).patches (drive_of k) (number_of k) word highest before after engine setup
-    (there_inserted is_same_word p.setup p.setup.patches k word inside engine.there) (first_of_patch p.setup k word inside) forgotten ladder same
+engine_patched p q k word highest before after engine setup script inside done =
+    subst (λ (x : Past). IsEngine x highest after) (sym (ap₂ past_of setup script))
+    (engine_repatched p (patched p.setup k word).patches k word highest before after engine
+    (there_inserted is_same_word p.setup p.setup.patches k word inside engine.there) inside (powers_of p.setup k word inside) done)
 
 -- without the patch of a word of core, which is its image's word again as of power-up
 pub engine_reverted : (p q : Past) (i highest : ℕ) (before after : KeptRun) → IsEngine p highest before
-    → q.setup ≡ unpatched p.setup (core_key i)
-    → first_content (unpatched p.setup (core_key i)) ≡ content_with_core (slice_set (core_words p.setup) i (slice_index p.setup.core i)) (first_content p.setup)
-    → IsForgotten before after → after.ladder ≡ patched_to 0 None i (slice_index p.setup.core i) before.ladder
-    → after.machine.state.world ≡ before.machine.state.world → IsEngine q highest after
-engine_reverted p q i highest before after engine setup changed forgotten ladder same =
-    engine_repatched p q (unpatched p.setup (core_key i)).patches None i (slice_index p.setup.core i) highest before after engine setup
-    (there_removed p.setup (is_same_word (core_key i)) p.setup.patches engine.there)
-    (changed ∙ sym (core_set p.setup i (slice_index p.setup.core i))) forgotten ladder same
+    → q.setup ≡ unpatched p.setup (core_key i) → q.script ≡ p.script → i < core_size p.setup
+    → patch_of (unpatched p.setup (core_key i)).patches (core_key i) ≡ None → IsPatchedRun (core_key i) (slice_index p.setup.core i) before after
+    → IsEngine q highest after
+engine_reverted p q i highest before after engine setup script inside none done =
+    subst (λ (x : Past). IsEngine x highest after) (sym (ap₂ past_of setup script))
+    (engine_repatched p (unpatched p.setup (core_key i)).patches (core_key i) (slice_index p.setup.core i) highest before after engine
+    (there_removed p.setup (is_same_word (core_key i)) p.setup.patches engine.there) inside (powers_reverted p.setup i inside none) done)
+
+-- the known turn that is left, as an engine tells it
+pub known_patched : (p : Past) (k : PatchKey) (word highest : ℕ) (before after : KeptRun) → IsEngine p highest before
+    → IsThere p.setup k → IsPatchedRun k word before after
+    → after.known ≡ min before.known (first_touch p (part_of (drive_of k)) (page_of k) before.known)
+known_patched p k word highest before after engine inside done =
+    let small : before.known ≤ never = omega (arith, engine.reached, engine.limit) in
+    let first = reached_first p k before engine.run.kept inside small in
+    let low = first_touch_le p (part_of (drive_of k)) (page_of k) before.known in
+    omega (arith, done.known, first, low)
+
+-- an engine with this past and this run, as it is told
+abbrev pub timeline : Past → ℕ → KeptRun → Timeline
+timeline p highest r = record {
+  past = p;
+  known = r.known;
+  highest = highest;
+  stride = r.ladder.stride;
+  turns = r.meter;
+  turn = r.machine.state.turn;
+  current = r.is_current;
+}
+
+-- the engine after the edit
+pub told_patched : (p q : Past) (due : Result Past Fault) (k : PatchKey) (word highest reached : ℕ) (before after : KeptRun)
+    → due ≡ Ok q → after.known ≡ min before.known reached → IsPatchedRun k word before after
+    → timeline q highest after ≡ after_setup_edit reached due false (timeline p highest before)
+told_patched p q due k word highest reached before after is known done =
+    let stride : after.ladder.stride ≡ before.ladder.stride = ap (λ (l : LadderData). l.stride) done.ladder in
+    rw (is, known, stride, done.meter, done.turn, done.current) refl
+
+pub core_patch_is : (p q : Past) (address word number : ℕ) → core_word_at address p.setup ≡ Ok number
+    → q.setup ≡ patched p.setup (core_key number) word → q.script ≡ p.script → core_edit address word p ≡ Ok q
+unfolding core_edit
+core_patch_is p q address word number found setup script = rw found (ap Ok (sym (ap₂ past_of setup script)))
+
+pub disk_patch_is : (p q : Past) (drive number word i : ℕ) → disk_word_at drive number p.setup ≡ Ok i
+    → q.setup ≡ patched p.setup (disk_key drive i) word → q.script ≡ p.script → disk_edit drive number word p ≡ Ok q
+unfolding disk_edit
+disk_patch_is p q drive number word i found setup script = rw found (ap Ok (sym (ap₂ past_of setup script)))
+
+pub revert_is : (p q : Past) (address number : ℕ) → core_word_at address p.setup ≡ Ok number
+    → is_some (patch_of p.setup.patches (core_key number)) ≡ true
+    → q.setup ≡ unpatched p.setup (core_key number) → q.script ≡ p.script → revert_edit address p ≡ Ok q
+unfolding revert_edit
+revert_is p q address number found there setup script = rw (found, there) (ap Ok (sym (ap₂ past_of setup script)))

@@ -10,25 +10,28 @@ use Rattle.pdp_cpu.specs.Turns.MachineState.{MachineWithTexts}
 use Rattle.pdp_replay.specs.KeptRuns.{IsForgotten}
 use Rattle.pdp_replay.specs.KeptStates.{AreKept, AreStatesOf, IsBuiltFrom, KeepsTexts, punched_kept_at, text_kept_at}
 use Rattle.pdp_replay.specs.Past.{Past}
-use Rattle.pdp_replay.specs.States.{at}
+use Rattle.pdp_replay.specs.States.{at, trace_at}
+use Rattle.pdp_store.specs.Firsts.{firsts_after}
+use Rattle.pdp_replay.specs.FirstTouches.{untouched_all}
 use Rattle.pdp_replay.specs.declared.kept_run.KeptRun.{KeptRun}
 use Rattle.pdp_replay.proofs.KeptStates.{states_first}
 use Rattle.pdp_replay.proofs.Lowered.{texts_cut}
 
 -- before turn 0 nothing came out of any run
-pub texts_of_none : (p q : Past) (m : MachineWithTexts) → KeepsTexts p 0 m → KeepsTexts q 0 m
-unfolding text_kept_at punched_kept_at
-texts_of_none p q m keeps = record { text = keeps.text; punched = keeps.punched }
+texts_of_none : (p q : Past) (m : MachineWithTexts) → untouched_all q.setup ≡ untouched_all p.setup → KeepsTexts p 0 m → KeepsTexts q 0 m
+unfolding text_kept_at punched_kept_at trace_at firsts_after
+texts_of_none p q m same keeps = record { text = keeps.text; punched = keeps.punched; firsts = keeps.firsts ∙ sym same }
 
 -- the first state of the other run is all that is kept of it
-pub kept_anew : (p q : Past) (before after : KeptRun) → AreKept p before.known before.machine before.ladder → IsForgotten before after
-    → after.ladder.kept ≡ checkpoint_of (at q 0) ∷ [] → AreRungs after.ladder → IsBuiltFrom q.setup after.machine
+pub kept_anew : (p q : Past) (before after : KeptRun) → untouched_all q.setup ≡ untouched_all p.setup
+    → AreKept p before.known before.machine before.ladder → IsForgotten before after → after.ladder.kept ≡ checkpoint_of (at q 0) ∷ [] → AreRungs after.ladder → IsBuiltFrom q.setup after.machine
     → AreKept q after.known after.machine after.ladder
-kept_anew p q before after kept forgotten is rungs built =
-    let texts : KeepsTexts p 0 after.machine = texts_cut p before.known 0 before.machine after.machine kept.texts (omega arith) forgotten.text forgotten.punched in
+kept_anew p q before after same kept forgotten is rungs built =
+    let texts : KeepsTexts p 0 after.machine =
+    texts_cut p before.known 0 before.machine after.machine kept.texts (omega arith) (omega arith) forgotten.text forgotten.punched forgotten.firsts in
     rw forgotten.known (record {
       states = states_first q after.ladder is rungs;
-      texts = texts_of_none p q after.machine texts;
+      texts = texts_of_none p q after.machine same texts;
       built = built;
     })
 

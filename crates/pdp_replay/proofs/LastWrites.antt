@@ -1,7 +1,6 @@
 -- The last stamps of core are those of the last writes in the trace.
 use Rattle.std.proofs.Common.{◌≡◌, ◌∙◌, ℕ, zero, suc, ◌<◌, None, refl, ap, get_or, length, slice_index, slice_index_or, replicate}
 use Rattle.std.proofs.lemmas.List.{length-replicate}
-use Rattle.pdp_checkpoint.specs.Ladder.{LadderData}
 use Rattle.pdp_store.proofs.Traces.{last_write-append}
 use Rattle.pdp_store.specs.Touch.{last_write}
 use Rattle.pdp_cpu.proofs.TurnLaws.{turn_keeps_lasts, turn_lasts}
@@ -9,7 +8,6 @@ use Rattle.pdp_cpu.specs.Turns.MachineState.{MachineState}
 use Rattle.pdp_cpu.specs.Turns.Turn.{turn_trace}
 use Rattle.pdp_script.specs.Entries.{events_at}
 use Rattle.pdp_cpu.specs.Saved.{MachineContent, machine_content}
-use Rattle.pdp_replay.specs.KeptStates.{AreStatesOf}
 use Rattle.pdp_replay.specs.LastWrites.{AreLastWrites, StampsOfKeptStatesAreLastWrites, StampsOfStatesAreLastWrites, written, last_write_at}
 use Rattle.pdp_replay.specs.Past.{Past}
 use Rattle.pdp_replay.specs.Setup.{core_size}

@@ -1,36 +1,41 @@
 -- A run that gets seven drives more and begins anew.
-use Rattle.std.proofs.Common.{◌≡◌, ◌∙◌, ℕ, zero, suc, ◌+◌, ◌<◌, ◌≤◌, ◌++◌, ◌&&◌, Bool, true, false, List, [], ◌∷◌, None, ap, ap₂, arith, get_or, length, length-append, map, nat_eq, refl, replicate, subst, sym, take}
-use Rattle.std.specs.List.{All, range_with_len}
+use Rattle.std.proofs.Common.{◌≡◌, ◌∙◌, ℕ, zero, suc, ◌+◌, ◌<◌, ◌≤◌, ◌++◌, ◌&&◌, Bool, true, false, List, [], ◌∷◌, ◌/◌, None, ap, ap₂, arith, get_or, length, length-append, length-set, map, nat_eq, refl, replicate, subst, sym, take}
+use Rattle.std.specs.List.{range_with_len}
 use Rattle.std.proofs.lemmas.Bool.{eqb-true}
-use Rattle.std.proofs.lemmas.List.{map-append}
+use Rattle.std.proofs.lemmas.List.{length-replicate, map-append}
 use Rattle.std.proofs.lemmas.List.Elements.{All-tail}
 use Rattle.std.proofs.lemmas.List.FromFn.{map-range_with_len_more}
 use Rattle.std.proofs.Math.Seq.{take-append_seam}
-use Rattle.pdp_checkpoint.specs.Ladder.{AreRungs, LadderData, checkpoint_of}
+use Rattle.pdp_checkpoint.specs.Ladder.{checkpoint_of}
+use Rattle.pdp_cpu.specs.KeptTexts.{kept_before}
 use Rattle.pdp_cpu.specs.Saved.{state_cut}
 use Rattle.pdp_cpu.specs.Turns.MachineState.{MachineState, MachineWithTexts, powered_machine}
+use Rattle.pdp_store.specs.Firsts.{Firsts, all_firsts_before, firsts_after, firsts_before, firsts_of, word_touched}
+use Rattle.pdp_store.specs.Touch.{Part, Touch}
+use Rattle.pdp_store.specs.Touch.{Part as parts}
+use Rattle.pdp_store.specs.Stored.{untouched}
 use Rattle.pdp_replay.specs.Edit.{with_eight_drives}
+use Rattle.pdp_replay.specs.FirstTouches.{firsts_at, untouched_all}
 use Rattle.pdp_replay.specs.FirstWords.{AllThere, IsThere, core_words, disk_words, drives_words}
 use Rattle.pdp_replay.specs.Image.{more_drives, padded_drive}
-use Rattle.pdp_replay.specs.KeptRuns.{BeginsAnew, IsKeptRun, IsOnWay, with_more_drives}
-use Rattle.pdp_replay.specs.KeptStates.{AreKept, IsInRun, KeepsTexts}
+use Rattle.pdp_replay.specs.KeptRuns.{BeginsAnew, IsKeptRun, IsOnWay, with_more_drives, with_more_firsts}
+use Rattle.pdp_replay.specs.KeptStates.{AreKept, KeepsTexts, punched_kept_at, text_kept_at}
 use Rattle.pdp_replay.specs.Past.{Past}
 use Rattle.pdp_replay.specs.PatchedWords.{Patches, disk_key, is_same_word, patch_of}
-use Rattle.pdp_replay.specs.Setup.{IsGood, SetupData, core_size}
-use Rattle.pdp_replay.specs.States.{at, power, powered_up, punched_at, text_at}
+use Rattle.pdp_replay.specs.Setup.{IsGood, SetupData, core_size, drive_words}
+use Rattle.pdp_replay.specs.States.{at, power, powered_up, punched_at, text_at, trace_at}
 use Rattle.pdp_replay.specs.Strides.{IsStride}
 use Rattle.pdp_replay.specs.Timeline.{IsEngine}
 use Rattle.pdp_replay.specs.declared.kept_run.KeptRun.{KeptRun}
 use Rattle.pdp_replay.specs.declared.patch.PatchKey.{PatchKey}
 use Rattle.pdp_replay.specs.declared.patch.PatchKey.TheVariants as key
-use Rattle.pdp_replay.proofs.DriveSizes.{drives_counted}
 use Rattle.pdp_replay.proofs.FirstWords.{drive_is_padded, image_fits, one_drive}
-use Rattle.pdp_replay.proofs.Forgotten.{texts_of_none}
 use Rattle.pdp_replay.proofs.KeptStates.{states_first}
-use Rattle.pdp_replay.proofs.Lowered.{cut_after, texts_cut}
+use Rattle.pdp_replay.proofs.KeptTexts.{text_kept_before, punched_kept_before}
+use Rattle.pdp_replay.proofs.Lowered.{cut_after}
+use Rattle.pdp_replay.proofs.RunFirsts.{blank_stays, drives_stay, firsts_cut}
 use Rattle.pdp_replay.proofs.StateSizes.{at_is_built}
 use Rattle.pdp_replay.proofs.States.{at_first}
-use Rattle.pdp_replay.proofs.UnderWay.{kept_of_way}
 
 -- no word of a drive that isn't there has a patch
 not_same : (drive other : ℕ) → other < drive → (same : Bool) → nat_eq drive other ≡ same → same ≡ false
@@ -99,21 +104,66 @@ none_cut : (q : Past) (printed punched : ℕ) → state_cut printed punched (at 
 unfolding text_at punched_at
 none_cut q printed punched = cut_after q 0 printed punched (omega arith) (omega arith)
 
+-- the pages of seven drives, of which none is touched
+abbrev seven_untouched : List (List ℕ)
+seven_untouched = replicate 7 (untouched drive_words)
+
+-- before turn 0 no page is touched, and none of those drives
+untouched_with : (p q : Past) (known : ℕ) → p.setup.drives ≡ 1 → q.setup ≡ with_eight_drives p.setup
+    → all_firsts_before 0 (with_more_firsts seven_untouched (firsts_at p known)) ≡ firsts_at q 0
+unfolding trace_at firsts_after untouched_all
+untouched_with p q known one setup =
+    let f : Firsts = firsts_at p known in
+    let cut : all_firsts_before 0 f ≡ firsts_at p 0 = firsts_cut p 0 known (omega arith) (omega arith) in
+    let blank : firsts_before 0 (untouched drive_words) ≡ untouched drive_words = blank_stays 0 ((drive_words + 255) / 256) in
+    ap (firsts_of (firsts_before 0 f.core)) (map-append (firsts_before 0) f.drives seven_untouched)
+    ∙ ap (λ drives. firsts_of (firsts_before 0 f.core) (map (firsts_before 0) f.drives ++ drives)) (drives_stay 0 (untouched drive_words) 7 blank)
+    ∙ ap (with_more_firsts seven_untouched) cut
+    ∙ ap (λ count. firsts_of (untouched (core_size p.setup)) (replicate count (untouched drive_words) ++ seven_untouched)) one
+    ∙ ap untouched_all (sym setup)
+
+-- so it is for a machine that keeps what was printed, punched and touched of a run
+texts_begun : (p q : Past) (known : ℕ) (m now : MachineWithTexts) → KeepsTexts p known m → p.setup.drives ≡ 1
+    → q.setup ≡ with_eight_drives p.setup → now.kept_text ≡ kept_before 0 m.kept_text → now.kept_punched ≡ kept_before 0 m.kept_punched
+    → now.firsts ≡ all_firsts_before 0 (with_more_firsts seven_untouched m.firsts) → KeepsTexts q 0 now
+unfolding text_kept_at punched_kept_at
+texts_begun p q known m now keeps one setup text punched firsts = record {
+  text = text ∙ ap (kept_before 0) keeps.text ∙ text_kept_before p 0 known (omega arith);
+  punched = punched ∙ ap (kept_before 0) keeps.punched ∙ punched_kept_before p 0 known (omega arith);
+  firsts = firsts ∙ ap (λ f. all_firsts_before 0 (with_more_firsts seven_untouched f)) keeps.firsts ∙ untouched_with p q known one setup;
+}
+
+-- the first touches of a run are of as many drives as there are
+drives_after : (xs : List Touch) (f : Firsts) → length (firsts_after xs f).drives ≡ length f.drives
+unfolding firsts_after
+drives_after [] f = refl
+drives_after (x ∷ xs) f = drives_after xs (word_touched x.part x.word x.turn f) ∙ one_touched x.part x.word x.turn f where
+  one_touched : (part : Part) (word turn : ℕ) (f : Firsts) → length (word_touched part word turn f).drives ≡ length f.drives
+  one_touched parts.Core word turn f = refl
+  one_touched (parts.Drive d) word turn f = length-set f.drives d _
+
+pub firsts_counted : (p : Past) (known : ℕ) (m : MachineWithTexts) → KeepsTexts p known m → length m.firsts.drives ≡ p.setup.drives
+unfolding untouched_all
+firsts_counted p known m keeps =
+    ap (λ (f : Firsts). length f.drives) keeps.firsts
+    ∙ drives_after (trace_at p known) (untouched_all p.setup)
+    ∙ length-replicate p.setup.drives (untouched drive_words)
+
 -- which is kept, and nothing else
 kept_begun : (p q : Past) (drives : List (List ℕ)) (before after : KeptRun) → AreKept p before.known before.machine before.ladder
-    → with_more_drives drives before.machine.state ≡ at q 0 → BeginsAnew drives before after → IsKeptRun q after
-kept_begun p q drives before after kept first anew =
+    → p.setup.drives ≡ 1 → q.setup ≡ with_eight_drives p.setup
+    → with_more_drives drives before.machine.state ≡ at q 0 → BeginsAnew drives seven_untouched before after → IsKeptRun q after
+kept_begun p q drives before after kept one setup first anew =
     let known = anew.known in
     let here : after.machine.state ≡ at q 0 =
     anew.state
     ∙ ap (state_cut (length after.machine.kept_text) (length after.machine.kept_punched)) first
     ∙ none_cut q (length after.machine.kept_text) (length after.machine.kept_punched) in
     let turn : after.machine.state.turn ≡ 0 = ap (λ (s : MachineState). s.turn) here in
-    let texts : KeepsTexts p 0 after.machine = texts_cut p before.known 0 before.machine after.machine kept.texts (omega arith) anew.text anew.punched in
     record {
       kept = rw known (record {
         states = states_first q after.ladder (anew.kept ∙ ap (λ m. checkpoint_of m ∷ []) first) anew.rungs;
-        texts = texts_of_none p q after.machine texts;
+        texts = texts_begun p q before.known before.machine after.machine kept.texts one setup anew.text anew.punched anew.firsts;
         built = at_is_built q 0 after.machine here;
       });
       current = λ yes. record { here = here ∙ ap (at q) (sym turn); reached = omega (arith, turn) };
@@ -122,7 +172,7 @@ kept_begun p q drives before after kept first anew =
 -- an engine that was given them
 pub engine_begun : (p q : Past) (highest : ℕ) (first before after : KeptRun) → IsEngine p highest first → IsOnWay p before
     → before.machine.state.turn ≡ 0 → before.ladder ≡ first.ladder → p.setup.drives ≡ 1 → q.setup ≡ with_eight_drives p.setup
-    → BeginsAnew (more_drives p.setup.disks) before after → after.ladder.stride ≡ before.ladder.stride → IsEngine q highest after
+    → BeginsAnew (more_drives p.setup.disks) seven_untouched before after → after.ladder.stride ≡ before.ladder.stride → IsEngine q highest after
 engine_begun p q highest first before after engine on start ladder one setup anew stride =
     let good : IsGood (with_eight_drives p.setup) =
     record { units = engine.good.units; some = engine.good.some; widest = engine.good.widest; core = engine.good.core; disks = engine.good.disks } in
@@ -134,7 +184,7 @@ engine_begun p q highest first before after engine on start ladder one setup ane
       reached = rw anew.known (omega arith);
       limit = engine.limit;
       stride = subst (λ (s : SetupData). IsStride s.stride highest after.ladder.stride) (sym setup) (rw (stride, ladder) engine.stride);
-      run = kept_begun p q (more_drives p.setup.disks) before after on.kept (begun_anew p q before engine.good engine.there on start one setup) anew;
+      run = kept_begun p q (more_drives p.setup.disks) before after on.kept one setup (begun_anew p q before engine.good engine.there on start one setup) anew;
     }
 
 -- an engine whose run is still that of its past, up to a known turn that isn't above the one before
@@ -162,6 +212,15 @@ one_more words value xs now x number next is pushed before =
     ∙ ap₂ (λ drives drive. drives ++ drive ∷ []) before is
     ∙ sym (map-range_with_len_more value 1 (length xs) number (omega (arith, next)))
     ∙ ap (λ n. map value (range_with_len 1 n)) (sym long)
+
+-- all have the same
+pub all_alike : {X : Type 0} (pages : X → List ℕ) (xs now : List X) (x : X) (blank : List ℕ) → pages x ≡ blank → now ≡ xs ++ x ∷ []
+    → map pages xs ≡ replicate (length xs) blank → map pages now ≡ replicate (length now) blank
+all_alike {X} pages xs now x blank is pushed before =
+    ap (map pages) pushed ∙ each xs before ∙ ap (λ (ys : List X). replicate (length ys) blank) (sym pushed) where
+      each : (ys : List X) → map pages ys ≡ replicate (length ys) blank → map pages (ys ++ x ∷ []) ≡ replicate (length (ys ++ x ∷ [])) blank
+      each [] same = ap (λ words. words ∷ []) is
+      each (y ∷ ys) same = ap₂ (λ words rest. words ∷ rest) (cc same) (each ys (cc same))
 
 -- where there is one drive, it alone is kept of more
 pub one_kept : (drives more : List (List ℕ)) → length drives ≡ 1 → take 1 (drives ++ more) ≡ drives

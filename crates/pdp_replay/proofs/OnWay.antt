@@ -8,6 +8,8 @@ use Rattle.pdp_cpu.specs.Turns.MachineState.{MachineState, MachineWithTexts, aft
 use Rattle.pdp_script.specs.Entries.{events_at}
 use Rattle.pdp_script.specs.Script.{ScriptData}
 use Rattle.pdp_unibus.specs.declared.event.Event.{Event}
+use Rattle.pdp_store.specs.Firsts.{firsts_after}
+use Rattle.pdp_cpu.specs.Turns.Turn.{turn_trace}
 use Rattle.pdp_replay.specs.KeptRuns.{IsOnWay, IsUnderWay}
 use Rattle.pdp_replay.specs.KeptStates.{AreKept, AreStatesOf}
 use Rattle.pdp_replay.specs.Past.{Past}
@@ -30,13 +32,14 @@ on_way_settled p known m r way kept same is = record {
 
 -- a run whose machine made room and ran its next turn
 pub way_stepped : (p : Past) (script : ScriptData) (r : KeptRun) (ready now : MachineWithTexts) (turn : ℕ) (events : List Event) → p.script ≡ script → IsOnWay p r
-    → ready.state ≡ r.machine.state → ready.kept_text ≡ r.machine.kept_text → ready.kept_punched ≡ r.machine.kept_punched
+    → ready.state ≡ r.machine.state → ready.kept_text ≡ r.machine.kept_text → ready.kept_punched ≡ r.machine.kept_punched → ready.firsts ≡ r.machine.firsts
     → turn ≡ ready.state.turn → events ≡ events_at script.entries turn
-    → now.state ≡ after_turn events ready.state → now.kept_text ≡ printed_kept events ready → now.kept_punched ≡ punched_kept events ready → IsUnderWay p r.known now
-way_stepped p script r ready now turn events same on state text punched is due after printed also =
+    → now.state ≡ after_turn events ready.state → now.kept_text ≡ printed_kept events ready → now.kept_punched ≡ punched_kept events ready
+    → now.firsts ≡ firsts_after (turn_trace ready.state.turn events ready.state.world) ready.firsts → IsUnderWay p r.known now
+way_stepped p script r ready now turn events same on state text punched firsts is due after printed also touched =
     let here : events ≡ events_at p.script.entries ready.state.turn =
     due ∙ ap (events_at script.entries) is ∙ ap (λ (s : ScriptData). events_at s.entries ready.state.turn) (sym same) in
-    way_on_with_room p r.known r.machine ready now events (way_of_run p r on) state text punched here after printed also
+    way_on_with_room p r.known r.machine ready now events (way_of_run p r on) state text punched firsts here after printed also touched
 
 -- the state that is to be kept next is of a turn above the known one
 pub known_below_next : (p : Past) (known : ℕ) (l : LadderData) → AreStatesOf p known l → known < next_of l
@@ -55,15 +58,15 @@ turn_loaded p r now i c kept found state =
 pub on_way_loaded : (p : Past) (r : KeptRun) (now : KeptRun) (i : ℕ) (c : Checkpoint) → AreKept p r.known r.machine r.ladder
     → slice_get r.ladder.kept i ≡ Some c → c.turn ≤ r.known → now.known ≡ r.known → now.ladder ≡ r.ladder
     → now.machine.state ≡ state_on r.machine c.saved → now.machine.kept_text ≡ r.machine.kept_text → now.machine.kept_punched ≡ r.machine.kept_punched
-    → IsOnWay p now
-on_way_loaded p r now i c kept found le known ladder state text punched =
+    → now.machine.firsts ≡ r.machine.firsts → IsOnWay p now
+on_way_loaded p r now i c kept found le known ladder state text punched firsts =
     let here : now.machine.state ≡ at p c.turn = state ∙ found_resumes p r.known r.machine r.ladder i c kept found in
     let turn : now.machine.state.turn ≡ c.turn = ap (λ (s : MachineState). s.turn) here in
     let states : AreStatesOf p now.known now.ladder = rw (known, ladder) kept.states in
     record {
       kept = record {
         states = states;
-        texts = rw known (texts_stay p r.known r.machine now.machine kept.texts text punched);
+        texts = rw known (texts_stay p r.known r.machine now.machine kept.texts text punched firsts);
         built = at_is_built p c.turn now.machine here;
       };
       here = here ∙ ap (at p) (sym turn);

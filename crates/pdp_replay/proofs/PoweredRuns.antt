@@ -1,14 +1,17 @@
 -- What a run keeps as of power-up.
-use Rattle.std.proofs.Common.{◌≡◌, ◌∙◌, ℕ, List, [], ◌∷◌, None, Option, ap, arith, refl, replicate, sym}
+use Rattle.std.proofs.Common.{◌≡◌, ◌∙◌, ℕ, List, [], ◌∷◌, None, Option, ap, ap₂, arith, refl, replicate, sym}
 use Rattle.pdp_checkpoint.specs.Ladder.{AreRungs, LadderData, checkpoint_of}
 use Rattle.pdp_cpu.specs.Turns.MachineState.{MachineState, MachineWithTexts, powered_machine}
 use Rattle.pdp_store.specs.declared.Stamp.{Stamp}
-use Rattle.pdp_replay.specs.FirstWords.{core_words, disk_words, drives_words}
+use Rattle.pdp_store.specs.Stored.{untouched}
+use Rattle.pdp_replay.specs.FirstWords.{core_words, drives_words}
 use Rattle.pdp_replay.specs.Image.{padded}
 use Rattle.pdp_replay.specs.KeptStates.{AreKept, IsInRun, KeepsTexts, punched_kept_at, text_kept_at}
 use Rattle.pdp_replay.specs.Past.{Past, unscripted}
 use Rattle.pdp_replay.specs.Setup.{IsGood, SetupData, core_size, drive_words, image_of}
-use Rattle.pdp_replay.specs.States.{at, power, powered_up}
+use Rattle.pdp_replay.specs.States.{at, power, powered_up, trace_at}
+use Rattle.pdp_store.specs.Firsts.{firsts_after, firsts_of}
+use Rattle.pdp_replay.specs.FirstTouches.{untouched_all}
 use Rattle.pdp_replay.proofs.FirstWords.{core_is_padded, drive_is_padded, image_fits, one_drive}
 use Rattle.pdp_replay.proofs.KeptStates.{states_first}
 use Rattle.pdp_replay.proofs.StateSizes.{at_is_built}
@@ -35,16 +38,23 @@ powered_over s core lasts drives good none one core_is lasts_are drives_are =
     ∙ machine_is_powered s
     ∙ sym (at_first (unscripted s))
 
-no_texts : (p : Past) (m : MachineWithTexts) → m.kept_text ≡ [] → m.kept_punched ≡ [] → KeepsTexts p 0 m
-unfolding text_kept_at punched_kept_at
-no_texts p m text punched = record { text = text; punched = punched }
+-- with one drive, no page of core and of the drive is touched
+pub untouched_over : (s : SetupData) (core : List ℕ) (drives : List (List ℕ)) → s.drives ≡ 1 → core ≡ untouched (core_size s)
+    → drives ≡ untouched drive_words ∷ [] → firsts_of core drives ≡ untouched_all s
+unfolding untouched_all
+untouched_over s core drives one core_is drives_are =
+    ap₂ firsts_of core_is (drives_are ∙ ap (λ count. replicate count (untouched drive_words)) (sym one))
+
+no_texts : (p : Past) (m : MachineWithTexts) → m.kept_text ≡ [] → m.kept_punched ≡ [] → m.firsts ≡ untouched_all p.setup → KeepsTexts p 0 m
+unfolding text_kept_at punched_kept_at trace_at firsts_after
+no_texts p m text punched firsts = record { text = text; punched = punched; firsts = firsts }
 
 -- its first state is all that is kept
-pub powered_kept : (p : Past) (m now : MachineWithTexts) (l : LadderData) → m.state ≡ at p 0 → m.kept_text ≡ [] → m.kept_punched ≡ [] → now ≡ m
-    → l.kept ≡ checkpoint_of m.state ∷ [] → AreRungs l → AreKept p 0 now l
-powered_kept p m now l state text punched same kept rungs = rw same (record {
+pub powered_kept : (p : Past) (m now : MachineWithTexts) (l : LadderData) → m.state ≡ at p 0 → m.kept_text ≡ [] → m.kept_punched ≡ []
+    → m.firsts ≡ untouched_all p.setup → now ≡ m → l.kept ≡ checkpoint_of m.state ∷ [] → AreRungs l → AreKept p 0 now l
+powered_kept p m now l state text punched firsts same kept rungs = rw same (record {
   states = states_first p l (kept ∙ ap (λ s. checkpoint_of s ∷ []) state) rungs;
-  texts = no_texts p m text punched;
+  texts = no_texts p m text punched firsts;
   built = at_is_built p 0 m state;
 })
 

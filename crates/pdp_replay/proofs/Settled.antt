@@ -7,6 +7,7 @@ use Rattle.pdp_checkpoint.specs.Ladder.{AreRungs, LadderData, checkpoint_of, kep
 use Rattle.pdp_cpu.specs.KeptTexts.{kept_before}
 use Rattle.pdp_cpu.specs.Saved.{state_cut}
 use Rattle.pdp_cpu.specs.Turns.MachineState.{MachineState, MachineWithTexts}
+use Rattle.pdp_store.specs.Firsts.{all_firsts_before, never}
 use Rattle.pdp_replay.specs.KeptRuns.{IsUnderWay}
 use Rattle.pdp_replay.specs.KeptStates.{AreKept, AreStatesOf, KeepsTexts}
 use Rattle.pdp_replay.specs.Past.{Past}
@@ -44,13 +45,13 @@ settled_taken p known m l now are way turn is rungs next =
 -- there was no memory for it: what was known before this turn stays
 pub settled_refused : (p : Past) (known printed punched : ℕ) (m now : MachineWithTexts) (l : LadderData) → AreStatesOf p known l → IsUnderWay p known m
     → m.state.turn ≡ next_of l → now.kept_text ≡ kept_before (m.state.turn - 1) m.kept_text
-    → now.kept_punched ≡ kept_before (m.state.turn - 1) m.kept_punched → now.state ≡ state_cut printed punched m.state
+    → now.kept_punched ≡ kept_before (m.state.turn - 1) m.kept_punched → now.firsts ≡ all_firsts_before (m.state.turn - 1) m.firsts → m.state.turn ≤ never → now.state ≡ state_cut printed punched m.state
     → AreKept p (max known (m.state.turn - 1)) now l
-settled_refused p known printed punched m now l are way turn text punched_is state =
+settled_refused p known printed punched m now l are way turn text punched_is firsts_are small state =
     let short = known_is_short p known l are in
     let before : m.state.turn - 1 ≡ max known (m.state.turn - 1) = omega (arith, short, turn) in
     let texts : KeepsTexts p (m.state.turn - 1) now =
-    texts_cut p (max known m.state.turn) (m.state.turn - 1) m now way.texts (omega arith) text punched_is in
+    texts_cut p (max known m.state.turn) (m.state.turn - 1) m now way.texts (omega arith) (omega (arith, small)) text punched_is firsts_are in
     record {
       states = states_stay p known (max known (m.state.turn - 1)) l are (omega arith) (omega (arith, short, turn));
       texts = subst (λ k. KeepsTexts p k now) before texts;

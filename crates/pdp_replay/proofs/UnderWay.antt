@@ -4,6 +4,8 @@ use Rattle.pdp_cpu.specs.Turns.MachineState.{MachineState, MachineWithTexts, aft
 use Rattle.pdp_script.specs.Entries.{events_at}
 use Rattle.pdp_unibus.specs.declared.event.Event.{Event}
 use Rattle.pdp_checkpoint.specs.Ladder.{LadderData}
+use Rattle.pdp_store.specs.Firsts.{firsts_after}
+use Rattle.pdp_cpu.specs.Turns.Turn.{turn_trace}
 use Rattle.pdp_replay.specs.KeptRuns.{IsKeptRun, IsOnWay, IsUnderWay}
 use Rattle.pdp_replay.specs.KeptStates.{AreKept, AreStatesOf, IsInRun, KeepsTexts}
 use Rattle.pdp_replay.specs.Past.{Past}
@@ -15,14 +17,15 @@ use Rattle.pdp_replay.proofs.States.{at_next}
 
 -- one turn on
 pub way_on : (p : Past) (known : ℕ) (m now : MachineWithTexts) (events : List Event) → IsUnderWay p known m → events ≡ events_at p.script.entries m.state.turn
-    → now.state ≡ after_turn events m.state → now.kept_text ≡ printed_kept events m → now.kept_punched ≡ punched_kept events m → IsUnderWay p known now
-way_on p known m now events way is state text punched =
+    → now.state ≡ after_turn events m.state → now.kept_text ≡ printed_kept events m → now.kept_punched ≡ punched_kept events m → now.firsts ≡ firsts_after (turn_trace m.state.turn events m.state.world) m.firsts → IsUnderWay p known now
+way_on p known m now events way is state text punched firsts =
     let n : ℕ = m.state.turn in
     let here : now.state ≡ at p (n + 1) =
     state ∙ ap (λ e. after_turn e m.state) is ∙ ap (after_turn (events_at p.script.entries n)) way.here ∙ sym (at_next p n) in
     let turn : now.state.turn ≡ n + 1 = ap (λ (s : MachineState). s.turn) here in
     let texts : KeepsTexts p (max (max known n) (n + 1)) now =
-    texts_turned p (max known n) n m now way.texts (omega arith) way.here (text ∙ ap (λ e. printed_kept e m) is) (punched ∙ ap (λ e. punched_kept e m) is) in
+    texts_turned p (max known n) n m now way.texts (omega arith) way.here (text ∙ ap (λ e. printed_kept e m) is) (punched ∙ ap (λ e. punched_kept e m) is)
+    (firsts ∙ ap (λ e. firsts_after (turn_trace n e m.state.world) m.firsts) is) in
     let same : max (max known n) (n + 1) ≡ max known now.state.turn = omega (arith, turn) in
     record {
       here = here ∙ ap (at p) (sym turn);

@@ -3,6 +3,8 @@ use Rattle.std.proofs.Common.{◌≡◌, ◌∙◌, ℕ, List, ap, max, subst, s
 use Rattle.pdp_cpu.specs.Turns.MachineState.{MachineState, MachineWithTexts, after_turn, printed_kept, punched_kept}
 use Rattle.pdp_script.specs.Entries.{events_at}
 use Rattle.pdp_unibus.specs.declared.event.Event.{Event}
+use Rattle.pdp_store.specs.Firsts.{firsts_after}
+use Rattle.pdp_cpu.specs.Turns.Turn.{turn_trace}
 use Rattle.pdp_replay.specs.KeptRuns.{IsUnderWay}
 use Rattle.pdp_replay.specs.KeptStates.{KeepsTexts}
 use Rattle.pdp_replay.specs.Past.{Past}
@@ -12,18 +14,19 @@ use Rattle.pdp_replay.proofs.UnderWay.{way_on}
 
 -- a machine in the same state, with the same bytes kept
 pub way_stays : (p : Past) (known : ℕ) (m now : MachineWithTexts) → IsUnderWay p known m
-    → now.state ≡ m.state → now.kept_text ≡ m.kept_text → now.kept_punched ≡ m.kept_punched → IsUnderWay p known now
-way_stays p known m now way same text punched =
+    → now.state ≡ m.state → now.kept_text ≡ m.kept_text → now.kept_punched ≡ m.kept_punched → now.firsts ≡ m.firsts → IsUnderWay p known now
+way_stays p known m now way same text punched firsts =
     let texts : KeepsTexts p (max known now.state.turn) m = subst (λ (s : MachineState). KeepsTexts p (max known s.turn) m) (sym same) way.texts in
     record {
       here = same ∙ way.here ∙ ap (λ (s : MachineState). at p s.turn) (sym same);
-      texts = texts_stay p (max known now.state.turn) m now texts text punched;
+      texts = texts_stay p (max known now.state.turn) m now texts text punched firsts;
     }
 
 -- one turn on, once there was room for it
 pub way_on_with_room : (p : Past) (known : ℕ) (m ready now : MachineWithTexts) (events : List Event) → IsUnderWay p known m
-    → ready.state ≡ m.state → ready.kept_text ≡ m.kept_text → ready.kept_punched ≡ m.kept_punched
+    → ready.state ≡ m.state → ready.kept_text ≡ m.kept_text → ready.kept_punched ≡ m.kept_punched → ready.firsts ≡ m.firsts
     → events ≡ events_at p.script.entries ready.state.turn
-    → now.state ≡ after_turn events ready.state → now.kept_text ≡ printed_kept events ready → now.kept_punched ≡ punched_kept events ready → IsUnderWay p known now
-way_on_with_room p known m ready now events way same text punched is state printed also =
-    way_on p known ready now events (way_stays p known m ready way same text punched) is state printed also
+    → now.state ≡ after_turn events ready.state → now.kept_text ≡ printed_kept events ready → now.kept_punched ≡ punched_kept events ready
+    → now.firsts ≡ firsts_after (turn_trace ready.state.turn events ready.state.world) ready.firsts → IsUnderWay p known now
+way_on_with_room p known m ready now events way same text punched firsts is state printed also touched =
+    way_on p known ready now events (way_stays p known m ready way same text punched firsts) is state printed also touched

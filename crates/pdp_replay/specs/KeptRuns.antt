@@ -1,12 +1,16 @@
 -- The run that an engine keeps, between its calls and on the way (this project's profile).
-use Rattle.std.specs.Prelude.{ℕ, ◌≡◌, ◌*◌, ◌-◌, ◌<◌, ◌≤◌, ◌&&◌, Bool, true, false, Option, Some, None, ◌++◌, List, [], ◌∷◌, length, max, min, nat_le, if◌then◌else◌}
+use Rattle.std.specs.Prelude.{ℕ, ◌≡◌, ◌+◌, ◌*◌, ◌-◌, ◌/◌, ◌<◌, ◌≤◌, ◌&&◌, Bool, true, false, Option, Some, None, ◌++◌, List, [], ◌∷◌, length, max, min, nat_le, if◌then◌else◌}
 use Rattle.std.specs.List.{filter}
+use Rattle.pdp_store.specs.Firsts.{Firsts, all_firsts_before, firsts_of, never}
+use Rattle.pdp_unibus.specs.Page.{part_of}
 use Rattle.pdp_checkpoint.specs.Ladder.{AreRungs, LadderData, best_of, checkpoint_of, next_of}
+use Rattle.pdp_checkpoint.specs.Patched.{patched_to}
 use Rattle.pdp_cpu.specs.Drives.{state_with_drives}
 use Rattle.pdp_cpu.specs.KeptTexts.{kept_before}
 use Rattle.pdp_cpu.specs.Saved.{state_cut}
 use Rattle.pdp_cpu.specs.Turns.MachineState.{MachineState, MachineWithTexts}
 use Rattle.pdp_script.specs.Script.{ScriptData}
+use Rattle.pdp_replay.specs.FirstTouches.{first_of}
 use Rattle.pdp_replay.specs.KeptStates.{AreKept, IsInRun, KeepsTexts}
 use Rattle.pdp_replay.specs.Past.{Past}
 use Rattle.pdp_replay.specs.States.{at}
@@ -88,6 +92,32 @@ abbrev pub number_of : PatchKey → ℕ
 number_of (Core number) = number
 number_of (Disk drive number) = number
 
+-- the page of a word that can be patched
+abbrev pub page_of : PatchKey → ℕ
+page_of k = number_of k / 256
+
+-- how far a patch of a word reaches: to the first touch that is kept of its page, at most to the
+-- known turn
+abbrev pub reached_by : PatchKey → KeptRun → ℕ
+reached_by k r = min r.known (first_of (part_of (drive_of k)) (page_of k) r.machine.firsts)
+
+-- a word was given this value in what is kept up to the turn that its patch reaches, the rest was
+-- dropped, and the machine is in no state of the run
+pub record IsPatchedRun (k : PatchKey) (word : ℕ) (before after : KeptRun) : Type 0 where
+  pub known : after.known ≡ reached_by k before
+  pub turn : after.machine.state.turn ≡ before.machine.state.turn
+  pub current : after.is_current ≡ false
+  pub ladder : after.ladder ≡ patched_to after.known (drive_of k) (number_of k) word before.ladder
+  pub count : length after.ladder.kept
+      ≡ min (length before.ladder.kept) (after.known / before.ladder.stride + 1)
+  pub rungs : AreRungs after.ladder
+  pub text : after.machine.kept_text ≡ kept_before after.known before.machine.kept_text
+  pub punched : after.machine.kept_punched ≡ kept_before after.known before.machine.kept_punched
+  pub firsts : after.machine.firsts ≡ all_firsts_before after.known before.machine.firsts
+  pub world : after.machine.state.world ≡ before.machine.state.world
+  pub meter : after.meter ≡ before.meter
+  pub small : after.known ≤ never
+
 -- the state of turn 0 alone
 abbrev pub cut_to_first : LadderData → LadderData
 cut_to_first l = record l { kept = filter (λ c. nat_le c.turn 0) l.kept }
@@ -96,22 +126,30 @@ cut_to_first l = record l { kept = filter (λ c. nat_le c.turn 0) l.kept }
 abbrev pub with_more_drives : List (List ℕ) → MachineState → MachineState
 with_more_drives drives m = state_with_drives (m.world.bus.drives ++ drives) m
 
--- with these drives more a run begins anew: its first state alone is kept, all that came out was dropped, and nothing is
--- known
-pub record BeginsAnew (drives : List (List ℕ)) (before after : KeptRun) : Type 0 where
+-- the first touches with these of more drives
+abbrev pub with_more_firsts : List (List ℕ) → Firsts → Firsts
+with_more_firsts more f = firsts_of f.core (f.drives ++ more)
+
+-- with these drives more, and the first touches of their pages, a run begins anew: its first state
+-- alone is kept, all that came out and all touches were dropped, and nothing is known
+pub record BeginsAnew (drives touches : List (List ℕ)) (before after : KeptRun) : Type 0 where
   pub kept : after.ladder.kept ≡ checkpoint_of (with_more_drives drives before.machine.state) ∷ []
   pub rungs : AreRungs after.ladder
   pub state : after.machine.state
       ≡ state_cut (length after.machine.kept_text) (length after.machine.kept_punched) (with_more_drives drives before.machine.state)
   pub text : after.machine.kept_text ≡ kept_before 0 before.machine.kept_text
   pub punched : after.machine.kept_punched ≡ kept_before 0 before.machine.kept_punched
+  pub firsts : after.machine.firsts
+      ≡ all_firsts_before 0 (with_more_firsts touches before.machine.firsts)
   pub known : after.known ≡ 0
 
--- all that came out was dropped, nothing is known any more, and the machine is in no state of the run
+-- all that came out and all touches were dropped, nothing is known any more, and the machine is in
+-- no state of the run
 pub record IsForgotten (before after : KeptRun) : Type 0 where
   pub known : after.known ≡ 0
   pub turn : after.machine.state.turn ≡ before.machine.state.turn
   pub current : after.is_current ≡ false
   pub text : after.machine.kept_text ≡ kept_before 0 before.machine.kept_text
   pub punched : after.machine.kept_punched ≡ kept_before 0 before.machine.kept_punched
+  pub firsts : after.machine.firsts ≡ all_firsts_before 0 before.machine.firsts
   pub meter : after.meter ≡ before.meter

@@ -9,6 +9,7 @@ use Rattle.pdp_cpu.specs.Turns.MachineState.{MachineWithTexts}
 use Rattle.pdp_cpu.specs.Turns.Turn.{printed_in, punched_in}
 use Rattle.pdp_cpu.specs.declared.kept_text.KeptByte.{KeptByte}
 use Rattle.pdp_script.specs.Entries.{events_at}
+use Rattle.pdp_replay.specs.FirstTouches.{firsts_at}
 use Rattle.pdp_replay.specs.Past.{Past}
 use Rattle.pdp_replay.specs.Setup.{SetupData, core_size, drive_words}
 use Rattle.pdp_replay.specs.States.{at, punched_at, state_at, text_at}
@@ -35,10 +36,12 @@ pub record IsBuiltFrom (s : SetupData) (m : MachineWithTexts) : Type 0 where
   pub lasts : length m.state.world.bus.lasts ≡ core_size s
   pub drives : map length m.state.world.bus.drives ≡ replicate s.drives drive_words
 
--- the machine keeps what was printed and punched before the known turn
+-- the machine keeps what was printed and punched before the known turn, and the first touches of
+-- the turns before it
 pub record KeepsTexts (p : Past) (known : ℕ) (m : MachineWithTexts) : Type 0 where
   pub text : m.kept_text ≡ text_kept_at p known
   pub punched : m.kept_punched ≡ punched_kept_at p known
+  pub firsts : m.firsts ≡ firsts_at p known
 
 -- these bytes, without their turns, are what was printed and punched before the known turn
 pub record ShowsTexts (p : Past) (known : ℕ) (m : MachineWithTexts) : Type 0 where

@@ -5,6 +5,7 @@ pub mod FirstWords
 pub mod Image
 pub mod Past
 pub mod States
+pub mod FirstTouches
 pub mod KeptStates
 pub mod LastWrites
 pub mod Trails

@@ -1,11 +1,14 @@
 -- An engine as a contract sees it (this project's profile).
-use Rattle.std.specs.Prelude.{ℕ, ◌≤◌, ◌&&◌, Bool, true, false, List, min, nat_le, unwrap_or, Result, Ok, Err}
+use Rattle.std.specs.Prelude.{ℕ, ◌/◌, ◌≤◌, ◌&&◌, Bool, true, false, List, min, nat_le, unwrap_or, Result, Ok, Err}
 use Rattle.pdp_script.specs.Refusal.{past_left}
 use Rattle.pdp_unibus.specs.LastTurn.{last_turn}
 use Rattle.pdp_script.specs.declared.faults.Fault.{Fault}
 use Rattle.pdp_unibus.specs.declared.delays.Line.{Line}
 use Rattle.pdp_unibus.specs.declared.event.Event.{Event}
+use Rattle.pdp_store.specs.Touch.{Part}
+use Rattle.pdp_store.specs.Touch.{Part as part}
 use Rattle.pdp_replay.specs.Edit.{core_edit, disk_edit, drives_edit, revert_edit, tape_edit, delay_edit, event_insertion, event_alteration, event_drop, turn_of_event, lesser_turn}
+use Rattle.pdp_replay.specs.FirstTouches.{first_touch}
 use Rattle.pdp_replay.specs.Past.{Past, unscripted}
 use Rattle.pdp_replay.specs.Setup.{SetupData, IsGood}
 use Rattle.pdp_replay.specs.FirstWords.{AllThere}
@@ -49,21 +52,29 @@ after_edit reached due refused t = record t {
   current = current_left (t.current && nat_le t.turn (min t.known reached)) due refused t.current;
 }
 
--- an engine after an edit of what is there from power-up: nothing is known any more, and the machine is in no state of
--- the run
-abbrev pub after_setup_edit : Result Past Fault → Bool → Timeline → Timeline
-after_setup_edit due refused t = record t {
+-- an engine after an edit of what is there from power-up, which reaches back to this turn: the
+-- machine is in no state of the run any more, however early its turn
+abbrev pub after_setup_edit : ℕ → Result Past Fault → Bool → Timeline → Timeline
+after_setup_edit reached due refused t = record t {
   past = past_left due refused t.past;
-  known = known_left 0 due refused t.known;
+  known = known_left reached due refused t.known;
   current = current_left false due refused t.current;
 }
 
+-- how far back a patch of a word of a part reaches: to the first touch of its page below the known
+-- turn, to the known turn if there is none
+abbrev pub reached_in : Part → ℕ → Timeline → ℕ
+reached_in part number t = first_touch t.past part (number / 256) t.known
+
 -- an engine after each edit; `refused` is whether memory was refused for it
 abbrev pub core_edited : ℕ → ℕ → Bool → Timeline → Timeline
-core_edited address word refused t = after_setup_edit (core_edit address word t.past) refused t
+core_edited address word refused t =
+    after_setup_edit (reached_in part.Core (address / 2) t) (core_edit address word t.past) refused t
 
 abbrev pub disk_edited : ℕ → ℕ → ℕ → Bool → Timeline → Timeline
-disk_edited drive number word refused t = after_setup_edit (disk_edit drive number word t.past) refused t
+disk_edited drive number word refused t =
+    after_setup_edit (reached_in (part.Drive drive) number t) (disk_edit drive number word t.past)
+    refused t
 
 -- an engine whose machine was taken to the state of turn 0
 abbrev pub restarted : Timeline → Timeline
@@ -77,13 +88,14 @@ drives_given refused t = record (restarted t) {
 }
 
 abbrev pub core_reverted : ℕ → Bool → Timeline → Timeline
-core_reverted address refused t = after_setup_edit (revert_edit address t.past) refused t
+core_reverted address refused t =
+    after_setup_edit (reached_in part.Core (address / 2) t) (revert_edit address t.past) refused t
 
 abbrev pub tape_replaced : List ℕ → Timeline → Timeline
-tape_replaced tape t = after_setup_edit (tape_edit tape t.past) false t
+tape_replaced tape t = after_setup_edit 0 (tape_edit tape t.past) false t
 
 abbrev pub delay_set : Line → ℕ → Timeline → Timeline
-delay_set line delay t = after_setup_edit (delay_edit line delay t.past) false t
+delay_set line delay t = after_setup_edit 0 (delay_edit line delay t.past) false t
 
 abbrev pub event_inserted : ℕ → Event → Bool → Timeline → Timeline
 event_inserted turn event refused t = after_edit turn (event_insertion turn event t.past) refused t

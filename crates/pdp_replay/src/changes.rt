@@ -1,12 +1,12 @@
 //! What edits of the past leave of what is kept of a run.
 
-ghost use Rattle.std.specs.Prelude.{◌≡◌, ◌&&◌, length, map, min, nat_le, OnOk, OnErr};
-ghost use Rattle.std.specs.List.{All};
+ghost use Rattle.std.specs.Prelude.{◌≡◌, ◌<◌, ◌&&◌, ℕ, Some, length, map, min, nat_le, OnOk, OnErr};
+ghost use Rattle.std.specs.List.{All, filter};
 ghost use Rattle.pdp_checkpoint.specs.Delayed.{delayed};
-ghost use Rattle.pdp_checkpoint.specs.Patched.{patched_to};
+ghost use Rattle.pdp_checkpoint.specs.Patched.{HavePageAlike};
 ghost use Rattle.pdp_cpu.specs.Saved.{HasWord};
 ghost use Rattle.pdp_operand.specs.Phases.World.{world};
-ghost use Rattle.pdp_replay.specs.KeptRuns.{cut_to_first, drive_of, number_of, BeginsAnew, IsForgotten, IsKeptRun};
+ghost use Rattle.pdp_replay.specs.KeptRuns.{cut_to_first, drive_of, number_of, reached_by, BeginsAnew, IsForgotten, IsKeptRun, IsPatchedRun};
 ghost use Rattle.pdp_replay.specs.Past.{Past};
 ghost use Rattle.pdp_unibus.specs.BusContent.{with_tape};
 
@@ -33,11 +33,15 @@ impl KeptRun {
         let known = self.known.min(turn);
         self.ladder.cut(known);
         self.machine.keep_text(known);
+        self.machine.forget(known);
         self.known = known;
         self.is_current = self.is_current_by(known);
     }
 
-    /// Gives a word this value in the kept state of turn 0, and drops what is kept of later turns. It runs no turn.
+    /// Lowers the known turn to the first touch of the page of this word. If there is none, the
+    /// known turn stays. It gives the word this value in each state that is kept up to there, and
+    /// drops what is kept of later turns. The machine is in no state of the run then. It runs no
+    /// turn.
     ///
     /// Err where a growth was refused; nothing changes then.
     pub(crate) fn set_word(
@@ -47,20 +51,19 @@ impl KeptRun {
         word: u16,
     ) -> Result<(), NoMemory>
         requires there { All (λ c. HasWord (drive_of key) (number_of key) c.saved) self.old.ladder.kept }
-        ensures ladder { OnOk result (self.new.ladder ≡ patched_to 0 (drive_of key) (number_of key) word self.old.ladder) }
-        ensures forgotten { OnOk result (IsForgotten self.old self.new) }
-        ensures world { OnOk result (self.new.machine.state.world ≡ self.old.machine.state.world) }
+        requires alike { HavePageAlike (drive_of key) (number_of key)
+            (filter (λ c. nat_le c.turn (reached_by key self.old)) self.old.ladder.kept) }
+        requires drive { (number : ℕ) → drive_of key ≡ Some number
+            → number < length self.old.machine.state.world.bus.drives }
+        ensures patched { OnOk result (IsPatchedRun key word self.old self.new) }
         ensures refused { OnErr result (self.new ≡ self.old) }
     {
-        let drive = match key {
-            PatchKey::Core(_) => None,
-            PatchKey::Disk(drive, _) => Some(drive),
-        };
+        let reached = self.reached_by(key);
         let number = key.number() as usize;
-        self.ladder
-            .patch(alloc, &mut self.machine, 0, drive, number, word)?;
-        self.machine.keep_text(0);
-        self.known = 0;
+        self.ladder.patch(alloc, &mut self.machine, reached, key.drive(), number, word)?;
+        self.machine.keep_text(reached);
+        self.machine.forget(reached);
+        self.known = reached;
         self.is_current = false;
         Ok(())
     }
@@ -76,7 +79,9 @@ impl KeptRun {
     ) -> Result<(), NoMemory>
         requires start { self.old.machine.state.turn ≡ 0 }
         requires one { length self.old.machine.state.world.bus.drives ≡ 1 }
-        ensures anew { OnOk result (BeginsAnew (map (λ drive. drive.words) drives.items) self.old self.new) }
+        requires firsts { length self.old.machine.firsts.drives ≡ 1 }
+        ensures anew { OnOk result (BeginsAnew (map (λ drive. drive.words) drives.items)
+            (map (λ drive. drive.firsts) drives.items) self.old self.new) }
         ensures current { self.new.is_current ≡ self.old.is_current }
         ensures stride { self.new.ladder.stride ≡ self.old.ladder.stride }
         ensures meter { self.new.meter ≡ self.old.meter }
@@ -92,8 +97,25 @@ impl KeptRun {
             }
         }
         self.machine.keep_text(0);
+        self.machine.forget(0);
         self.known = 0;
         Ok(())
+    }
+
+    // How far back a patch of a word reaches: to the first touch of its page, or to the known turn
+    // if there is none.
+    #[tactic(auto, using(crate::proofs::RunFirsts::none_told, crate::proofs::RunFirsts::some_told))]
+    fn reached_by(&self, key: PatchKey) -> u32
+        requires { (number : ℕ) → drive_of key ≡ Some number
+            → number < length self.now.machine.state.world.bus.drives }
+        ensures { result ≡ reached_by key self.now }
+    {
+        let known = self.known;
+        let page = key.number() as usize / 256;
+        match self.machine.first(key.drive(), page) {
+            Some(turn) => known.min(turn),
+            None => known,
+        }
     }
 
     /// Makes these the delays in the kept state of turn 0, and drops what is kept of later turns. It runs no turn and
@@ -105,6 +127,7 @@ impl KeptRun {
     {
         self.ladder.set_delays(delays);
         self.machine.keep_text(0);
+        self.machine.forget(0);
         self.known = 0;
         self.is_current = false;
     }
@@ -118,6 +141,7 @@ impl KeptRun {
         self.ladder.cut(0);
         self.machine.set_tape(tape);
         self.machine.keep_text(0);
+        self.machine.forget(0);
         self.known = 0;
         self.is_current = false;
     }

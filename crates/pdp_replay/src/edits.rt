@@ -16,7 +16,8 @@ use pdp_word::NoMemory;
 
 impl Engine {
     /// Makes the core word at this address (octal, bytes) equal to `word` as of power-up. A word that has a patch keeps
-    /// its place among the patches. The known turn becomes 0; no turn is run.
+    /// its place among the patches. The known turn becomes the first turn below it that accesses the
+    /// word's page of 256 words in any way, and stays if there is none. No turn is run.
     ///
     /// Err(OutsideCore) where the address is not in core; else Err(OddAddress) where it is odd; else Err(NoMemory)
     /// where a growth was refused. A refused edit changes nothing. (This project's profile.)
@@ -35,7 +36,9 @@ impl Engine {
     }
 
     /// Takes back the patch of the core word at this address (octal, bytes): as of power-up it is its image's word
-    /// again, or 0. The other patches keep their order. The known turn becomes 0; no turn is run.
+    /// again, or 0. The other patches keep their order. The known turn becomes the first turn below
+    /// it that accesses the word's page of 256 words in any way, and stays if there is none. No turn
+    /// is run.
     ///
     /// Err(OutsideCore) where the address is not in core; else Err(OddAddress) where it is odd; else Err(NoSuchPatch)
     /// where the word has no patch; else Err(NoMemory) where a growth was refused. A refused edit changes nothing.

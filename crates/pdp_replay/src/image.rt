@@ -1,5 +1,6 @@
 ghost use Rattle.std.specs.Prelude.{◌≡◌, ◌*◌, ◌≤◌, ◌++◌, ℕ, drop, length, map, replicate, None, IfOk};
 ghost use Rattle.std.specs.List.{All};
+ghost use Rattle.pdp_store.specs.Stored.{untouched};
 ghost use Rattle.pdp_replay.specs.Image.{more_drives, padded};
 ghost use Rattle.pdp_replay.specs.Setup.{images_of};
 
@@ -16,6 +17,8 @@ pub(crate) fn core_store(alloc: Global, origin: &Origin) -> Result<Paged, NoMemo
     requires { length origin.now.core.items ≤ origin.now.units * UNIT_WORDS }
     ensures words { IfOk result (λ store. store.words ≡ padded (origin.now.units * UNIT_WORDS) origin.now.core.items) }
     ensures lasts { IfOk result (λ store. store.lasts ≡ replicate (origin.now.units * UNIT_WORDS) None) }
+    ensures firsts { IfOk result (λ store. store.firsts
+        ≡ untouched (origin.now.units * UNIT_WORDS)) }
 {
     let words = usize::from(origin.units) * UNIT_WORDS;
     let mut store = Paged::new(alloc, words, true)?;
@@ -28,7 +31,8 @@ pub(crate) fn core_store(alloc: Global, origin: &Origin) -> Result<Paged, NoMemo
 /// Err where there is no memory for it.
 pub(crate) fn drive_store(alloc: Global, image: &[u16]) -> Result<PagedDrive, NoMemory>
     requires { length image.now ≤ DRIVE_WORDS }
-    ensures { IfOk result (λ store. store.words ≡ padded DRIVE_WORDS image.now) }
+    ensures words { IfOk result (λ store. store.words ≡ padded DRIVE_WORDS image.now) }
+    ensures firsts { IfOk result (λ store. store.firsts ≡ untouched DRIVE_WORDS) }
 {
     let mut store = PagedDrive::blank(alloc, DRIVE_WORDS)?;
     fill(&mut store, image);
@@ -41,7 +45,10 @@ pub(crate) fn drive_store(alloc: Global, image: &[u16]) -> Result<PagedDrive, No
 #[tactic(auto, unfolding(crate::specs::Image::more_drives))]
 pub(crate) fn more_drives(alloc: Global, origin: &Origin) -> Result<Vec<PagedDrive>, NoMemory>
     requires { All (λ image. length image ≤ DRIVE_WORDS) (images_of origin.now.disks.items) }
-    ensures { IfOk result (λ drives. map (λ drive. drive.words) drives.items ≡ more_drives (images_of origin.now.disks.items)) }
+    ensures words { IfOk result (λ drives. map (λ drive. drive.words) drives.items
+        ≡ more_drives (images_of origin.now.disks.items)) }
+    ensures firsts { IfOk result (λ drives. map (λ drive. drive.firsts) drives.items
+        ≡ replicate 7 (untouched DRIVE_WORDS)) }
 {
     let mut drives = Vec::with_capacity(alloc, MOST_DRIVES)?;
     for number in 1..MOST_DRIVES {
@@ -55,6 +62,7 @@ fn fill<S: Store>(store: &mut S, image: &[u16])
     requires { length image.now ≤ length (S.words store.old) }
     ensures words { S.words store.new ≡ image.now ++ drop (length image.now) (S.words store.old) }
     ensures lasts { (n : ℕ) → S.lasts store.old ≡ replicate n None → S.lasts store.new ≡ replicate n None }
+    ensures firsts { S.firsts store.new ≡ S.firsts store.old }
 {
     for (number, word) in image.iter().enumerate() {
         store.set(number, *word);

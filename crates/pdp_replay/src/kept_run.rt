@@ -235,6 +235,7 @@ impl KeptRun {
         if turn == self.ladder.next() {
             if let Err(refused) = self.ladder.take(alloc, &mut self.machine) {
                 self.machine.keep_text(turn - 1);
+                self.machine.forget(turn - 1);
                 self.known = self.known.max(turn - 1);
                 self.is_current = false;
                 return Err(refused);

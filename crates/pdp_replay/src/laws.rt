@@ -1,3 +1,5 @@
+ghost use Rattle.pdp_replay.specs.FirstTouches.{FirstTouchesAreFirst, FirstTouchesAreTold, LateTouchesAreDropped};
+ghost use Rattle.pdp_replay.specs.FirstTouches.{PatchesReachTheFirstTouch, TurnsRunAgainTouchNothingNew, UntouchedPagesAreAlike};
 ghost use Rattle.pdp_replay.specs.FirstWords.{CoreHasItsSize, DriveHasItsSize, CoreWordsAreFirstWords, DiskWordsAreFirstWords, DrivesAreByNumber, DrivesAreSoMany};
 ghost use Rattle.pdp_replay.specs.Edit.{AlterationNeedsNoMemory, DropNeedsNoMemory, TapeNeedsNoMemory, DelayNeedsNoMemory};
 ghost use Rattle.pdp_replay.specs.LastWrites.{StampsOfKeptStatesAreLastWrites, StampsOfStatesAreLastWrites};
@@ -55,4 +57,39 @@ pub fn texts_only_grow()
 pub fn stamps_of_states_are_last_writes()
     ensures states { StampsOfStatesAreLastWrites }
     ensures kept { StampsOfKeptStatesAreLastWrites }
+{}
+
+/// A law of edits: a patch of a word reaches back to the first turn that touches its page. Up to
+/// there each state of the patched run is that of the run before, with the word changed.
+///
+/// This project's profile.
+pub fn patches_reach_the_first_touch()
+    ensures { PatchesReachTheFirstTouch }
+{}
+
+/// A law of first touches: no turn before the first touch of a page accesses the page, and the turn
+/// of the first touch does. Those that the turns before a turn leave tell the first touch of each
+/// page. If touches of a turn and of later turns are dropped, those that the turns before it leave
+/// remain.
+///
+/// This project's profile.
+pub fn first_touches_are_told()
+    ensures least { FirstTouchesAreFirst }
+    ensures told { FirstTouchesAreTold }
+    ensures dropped { LateTouchesAreDropped }
+{}
+
+/// A law of first touches: a turn that is run again adds nothing to them.
+///
+/// This project's profile.
+pub fn turns_run_again_touch_nothing_new()
+    ensures { TurnsRunAgainTouchNothingNew }
+{}
+
+/// A law of runs: up to the first touch of a page each state of a run has in this page the words of
+/// power-up and, in core, no stamp.
+///
+/// This project's profile.
+pub fn untouched_pages_are_alike()
+    ensures { UntouchedPagesAreAlike }
 {}

@@ -18,6 +18,10 @@
 //!   known turn; no edit runs a turn (`set_core`, `revert_core`, `set_disk`, `eight_drives`,
 //!   `set_tape`, `set_delay`, `insert`, `alter`, `drop_event`). Patches keep the place in which
 //!   they were first given (`patches`, `patch_count`).
+//! - A patch of a word lowers the known turn to the first turn that accesses the page of the word,
+//!   and no further. Up to there the states of the run differ in that word alone
+//!   (`patches_reach_the_first_touch`, `first_touches_are_told`,
+//!   `turns_run_again_touch_nothing_new`, `untouched_pages_are_alike`).
 //! - Alterations and drops of events, and edits of tape and delays, are never refused for memory
 //!   (`some_edits_need_no_memory`). Texts only grow from turn to turn (`texts_only_grow`).
 //!
@@ -50,8 +54,9 @@ pub use answer_words::Words;
 pub use engine::Engine;
 pub use last_write::LastWrite;
 pub use laws::{
-    core_words_are_first_words, disk_words_are_first_words, some_edits_need_no_memory,
-    stamps_of_states_are_last_writes, texts_only_grow,
+    core_words_are_first_words, disk_words_are_first_words, first_touches_are_told,
+    patches_reach_the_first_touch, some_edits_need_no_memory, stamps_of_states_are_last_writes,
+    texts_only_grow, turns_run_again_touch_nothing_new, untouched_pages_are_alike,
 };
 pub use patch::Patch;
 pub use pdp_cpu::{Act, DeviceRegisters, PageRegisters, Regs, RunState};

@@ -1,5 +1,5 @@
 ghost use Rattle.std.specs.Prelude.{◌≡◌};
-ghost use Rattle.pdp_replay.specs.KeptRuns.{number_of};
+ghost use Rattle.pdp_replay.specs.KeptRuns.{drive_of, number_of};
 
 /// A word that differs as of power-up (this project's profile).
 #[derive(Clone, Copy, Debug, PartialEq, Eq)]
@@ -20,6 +20,16 @@ pub enum PatchKey {
 }
 
 impl PatchKey {
+    /// The drive that the word is on; None for a word of core.
+    pub(crate) fn drive(self) -> Option<u8>
+        ensures { result ≡ drive_of self }
+    {
+        match self {
+            PatchKey::Core(_) => None,
+            PatchKey::Disk(drive, _) => Some(drive),
+        }
+    }
+
     /// The number of the word in what it is a word of.
     pub(crate) fn number(self) -> u32
         ensures { result ≡ number_of self }

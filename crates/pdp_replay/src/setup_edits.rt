@@ -16,8 +16,9 @@ use pdp_unibus::{LAST_TURN, Line};
 impl Engine {
     /// Makes the word of this number on the drive of this number (both counted from 0) equal to `word` as of power-up. A
     /// word that has a patch keeps its place among the patches. No edit takes a patch of a drive back: the word of the
-    /// drive's image, 0 past its end, undoes what it does, and it stays among the patches. The known turn becomes 0; no
-    /// turn is run.
+    /// drive's image, 0 past its end, undoes what it does, and it stays among the patches. The known
+    /// turn becomes the first turn below it that accesses the word's page of 256 words in any way,
+    /// and stays if there is none. No turn is run.
     ///
     /// Err(NoSuchDrive) if the drive is not below the number of drives; else Err(OutsideDisk) if the word's number is
     /// 4604000 (octal; 1,247,232) or above; else Err(NoMemory) if a growth was refused. A refused edit changes nothing.

@@ -7,6 +7,8 @@ pub mod CompletionStamps
 pub mod CompletionTouches
 pub mod Done
 pub mod Fill
+pub mod FirstTouches
+pub mod TouchedRuns
 pub mod Fronts
 pub mod Moves
 pub mod Names

@@ -5,3 +5,4 @@ pub mod Moves
 pub mod Transfer
 pub mod Completion
 pub mod Trace
+pub mod Touched

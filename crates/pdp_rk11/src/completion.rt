@@ -1,12 +1,14 @@
 //! The completion of what is under way, as one act.
 
-ghost use Rattle.std.specs.Prelude.{◌≡◌, ℕ, ◌+◌, ◌*◌, ◌<◌, ◌≤◌, ◌-◌, true, false, ◌&&◌, None, length, map};
+ghost use Rattle.std.specs.Prelude.{◌≡◌, ℕ, ◌+◌, ◌*◌, ◌<◌, ◌≤◌, ◌-◌, ◌%◌, None, true, false, ◌&&◌, length, map};
 ghost use Rattle.pdp_rk11.specs.Completion.{address_after, completed, disk_address_after, disk_world, drive_of};
 ghost use Rattle.pdp_rk11.specs.Completion.{finished, is_read_check, is_write_check, lists_after, names_sector};
 ghost use Rattle.pdp_rk11.specs.Completion.{performed, refusal, registers_after, stop_of, transfer_of, transferred};
 ghost use Rattle.pdp_rk11.specs.Completion.{core_word_at, within_core, worked, words_asked, write_locked};
 ghost use Rattle.pdp_rk11.specs.Completion.{stamps_after, stamps_completed, stamps_performed};
 ghost use Rattle.pdp_rk11.specs.Geometry.{drive_in, sector_number};
+ghost use Rattle.pdp_rk11.specs.Trace.{completion_touches, performed_touches, transfer_touches};
+ghost use Rattle.pdp_store.specs.Firsts.{firsts_after, firsts_of};
 ghost use Rattle.pdp_rk11.specs.Transfer.{core_word, disk_word, is_different};
 
 use crate::geometry::{
@@ -33,6 +35,9 @@ impl Rk {
     /// zeros. No word of a drive takes a stamp; where drives have any, a write takes those of the words that it writes
     /// away.
     ///
+    /// The words that are moved, compared or checked are touched in this turn, in core and on the
+    /// drive, and so are the words of the zero fill. A read check touches no word of core.
+    ///
     /// PDP-11 Peripherals Handbook, RK11; that it is one act, the order of the tests, the fill, and where the registers
     /// are left, are this project's profile.
     #[tactic(auto, unfolding(crate::specs::Completion::completed, crate::specs::Completion::stamps_completed), using(crate::proofs::Names::map_length))]
@@ -42,6 +47,10 @@ impl Rk {
         ensures stamps { map D.lasts drives.new
             ≡ stamps_completed (disk_world self.old (S.words core.old) (S.lasts core.old) (map D.words drives.old))
             (map D.lasts drives.old) }
+        ensures firsts { firsts_of (S.firsts core.new) (map D.firsts drives.new)
+            ≡ firsts_after (completion_touches turn
+            (disk_world self.old (S.words core.old) (S.lasts core.old) (map D.words drives.old)))
+            (firsts_of (S.firsts core.old) (map D.firsts drives.old)) }
     {
         if self.operation.is_under_way() {
             self.perform(core, drives, turn);
@@ -66,6 +75,10 @@ impl Rk {
             ≡ stamps_performed (refusal self.old (length drives.old))
             (disk_world self.old (S.words core.old) (S.lasts core.old) (map D.words drives.old))
             (map D.lasts drives.old) }
+        ensures firsts { firsts_of (S.firsts core.new) (map D.firsts drives.new)
+            ≡ firsts_after (performed_touches (refusal self.old (length drives.old)) turn
+            (disk_world self.old (S.words core.old) (S.lasts core.old) (map D.words drives.old)))
+            (firsts_of (S.firsts core.old) (map D.firsts drives.old)) }
     {
         match self.refusal(drives.len()) {
             Some(failure) => self.failure = Some(failure),
@@ -104,10 +117,15 @@ impl Rk {
             ≡ stamps_performed None
             (disk_world self.old (S.words core.old) (S.lasts core.old) (map D.words drives.old))
             (map D.lasts drives.old) }
+        ensures firsts { firsts_of (S.firsts core.new) (map D.firsts drives.new)
+            ≡ firsts_after (performed_touches None turn
+            (disk_world self.old (S.words core.old) (S.lasts core.old) (map D.words drives.old)))
+            (firsts_of (S.firsts core.old) (map D.firsts drives.old)) }
     {
         match self.function {
             Function::ControlReset => {}
-            Function::Seek | Function::DriveReset => self.search_complete = true,
+            Function::Seek => self.search_complete = true,
+            Function::DriveReset => self.search_complete = true,
             Function::WriteLock => self.lock(),
             Function::Write | Function::Read | Function::WriteCheck | Function::ReadCheck => {
                 self.transfer(core, drives, turn)
@@ -134,9 +152,14 @@ impl Rk {
             ≡ stamps_performed None
             (disk_world self.old (S.words core.old) (S.lasts core.old) (map D.words drives.old))
             (map D.lasts drives.old) }
+        ensures firsts { firsts_of (S.firsts core.new) (map D.firsts drives.new)
+            ≡ firsts_after (performed_touches None turn
+            (disk_world self.old (S.words core.old) (S.lasts core.old) (map D.words drives.old)))
+            (firsts_of (S.firsts core.old) (map D.firsts drives.old)) }
     {
         let size = drives[self.drive()].len();
         let transfer = self.transfer_of(core.len(), size);
+        self.touch_words(transfer, core, drives, turn);
         let different = self.move_words(transfer, core, drives, turn);
         self.end_transfer(size, transfer, different);
     }
@@ -150,6 +173,7 @@ impl Rk {
         ensures in_core { is_read_check self.now.function ≡ false → (i : ℕ) → i < result.count → core_word result i < words }
         ensures count { result.count ≤ 65536 }
         ensures core_start { result.core_start < 131072 }
+        ensures aligned { result.disk_start % 256 ≡ 0 }
         ensures disk_start { result.disk_start < 4872 * 256 }
     {
         let disk_start = sector_number(self.disk_address) * WORDS_OF_SECTOR;
@@ -190,6 +214,35 @@ impl Rk {
         }
     }
 
+    // Touches the words of a transfer.
+    #[tactic(auto, using(crate::proofs::Names::map_get, crate::proofs::Names::map_with))]
+    fn touch_words<S: Store, D: Store>(
+        &self,
+        transfer: Transfer,
+        core: &mut S,
+        drives: &mut [D],
+        turn: u32,
+    )
+        requires drive { drive_in self.now.disk_address < length drives.old }
+        requires on_disk { (i : ℕ) → i < transfer.count
+            → disk_word transfer i < length (drive_of
+            (disk_world self.now (S.words core.old) (S.lasts core.old) (map D.words drives.old))) }
+        requires in_core { is_read_check self.now.function ≡ false → (i : ℕ) → i < transfer.count
+            → core_word transfer i < length (S.words core.old) }
+        requires aligned { transfer.disk_start % 256 ≡ 0 }
+        ensures words { S.words core.new ≡ S.words core.old }
+        ensures lasts { S.lasts core.new ≡ S.lasts core.old }
+        ensures disks { map D.words drives.new ≡ map D.words drives.old }
+        ensures stamps { map D.lasts drives.new ≡ map D.lasts drives.old }
+        ensures firsts { firsts_of (S.firsts core.new) (map D.firsts drives.new)
+            ≡ firsts_after
+            (transfer_touches self.now.function transfer (drive_in self.now.disk_address) turn)
+            (firsts_of (S.firsts core.old) (map D.firsts drives.old)) }
+    {
+        let drive = self.drive();
+        transfer.touch(self.function, core, &mut drives[drive], turn);
+    }
+
     // Moves or compares the words. Whether a write check found words that differ.
     #[tactic(auto, using(crate::proofs::Names::map_get, crate::proofs::Names::map_with))]
     fn move_words<S: Store, D: Store>(
@@ -208,6 +261,8 @@ impl Rk {
             (disk_world self.now (S.words core.old) (S.lasts core.old) (map D.words drives.old)) }
         ensures stamps { map D.lasts drives.new
             ≡ stamps_after self.now.function transfer (drive_in self.now.disk_address) (map D.lasts drives.old) }
+        ensures firsts { firsts_of (S.firsts core.new) (map D.firsts drives.new)
+            ≡ firsts_of (S.firsts core.old) (map D.firsts drives.old) }
         ensures different { result
             ≡ (is_write_check self.now.function
             && is_different transfer (S.words core.old)

@@ -13,6 +13,9 @@
 //!   (`a_check_changes_no_word`).
 //! - Every completion sets ready, and RKCS tells exactly if RKER has an error
 //!   (`the_control_register_tells_the_end`).
+//! - `Rk::complete` touches exactly the words of its trace, in its own turn: each word of core and
+//!   of the drive that a read, a write or a write check moves or compares, each word of the drive
+//!   that a read check reads, and each word of the zero fill. A refused function touches none.
 //!
 //! The drives themselves, addresses, how a byte is written to a register, when a function
 //! completes, and which request is served are left to pdp_unibus.

@@ -1,8 +1,10 @@
 //! The words of a transfer, moved or compared.
 
-ghost use Rattle.std.specs.Prelude.{◌≡◌, ℕ, ◌+◌, ◌<◌, None, length, slice_index};
+ghost use Rattle.std.specs.Prelude.{◌≡◌, ℕ, ◌+◌, ◌-◌, ◌*◌, ◌/◌, ◌^◌, ◌<◌, ◌%◌, None, false, length, slice_index};
+ghost use Rattle.pdp_rk11.specs.Touched.{run_touched, stepped};
 
-use pdp_store::{Stamp, Store};
+use crate::Function;
+use pdp_store::{PAGE_WORDS, Stamp, Store};
 
 /// The words that a transfer moves or compares: so many, one by one from a first word of core and of the drive on.
 #[derive(Clone, Copy, Debug, PartialEq, Eq)]
@@ -18,6 +20,9 @@ pub struct Transfer {
 }
 
 impl Transfer {
+    ghost use Rattle.pdp_rk11.specs.Completion.{is_read_check};
+    ghost use Rattle.pdp_rk11.specs.Touched.{core_after, disk_after, disk_touched};
+    ghost use Rattle.pdp_rk11.specs.Touched.{fill_touched, stepped, words_named};
     ghost use Rattle.pdp_rk11.specs.Moves.{moved, moved_to_one};
     ghost use Rattle.pdp_rk11.specs.Transfer.{core_read, core_word, disk_word, disk_written, is_different, lasts_read};
     ghost use Rattle.pdp_rk11.specs.Transfer.{moved_to_disk, rest_of_sector, stamps_written};
@@ -28,6 +33,7 @@ impl Transfer {
         requires in_core { (i : ℕ) → i < self.count → core_word self i < length (S.words core.old) }
         ensures words { S.words core.new ≡ core_read self (D.words disk.now) (S.words core.old) }
         ensures lasts { S.lasts core.new ≡ lasts_read self stamp (S.lasts core.old) }
+        ensures firsts { S.firsts core.new ≡ S.firsts core.old }
     {
         if self.no_increment {
             self.read_last(core, disk, stamp);
@@ -44,6 +50,7 @@ impl Transfer {
         ensures words { S.words core.new
             ≡ moved self.core_start self.count (λ i. slice_index (D.words disk.now) (self.disk_start + i)) (S.words core.old) }
         ensures lasts { S.lasts core.new ≡ moved self.core_start self.count (λ i. Some stamp) (S.lasts core.old) }
+        ensures firsts { S.firsts core.new ≡ S.firsts core.old }
     {
         let core_start = self.core_start as usize;
         let disk_start = self.disk_start as usize;
@@ -60,6 +67,7 @@ impl Transfer {
         ensures words { S.words core.new
             ≡ moved_to_one self.core_start self.count (λ i. slice_index (D.words disk.now) (self.disk_start + i)) (S.words core.old) }
         ensures lasts { S.lasts core.new ≡ moved_to_one self.core_start self.count (λ i. Some stamp) (S.lasts core.old) }
+        ensures firsts { S.firsts core.new ≡ S.firsts core.old }
     {
         if self.count > 0 {
             let last = self.disk_start as usize + (self.count - 1) as usize;
@@ -73,6 +81,7 @@ impl Transfer {
         requires in_core { (i : ℕ) → i < self.count → core_word self i < length (S.words core.now) }
         ensures words { D.words disk.new ≡ disk_written self (S.words core.now) (D.words disk.old) }
         ensures stamps { D.lasts disk.new ≡ stamps_written self (D.lasts disk.old) }
+        ensures firsts { D.firsts disk.new ≡ D.firsts disk.old }
     {
         self.write_all(core, disk);
         self.fill_sector(disk);
@@ -85,6 +94,7 @@ impl Transfer {
         requires in_core { (i : ℕ) → i < self.count → core_word self i < length (S.words core.now) }
         ensures words { D.words disk.new ≡ moved_to_disk self (S.words core.now) (D.words disk.old) }
         ensures stamps { D.lasts disk.new ≡ moved self.disk_start self.count (λ i. None) (D.lasts disk.old) }
+        ensures firsts { D.firsts disk.new ≡ D.firsts disk.old }
     {
         let disk_start = self.disk_start as usize;
         for i in 0..self.count as usize {
@@ -99,6 +109,7 @@ impl Transfer {
             ≡ moved (disk_word self self.count) (rest_of_sector self) (λ i. 0) (D.words disk.old) }
         ensures stamps { D.lasts disk.new
             ≡ moved (disk_word self self.count) (rest_of_sector self) (λ i. None) (D.lasts disk.old) }
+        ensures firsts { D.firsts disk.new ≡ D.firsts disk.old }
     {
         let start = self.disk_start as usize + self.count as usize;
         let left = disk.len().saturating_sub(start);
@@ -121,6 +132,92 @@ impl Transfer {
         different
     }
 
+    /// Touches the words of the transfer: each word that it moves, compares or checks, and each
+    /// word that a write fills with zeros. A read check touches no word of core.
+    pub(crate) fn touch<S: Store, D: Store>(
+        self,
+        function: Function,
+        core: &mut S,
+        disk: &mut D,
+        turn: u32,
+    )
+        requires on_disk { (i : ℕ) → i < self.count → disk_word self i < length (D.words disk.old) }
+        requires in_core { is_read_check function ≡ false → (i : ℕ) → i < self.count
+            → core_word self i < length (S.words core.old) }
+        requires aligned { self.disk_start % 256 ≡ 0 }
+        ensures words { S.words core.new ≡ S.words core.old }
+        ensures lasts { S.lasts core.new ≡ S.lasts core.old }
+        ensures disk { D.words disk.new ≡ D.words disk.old }
+        ensures stamps { D.lasts disk.new ≡ D.lasts disk.old }
+        ensures core_firsts { S.firsts core.new
+            ≡ core_after function self turn (S.firsts core.old) }
+        ensures disk_firsts { D.firsts disk.new
+            ≡ disk_after function self turn (D.firsts disk.old) }
+    {
+        self.touch_core(function, core, turn);
+        self.touch_disk(function, disk, turn);
+        if function == Function::Write {
+            self.touch_fill(disk, turn);
+        }
+    }
+
+    // Touches the words of core of the moves.
+    fn touch_core<S: Store>(self, function: Function, core: &mut S, turn: u32)
+        requires in_core { is_read_check function ≡ false → (i : ℕ) → i < self.count
+            → core_word self i < length (S.words core.old) }
+        ensures words { S.words core.new ≡ S.words core.old }
+        ensures lasts { S.lasts core.new ≡ S.lasts core.old }
+        ensures firsts { S.firsts core.new ≡ core_after function self turn (S.firsts core.old) }
+    {
+        match function {
+            Function::Read | Function::Write | Function::WriteCheck => {
+                let count = self.words_named();
+                touch_run(core, self.core_start as usize, count as usize, turn);
+            }
+            _ => {}
+        }
+    }
+
+    // How many words of core the moves name.
+    fn words_named(self) -> u32
+        ensures { result ≡ words_named self }
+    {
+        if self.no_increment {
+            self.count.min(1)
+        } else {
+            self.count
+        }
+    }
+
+    // Touches the words of the drive of the moves.
+    fn touch_disk<D: Store>(self, function: Function, disk: &mut D, turn: u32)
+        requires on_disk { (i : ℕ) → i < self.count → disk_word self i < length (D.words disk.old) }
+        ensures disk { D.words disk.new ≡ D.words disk.old }
+        ensures stamps { D.lasts disk.new ≡ D.lasts disk.old }
+        ensures firsts { D.firsts disk.new
+            ≡ stepped (disk_touched function self turn) self.count (D.firsts disk.old) }
+    {
+        match function {
+            Function::Read | Function::Write | Function::WriteCheck | Function::ReadCheck => {
+                touch_run(disk, self.disk_start as usize, self.count as usize, turn);
+            }
+            _ => {}
+        }
+    }
+
+    // Touches the words that a write fills with zeros, which are in the page of its last word.
+    fn touch_fill<D: Store>(self, disk: &mut D, turn: u32)
+        requires on_disk { (i : ℕ) → i < self.count → disk_word self i < length (D.words disk.old) }
+        requires aligned { self.disk_start % 256 ≡ 0 }
+        ensures disk { D.words disk.new ≡ D.words disk.old }
+        ensures stamps { D.lasts disk.new ≡ D.lasts disk.old }
+        ensures firsts { D.firsts disk.new
+            ≡ stepped (fill_touched self turn) (rest_of_sector self) (D.firsts disk.old) }
+    {
+        let start = self.disk_start as usize + self.count as usize;
+        touch_run(disk, start, self.rest_of_sector(), turn);
+    }
+
     // The number of the word of core of move i, counted from 0.
     #[inline(always)]
     fn core_word(self, i: usize) -> usize
@@ -140,5 +237,22 @@ impl Transfer {
     {
         let count = self.count as usize;
         count.div_ceil(256) * 256 - count
+    }
+}
+
+// Touches `count` words from word `start` on. Each page is touched once, by its first word.
+fn touch_run<S: Store>(store: &mut S, start: usize, count: usize, turn: u32)
+    requires room { 0 < count → (start + count - 1) / 256 * 256 < length (S.words store.old) }
+    requires range { start + count < 2 ^ 40 }
+    ensures words { S.words store.new ≡ S.words store.old }
+    ensures lasts { S.lasts store.new ≡ S.lasts store.old }
+    ensures firsts { S.firsts store.new
+        ≡ stepped (run_touched start turn) count (S.firsts store.old) }
+{
+    if count > 0 {
+        let last = (start + count - 1) / PAGE_WORDS;
+        for page in start / PAGE_WORDS..last + 1 {
+            store.touch(page * PAGE_WORDS, turn);
+        }
     }
 }

@@ -7,6 +7,7 @@ use Rattle.pdp_store.specs.declared.paged_drive.Place.TheVariants.{Shared}
 use Rattle.pdp_store.specs.Bases.{IsPageOf}
 use Rattle.pdp_store.specs.DrivePlaces.{AreDriveFields, AreZeros, bases_held, loaded, words_read}
 use Rattle.pdp_store.specs.Pages.{SharedPage, blank_drive, lasts_of, page_lasts, page_serial, page_words, serials, words_of}
+use Rattle.pdp_store.specs.Stored.{untouched}
 use Rattle.pdp_store.proofs.DriveTaken.{drive, fields-renewed, renewed}
 use Rattle.pdp_store.proofs.Pages.{lasts_of-push, words_of-push}
 
@@ -26,7 +27,7 @@ zeros-more count serial pages page owner are is first same =
           ∙ replicate-append-replicate (count * 256) 256 0 ∙ ap (λ n. replicate n 0) size;
       no_lasts =
           lasts_of-push pages owner ∙ ap (λ xs. xs ++ page_lasts owner) are.no_lasts
-          ∙ ap (λ (p : Page). p.stamps.items) same ∙ is.has_lasts;
+          ∙ ap (λ (p : Page). p.stamps.value.items) same ∙ is.has_lasts;
       first =
           map-append page_serial pages (owner ∷ []) ∙ ap (λ xs. xs ++ page_serial owner ∷ []) are.first
           ∙ ap (λ n. replicate count 1 ++ n ∷ []) (ap (λ (p : Page). p.serial) same ∙ is.has_serial ∙ first)
@@ -42,19 +43,20 @@ map-first zero = refl
 map-first (suc count) = ap (λ xs. Some 1 ∷ xs) (map-first count)
 
 loaded-zeros : (count len : ℕ) (pages : List SharedPage) → AreZeros count pages → count ≡ len / 256 → count * 256 ≡ len
-    → loaded pages 1 ≡ blank_drive len
+    → loaded pages 1 (untouched len) ≡ blank_drive len
 loaded-zeros count len pages are many whole =
     let words : words_of pages ≡ replicate len 0 = are.zeros ∙ ap (λ n. replicate n 0) whole in
     let bases : map Some (serials pages) ≡ replicate (len / 256) (Some 1) =
     ap (map {A = ℕ} Some) are.first ∙ map-first count ∙ ap (λ n. replicate n (Some 1)) many in
     rw (words, bases) refl
 
-pub blank-value : (pages : List SharedPage) (places : List Place) (own : List ℕ) (count len : ℕ) → AreZeros count pages → count ≡ len / 256
-    → count * 256 ≡ len → places ≡ replicate count Shared → own ≡ replicate len 0
-    → drive (words_read pages places own) (bases_held pages places) 1 ≡ blank_drive len
-blank-value pages places own count len are many whole shared zeros =
-    renewed pages places own 1 count (count-zeros count pages are) (ap length zeros ∙ length-replicate len 0 ∙ sym whole) shared
-    ∙ loaded-zeros count len pages are many whole
+pub blank-value : (pages : List SharedPage) (places : List Place) (own firsts : List ℕ) (count len : ℕ) → AreZeros count pages
+    → count ≡ len / 256 → count * 256 ≡ len → places ≡ replicate count Shared → own ≡ replicate len 0 → firsts ≡ untouched len
+    → drive (words_read pages places own) (bases_held pages places) 1 firsts ≡ blank_drive len
+blank-value pages places own firsts count len are many whole shared zeros none =
+    let size : length own ≡ count * 256 = ap length zeros ∙ length-replicate len 0 ∙ sym whole in
+    renewed pages places own 1 count firsts (count-zeros count pages are) size shared
+    ∙ ap (loaded pages 1) none ∙ loaded-zeros count len pages are many whole
 
 pub blank-fields : (pages : List SharedPage) (places : List Place) (own : List ℕ) (count len : ℕ) → AreZeros count pages
     → count * 256 ≡ len → places ≡ replicate count Shared → own ≡ replicate len 0 → AreDriveFields pages places own 1 false

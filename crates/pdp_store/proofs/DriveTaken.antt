@@ -151,12 +151,12 @@ taken-all pages after words bases given k taken all_bases all_words = record {
 }
 
 -- a drive that reads all from a list of pages
-abbrev pub drive : List ℕ → List (Option ℕ) → ℕ → PagedWords
-drive words bases given = record { words = words; bases = bases; given = given }
+abbrev pub drive : List ℕ → List (Option ℕ) → ℕ → List ℕ → PagedWords
+drive words bases given firsts = record { words = words; bases = bases; given = given; firsts = firsts }
 
-pub renewed : (pages : List SharedPage) (places : List Place) (own : List ℕ) (given n : ℕ) → length pages ≡ n → length own ≡ n * 256
-    → places ≡ replicate n Shared → drive (words_read pages places own) (bases_held pages places) given ≡ loaded pages given
-renewed pages places own given n many full all =
+pub renewed : (pages : List SharedPage) (places : List Place) (own : List ℕ) (given n : ℕ) (firsts : List ℕ) → length pages ≡ n → length own ≡ n * 256
+    → places ≡ replicate n Shared → drive (words_read pages places own) (bases_held pages places) given firsts ≡ loaded pages given firsts
+renewed pages places own given n firsts many full all =
     rw all (rw (words-shared pages n own many full, bases-shared pages n many) refl)
 
 pub fields-renewed : (pages : List SharedPage) (places : List Place) (own : List ℕ) (given n : ℕ) → length pages ≡ n → length own ≡ n * 256
@@ -248,9 +248,9 @@ base-copied pages others k within = by_place others k within (slice_get pages k)
     by_place (first ∷ others) zero within page = refl
     by_place (first ∷ others) (suc k) within page = by_place others k (omega arith) page
 
-pub all-copied : (pages others : List SharedPage) (places : List Place) (own : List ℕ) (given : ℕ) → places ≡ map copied_from others → own ≡ words_of others
-    → drive (words_read pages places own) (bases_held pages places) given ≡ loaded others given
-all-copied pages others places own given marks words =
+pub all-copied : (pages others : List SharedPage) (places : List Place) (own : List ℕ) (given : ℕ) (firsts : List ℕ) → places ≡ map copied_from others → own ≡ words_of others
+    → drive (words_read pages places own) (bases_held pages places) given firsts ≡ loaded others given firsts
+all-copied pages others places own given firsts marks words =
     let size : length (map copied_from others) ≡ length others = length-map others copied_from in
     let many : length (map Some (serials others)) ≡ length others = length-map (serials others) Some ∙ length-map others page_serial in
     let reads : words_read pages (map copied_from others) (words_of others) ≡ words_of others =

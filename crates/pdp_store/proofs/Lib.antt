@@ -1,4 +1,5 @@
 pub mod Traces
+pub mod FirstTouches
 pub mod Pages
 pub mod PagedFields
 pub mod DrivePlaces
@@ -6,5 +7,5 @@ pub mod DriveTaken
 pub mod PageRuns
 pub mod PagedTakes
 pub mod SerialLaws
-pub mod ChangedWord
+pub mod PageLists
 pub mod BlankDrives

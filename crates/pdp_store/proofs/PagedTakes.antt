@@ -105,7 +105,7 @@ fields_of_pages pages words lasts bases marks words_are lasts_are stamped are = 
       let same = are.same k base its.0 there at in
       let one : shared.value ≡ its.0.value = same.same shared is in (
         ap (λ (p : Page). p.words.items) one ∙ sym (piece-words_of pages k its.0 at) ∙ ap (piece k) (sym words_are),
-        ap (λ (p : Page). p.stamps.items) one ∙ sym (piece-lasts_of pages k its.0 stamped at) ∙ ap (piece k) (sym lasts_are),
+        ap (λ (p : Page). p.stamps.value.items) one ∙ sym (piece-lasts_of pages k its.0 stamped at) ∙ ap (piece k) (sym lasts_are),
       );
 }
   where

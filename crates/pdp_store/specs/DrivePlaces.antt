@@ -61,8 +61,8 @@ unshared Written page k own = own
 unshared (Copied serial) page k own = own
 
 -- a drive that reads each place from these pages, where it has given so many serials
-abbrev pub loaded : List SharedPage → ℕ → PagedWords
-loaded pages given = record { words = words_of pages; bases = map Some (serials pages); given = given }
+abbrev pub loaded : List SharedPage → ℕ → List ℕ → PagedWords
+loaded pages given firsts = record { words = words_of pages; bases = map Some (serials pages); given = given; firsts = firsts }
 
 -- a place that has the words of this page among the drive's own
 abbrev pub copied_from : SharedPage → Place

@@ -1,9 +1,10 @@
 pub mod Stored
 pub mod Touch
+pub mod Firsts
 pub mod Parts
 pub mod Pages
 pub mod Pieces
 pub mod Bases
 pub mod DrivePlaces
 pub mod PageLaws
-pub mod ChangedWord
+pub mod PageLists

@@ -3,6 +3,7 @@ use Rattle.std.specs.Prelude.{ℕ, ◌≡◌, ◌+◌, ◌/◌, Bool, if◌then�
 use Rattle.std.specs.List.{flat_map}
 use Rattle.std.specs.declared.alloc.Global.{Global}
 use Rattle.std.specs.declared.rc.Rc.{Rc}
+use Rattle.pdp_store.specs.Stored.{untouched}
 use Rattle.pdp_store.specs.declared.Stamp.{Stamp}
 use Rattle.pdp_store.specs.declared.page.Page.{Page}
 
@@ -14,7 +15,7 @@ abbrev pub page_words : SharedPage → List ℕ
 page_words page = page.value.words.items
 
 abbrev pub page_lasts : SharedPage → List (Option Stamp)
-page_lasts page = page.value.stamps.items
+page_lasts page = page.value.stamps.value.items
 
 abbrev pub page_serial : SharedPage → ℕ
 page_serial page = page.value.serial
@@ -29,14 +30,15 @@ lasts_of pages = flat_map page_lasts pages
 abbrev pub serials : List SharedPage → List ℕ
 serials pages = map page_serial pages
 
--- a store whose words can be taken as pages: its words and their last stamps as of any store; at each place of 256 words
--- the serial of its base, which is the page last taken or loaded there while no word there was written since; and how
--- many serials it has given
+-- a store whose words can be taken as pages: its words, their last stamps and the first touches of its pages as of any
+-- store; at each place of 256 words the serial of its base, which is the page last taken or loaded there while no word
+-- there was written since; and how many serials it has given
 pub record PagedStored : Type 0 where
   pub words : List ℕ
   pub lasts : List (Option Stamp)
   pub bases : List (Option ℕ)
   pub given : ℕ
+  pub firsts : List ℕ
 
 -- a store of so many words as it is made: all zero, none written yet, and nothing taken or loaded
 abbrev pub blank_paged : ℕ → Bool → PagedStored
@@ -45,20 +47,32 @@ blank_paged len stamped = record {
   lasts = if stamped then replicate len None else [];
   bases = replicate (len / 256) None;
   given = 0;
+  firsts = untouched len;
 }
 
--- a drive, which keeps no stamps: its words, and bases and serials as above
+-- a drive, which keeps no stamps: its words, and bases, serials and first touches as above
 pub record PagedWords : Type 0 where
   pub words : List ℕ
   pub bases : List (Option ℕ)
   pub given : ℕ
+  pub firsts : List ℕ
 
 abbrev pub blank_words : ℕ → PagedWords
-blank_words len = record { words = replicate len 0; bases = replicate (len / 256) None; given = 0 }
+blank_words len = record {
+  words = replicate len 0;
+  bases = replicate (len / 256) None;
+  given = 0;
+  firsts = untouched len;
+}
 
 -- a drive as it is made if one page of zeros, the first that it numbers, is the base of each place
 abbrev pub blank_drive : ℕ → PagedWords
-blank_drive len = record { words = replicate len 0; bases = replicate (len / 256) (Some 1); given = 1 }
+blank_drive len = record {
+  words = replicate len 0;
+  bases = replicate (len / 256) (Some 1);
+  given = 1;
+  firsts = untouched len;
+}
 
 -- the most serials that a store gives
 abbrev pub most_serials : ℕ
@@ -91,5 +105,5 @@ without_base bases i = slice_set bases (i / 256) None
 -- this page is the other one with its word i changed, its stamps kept, under the serial that comes after so many
 pub record IsPatched (page patched : Page) (i word given : ℕ) : Type 0 where
   pub words : patched.words.items ≡ slice_set page.words.items i word
-  pub stamps : patched.stamps.items ≡ page.stamps.items
+  pub stamps : patched.stamps.value.items ≡ page.stamps.value.items
   pub serial : patched.serial ≡ next_serial given

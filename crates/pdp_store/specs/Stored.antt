@@ -1,23 +1,32 @@
 -- A store as callers see it (stamps are this project's profile).
-use Rattle.std.specs.Prelude.{◌≡◌, ◌<◌, ℕ, Bool, if◌then◌else◌, Option, None, List, [], length, replicate, slice_set}
+use Rattle.std.specs.Prelude.{◌≡◌, ◌<◌, ◌+◌, ◌/◌, ℕ, Bool, if◌then◌else◌, Option, None, List, [], length, replicate, slice_set}
+use Rattle.pdp_store.specs.Firsts.{never}
 use Rattle.pdp_store.specs.declared.Stamp.{Stamp}
 
--- a store is its list of words, with the stamp of the last write to each;
--- a store without stamps has none in `lasts`
+-- a store is its list of words, with the stamp of the last write to each, and the first touch of
+-- each page; a store without stamps has none in `lasts`
 pub record Stored : Type 0 where
   pub words : List ℕ
   pub lasts : List (Option Stamp)
+  pub firsts : List ℕ
 
 -- there is a last stamp, or None, for each word, where there are any
 abbrev pub HasLastOfEachOrNone : List ℕ → List (Option Stamp) → Type 0
 HasLastOfEachOrNone words lasts = 0 < length lasts → length lasts ≡ length words
 
+-- the first touches of `len` words: no page was touched, and the last page may have fewer words
+abbrev pub untouched : ℕ → List ℕ
+untouched len = replicate ((len + 255) / 256) never
+
 -- a store of so many words, as it is made: all zero, none written yet
 abbrev pub blank_store : ℕ → Bool → Stored
-blank_store len stamped =
-    record { words = replicate len 0; lasts = if stamped then replicate len None else [] }
+blank_store len stamped = record {
+  words = replicate len 0;
+  lasts = if stamped then replicate len None else [];
+  firsts = untouched len;
+}
 
 -- the store with this word and this last stamp in place i, and all else as it was
 abbrev pub with_word : Stored → ℕ → ℕ → Option Stamp → Stored
 with_word store i word last =
-    record { words = slice_set store.words i word; lasts = slice_set store.lasts i last }
+    record store { words = slice_set store.words i word; lasts = slice_set store.lasts i last }

@@ -3,6 +3,8 @@
 ghost use Rattle.std.specs.Prelude.{◌≡◌, ◌<◌, length, IfOk};
 ghost use Rattle.pdp_store.specs.Stored.{blank_store, with_word};
 
+use crate::page::PAGE_WORDS;
+use crate::touches::FirstTouches;
 use crate::{Stamp, Store};
 use pdp_word::NoMemory;
 use std::alloc::Global;
@@ -16,6 +18,9 @@ pub struct Flat {
 
     // As many as the words; or empty, in a store without stamps.
     stamps: Vec<Option<Stamp>>,
+
+    // The first touch of each page of 256 words; the last page may have fewer.
+    touches: FirstTouches,
 }
 
 impl Model for Flat {
@@ -23,7 +28,7 @@ impl Model for Flat {
 
     ghost Value = { Stored };
 
-    ghost view = { λ s. record { words = s.words.items; lasts = s.stamps.items } };
+    ghost view = { λ s. record { words = s.words.items; lasts = s.stamps.items; firsts = s.touches } };
 
     ghost invariant = { λ s. HasLastOfEachOrNone s.words.items s.stamps.items };
 }
@@ -41,7 +46,12 @@ impl Flat {
         } else {
             Vec::new(alloc)
         };
-        Ok(Flat { words, stamps })
+        let touches = FirstTouches::new(alloc, len)?;
+        Ok(Flat {
+            words,
+            stamps,
+            touches,
+        })
     }
 
     // Makes word `i` equal to `w`, and its last stamp, where the store has stamps, equal to `last`.
@@ -61,6 +71,8 @@ impl Store for Flat {
     ghost words = { λ s. s.words };
 
     ghost lasts = { λ s. s.lasts };
+
+    ghost firsts = { λ s. s.firsts };
 
     #[inline(always)]
     fn len(&self) -> usize {
@@ -85,5 +97,18 @@ impl Store for Flat {
     #[inline(always)]
     fn set(&mut self, i: usize, w: u16) {
         self.replace(i, w, None);
+    }
+
+    #[inline(always)]
+    fn touch(&mut self, i: usize, turn: u32) {
+        self.touches.touch_there(i / PAGE_WORDS, turn);
+    }
+
+    fn first(&self, page: usize) -> Option<u32> {
+        self.touches.first(page)
+    }
+
+    fn forget(&mut self, turn: u32) {
+        self.touches.forget(turn);
     }
 }

@@ -1,44 +1,50 @@
-//! Stores: lists of 16-bit words, each with the stamp of the last write to it, and shared pages of
-//! such words. Core is a store, and so is each drive. It stands on pdp_word.
+//! Stores: lists of 16-bit words, each with the stamp of the last write to it; the first touch of
+//! each page of 256 words; and shared pages of such words. Core is a store, and so is each drive.
+//! It stands on pdp_word.
 //!
 //! # What is proved
 //!
-//! - A store is its list of words with the stamp of the last write to each ([`Store`]); [`Flat`]
-//!   keeps that contract in two arrays.
+//! - A store is its list of words with the stamp of the last write to each, and with the first
+//!   touch of each page ([`Store`]); [`Flat`] keeps that contract in three arrays.
+//! - The first touch of a page is the least turn of its touches that were not forgotten
+//!   ([`Store::touch`], [`Store::first`], [`Store::forget`]). A new store has none. Only `touch` and
+//!   `forget` change first touches: writes, takes, loads and patches leave them.
 //! - What is taken of a store as pages of 256 words ([`Page`], [`Pages`]) is its words with their
 //!   stamps. A load, which needs no memory, makes the store equal to the pages ([`Paging`]).
 //! - A place has as its base the page last taken or loaded there, until a word there is written,
 //!   and is taken again under its serial. Each other place is taken under a serial that was not
 //!   given before, no two of them the same, while there are serials enough
 //!   (`serials_are_given_once`).
-//! - A list of pages with one word changed has one page of its own, under the next serial
-//!   (`change_word`).
+//! - A page with one word changed has the next serial and keeps its stamps (`page_with_word`). It is
+//!   put into a list of pages at one place, and every other page stays (`with_page`).
 //!
 //! [`Paged`], for core, keeps its words in flat arrays; [`PagedDrive`], for drives, reads a place
 //! from its page until a word there is written.
 //!
 //! No contract says that pages are really shared, or how much memory they take: `bench/kept`
-//! measures it. Addresses, and which turn and agent a stamp names, are left to pdp_unibus and
-//! pdp_rk11.
+//! measures it. Addresses, which turn and agent a stamp names, and which accesses touch are left to
+//! pdp_unibus and pdp_rk11.
 #![tactic(auto)]
 
-ghost use Rattle.std.specs.Prelude.{◌≡◌, ◌<◌, length, slice_index, slice_index_or, slice_set};
+ghost use Rattle.std.specs.Prelude.{◌≡◌, ◌<◌, ◌*◌, ◌/◌, length, map, slice_index, slice_index_or, slice_set};
 ghost use Rattle.pdp_store.specs.Stored.{HasLastOfEachOrNone};
+ghost use Rattle.pdp_store.specs.Firsts.{firsts_before, never, first_turn, touch_page};
 
 mod base;
-mod changed_word;
 mod flat_store;
 mod laws;
 mod page;
+mod page_lists;
 mod page_runs;
 mod paged_drive;
 mod paged_store;
 mod paging;
+mod touches;
 
-pub use changed_word::change_word;
 pub use flat_store::Flat;
 pub use laws::serials_are_given_once;
 pub use page::{PAGE_WORDS, Page, Pages};
+pub use page_lists::{page_with_word, with_page};
 pub use paged_drive::PagedDrive;
 pub use paged_store::Paged;
 pub use paging::Paging;
@@ -64,7 +70,13 @@ pub struct Stamp {
 /// words never changes. A store is made with stamps (core memory) or without (a drive); one without
 /// answers `None` to [`Store::last`] always. Stamps are this project's profile.
 ///
-/// No call fails or takes memory. The caller keeps each index below [`Store::len`].
+/// Words stand in pages of 256, numbered from 0 up: word i is in page i / 256. A store keeps the
+/// first touch of each page, which is the first turn with an access to one of its words. The caller
+/// reports each access by [`Store::touch`]; a read or a write by itself touches nothing. First
+/// touches are this project's profile.
+///
+/// No call fails or takes memory. The caller keeps each index below [`Store::len`], except in
+/// [`Store::touch`] and [`Store::first`].
 pub trait Store {
     ghost use Rattle.std.specs.Prelude.{List, ℕ, Option};
     ghost use Rattle.pdp_store.specs.declared.Stamp.{Stamp};
@@ -74,6 +86,9 @@ pub trait Store {
 
     // The last stamp of each word, or nothing at all where the store is without stamps.
     ghost lasts: { Self → List (Option Stamp) };
+
+    // The first touch of each page, or `never`.
+    ghost firsts: { Self → List ℕ };
 
     /// How many words there are.
     fn len(&self) -> usize
@@ -89,7 +104,8 @@ pub trait Store {
     fn write(&mut self, i: usize, w: u16, stamp: Stamp)
         requires { i < length (words self.old) }
         ensures words { words self.new ≡ slice_set (words self.old) i w }
-        ensures lasts { lasts self.new ≡ slice_set (lasts self.old) i (Some stamp) };
+        ensures lasts { lasts self.new ≡ slice_set (lasts self.old) i (Some stamp) }
+        ensures firsts { firsts self.new ≡ firsts self.old };
 
     /// The stamp of the last `write` of word `i`. `None` where there was none since the store was
     /// made or since the last `set` of the word, and where the store is without stamps.
@@ -102,5 +118,28 @@ pub trait Store {
     fn set(&mut self, i: usize, w: u16)
         requires { i < length (words self.old) }
         ensures words { words self.new ≡ slice_set (words self.old) i w }
-        ensures lasts { lasts self.new ≡ slice_set (lasts self.old) i None };
+        ensures lasts { lasts self.new ≡ slice_set (lasts self.old) i None }
+        ensures firsts { firsts self.new ≡ firsts self.old };
+
+    /// Notes an access to word `i` in turn `turn`. The page of the word keeps the earlier of `turn`
+    /// and its first touch.
+    ///
+    /// The store must have the first word of that page; word `i` itself may be past the last one.
+    /// So the end of a page that is cut off can be touched. Turn `u32::MAX` stands for no turn.
+    fn touch(&mut self, i: usize, turn: u32)
+        requires { i / 256 * 256 < length (words self.old) }
+        ensures words { words self.new ≡ words self.old }
+        ensures lasts { lasts self.new ≡ lasts self.old }
+        ensures firsts { firsts self.new ≡ touch_page (firsts self.old) (i / 256) turn };
+
+    /// Returns the first touch of page `page`. `None` if it has none, if every touch of it was
+    /// forgotten, and if the store has no such page.
+    fn first(&self, page: usize) -> Option<u32>
+        ensures { result ≡ first_turn (slice_index_or (firsts self.now) page never) };
+
+    /// Drops the first touches of turn `turn` and of later turns; earlier ones stay.
+    fn forget(&mut self, turn: u32)
+        ensures words { words self.new ≡ words self.old }
+        ensures lasts { lasts self.new ≡ lasts self.old }
+        ensures firsts { firsts self.new ≡ firsts_before turn (firsts self.old) };
 }

@@ -19,10 +19,11 @@ pub struct Page {
     /// The number that the store gave it when it was made: from 1 up, each number once; 0 where they were used up.
     pub serial: u64,
     pub words: Vec<u16>,
-    /// As many as the words; or none, where the store is without stamps.
-    pub stamps: Vec<Option<Stamp>>,
+    /// As many as the words; or none, where the store is without stamps. The pages that are made of
+    /// this one with a word changed share them.
+    pub stamps: Rc<Vec<Option<Stamp>>>,
     ghost full: { length words.items ≡ 256 },
-    ghost stamped: { 0 < length stamps.items → length stamps.items ≡ 256 },
+    ghost stamped: { 0 < length stamps.value.items → length stamps.value.items ≡ 256 },
 }
 
 impl Page {
@@ -39,10 +40,10 @@ impl Page {
         requires stamped { 0 < length stamps.now → length stamps.now ≡ 256 }
         ensures serial { IfOk result (λ page. page.serial ≡ serial) }
         ensures words { IfOk result (λ page. page.words.items ≡ words.now) }
-        ensures stamps { IfOk result (λ page. page.stamps.items ≡ stamps.now) }
+        ensures stamps { IfOk result (λ page. page.stamps.value.items ≡ stamps.now) }
     {
         let words = words.to_vec(alloc)?;
-        let stamps = stamps.to_vec(alloc)?;
+        let stamps = Rc::new(alloc, stamps.to_vec(alloc)?)?;
         Ok(Page {
             serial,
             words,
@@ -50,9 +51,9 @@ impl Page {
         })
     }
 
-    /// The page with its word `i` (0 to 255) changed to `w`, its stamps kept, under this serial.
+    /// The page with its word `i` (0 to 255) changed to `w`, its stamps shared, under this serial.
     ///
-    /// Err(NoMemory) where a growth was refused.
+    /// Err(NoMemory) if a growth was refused, or if the stamps have as many owners as can be counted.
     pub(crate) fn changed(
         &self,
         alloc: Global,
@@ -63,11 +64,11 @@ impl Page {
         requires { i < 256 }
         ensures serial { IfOk result (λ page. page.serial ≡ serial) }
         ensures words { IfOk result (λ page. page.words.items ≡ slice_set self.now.words.items i w) }
-        ensures stamps { IfOk result (λ page. page.stamps.items ≡ self.now.stamps.items) }
+        ensures stamps { IfOk result (λ page. page.stamps.value.items ≡ self.now.stamps.value.items) }
     {
         let mut words = self.words.to_vec(alloc)?;
         words[i] = w;
-        let stamps = self.stamps.to_vec(alloc)?;
+        let stamps = self.stamps.clone()?;
         Ok(Page {
             serial,
             words,

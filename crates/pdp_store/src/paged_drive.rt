@@ -6,10 +6,12 @@ ghost use Rattle.pdp_store.specs.declared.paged_drive.Place.TheVariants.{Shared}
 ghost use Rattle.pdp_store.specs.DrivePlaces.{AreTaken, AreZeros, base_from, copied_from, loaded, unshared, with_part};
 ghost use Rattle.pdp_store.specs.Bases.{IsPageOf, given_there, serial_there};
 ghost use Rattle.pdp_store.specs.Pieces.{piece};
+ghost use Rattle.pdp_store.specs.Firsts.{firsts_before, touch_page};
 
 use crate::base::new_page;
 use crate::page::{PAGE_WORDS, Page, Pages};
 use crate::paging::Paging;
+use crate::touches::FirstTouches;
 use crate::{Stamp, Store};
 use pdp_word::NoMemory;
 use std::alloc::Global;
@@ -48,6 +50,9 @@ pub struct PagedDrive {
 
     // Whether some place may not be shared.
     changed: bool,
+
+    // The first touch of each place.
+    touches: FirstTouches,
 }
 
 impl Model for PagedDrive {
@@ -62,6 +67,7 @@ impl Model for PagedDrive {
       words = words_read s.pages.value.items s.places.items s.own.items;
       bases = bases_held s.pages.value.items s.places.items;
       given = s.given;
+      firsts = s.touches;
     } };
 
     ghost invariant = { λ s. AreDriveFields s.pages.value.items s.places.items s.own.items s.given s.changed };
@@ -79,20 +85,22 @@ impl PagedDrive {
         let pages = Rc::new(alloc, list)?;
         let places = vec![in alloc; Place::Written; len / PAGE_WORDS]?;
         let own = vec![in alloc; 0; len]?;
+        let touches = FirstTouches::new(alloc, len)?;
         Ok(PagedDrive {
             pages,
             places,
             own,
             given: 0,
             changed: true,
+            touches,
         })
     }
 
     /// Makes a drive of `len` zero words; `len` is a whole number of pages. (This project's profile.)
     ///
     /// Each place reads one page of zeros, which all of them own. So the drive takes memory for that
-    /// page, for the list of its owners, and for the words of its own that a write needs. Pages that
-    /// are taken of the drive share the list.
+    /// page, for the list of its owners, for the words of its own that a write needs, and for the
+    /// first touches of its places. Pages that are taken of the drive share the list.
     ///
     /// Err(NoMemory) if a growth was refused, or if the page would have more owners than can be
     /// counted.
@@ -104,12 +112,14 @@ impl PagedDrive {
         let pages = Rc::new(alloc, list)?;
         let places = vec![in alloc; Place::Shared; len / PAGE_WORDS]?;
         let own = vec![in alloc; 0; len]?;
+        let touches = FirstTouches::new(alloc, len)?;
         Ok(PagedDrive {
             pages,
             places,
             own,
             given: 1,
             changed: false,
+            touches,
         })
     }
 }
@@ -133,6 +143,8 @@ impl Store for PagedDrive {
 
     ghost lasts = { λ s. [] };
 
+    ghost firsts = { λ s. s.firsts };
+
     #[inline(always)]
     fn len(&self) -> usize {
         self.own.len()
@@ -153,6 +165,7 @@ impl Store for PagedDrive {
         ensures words { self.new.words ≡ slice_set self.old.words i w }
         ensures bases { self.new.bases ≡ without_base self.old.bases i }
         ensures given { self.new.given ≡ self.old.given }
+        ensures firsts { self.new.firsts ≡ self.old.firsts }
     {
         self.replace(i, w);
     }
@@ -169,8 +182,33 @@ impl Store for PagedDrive {
         ensures words { self.new.words ≡ slice_set self.old.words i w }
         ensures bases { self.new.bases ≡ without_base self.old.bases i }
         ensures given { self.new.given ≡ self.old.given }
+        ensures firsts { self.new.firsts ≡ self.old.firsts }
     {
         self.replace(i, w);
+    }
+
+    #[inline(always)]
+    fn touch(&mut self, i: usize, turn: u32)
+        requires { i / 256 * 256 < length self.old.words }
+        ensures words { self.new.words ≡ self.old.words }
+        ensures firsts { self.new.firsts ≡ touch_page self.old.firsts (i / 256) turn }
+        ensures bases { self.new.bases ≡ self.old.bases }
+        ensures given { self.new.given ≡ self.old.given }
+    {
+        self.touches.touch_there(i / PAGE_WORDS, turn);
+    }
+
+    fn first(&self, page: usize) -> Option<u32> {
+        self.touches.first(page)
+    }
+
+    fn forget(&mut self, turn: u32)
+        ensures words { self.new.words ≡ self.old.words }
+        ensures firsts { self.new.firsts ≡ firsts_before turn self.old.firsts }
+        ensures bases { self.new.bases ≡ self.old.bases }
+        ensures given { self.new.given ≡ self.old.given }
+    {
+        self.touches.forget(turn);
     }
 }
 
@@ -182,6 +220,7 @@ impl PagedDrive {
         ensures words { self.new.words ≡ slice_set self.old.words i w }
         ensures bases { self.new.bases ≡ without_base self.old.bases i }
         ensures given { self.new.given ≡ self.old.given }
+        ensures firsts { self.new.firsts ≡ self.old.firsts }
     {
         let place = i / PAGE_WORDS;
         let held = self.places[place];
@@ -259,7 +298,7 @@ impl PagedDrive {
 
     // The list of the pages, where each place is read from it; None too where it has as many owners as can be counted.
     fn kept(&self) -> Option<Pages>
-        ensures kept { IfSome result (λ pages. self.now ≡ loaded pages.value.items self.now.given) }
+        ensures kept { IfSome result (λ pages. self.now ≡ loaded pages.value.items self.now.given self.now.firsts) }
         ensures lasts { IfSome result (λ pages. lasts_of pages.value.items ≡ []) }
     {
         if self.changed {
@@ -317,7 +356,7 @@ impl PagedDrive {
     fn renew(&mut self, pages: Pages, given: u64)
         requires words { length (words_of pages.value.items) ≡ length self.old.words }
         requires lasts { lasts_of pages.value.items ≡ [] }
-        ensures { self.new ≡ loaded pages.value.items given }
+        ensures { self.new ≡ loaded pages.value.items given self.old.firsts }
     {
         share_all(&mut self.places, self.changed);
         self.pages = pages;
@@ -375,7 +414,7 @@ impl PagedDrive {
     fn copy_all(&mut self, pages: &[Rc<Page>])
         requires words { length (words_of pages.now) ≡ length self.old.words }
         requires lasts { lasts_of pages.now ≡ [] }
-        ensures { self.new ≡ loaded pages.now self.old.given }
+        ensures { self.new ≡ loaded pages.now self.old.given self.old.firsts }
     {
         let _given = self.given;
         self.changed = true;

@@ -2,6 +2,7 @@
 
 ghost use Rattle.std.specs.Prelude.{◌≡◌, ◌<◌, ◌≤◌, ◌*◌, ◌/◌, ◌+◌, Some, None, length, map, min, replicate, slice_get, slice_set, slice_index_or, true, [], IfOk, IsErr, is_ok, if◌then◌else◌};
 ghost use Rattle.pdp_store.specs.Stored.{HasLastOfEachOrNone};
+ghost use Rattle.pdp_store.specs.Firsts.{firsts_before, touch_page};
 ghost use Rattle.pdp_store.specs.Pages.{blank_paged, next_given, next_serial, without_base};
 ghost use Rattle.pdp_store.specs.Bases.{AreAllTaken, IsPageOf, given_there, serial_there};
 ghost use Rattle.pdp_store.specs.Pieces.{piece};
@@ -9,6 +10,7 @@ ghost use Rattle.pdp_store.specs.Pieces.{piece};
 use crate::base::{Base, new_page};
 use crate::page::{PAGE_WORDS, Page, Pages};
 use crate::page_runs::{piece_at, put_bases, put_stamps, put_words};
+use crate::touches::FirstTouches;
 use crate::{Paging, Stamp, Store};
 use pdp_word::NoMemory;
 use std::alloc::Global;
@@ -31,17 +33,29 @@ pub struct Paged {
 
     // How many serials were given.
     given: u64,
+
+    // The first touch of each place.
+    touches: FirstTouches,
 }
 
 impl Model for Paged {
+    ghost use Rattle.std.specs.Prelude.{◌≡◌, length};
     ghost use Rattle.pdp_store.specs.Pages.{PagedStored};
     ghost use Rattle.pdp_store.specs.Bases.{AreFields, bases_of};
 
     ghost Value = { PagedStored };
 
-    ghost view = { λ s. record { words = s.words.items; lasts = s.stamps.items; bases = bases_of s.written.items s.bases.items; given = s.given } };
+    ghost view = { λ s. record {
+      words = s.words.items;
+      lasts = s.stamps.items;
+      bases = bases_of s.written.items s.bases.items;
+      given = s.given;
+      firsts = s.touches;
+    } };
 
-    ghost invariant = { λ s. AreFields s.words.items s.stamps.items s.bases.items s.written.items };
+    ghost invariant = { λ s.
+        AreFields s.words.items s.stamps.items s.bases.items s.written.items
+        × (length s.touches ≡ length s.bases.items) };
 }
 
 impl Paged {
@@ -57,12 +71,14 @@ impl Paged {
         let stamps = no_stamps(alloc, len, stamped)?;
         let bases = no_bases(alloc, places)?;
         let written = vec![in alloc; true; places]?;
+        let touches = FirstTouches::new(alloc, len)?;
         Ok(Paged {
             words,
             stamps,
             bases,
             written,
             given: 0,
+            touches,
         })
     }
 }
@@ -112,6 +128,7 @@ impl Paged {
         ensures lasts { self.new.lasts ≡ slice_set self.old.lasts i last }
         ensures bases { self.new.bases ≡ without_base self.old.bases i }
         ensures given { self.new.given ≡ self.old.given }
+        ensures firsts { self.new.firsts ≡ self.old.firsts }
     {
         self.words[i] = w;
         self.written[i / PAGE_WORDS] = true;
@@ -123,6 +140,8 @@ impl Store for Paged {
     ghost words = { λ s. s.words };
 
     ghost lasts = { λ s. s.lasts };
+
+    ghost firsts = { λ s. s.firsts };
 
     #[inline(always)]
     fn len(&self) -> usize {
@@ -141,6 +160,7 @@ impl Store for Paged {
         ensures lasts { self.new.lasts ≡ slice_set self.old.lasts i (Some stamp) }
         ensures bases { self.new.bases ≡ without_base self.old.bases i }
         ensures given { self.new.given ≡ self.old.given }
+        ensures firsts { self.new.firsts ≡ self.old.firsts }
     {
         self.replace(i, w, Some(stamp));
     }
@@ -157,8 +177,35 @@ impl Store for Paged {
         ensures lasts { self.new.lasts ≡ slice_set self.old.lasts i None }
         ensures bases { self.new.bases ≡ without_base self.old.bases i }
         ensures given { self.new.given ≡ self.old.given }
+        ensures firsts { self.new.firsts ≡ self.old.firsts }
     {
         self.replace(i, w, None);
+    }
+
+    #[inline(always)]
+    fn touch(&mut self, i: usize, turn: u32)
+        requires { i / 256 * 256 < length self.old.words }
+        ensures words { self.new.words ≡ self.old.words }
+        ensures lasts { self.new.lasts ≡ self.old.lasts }
+        ensures firsts { self.new.firsts ≡ touch_page self.old.firsts (i / 256) turn }
+        ensures bases { self.new.bases ≡ self.old.bases }
+        ensures given { self.new.given ≡ self.old.given }
+    {
+        self.touches.touch(i / PAGE_WORDS, turn);
+    }
+
+    fn first(&self, page: usize) -> Option<u32> {
+        self.touches.first(page)
+    }
+
+    fn forget(&mut self, turn: u32)
+        ensures words { self.new.words ≡ self.old.words }
+        ensures lasts { self.new.lasts ≡ self.old.lasts }
+        ensures firsts { self.new.firsts ≡ firsts_before turn self.old.firsts }
+        ensures bases { self.new.bases ≡ self.old.bases }
+        ensures given { self.new.given ≡ self.old.given }
+    {
+        self.touches.forget(turn);
     }
 }
 

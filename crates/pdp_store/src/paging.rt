@@ -29,6 +29,7 @@ pub trait Paging: Store {
     fn take_pages(&mut self, alloc: Global) -> Result<Pages, NoMemory>
         ensures words { Self.words self.new ≡ Self.words self.old }
         ensures lasts { Self.lasts self.new ≡ Self.lasts self.old }
+        ensures firsts { Self.firsts self.new ≡ Self.firsts self.old }
         ensures pages_words { IfOk result (λ pages. words_of pages.value.items ≡ Self.words self.old) }
         ensures pages_lasts { IfOk result (λ pages. lasts_of pages.value.items ≡ Self.lasts self.old) }
         ensures serials { IfOk result (λ pages. serials pages.value.items ≡ serials_taken (bases self.old) (given self.old)) }
@@ -47,7 +48,8 @@ pub trait Paging: Store {
         ensures words { Self.words self.new ≡ words_of pages.now.value.items }
         ensures lasts { Self.lasts self.new ≡ lasts_of pages.now.value.items }
         ensures bases { bases self.new ≡ map Some (serials pages.now.value.items) }
-        ensures given { given self.new ≡ given self.old };
+        ensures given { given self.new ≡ given self.old }
+        ensures firsts { Self.firsts self.new ≡ Self.firsts self.old };
 
     /// This page with its word `i` (0 to 255) changed to `w` and its stamps kept, under the next serial.
     ///
@@ -58,5 +60,6 @@ pub trait Paging: Store {
         ensures words { Self.words self.new ≡ Self.words self.old }
         ensures lasts { Self.lasts self.new ≡ Self.lasts self.old }
         ensures bases { bases self.new ≡ bases self.old }
+        ensures firsts { Self.firsts self.new ≡ Self.firsts self.old }
         ensures given { given self.new ≡ (if is_ok result then next_given (given self.old) else given self.old) };
 }

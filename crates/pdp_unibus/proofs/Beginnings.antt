@@ -1,11 +1,13 @@
 -- The beginning of a turn, step by step: all but the disk's completion neither touch a word of core or of a drive, nor
 -- look at one.
-use Rattle.std.proofs.Common.{◌≡◌, ◌≢◌, ◌∙◌, ℕ, suc, zero, ◌+◌, ◌<◌, Bool, true, false, List, [], ◌∷◌, length, take, get_or, refl, sym, subst, ap, add-one, arith}
+use Rattle.std.proofs.Common.{◌≡◌, ◌≢◌, ◌∙◌, ℕ, suc, zero, ◌+◌, ◌<◌, Bool, true, false, List, [], ◌∷◌, length, take, get_or, refl, sym, subst, ap, ap₂, add-one, arith}
 use Rattle.pdp_device.specs.Operation.{is_due, is_under_way}
 use Rattle.pdp_unibus.specs.Beginning.{Progress, after_event, after_events, at_start, before_disk, begun, clock_ticked, disk_done, disk_due, in_turn, is_tick, printer_done, printer_due, punch_done, punch_due, reader_done, reader_due, tick_due, where_due}
 use Rattle.pdp_store.specs.Touch.{Part}
 use Rattle.pdp_rk11.proofs.Readiness.{completed_idle}
-use Rattle.pdp_unibus.specs.BusWorld.{BusWorld, disk_world_of, with_disk_world}
+use Rattle.pdp_unibus.specs.BusWorld.{BusWorld, disk_world_of, with_disk_world, with_firsts}
+use Rattle.pdp_rk11.proofs.FirstTouches.{not_under_way}
+use Rattle.pdp_store.specs.Firsts.{Firsts}
 use Rattle.pdp_unibus.specs.Page.{with_words}
 use Rattle.pdp_unibus.specs.declared.board.Board.{Board}
 use Rattle.pdp_unibus.specs.declared.event.Event.{Event}
@@ -25,29 +27,35 @@ after_more_events es i d p below = rw add-one (one_more es i d p below)
 abbrev pub over : Part → List ℕ → Progress → Progress
 over part words p = record p { bus = with_words part words p.bus }
 
+-- the same with other first touches
+abbrev pub holding : Progress → Firsts → Progress
+holding p firsts = record p { bus = with_firsts p.bus firsts }
+
 -- a step that does the same whatever core and the drives hold, and leaves them, the stamps, the turn, the program status
 -- and the mapping registers
 pub record Quiet (step : Progress → Progress) : Type 0 where
   pub commutes : (part : Part) (words : List ℕ) (p : Progress) → step (over part words p) ≡ over part words (step p)
+  pub holds : (firsts : Firsts) (p : Progress) → step (holding p firsts) ≡ holding (step p) firsts
   pub leaves : (p : Progress) → (step p).bus ≡ record p.bus { board = (step p).bus.board; bytes_read = (step p).bus.bytes_read }
   pub status : (p : Progress) → (step p).bus.board.status ≡ p.bus.board.status
   pub mapping : (p : Progress) → (step p).bus.board.mapping ≡ p.bus.board.mapping
   pub disk : (p : Progress) → (step p).bus.board.disk ≡ p.bus.board.disk
 
 pub event_is_quiet : (e : Event) → e ≢ DiskDone → Quiet (after_event e)
-event_is_quiet (Key key) other = record { commutes = λ part words p. refl; leaves = λ p. refl; status = λ p. refl; mapping = λ p. refl; disk = λ p. refl }
-event_is_quiet Tick other = record { commutes = λ part words p. refl; leaves = λ p. refl; status = λ p. refl; mapping = λ p. refl; disk = λ p. refl }
-event_is_quiet PrinterDone other = record { commutes = λ part words p. refl; leaves = λ p. refl; status = λ p. refl; mapping = λ p. refl; disk = λ p. refl }
-event_is_quiet ReaderDone other = record { commutes = λ part words p. refl; leaves = λ p. refl; status = λ p. refl; mapping = λ p. refl; disk = λ p. refl }
-event_is_quiet PunchDone other = record { commutes = λ part words p. refl; leaves = λ p. refl; status = λ p. refl; mapping = λ p. refl; disk = λ p. refl }
+event_is_quiet (Key key) other = record { commutes = λ part words p. refl; holds = λ firsts p. refl; leaves = λ p. refl; status = λ p. refl; mapping = λ p. refl; disk = λ p. refl }
+event_is_quiet Tick other = record { commutes = λ part words p. refl; holds = λ firsts p. refl; leaves = λ p. refl; status = λ p. refl; mapping = λ p. refl; disk = λ p. refl }
+event_is_quiet PrinterDone other = record { commutes = λ part words p. refl; holds = λ firsts p. refl; leaves = λ p. refl; status = λ p. refl; mapping = λ p. refl; disk = λ p. refl }
+event_is_quiet ReaderDone other = record { commutes = λ part words p. refl; holds = λ firsts p. refl; leaves = λ p. refl; status = λ p. refl; mapping = λ p. refl; disk = λ p. refl }
+event_is_quiet PunchDone other = record { commutes = λ part words p. refl; holds = λ firsts p. refl; leaves = λ p. refl; status = λ p. refl; mapping = λ p. refl; disk = λ p. refl }
 event_is_quiet DiskDone other = absurd (other refl)
-event_is_quiet (Switches word) other = record { commutes = λ part words p. refl; leaves = λ p. refl; status = λ p. refl; mapping = λ p. refl; disk = λ p. refl }
-event_is_quiet Continue other = record { commutes = λ part words p. refl; leaves = λ p. refl; status = λ p. refl; mapping = λ p. refl; disk = λ p. refl }
+event_is_quiet (Switches word) other = record { commutes = λ part words p. refl; holds = λ firsts p. refl; leaves = λ p. refl; status = λ p. refl; mapping = λ p. refl; disk = λ p. refl }
+event_is_quiet Continue other = record { commutes = λ part words p. refl; holds = λ firsts p. refl; leaves = λ p. refl; status = λ p. refl; mapping = λ p. refl; disk = λ p. refl }
 
 -- one quiet step after another
 both : (f g : Progress → Progress) → Quiet f → Quiet g → Quiet (λ p. g (f p))
 both f g first second = record {
   commutes = λ part words p. ap g (first.commutes part words p) ∙ second.commutes part words (f p);
+  holds = λ firsts p. ap g (first.holds firsts p) ∙ second.holds firsts (f p);
   leaves = λ p. second.leaves (f p) ∙ ap {A = BusWorld} (λ bus. record bus { board = (g (f p)).bus.board; bytes_read = (g (f p)).bus.bytes_read }) (first.leaves p);
   status = λ p. second.status (f p) ∙ first.status p;
   mapping = λ p. second.mapping (f p) ∙ first.mapping p;
@@ -59,6 +67,7 @@ where_due_is_quiet : (due : ℕ → Board → Bool) (f : Progress → Progress) 
     → Quiet (λ p. where_due (due p.bus.turn p.bus.board) f p)
 where_due_is_quiet due f quiet = record {
   commutes = λ part words p. commuted part words p (due p.bus.turn p.bus.board);
+  holds = λ firsts p. held firsts p (due p.bus.turn p.bus.board);
   leaves = λ p. left p (due p.bus.turn p.bus.board);
   status = λ p. kept (λ board. board.status) p (quiet.status p) (due p.bus.turn p.bus.board);
   mapping = λ p. kept (λ board. board.mapping) p (quiet.mapping p) (due p.bus.turn p.bus.board);
@@ -68,6 +77,10 @@ where_due_is_quiet due f quiet = record {
       → where_due holds f (over part words p) ≡ over part words (where_due holds f p)
   commuted part words p true = quiet.commutes part words p
   commuted part words p false = refl
+
+  held : (firsts : Firsts) (p : Progress) (holds : Bool) → where_due holds f (holding p firsts) ≡ holding (where_due holds f p) firsts
+  held firsts p true = quiet.holds firsts p
+  held firsts p false = refl
 
   left : (p : Progress) (holds : Bool)
       → (where_due holds f p).bus ≡ record p.bus { board = (where_due holds f p).bus.board; bytes_read = (where_due holds f p).bus.bytes_read }
@@ -178,7 +191,8 @@ quiet_idles f p quiet = record { leaves = quiet.leaves p; disk = quiet.disk p }
 
 disk_idles : (p : Progress) → is_under_way p.bus.board.disk.operation ≡ false → Idles p (disk_done p)
 disk_idles p idle =
-    let same : disk_done p ≡ p = ap (λ d. record p { bus = with_disk_world p.bus d }) (completed_idle p.bus.turn (disk_world_of p.bus) idle) in
+    let same : disk_done p ≡ p = ap₂ (λ d f. record p { bus = with_firsts (with_disk_world p.bus d) f }) (completed_idle p.bus.turn (disk_world_of p.bus) idle)
+    (sym (not_under_way p.bus.turn (disk_world_of p.bus) p.bus.firsts idle)) in
     subst (Idles p) (sym same) (record { leaves = refl; disk = refl })
 
 event_idles : (e : Event) (p : Progress) → is_under_way p.bus.board.disk.operation ≡ false → Idles p (after_event e p)

@@ -12,7 +12,8 @@ use Rattle.pdp_rk11.specs.Trace.{IsOfCompletion}
 use Rattle.pdp_store.proofs.Traces.{Avoids-first, Avoids-second, last_write-append}
 use Rattle.pdp_store.specs.Touch.{Avoids, Part, Touch, last_write}
 use Rattle.pdp_unibus.specs.Beginning.{Progress, after_event, after_events, at_start, before_disk, begun, disk_done, in_turn, where_due}
-use Rattle.pdp_unibus.specs.BusWorld.{BusWorld, disk_world_of, with_disk_world}
+use Rattle.pdp_unibus.specs.BusWorld.{BusWorld, disk_world_of, with_disk_world, with_firsts}
+use Rattle.pdp_store.specs.Firsts.{firsts_after}
 use Rattle.pdp_unibus.specs.Page.{SamePage}
 use Rattle.pdp_unibus.specs.Touched.{IsOfTurn}
 use Rattle.pdp_unibus.specs.Trace.{begun_touches, disk_touches, event_touches, events_touches}
@@ -25,7 +26,7 @@ use Rattle.pdp_unibus.proofs.Beginnings.{Quiet, dues, dues_are_quiet}
 pub record Begins (K : List Touch → BusWorld → BusWorld → Type 0) : Type 0 where
   pub stays : (b : BusWorld) → K [] b b
   pub changes : (xs : List Touch) (b c : BusWorld) (board : Board) (bytes_read : ℕ) → K xs b c → K xs b (record c { board = board; bytes_read = bytes_read })
-  pub completes : (b : BusWorld) → K (disk_touches b) b (with_disk_world b (completed b.turn (disk_world_of b)))
+  pub completes : (b : BusWorld) → K (disk_touches b) b (with_firsts (with_disk_world b (completed b.turn (disk_world_of b))) (firsts_after (disk_touches b) b.firsts))
   pub joins : (xs ys : List Touch) (b c d : BusWorld) → K xs b c → K ys c d → K (xs ++ ys) b d
 
 module _ (K : List Touch → BusWorld → BusWorld → Type 0) (begins : Begins K) where

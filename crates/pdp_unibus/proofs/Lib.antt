@@ -1,4 +1,5 @@
 pub mod Beginnings
+pub mod Carried
 pub mod CompletionLaws
 pub mod Devices
 pub mod KeyLaws
@@ -12,4 +13,5 @@ pub mod Watching
 pub mod Kept
 pub mod Pairs
 mod SavedDrives
+mod PatchedPages
 pub mod FewerDrives

@@ -6,7 +6,8 @@ use Rattle.pdp_store.proofs.Traces.{Avoids-first, Avoids-second}
 use Rattle.pdp_store.specs.Parts.{AlikeWords}
 use Rattle.pdp_store.specs.Touch.{Avoids, Part, Touch}
 use Rattle.pdp_unibus.specs.Beginning.{Progress, after_event, after_events, at_start, before_disk, begun, disk_done, disk_due, in_turn, where_due}
-use Rattle.pdp_unibus.specs.BusWorld.{BusWorld, disk_world_of, with_disk_world}
+use Rattle.pdp_unibus.specs.BusWorld.{BusWorld, disk_world_of, with_disk_world, with_firsts}
+use Rattle.pdp_store.specs.Firsts.{firsts_after}
 use Rattle.pdp_unibus.specs.Page.{words_of, with_words}
 use Rattle.pdp_unibus.specs.Trace.{begun_touches, disk_touches, due_touches, event_touches, events_touches}
 use Rattle.pdp_unibus.specs.declared.event.Event.{Event}
@@ -27,7 +28,7 @@ paired_disk part page p words alike avoids =
     let pair = completions_alike part page p.bus.turn (disk_world_of p.bus) words alike avoids in
     record {
       words = pair.left;
-      is = ap (λ d. record p { bus = with_disk_world (with_words part words p.bus) d }) pair.is;
+      is = ap₂ (λ d xs. record p { bus = with_firsts (with_disk_world (with_words part words p.bus) d) (firsts_after xs p.bus.firsts) }) pair.is pair.trace;
       alike = pair.alike;
       trace = pair.trace;
     }

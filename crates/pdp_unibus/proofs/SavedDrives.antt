@@ -136,7 +136,7 @@ same_words xs ys is = same_seen (λ (v : Vec SharedPage Global). words_of v.item
 pub same_lasts : (xs ys : List PageList) → lists_shared xs ≡ lists_shared ys → map pages_lasts xs ≡ map pages_lasts ys
 same_lasts xs ys is = same_seen (λ (v : Vec SharedPage Global). lasts_of v.items) xs ys is
 
-same_length : (xs ys : List PageList) → lists_shared xs ≡ lists_shared ys → length xs ≡ length ys
+pub same_length : (xs ys : List PageList) → lists_shared xs ≡ lists_shared ys → length xs ≡ length ys
 same_length xs ys is = as_many_items (λ (p : PageList). p.value) (λ (p : PageList). p.value) xs ys (ap length is)
 
 blank : (xs ys : List PageList) → length xs ≡ length ys → map {A = PageList} {B = List (Option Stamp)} (λ _. []) xs ≡ map (λ _. []) ys
@@ -180,3 +180,12 @@ alike_contents c d board core lasts drives bytes_read turn =
     ∙ ap (λ x. record c { board = d.board; core = d.core; lasts = d.lasts; drives = x }) drives
     ∙ ap (λ x. record d { bytes_read = x; turn = c.turn }) bytes_read
     ∙ ap (λ x. record d { turn = x }) turn
+
+-- one more of a list is changed, where those before it were
+pub changed_next : {X : Type 0} (f : X → X) (i : ℕ) (d : X) (xs : List X) → i < length xs
+    → slice_set (map f (take i xs) ++ drop i xs) i (f (slice_index_or (map f (take i xs) ++ drop i xs) i d)) ≡ map f (take (i + 1) xs) ++ drop (i + 1) xs
+changed_next f i d [] below = absurd (omega arith)
+changed_next f zero d (x ∷ xs) below = refl
+changed_next f (suc i) d (x ∷ xs) below =
+    let e : suc i + 1 ≡ suc (i + 1) = omega arith in
+    rw e (ap (λ ys. f x ∷ ys) (changed_next f i d xs (omega arith)))

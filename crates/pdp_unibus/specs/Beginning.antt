@@ -6,7 +6,9 @@ use Rattle.pdp_console.specs.Kw.{ticked}
 use Rattle.pdp_tape.specs.Pc.{pc_punch_completed, pc_punched, pc_reader_completed}
 use Rattle.pdp_tape.specs.Reader.{takes_byte}
 use Rattle.pdp_rk11.specs.Completion.{completed}
-use Rattle.pdp_unibus.specs.BusWorld.{BusWorld, disk_world_of, with_board, with_disk_world}
+use Rattle.pdp_rk11.specs.Trace.{completion_touches}
+use Rattle.pdp_store.specs.Firsts.{firsts_after}
+use Rattle.pdp_unibus.specs.BusWorld.{BusWorld, disk_world_of, with_board, with_disk_world, with_firsts}
 use Rattle.pdp_unibus.specs.Tape.{next_byte, read_on}
 use Rattle.pdp_unibus.specs.declared.beginning.Output.{Output}
 use Rattle.pdp_unibus.specs.declared.board.Board.{Board}
@@ -68,9 +70,13 @@ punch_done p = record (on_board p (record p.bus.board { paper_tape = pc_punch_co
 abbrev pub switches_set : ℕ → Progress → Progress
 switches_set word p = on_board p (record p.bus.board { switches = word })
 
--- the disk completes: its function is done, to core and the drives
+-- the disk completes: its function is done, to core and the drives, and the pages of the words that
+-- it moves or compares are touched
 abbrev pub disk_done : Progress → Progress
-disk_done p = record p { bus = with_disk_world p.bus (completed p.bus.turn (disk_world_of p.bus)) }
+disk_done p = record p {
+  bus = with_firsts (with_disk_world p.bus (completed p.bus.turn (disk_world_of p.bus)))
+      (firsts_after (completion_touches p.bus.turn (disk_world_of p.bus)) p.bus.firsts);
+}
 
 -- what an event does to the bus; Continue is the processor's
 abbrev pub after_event : Event → Progress → Progress

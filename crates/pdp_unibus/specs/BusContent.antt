@@ -1,6 +1,9 @@
--- What is saved of a bus: all that turns change, so all but the bytes of its tape (this project's profile).
+-- What is saved of a bus: all but the bytes of its tape, which no turn changes, and first touches (this project's
+-- profile).
 use Rattle.std.specs.Prelude.{ℕ, ◌≡◌, ◌<◌, List, [], Option, Some, None, length, map, slice_index_or, slice_set}
+use Rattle.pdp_store.specs.Firsts.{no_firsts}
 use Rattle.pdp_store.specs.Pages.{SharedPage, lasts_of, words_of}
+use Rattle.pdp_store.specs.Stored.{HasLastOfEachOrNone}
 use Rattle.pdp_store.specs.declared.Stamp.{Stamp}
 use Rattle.pdp_unibus.specs.BusWorld.{BusWorld}
 use Rattle.pdp_unibus.specs.declared.board.Board.{Board}
@@ -25,7 +28,7 @@ bus_content w = record {
   turn = w.turn;
 }
 
--- the bus of this content, with this tape in its reader
+-- the bus of this content, with this tape in its reader and no first touches
 abbrev pub bus_of : List ℕ → BusContent → BusWorld
 bus_of tape c = record {
   board = c.board;
@@ -35,6 +38,7 @@ bus_of tape c = record {
   tape = tape;
   bytes_read = c.bytes_read;
   turn = c.turn;
+  firsts = no_firsts;
 }
 
 -- the content with other delays, and the bus with another tape
@@ -51,10 +55,11 @@ pub record HasSizesOf (c : BusContent) (w : BusWorld) : Type 0 where
   pub lasts : length c.lasts ≡ length w.lasts
   pub drives : map length c.drives ≡ map length w.drives
 
--- the pages are core: its words and their last stamps
+-- the pages are core: its words and their last stamps, one of each word or none at all
 pub record IsCoreOf (pages : List SharedPage) (w : BusWorld) : Type 0 where
   pub words : words_of pages ≡ w.core
   pub lasts : lasts_of pages ≡ w.lasts
+  pub stamped : HasLastOfEachOrNone w.core w.lasts
 
 -- the pages have as many words as core, and as many stamps
 pub record IsCoreOfSize (pages : List SharedPage) (w : BusWorld) : Type 0 where

@@ -9,6 +9,7 @@ use Rattle.pdp_rk11.specs.Rk.{quiet_rk, rk_reset}
 use Rattle.pdp_kt11.specs.Kt.{kt_reset, powered_kt}
 use Rattle.pdp_kt11.specs.declared.kt.Kt.{Kt}
 use Rattle.pdp_kt11.specs.declared.mode.Mode.TheVariants.{Kernel}
+use Rattle.pdp_store.specs.Firsts.{Firsts, no_firsts}
 use Rattle.pdp_store.specs.declared.Stamp.{Stamp}
 use Rattle.pdp_word.specs.declared.codes.Codes.{Codes}
 use Rattle.pdp_unibus.specs.declared.board.Board.{Board}
@@ -32,6 +33,8 @@ pub record BusWorld : Type 0 where
   pub bytes_read : ℕ
   -- the turn of its cycles
   pub turn : ℕ
+  -- the first touches of the pages of core and of the drives
+  pub firsts : Firsts
 
 -- the board as of power-up: every bit of the program status word, of the mapping registers and of the switches 0, the
 -- devices as after RESET
@@ -53,10 +56,23 @@ powered_board delays = record {
   switches = 0;
 }
 
--- the bus as of power-up, over this core, these drives and this tape
+-- the bus as of power-up, over this core, these drives and this tape, with no first touches
 abbrev pub powered : List ℕ → List (Option Stamp) → List (List ℕ) → List ℕ → Delays → BusWorld
 powered words lasts drives tape delays =
-    record { board = powered_board delays; core = words; lasts = lasts; drives = drives; tape = tape; bytes_read = 0; turn = 0 }
+    record {
+      board = powered_board delays;
+      core = words;
+      lasts = lasts;
+      drives = drives;
+      tape = tape;
+      bytes_read = 0;
+      turn = 0;
+      firsts = no_firsts;
+    }
+
+-- the bus with these first touches
+abbrev pub with_firsts : BusWorld → Firsts → BusWorld
+with_firsts w firsts = record w { firsts = firsts }
 
 abbrev pub with_board : BusWorld → Board → BusWorld
 with_board w board = record w { board = board }

@@ -5,9 +5,11 @@ use Rattle.pdp_decode.specs.Table.{decoded}
 use Rattle.pdp_decode.specs.declared.instruction.Instr.{Instr}
 use Rattle.pdp_icache.specs.Meaning.{meaning}
 use Rattle.pdp_icache.specs.declared.line.Decoded.{Decoded}
+use Rattle.pdp_store.specs.Firsts.{word_touched}
+use Rattle.pdp_store.specs.Touch.{Part as part}
 use Rattle.pdp_store.specs.declared.Agent.TheVariants.{Cpu}
 use Rattle.pdp_store.specs.declared.Stamp.{Stamp}
-use Rattle.pdp_unibus.specs.BusWorld.{BusWorld, with_board}
+use Rattle.pdp_unibus.specs.BusWorld.{BusWorld, with_board, with_firsts}
 use Rattle.pdp_unibus.specs.Register.{register_at, value_in, after_read, after_write, after_byte, word_with_byte}
 use Rattle.pdp_unibus.specs.declared.register.Register.{Register}
 use Rattle.pdp_unibus.specs.declared.board.Board.{Board}
@@ -43,12 +45,16 @@ slave_at words address =
 abbrev pub stamp_of_cycle : BusWorld → Stamp
 stamp_of_cycle w = record { turn = w.turn; agent = Cpu }
 
+-- the bus after a read of a word of core, and after a write of one: each touches the word's page
 abbrev pub core_read : BusWorld → ℕ → BusWorld
-core_read w k = w
+core_read w k = with_firsts w (word_touched part.Core k w.turn w.firsts)
 
 abbrev pub core_written : BusWorld → ℕ → ℕ → BusWorld
-core_written w k word =
-    record w { core = slice_set w.core k word; lasts = slice_set w.lasts k (Some (stamp_of_cycle w)) }
+core_written w k word = record w {
+  core = slice_set w.core k word;
+  lasts = slice_set w.lasts k (Some (stamp_of_cycle w));
+  firsts = word_touched part.Core k w.turn w.firsts;
+}
 
 -- nobody answered: nothing changes
 abbrev pub timed_out : BusWorld → Answer

@@ -19,5 +19,6 @@ pub mod Trace
 pub mod Page
 pub mod Touched
 pub mod BusContent
+pub mod PatchedPages
 pub mod SavedDrives
 pub mod Drives

@@ -1,6 +1,8 @@
 //! More drives on a bus, and fewer.
 
 ghost use Rattle.std.specs.Prelude.{◌≡◌, ◌++◌, map, take, IsErr, OnOk};
+ghost use Rattle.pdp_store.specs.Firsts.{firsts_of};
+ghost use Rattle.pdp_unibus.specs.BusWorld.{with_firsts};
 ghost use Rattle.pdp_unibus.specs.Drives.{with_drives};
 
 use crate::bus::Bus;
@@ -8,13 +10,17 @@ use pdp_store::Store;
 use pdp_word::NoMemory;
 
 impl<S: Store, D: Store + Drop> Bus<S, D> {
-    /// Adds these drives after those of the bus: they get the next numbers. The disk's controller
-    /// stays as it is, and so do the locks of all drives. (This project's profile.)
+    /// Adds these drives after those of the bus, with the first touches of their pages: they get
+    /// the next numbers. The disk's controller stays as it is, and so do the locks of all drives.
+    /// (This project's profile.)
     ///
     /// Err(NoMemory) if a growth was refused. The bus is then as before.
     pub fn add_drives(&mut self, mut drives: Vec<D>) -> Result<(), NoMemory>
         ensures added { OnOk result
-            (self.new ≡ with_drives self.old (self.old.drives ++ map D.words drives.items)) }
+            (self.new ≡ with_firsts
+            (with_drives self.old (self.old.drives ++ map D.words drives.items))
+            (firsts_of self.old.firsts.core
+            (self.old.firsts.drives ++ map D.firsts drives.items))) }
         ensures left { IsErr result → self.new ≡ self.old }
     {
         self.drives.append(&mut drives)?;
@@ -25,7 +31,9 @@ impl<S: Store, D: Store + Drop> Bus<S, D> {
     /// no memory. (This project's profile.)
     #[tactic(auto, using(crate::proofs::FewerDrives::first_seen))]
     pub fn keep_drives(&mut self, count: usize)
-        ensures { self.new ≡ with_drives self.old (take count self.old.drives) }
+        ensures { self.new ≡ with_firsts
+            (with_drives self.old (take count self.old.drives))
+            (firsts_of self.old.firsts.core (take count self.old.firsts.drives)) }
     {
         self.drives.truncate(count);
     }

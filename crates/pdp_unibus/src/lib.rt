@@ -24,11 +24,15 @@
 //! - What is fetched as an instruction is the decoding of what a read gives, with the effects of
 //!   the read (`Bus::instr`, `decoded`). That each kept line is the decoding of core now is an
 //!   invariant of `Bus`, so no write to core can forget it.
-//! - What is saved of a bus is all of it except the tape's bytes; a load makes the bus that again,
-//!   with the tape that it then has (`Bus::save`, `load`, `set_tape`, `SavedBus::set_delays`,
-//!   `with_word`).
-//! - Drives are added after those of the bus, or the last ones removed, and all else stays
-//!   (`Bus::add_drives`, `keep_drives`).
+//! - Each bus cycle and each completion of the disk touches the pages of the words that it reads or
+//!   writes. So does a fetch whose line is at hand (`Bus::kept_word`). The first touch of a page of
+//!   core or of a drive is the least turn of its touches that were not forgotten
+//!   (`Bus::first_of_core`, `first_of_drive`, `forget`).
+//! - What is saved of a bus is all of it except the tape's bytes and the first touches; a load
+//!   makes the bus that again, with the tape and the first touches that it then has (`Bus::save`,
+//!   `load`, `set_tape`, `SavedBus::set_delays`, `patched_page`, `with_page`).
+//! - Drives are added after those of the bus, with their first touches, or the last ones removed,
+//!   and all else stays (`Bus::add_drives`, `keep_drives`).
 //!
 //! This crate says who owns an address. What a register does and when a device requests is left to
 //! the device crates, references and their traps to pdp_operand, interrupts and `Continue` to
@@ -51,6 +55,7 @@ mod saved_drives;
 mod source;
 mod status;
 mod tape;
+mod touched_pages;
 mod watch;
 
 pub use beginning::Output;
@@ -66,6 +71,6 @@ pub use laws::{
 };
 pub use priority::Priority;
 pub use register::{Register, register_at_address};
-pub use saved_bus::SavedBus;
+pub use saved_bus::{PatchedPage, SavedBus};
 pub use source::Source;
 pub use status::Status;

@@ -1,20 +1,25 @@
 //! What is saved of a bus, so that it can be looked at again as it was.
 
-ghost use Rattle.std.specs.Prelude.{◌≡◌, ◌<◌, Some, None, [], length, slice_index_or, IfOk};
-ghost use Rattle.pdp_unibus.specs.BusContent.{HasSizesOf, HasWord, bus_content, bus_of, content_with_word};
+ghost use Rattle.std.specs.Prelude.{◌≡◌, IfOk};
+ghost use Rattle.pdp_unibus.specs.BusWorld.{with_firsts};
+ghost use Rattle.pdp_unibus.specs.BusContent.{HasSizesOf, bus_content, bus_of};
 ghost use Rattle.pdp_unibus.specs.BusContent.{IsCoreOf, IsCoreOfSize, with_core_of, with_delays, with_tape};
 
 use crate::board::Board;
 use crate::bus::Bus;
 use crate::delays::Delays;
-use crate::saved_drives::{change_one, load_each, share_each, take_each};
-use pdp_store::{Paged, PagedDrive, Pages, Paging, change_word};
+use crate::saved_drives::{load_each, take_each};
+use pdp_store::{Paged, PagedDrive, Pages, Paging, Store};
 use pdp_word::NoMemory;
 use std::alloc::Global;
 use std::marker::Model;
 
-/// A bus as it was: all of it that turns change, so all but the bytes of its tape. Words are kept as pages that it
-/// shares with the stores of the bus.
+mod patched_page;
+
+pub use patched_page::PatchedPage;
+
+/// A bus as it was: all of it except the bytes of its tape, which no turn changes, and the first touches of pages.
+/// Words are kept as pages that it shares with the stores of the bus.
 ///
 /// A contract sees it as a `BusContent`. (This project's profile.)
 #[derive(Drop)]
@@ -32,6 +37,7 @@ impl Model for SavedBus {
     ghost use Rattle.std.specs.Prelude.{◌≡◌, [], map};
     ghost use Rattle.std.specs.List.{All};
     ghost use Rattle.pdp_store.specs.Pages.{lasts_of, words_of};
+    ghost use Rattle.pdp_store.specs.Stored.{HasLastOfEachOrNone};
     ghost use Rattle.pdp_unibus.specs.BusContent.{BusContent};
     ghost use Rattle.pdp_unibus.specs.SavedDrives.{AreUnstamped, pages_words};
 
@@ -46,7 +52,7 @@ impl Model for SavedBus {
       turn = s.turn;
     } };
 
-    ghost invariant = { λ s. AreUnstamped s.drives.items };
+    ghost invariant = { λ s. AreUnstamped s.drives.items × HasLastOfEachOrNone (words_of s.core.value.items) (lasts_of s.core.value.items) };
 }
 
 impl SavedBus {
@@ -55,95 +61,6 @@ impl SavedBus {
         ensures { self.new ≡ with_delays delays self.old }
     {
         self.board.delays = delays;
-    }
-
-    /// The content with this value in a word: of core, or of the drive of this number (from 0). The word counts from 0
-    /// there. All pages but the one of that word are shared, and stamps are kept. The bus numbers the new page, and
-    /// stays as it is.
-    ///
-    /// Err(NoMemory) where a growth was refused; that words have as many owners as can be counted counts as one. (This
-    /// project's profile.)
-    #[tactic(auto, unfolding(crate::specs::BusContent::HasWord, crate::specs::BusContent::content_with_word))]
-    pub fn with_word(
-        &self,
-        alloc: Global,
-        bus: &mut Bus<Paged, PagedDrive>,
-        drive: Option<usize>,
-        word: usize,
-        value: u16,
-    ) -> Result<SavedBus, NoMemory>
-        requires { HasWord drive word self.now }
-        ensures same { bus.new ≡ bus.old }
-        ensures saved { IfOk result (λ saved. saved ≡ content_with_word drive word value self.now) }
-    {
-        match drive {
-            None => self.with_word_of_core(alloc, bus, word, value),
-            Some(number) => self.with_word_of_drive(alloc, bus, number, word, value),
-        }
-    }
-
-    // The content with this value in a word of core.
-    //
-    // Err(NoMemory) as above.
-    #[tactic(auto, unfolding(crate::specs::BusContent::content_with_word))]
-    fn with_word_of_core(
-        &self,
-        alloc: Global,
-        bus: &mut Bus<Paged, PagedDrive>,
-        word: usize,
-        value: u16,
-    ) -> Result<SavedBus, NoMemory>
-        requires { word < length self.now.core }
-        ensures same { bus.new ≡ bus.old }
-        ensures saved { IfOk result (λ saved. saved ≡ content_with_word None word value self.now) }
-    {
-        let core = change_word(&mut bus.words, alloc, &self.core, word, value)?;
-        let drives = share_each(alloc, &self.drives)?;
-        Ok(SavedBus {
-            board: self.board.copy(),
-            core,
-            drives,
-            bytes_read: self.bytes_read,
-            turn: self.turn,
-        })
-    }
-
-    // The content with this value in a word of the drive of this number.
-    //
-    // Err(NoMemory) as above.
-    #[tactic(auto, unfolding(crate::specs::BusContent::content_with_word))]
-    fn with_word_of_drive(
-        &self,
-        alloc: Global,
-        bus: &mut Bus<Paged, PagedDrive>,
-        number: usize,
-        word: usize,
-        value: u16,
-    ) -> Result<SavedBus, NoMemory>
-        requires { word < length (slice_index_or self.now.drives number []) }
-        ensures same { bus.new ≡ bus.old }
-        ensures saved { IfOk result (λ saved. saved ≡ content_with_word (Some number) word value self.now) }
-    {
-        let pages = &self.drives[number];
-        let changed = change_one(
-            alloc,
-            &mut bus.words,
-            &mut bus.drives,
-            number,
-            pages,
-            word,
-            value,
-        )?;
-        let mut drives = share_each(alloc, &self.drives)?;
-        drives[number] = changed;
-        let core = self.core.clone()?;
-        Ok(SavedBus {
-            board: self.board.copy(),
-            core,
-            drives,
-            bytes_read: self.bytes_read,
-            turn: self.turn,
-        })
     }
 }
 
@@ -155,6 +72,7 @@ impl Bus<Paged, PagedDrive> {
         ensures same { self.new ≡ self.old }
         ensures taken { IfOk result (λ pages. IsCoreOf pages.value.items self.old) }
     {
+        let _words = self.words.len();
         self.words.take_pages(alloc)
     }
 
@@ -185,10 +103,10 @@ impl Bus<Paged, PagedDrive> {
         })
     }
 
-    /// Makes the bus the one that was saved, with the tape that it has now. Takes no memory.
+    /// Makes the bus the one that was saved, with the tape and the first touches that it has now. Takes no memory.
     pub fn load(&mut self, saved: &SavedBus)
         requires { HasSizesOf saved.now self.old }
-        ensures { self.new ≡ bus_of self.old.tape saved.now }
+        ensures { self.new ≡ with_firsts (bus_of self.old.tape saved.now) self.old.firsts }
     {
         self.load_core(&saved.core);
         load_each(&mut self.drives, &saved.drives);

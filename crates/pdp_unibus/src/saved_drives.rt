@@ -1,11 +1,13 @@
 //! The drives as shared pages: taken, and loaded again.
 
 ghost use Rattle.std.specs.Prelude.{◌≡◌, ◌<◌, [], length, map, slice_index_or, slice_set, IfOk};
+ghost use Rattle.pdp_unibus.specs.PatchedPages.{IsPageWith};
 ghost use Rattle.pdp_unibus.specs.SavedDrives.{lists_shared, pages_lasts, pages_words};
 
-use pdp_store::{Pages, Paging, change_word};
+use pdp_store::{Page, Pages, Paging, page_with_word};
 use pdp_word::NoMemory;
 use std::alloc::Global;
+use std::rc::Rc;
 
 /// The pages of each drive, in the order of their numbers.
 ///
@@ -17,6 +19,7 @@ pub(crate) fn take_each<D: Paging>(
 ) -> Result<Vec<Pages>, NoMemory>
     ensures same_words { map D.words drives.new.items ≡ map D.words drives.old.items }
     ensures same_lasts { map D.lasts drives.new.items ≡ map D.lasts drives.old.items }
+    ensures firsts { map D.firsts drives.new.items ≡ map D.firsts drives.old.items }
     ensures words { IfOk result (λ pages. map pages_words pages.items ≡ map D.words drives.old.items) }
     ensures lasts { IfOk result (λ pages. map pages_lasts pages.items ≡ map D.lasts drives.old.items) }
 {
@@ -37,6 +40,7 @@ fn take_one<D: Paging>(alloc: Global, drives: &mut Vec<D>, number: usize) -> Res
     ensures count { length drives.new.items ≡ length drives.old.items }
     ensures same_words { map D.words drives.new.items ≡ map D.words drives.old.items }
     ensures same_lasts { map D.lasts drives.new.items ≡ map D.lasts drives.old.items }
+    ensures firsts { map D.firsts drives.new.items ≡ map D.firsts drives.old.items }
     ensures words { IfOk result (λ pages. pages_words pages ≡ slice_index_or (map D.words drives.old.items) number []) }
     ensures lasts { IfOk result (λ pages. pages_lasts pages ≡ slice_index_or (map D.lasts drives.old.items) number []) }
 {
@@ -50,6 +54,7 @@ pub(crate) fn load_each<D: Paging>(drives: &mut Vec<D>, pages: &Vec<Pages>)
     requires lasts { map length (map pages_lasts pages.now.items) ≡ map length (map D.lasts drives.old.items) }
     ensures words { map D.words drives.new.items ≡ map pages_words pages.now.items }
     ensures lasts { map D.lasts drives.new.items ≡ map pages_lasts pages.now.items }
+    ensures firsts { map D.firsts drives.new.items ≡ map D.firsts drives.old.items }
 {
     for number in 0..drives.len() {
         load_one(drives, pages, number);
@@ -57,7 +62,7 @@ pub(crate) fn load_each<D: Paging>(drives: &mut Vec<D>, pages: &Vec<Pages>)
 }
 
 /// Loads the drive of this number from the pages of this number. Takes no memory.
-#[tactic(auto, using(crate::proofs::SavedDrives::seen, crate::proofs::SavedDrives::put_one))]
+#[tactic(auto, using(crate::proofs::SavedDrives::seen, crate::proofs::SavedDrives::put_one, crate::proofs::SavedDrives::same_for_one))]
 fn load_one<D: Paging>(drives: &mut Vec<D>, pages: &Vec<Pages>, number: usize)
     requires within { number < length drives.old.items }
     requires there { number < length pages.now.items }
@@ -66,6 +71,7 @@ fn load_one<D: Paging>(drives: &mut Vec<D>, pages: &Vec<Pages>, number: usize)
     ensures count { length drives.new.items ≡ length drives.old.items }
     ensures words { map D.words drives.new.items ≡ slice_set (map D.words drives.old.items) number (slice_index_or (map pages_words pages.now.items) number []) }
     ensures lasts { map D.lasts drives.new.items ≡ slice_set (map D.lasts drives.old.items) number (slice_index_or (map pages_lasts pages.now.items) number []) }
+    ensures firsts { map D.firsts drives.new.items ≡ map D.firsts drives.old.items }
 {
     drives[number].load_pages(&pages[number]);
 }
@@ -84,12 +90,11 @@ pub(crate) fn share_each(alloc: Global, drives: &[Pages]) -> Result<Vec<Pages>, 
     Ok(shared)
 }
 
-/// These pages, of the drive of this number, with one word changed. The drive of this number here gives the serial of
-/// the new page, and core where there is none.
+/// The page of a word in these pages, which are those of the drive of this number, with the word changed. The drive
+/// of this number here gives the serial of the page, and core if there is none.
 ///
-/// Err(NoMemory) where a growth was refused, or a page has as many owners as can be counted; the words of core and of
-/// the drives stay in any case.
-pub(crate) fn change_one<S: Paging, D: Paging>(
+/// Err(NoMemory) if a growth was refused; the words of core and of the drives stay in any case.
+pub(crate) fn patch_one<S: Paging, D: Paging>(
     alloc: Global,
     core: &mut S,
     drives: &mut Vec<D>,
@@ -97,39 +102,41 @@ pub(crate) fn change_one<S: Paging, D: Paging>(
     pages: &Pages,
     word: usize,
     value: u16,
-) -> Result<Pages, NoMemory>
-    requires { word < length (pages_words pages.now) }
+) -> Result<Rc<Page>, NoMemory>
+    requires there { word < length (pages_words pages.now) }
+    requires unstamped { pages_lasts pages.now ≡ [] }
     ensures core_words { S.words core.new ≡ S.words core.old }
     ensures core_lasts { S.lasts core.new ≡ S.lasts core.old }
+    ensures core_firsts { S.firsts core.new ≡ S.firsts core.old }
     ensures drive_words { map D.words drives.new.items ≡ map D.words drives.old.items }
-    ensures words { IfOk result (λ changed. pages_words changed ≡ slice_set (pages_words pages.now) word value) }
-    ensures lasts { IfOk result (λ changed. pages_lasts changed ≡ pages_lasts pages.now) }
+    ensures drive_firsts { map D.firsts drives.new.items ≡ map D.firsts drives.old.items }
+    ensures page { IfOk result (λ page. IsPageWith word value (pages_words pages.now) [] page) }
 {
     if number < drives.len() {
-        change_by(alloc, drives, number, pages, word, value)
+        patch_by(alloc, drives, number, pages, word, value)
     } else {
-        change_word(core, alloc, pages, word, value)
+        page_with_word(core, alloc, pages, word, value)
     }
 }
 
-// These pages with one word changed; the drive of this number gives the serial of the new page.
+// The same page; the drive of this number gives its serial.
 //
-// Err(NoMemory) where a growth was refused, or a page has as many owners as can be counted; the words of the drives
-// stay in any case.
+// Err(NoMemory) as above.
 #[tactic(auto, using(crate::proofs::SavedDrives::same_for_one))]
-fn change_by<D: Paging>(
+fn patch_by<D: Paging>(
     alloc: Global,
     drives: &mut Vec<D>,
     number: usize,
     pages: &Pages,
     word: usize,
     value: u16,
-) -> Result<Pages, NoMemory>
+) -> Result<Rc<Page>, NoMemory>
     requires within { number < length drives.old.items }
     requires there { word < length (pages_words pages.now) }
+    requires unstamped { pages_lasts pages.now ≡ [] }
     ensures drive_words { map D.words drives.new.items ≡ map D.words drives.old.items }
-    ensures words { IfOk result (λ changed. pages_words changed ≡ slice_set (pages_words pages.now) word value) }
-    ensures lasts { IfOk result (λ changed. pages_lasts changed ≡ pages_lasts pages.now) }
+    ensures drive_firsts { map D.firsts drives.new.items ≡ map D.firsts drives.old.items }
+    ensures page { IfOk result (λ page. IsPageWith word value (pages_words pages.now) [] page) }
 {
-    change_word(&mut drives[number], alloc, pages, word, value)
+    page_with_word(&mut drives[number], alloc, pages, word, value)
 }

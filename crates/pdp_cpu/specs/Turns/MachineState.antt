@@ -2,7 +2,8 @@
 use Rattle.std.specs.Prelude.{ℕ, ◌+◌, ◌<◌, ◌++◌, List, [], Option, length}
 use Rattle.pdp_store.specs.declared.Stamp.{Stamp}
 use Rattle.pdp_unibus.specs.BusContent.{with_tape}
-use Rattle.pdp_unibus.specs.BusWorld.{powered}
+use Rattle.pdp_store.specs.Firsts.{Firsts, no_firsts}
+use Rattle.pdp_unibus.specs.BusWorld.{powered, with_firsts}
 use Rattle.pdp_unibus.specs.declared.delays.Delays.{Delays}
 use Rattle.pdp_unibus.specs.declared.event.Event.{Event}
 use Rattle.pdp_operand.specs.Handbook.Processor.{powered_processor}
@@ -26,6 +27,22 @@ pub record MachineWithTexts : Type 0 where
   pub kept_punched : List KeptByte
   pub text_room : ℕ
   pub punched_room : ℕ
+  -- the first touches of the pages of core and of the drives; the world of the state has none
+  pub firsts : Firsts
+
+-- a world with these first touches, and a world without any
+abbrev pub world_with_firsts : World → Firsts → World
+world_with_firsts w firsts = world w.processor (with_firsts w.bus firsts)
+
+abbrev pub without_firsts : World → World
+without_firsts w = world_with_firsts w no_firsts
+
+-- the world of a machine with its first touches, and the machine with these in the world of its state
+abbrev pub machine_world : MachineWithTexts → World
+machine_world m = world_with_firsts m.state.world m.firsts
+
+abbrev pub touched_machine : MachineWithTexts → MachineWithTexts
+touched_machine m = record m { state = record m.state { world = machine_world m } }
 
 -- the world as of power-up
 abbrev pub powered_world : ℕ → List ℕ → List (Option Stamp) → List (List ℕ) → List ℕ → Delays → World

@@ -28,6 +28,7 @@ pub record FailsWith (trap : Trap) (r : Reference) (b : BusWorld) : Type 0 where
   pub tape : (perform r b).after.tape ≡ b.tape
   pub bytes_read : (perform r b).after.bytes_read ≡ b.bytes_read
   pub turn : (perform r b).after.turn ≡ b.turn
+  pub firsts : (perform r b).after.firsts ≡ b.firsts
   pub board : (perform r b).after.board ≡ with_mapping_status (perform r b).after.board.mapping.status b.board
   pub touches_none : touches r b ≡ []
 

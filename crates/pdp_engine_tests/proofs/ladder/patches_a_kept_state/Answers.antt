@@ -4,6 +4,7 @@ use Rattle.pdp_cpu.specs.Saved.{HasWord}
 use Rattle.pdp_cpu.specs.Turns.MachineState.{MachineState}
 use Rattle.pdp_checkpoint.specs.declared.checkpoint.Checkpoint.{Checkpoint}
 use Rattle.pdp_checkpoint.specs.Ladder.{checkpoint_of}
+use Rattle.pdp_checkpoint.proofs.PagesAlike.{one_alike}
 use Rattle.pdp_engine_tests.proofs.ladder.patches_a_kept_state.Goals as goal
 
 HasIt : Checkpoint → Type 0
@@ -17,4 +18,5 @@ pub patch-requires : goal.patch-requires
 unfolding HasIt
 patch-requires g c = record {
   there = subst (All HasIt) (sym c.in_ok-ladder.ensures.kept) (All-cons HasIt _ [] (has_it c.in_ok-machine.machine.state c.in_ok-machine.ensures.core) (All-nil HasIt));
+  alike = one_alike None 256 11 (checkpoint_of c.in_ok-machine.machine.state) c.in_ok-ladder.ladder.kept c.in_ok-ladder.ensures.kept;
 }

@@ -9,7 +9,7 @@ fill-requires c =
     let blank : c.in_ok-store.store.words ≡ replicate drive_words 0 = ap (λ (s : PagedWords). s.words) c.in_ok-store.ensures in
     (fits_blank drive_words c.args.image.now c.in_ok-store.store.words blank c.requires)
 
-pub returns : goal.returns
-returns c =
+pub returns-clause-words : goal.returns-clause-words
+returns-clause-words c =
     let blank : c.in_ok-store.store.words ≡ replicate drive_words 0 = ap (λ (s : PagedWords). s.words) c.in_ok-store.ensures in
     rw c.fill.ensures.words (padded_over drive_words c.args.image.now c.in_ok-store.store.words blank)

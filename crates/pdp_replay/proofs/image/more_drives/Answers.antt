@@ -1,9 +1,10 @@
-use Rattle.std.proofs.Common.{◌≡◌, ◌∙◌, ◌+◌, ap, arith, length, length-append, map}
+use Rattle.std.proofs.Common.{◌≡◌, ◌∙◌, ◌+◌, ap, arith, length, length-append, map, replicate}
 use Rattle.std.specs.List.{range_with_len}
 use Rattle.pdp_store.specs.Pages.{PagedWords}
+use Rattle.pdp_store.specs.Stored.{untouched}
 use Rattle.pdp_replay.specs.Image.{more_drives, padded, padded_drive}
 use Rattle.pdp_replay.specs.Setup.{drive_words, images_of}
-use Rattle.pdp_replay.proofs.MoreDrives.{one_more}
+use Rattle.pdp_replay.proofs.MoreDrives.{all_alike, one_more}
 use Rattle.pdp_replay.proofs.image.more_drives.Goals as goal
 
 pub loop-number-preserved : goal.loop-number-preserved
@@ -15,14 +16,23 @@ loop-number-preserved c =
     record {
       so_many = omega (arith, so_many, long);
       words = one_more (λ (drive : PagedWords). drive.words) (padded_drive (images_of c.args.origin.now.disks.items)) c.loop-number.drives.items _ _ c.loop-number.number
-          so_many (c.in_ok-drive_store.ensures ∙ ap (padded drive_words) c.image.ensures) c.in_ok-push.ensures.items before.words;
+          so_many (c.in_ok-drive_store.ensures.words ∙ ap (padded drive_words) c.image.ensures) c.in_ok-push.ensures.items before.words;
+      firsts = all_alike (λ (drive : PagedWords). drive.firsts) c.loop-number.drives.items _ _ (untouched drive_words) c.in_ok-drive_store.ensures.firsts c.in_ok-push.ensures.items before.firsts;
     }
 
-pub returns : goal.returns
+pub returns-clause-words : goal.returns-clause-words
 unfolding more_drives
-returns c =
+returns-clause-words c =
     let before = c.loop-number.invariant in
     let so_many = before.so_many in
     let past = c.loop-number-test.false in
     let seven : length c.loop-number.drives.items ≡ 7 = omega (arith, so_many, past) in
     before.words ∙ ap (λ n. map (padded_drive (images_of c.args.origin.now.disks.items)) (range_with_len 1 n)) seven
+
+pub returns-clause-firsts : goal.returns-clause-firsts
+returns-clause-firsts c =
+    let before = c.loop-number.invariant in
+    let so_many = before.so_many in
+    let past = c.loop-number-test.false in
+    let seven : length c.loop-number.drives.items ≡ 7 = omega (arith, so_many, past) in
+    before.firsts ∙ ap (λ n. replicate n (untouched drive_words)) seven

@@ -13,9 +13,9 @@ loop-turn-preserved c =
     record {
       way = λ p known quiet way.
           way_on_with_room p known c.loop-turn.machine ready c.turn.new.self _ (before.way p known quiet way)
-          c.ready.ensures.same c.ready.ensures.same_text c.ready.ensures.same_punched
+          c.ready.ensures.same c.ready.ensures.same_text c.ready.ensures.same_punched c.ready.ensures.same_firsts
           (sym (quiet ready.state.turn (omega (arith, same, begun)) (omega (arith, same, below))))
-          c.turn.ensures.turn c.turn.ensures.kept_text c.turn.ensures.kept_punched;
+          c.turn.ensures.turn c.turn.ensures.kept_text c.turn.ensures.kept_punched c.turn.ensures.firsts;
       turn = ap (λ (s : MachineState). s.turn) c.turn.ensures.turn ∙ ap (λ n. n + 1) same;
       begun = omega arith;
       within = omega arith;

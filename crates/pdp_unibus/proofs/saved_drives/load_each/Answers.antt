@@ -5,7 +5,7 @@ use Rattle.pdp_unibus.proofs.saved_drives.load_each.Goals as goal
 
 pub loop-number-preserved : goal.loop-number-preserved
 loop-number-preserved g c =
-    let (words, lasts, as_many, as_many_pages, as_many_first) = c.loop-number.invariant in
+    let (words, lasts, firsts, as_many, as_many_pages, as_many_first) = c.loop-number.invariant in
     let number = c.loop-number.number in
     let drives = c.loop-number.drives.items in
     let below : number < length drives = search rules in
@@ -15,6 +15,7 @@ loop-number-preserved g c =
           words below there first c.load_one.ensures.words,
       one_loaded g.D.Store.lasts pages_lasts c.args.pages.now.items c.args.drives.now.items drives c.load_one.new.drives.items number
           lasts below there first c.load_one.ensures.lasts,
+      c.load_one.ensures.firsts ∙ firsts,
       c.load_one.ensures.count ∙ as_many,
       as_many_pages,
       as_many_first,

@@ -7,4 +7,5 @@ abbrev pub invariant-loop-number : goal.invariant-loop-number
 invariant-loop-number g l =
     Loaded (map pages_words l.pages.items) (map g.D.Store.words l.initial.drives.items) (map g.D.Store.words l.drives.items) l.number
     × Loaded (map pages_lasts l.pages.items) (map g.D.Store.lasts l.initial.drives.items) (map g.D.Store.lasts l.drives.items) l.number
+    × (map g.D.Store.firsts l.drives.items ≡ map g.D.Store.firsts l.initial.drives.items)
     × (length l.drives.items ≡ l.number-end) × (length l.pages.items ≡ l.number-end) × (length l.initial.drives.items ≡ l.number-end)

@@ -8,4 +8,5 @@ invariant-loop-number g l =
     × (map g.D.Store.lasts l.drives.items ≡ map g.D.Store.lasts l.initial.drives.items)
     × (map pages_words l.taken.items ≡ take l.number (map g.D.Store.words l.initial.drives.items))
     × (map pages_lasts l.taken.items ≡ take l.number (map g.D.Store.lasts l.initial.drives.items))
+    × (map g.D.Store.firsts l.drives.items ≡ map g.D.Store.firsts l.initial.drives.items)
     × (length l.drives.items ≡ l.number-end) × (length l.initial.drives.items ≡ l.number-end)

@@ -1,12 +1,15 @@
-use Rattle.std.proofs.Common.{◌≡◌, ◌∙◌, None, ap₂, is_some, refl, rules, subst}
+use Rattle.std.proofs.Common.{◌≡◌, ◌∙◌, ◌/◌, None, ap, ap₂, false, true, is_some, min, refl, rules, subst}
+use Rattle.pdp_store.specs.Touch.{Part as part}
+use Rattle.pdp_replay.specs.FirstTouches.{first_touch}
+use Rattle.pdp_replay.specs.Timeline.{Timeline, core_reverted}
 use Rattle.indexmap.specs.IndexMap.{shift_remove_entry}
 use Rattle.pdp_operand.specs.Phases.World.{World}
 use Rattle.pdp_replay.specs.Edit.{revert_edit}
 use Rattle.pdp_replay.specs.Past.{Past, past_from}
 use Rattle.pdp_replay.specs.PatchedWords.{core_key, is_same_word, patch_of}
 use Rattle.pdp_replay.specs.Setup.{setup_of}
-use Rattle.pdp_replay.proofs.EditedSetups.{engine_reverted, word_kept}
-use Rattle.pdp_replay.proofs.PoweredContents.{first_of_core_revert}
+use Rattle.pdp_replay.proofs.EditedSetups.{drive_there, engine_reverted, known_patched, pages_kept, revert_is, timeline, told_patched, word_kept}
+use Rattle.pdp_replay.specs.KeptRuns.{IsPatchedRun}
 use Rattle.pdp_replay.proofs.PoweredWords.{unpatched}
 use Rattle.pdp_replay.proofs.engine.Engine.revert_core.Goals as goal
 
@@ -16,6 +19,8 @@ set_word-requires c =
     let p : Past = past_from old.origin old.run.machine.state.world.bus.tape old.delays old.patches old.script in
     record {
       there = word_kept p old.run.known old.run.ladder (core_key c.in_ok-number.number) c.self.invariant.run.kept.states c.in_ok-number.ensures.below;
+      alike = pages_kept p (core_key c.in_ok-number.number) old.highest old.run c.self.invariant c.in_ok-number.ensures.below;
+      drive = drive_there p old.run (core_key c.in_ok-number.number) c.self.invariant.run.kept c.in_ok-number.ensures.below;
     }
 
 pub returns-then-not-contains_key-clause-answer : goal.returns-then-not-contains_key-clause-answer
@@ -48,12 +53,35 @@ invariant_of-self-2 c =
     let entries : patches.entries ≡ shift_remove_entry (is_same_word (core_key number)) old.patches.entries = search rules in
     let none : patch_of patches.entries (core_key number) ≡ None = search rules in
     let setup : q.setup ≡ unpatched p.setup (core_key number) =
-    ap₂ (λ (w : World) entries. setup_of old.origin w.bus.tape old.delays entries) set.world entries in
-    let content = first_of_core_revert p.setup number c.in_ok-number.ensures.below (subst (λ ps. patch_of ps (core_key number) ≡ None) entries none) in
-    engine_reverted p q number old.highest old.run run c.self.invariant setup content set.forgotten (set.ladder ∙ rw c.core_word-word.ensures refl) set.world
+    ap₂ (λ (w : World) entries. setup_of old.origin w.bus.tape old.delays entries) set.patched.world entries in
+    let without : patch_of (unpatched p.setup (core_key number)).patches (core_key number) ≡ None = subst (λ ps. patch_of ps (core_key number) ≡ None) entries none in
+    engine_reverted p q number old.highest old.run run c.self.invariant setup refl c.in_ok-number.ensures.below without
+    (subst (λ w. IsPatchedRun (core_key number) w old.run run) c.core_word-word.ensures set.patched)
 
 pub returns-clause-answer : goal.returns-clause-answer
 unfolding revert_edit
 returns-clause-answer c =
     let found : c.contains_key.result ≡ is_some (patch_of c.self.inside.patches.entries (core_key c.in_ok-number.number)) = c.contains_key.ensures ∙ search rules in
     search rules
+
+pub returns-clause-after : goal.returns-clause-after
+returns-clause-after c =
+    let old = c.self.inside in
+    let run = c.set_word.new.self in
+    let patches = c.shift_remove.new.self in
+    let number = c.in_ok-number.number in
+    let p : Past = past_from old.origin old.run.machine.state.world.bus.tape old.delays old.patches old.script in
+    let q : Past = past_from old.origin run.machine.state.world.bus.tape old.delays patches old.script in
+    let done = c.in_ok-set_word.ensures.patched in
+    let entries : patches.entries ≡ shift_remove_entry (is_same_word (core_key number)) old.patches.entries = search rules in
+    let found : c.contains_key.result ≡ is_some (patch_of old.patches.entries (core_key number)) = c.contains_key.ensures ∙ search rules in
+    let there : is_some (patch_of old.patches.entries (core_key number)) ≡ true = search rules in
+    let setup : q.setup ≡ unpatched p.setup (core_key number) =
+    ap₂ (λ (w : World) entries. setup_of old.origin w.bus.tape old.delays entries) done.world entries in
+    let patched : IsPatchedRun (core_key number) c.core_word-word.result old.run run = done in
+    let known : run.known ≡ min old.run.known (first_touch p part.Core (number / 256) old.run.known) =
+    known_patched p (core_key number) _ old.highest old.run run c.self.invariant c.in_ok-number.ensures.below patched in
+    subst (λ (t : Timeline). timeline q old.highest run ≡ core_reverted c.args.address false t) c.self.view_is
+    (told_patched p q (revert_edit c.args.address p) (core_key number) _ old.highest _ old.run run
+    (revert_is p q c.args.address number (c.in_ok-number.ensures.number p.setup refl) there setup refl)
+    (known ∙ ap (λ n. min old.run.known (first_touch p part.Core (n / 256) old.run.known)) c.in_ok-number.ensures.half) patched)

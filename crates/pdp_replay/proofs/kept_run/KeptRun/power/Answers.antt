@@ -3,8 +3,9 @@ use Rattle.pdp_cpu.specs.Turns.MachineState.{powered_machine}
 use Rattle.pdp_replay.specs.Image.{padded}
 use Rattle.pdp_replay.specs.Past.{Past, unscripted}
 use Rattle.pdp_replay.specs.Setup.{SetupData, drive_count, drive_words, first_setup, image_of}
+use Rattle.pdp_replay.specs.FirstTouches.{untouched_all}
 use Rattle.pdp_replay.specs.States.{at}
-use Rattle.pdp_replay.proofs.PoweredRuns.{powered_in_run, powered_kept, powered_over}
+use Rattle.pdp_replay.proofs.PoweredRuns.{powered_in_run, powered_kept, powered_over, untouched_over}
 use Rattle.pdp_replay.proofs.kept_run.KeptRun.power.Goals as goal
 
 pub returns-clause-run : goal.returns-clause-run
@@ -14,13 +15,17 @@ returns-clause-run c =
     let m = c.power-machine.result in
     let core = c.in_ok-core.core in
     let drives : List (List ℕ) = c.in_ok-drive_store.field-0.words ∷ [] in
-    let drives_are : drives ≡ padded drive_words (image_of s.disks 0) ∷ [] = ap (λ (words : List ℕ). words ∷ []) (c.in_ok-drive_store.ensures ∙ ap (padded drive_words) c.image.ensures) in
+    let drives_are : drives ≡ padded drive_words (image_of s.disks 0) ∷ [] = ap (λ (words : List ℕ). words ∷ []) (c.in_ok-drive_store.ensures.words ∙ ap (padded drive_words) c.image.ensures) in
+    let one = ap drive_count c.requires.one in
     let first : m.state ≡ powered_machine s.start core.words core.lasts drives s.tape s.delays =
     c.power-machine.ensures.state ∙ rw (c.in_ok-drives.ensures.items, c.standard-delays.ensures) refl in
     let state : m.state ≡ at p 0 =
-    first ∙ powered_over s core.words core.lasts drives c.requires.good refl (ap drive_count c.requires.one) c.in_ok-core.ensures.words c.in_ok-core.ensures.lasts drives_are in
+    first ∙ powered_over s core.words core.lasts drives c.requires.good refl one c.in_ok-core.ensures.words c.in_ok-core.ensures.lasts drives_are in
+    let firsts : m.firsts ≡ untouched_all s =
+    c.power-machine.ensures.firsts
+    ∙ untouched_over s core.firsts _ one c.in_ok-core.ensures.firsts (rw (c.in_ok-drives.ensures.items, c.in_ok-drive_store.ensures.firsts) refl) in
     let new = c.in_ok-ladder.ensures in
     record {
-      kept = powered_kept p m c.new-2.new.machine c.in_ok-ladder.ladder state c.power-machine.ensures.kept_text c.power-machine.ensures.kept_punched new.machine new.kept new.rungs;
+      kept = powered_kept p m c.new-2.new.machine c.in_ok-ladder.ladder state c.power-machine.ensures.kept_text c.power-machine.ensures.kept_punched firsts new.machine new.kept new.rungs;
       current = λ yes. powered_in_run p m c.new-2.new.machine state new.machine;
     }

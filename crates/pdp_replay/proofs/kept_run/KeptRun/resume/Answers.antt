@@ -19,7 +19,7 @@ pub returns-clause-way : goal.returns-clause-way
 returns-clause-way c = λ p run.
     let best = c.best-best.ensures in
     let load = c.load.ensures in
-    on_way_loaded p c.args.self.now _ _ _ run.kept best.state (omega (arith, best.below, c.min.ensures)) refl refl load.state load.kept_text load.kept_punched
+    on_way_loaded p c.args.self.now _ _ _ run.kept best.state (omega (arith, best.below, c.min.ensures)) refl refl load.state load.kept_text load.kept_punched load.firsts
 
 pub returns-clause-turn : goal.returns-clause-turn
 returns-clause-turn c =

@@ -1,4 +1,5 @@
-use Rattle.std.proofs.Common.{◌≡◌, ◌∙◌, ◌-◌, ◌<◌, arith, length, sym}
+use Rattle.std.proofs.Common.{◌≡◌, ◌∙◌, ◌-◌, ◌<◌, ap, arith, length, sym}
+use Rattle.pdp_store.specs.Firsts.{all_firsts_before}
 use Rattle.pdp_cpu.specs.KeptTexts.{kept_before}
 use Rattle.pdp_cpu.specs.Saved.{state_cut}
 use Rattle.pdp_checkpoint.specs.Ladder.{next_of}
@@ -11,14 +12,16 @@ pub returns-in-Err-clause-kept : goal.returns-in-Err-clause-kept
 returns-in-Err-clause-kept c = λ p are way.
     let m = c.args.self.now.machine in
     let here : m.state.turn ≡ next_of c.args.self.now.ladder = sym c.turns-turn.ensures ∙ c.if-turn-next.true ∙ c.next.ensures.next in
-    let now = c.keep_text.new.self in
+    let cut = c.keep_text.new.self in
+    let now = c.forget.new.self in
     let taken = c.in-Err.ensures in
-    let text : now.kept_text ≡ kept_before (m.state.turn - 1) m.kept_text = rw (← c.turns-turn.ensures, ← taken.machine) c.keep_text.ensures.kept_text in
-    let punched : now.kept_punched ≡ kept_before (m.state.turn - 1) m.kept_punched = rw (← c.turns-turn.ensures, ← taken.machine) c.keep_text.ensures.kept_punched in
-    let state : now.state ≡ state_cut (length now.kept_text) (length now.kept_punched) m.state = rw (← taken.machine) c.keep_text.ensures.state in
+    let text : now.kept_text ≡ kept_before (m.state.turn - 1) m.kept_text = c.forget.ensures.kept_text ∙ rw (← c.turns-turn.ensures, ← taken.machine) c.keep_text.ensures.kept_text in
+    let punched : now.kept_punched ≡ kept_before (m.state.turn - 1) m.kept_punched = c.forget.ensures.kept_punched ∙ rw (← c.turns-turn.ensures, ← taken.machine) c.keep_text.ensures.kept_punched in
+    let state : now.state ≡ state_cut (length cut.kept_text) (length cut.kept_punched) m.state = c.forget.ensures.state ∙ rw (← taken.machine) c.keep_text.ensures.state in
+    let firsts : now.firsts ≡ all_firsts_before (m.state.turn - 1) m.firsts = rw (← c.turns-turn.ensures, ← taken.machine) (c.forget.ensures.firsts ∙ ap (all_firsts_before _) c.keep_text.ensures.firsts) in
     record {
       kept = rw (c.max-self.ensures, taken.refused, c.turns-turn.ensures)
-          (settled_refused p c.args.self.now.known (length now.kept_text) (length now.kept_punched) m now c.args.self.now.ladder are way here text punched state);
+          (settled_refused p c.args.self.now.known (length cut.kept_text) (length cut.kept_punched) m now c.args.self.now.ladder are way here text punched firsts (omega (arith, c.requires.limit)) state);
       current = λ yes. absurd cc;
     }
 

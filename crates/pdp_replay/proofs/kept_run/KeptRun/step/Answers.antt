@@ -9,7 +9,7 @@ returns-in_err-settle-clause-kept c = λ p same on.
     let turn = c.turn-act.ensures in
     let way : IsUnderWay p run.known c.turn-act.new.self =
     way_stepped p c.args.script.now run c.ready.new.self c.turn-act.new.self c.turns-turn.result c.at.result.now same on
-    ready.same ready.same_text ready.same_punched c.turns-turn.ensures c.at.ensures.events turn.turn turn.kept_text turn.kept_punched in
+    ready.same ready.same_text ready.same_punched ready.same_firsts c.turns-turn.ensures c.at.ensures.events turn.turn turn.kept_text turn.kept_punched turn.firsts in
     c.settle.ensures.kept p on.kept.states way
 
 pub returns-clause-kept : goal.returns-clause-kept
@@ -19,7 +19,7 @@ returns-clause-kept c = λ p same on.
     let turn = c.turn-act.ensures in
     let way : IsUnderWay p run.known c.turn-act.new.self =
     way_stepped p c.args.script.now run c.ready.new.self c.turn-act.new.self c.turns-turn.result c.at.result.now same on
-    ready.same ready.same_text ready.same_punched c.turns-turn.ensures c.at.ensures.events turn.turn turn.kept_text turn.kept_punched in
+    ready.same ready.same_text ready.same_punched ready.same_firsts c.turns-turn.ensures c.at.ensures.events turn.turn turn.kept_text turn.kept_punched turn.firsts in
     c.settle.ensures.kept p on.kept.states way
 
 pub returns-clause-way : goal.returns-clause-way
@@ -29,7 +29,7 @@ returns-clause-way c = λ p same on.
     let turn = c.turn-act.ensures in
     let way : IsUnderWay p run.known c.turn-act.new.self =
     way_stepped p c.args.script.now run c.ready.new.self c.turn-act.new.self c.turns-turn.result c.at.result.now same on
-    ready.same ready.same_text ready.same_punched c.turns-turn.ensures c.at.ensures.events turn.turn turn.kept_text turn.kept_punched in
+    ready.same ready.same_text ready.same_punched ready.same_firsts c.turns-turn.ensures c.at.ensures.events turn.turn turn.kept_text turn.kept_punched turn.firsts in
     let settled = c.in_ok-settle.ensures in
     on_way_settled p run.known c.turn-act.new.self c.settle.new.self way (c.settle.ensures.kept p on.kept.states way).kept settled.machine settled.known
 

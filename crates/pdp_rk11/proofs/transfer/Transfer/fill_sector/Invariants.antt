@@ -7,4 +7,5 @@ abbrev pub invariant-loop-i : goal.invariant-loop-i
 invariant-loop-i g l = record {
   words : g.D.Store.words l.disk ≡ moved l.start l.i (λ i. 0) (g.D.Store.words l.initial.disk);
   stamps : g.D.Store.lasts l.disk ≡ moved l.start l.i (λ i. None) (g.D.Store.lasts l.initial.disk);
+  firsts : g.D.Store.firsts l.disk ≡ g.D.Store.firsts l.initial.disk;
 }

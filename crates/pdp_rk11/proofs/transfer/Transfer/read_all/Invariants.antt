@@ -8,4 +8,5 @@ invariant-loop-i g l = record {
   words : g.S.Store.words l.core
       ≡ moved l.core_start l.i (λ i. slice_index (g.D.Store.words l.disk) (l.disk_start + i)) (g.S.Store.words l.initial.core);
   lasts : g.S.Store.lasts l.core ≡ moved l.core_start l.i (λ i. Some l.stamp) (g.S.Store.lasts l.initial.core);
+  firsts : g.S.Store.firsts l.core ≡ g.S.Store.firsts l.initial.core;
 }

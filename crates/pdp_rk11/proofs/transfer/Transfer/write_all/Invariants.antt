@@ -9,4 +9,5 @@ invariant-loop-i g l = record {
   words : g.D.Store.words l.disk
       ≡ moved l.disk_start l.i (λ i. slice_index (g.S.Store.words l.core) (core_word l.self i)) (g.D.Store.words l.initial.disk);
   stamps : g.D.Store.lasts l.disk ≡ moved l.disk_start l.i (λ i. None) (g.D.Store.lasts l.initial.disk);
+  firsts : g.D.Store.firsts l.disk ≡ g.D.Store.firsts l.initial.disk;
 }

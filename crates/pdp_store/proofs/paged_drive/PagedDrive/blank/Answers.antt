@@ -9,5 +9,6 @@ invariant_of-result c =
 
 pub returns : goal.returns
 returns c =
-    blank-value _ _ _ _ c.args.len (rw c.in_ok-pages.ensures.ok c.in_ok-list.ensures) refl c.requires
+    blank-value _ _ _ _ _ c.args.len (rw c.in_ok-pages.ensures.ok c.in_ok-list.ensures) refl c.requires
     (c.in_ok-places.ensures.items_if_clones_equal (λ y same. same)) (c.in_ok-own.ensures.items_if_clones_equal (λ y same. same))
+    c.in_ok-touches.ensures

@@ -27,5 +27,5 @@ invariant_of-self c =
 pub returns : goal.returns
 returns c =
     let s = c.self.inside in
-    all-copied s.pages.value.items c.args.pages.now _ _ s.given c.copy_each.ensures.places c.copy_each.ensures.own
-    ∙ ap (λ (v : PagedWords). loaded c.args.pages.now v.given) c.self.view_is
+    all-copied s.pages.value.items c.args.pages.now _ _ s.given s.touches c.copy_each.ensures.places c.copy_each.ensures.own
+    ∙ ap (λ (v : PagedWords). loaded c.args.pages.now v.given v.firsts) c.self.view_is

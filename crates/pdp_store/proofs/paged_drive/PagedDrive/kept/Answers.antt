@@ -9,6 +9,6 @@ returns-in-Ok-clause-kept c =
     let s = c.self.inside in
     let still = c.self.invariant.unchanged c.if-self.false in
     sym c.self.view_is
-    ∙ renewed s.pages.value.items s.places.items s.own.items s.given (length s.places.items) still.0 c.self.invariant.words still.1
-    ∙ ap (λ (v : PagedWords). loaded s.pages.value.items v.given) c.self.view_is
-    ∙ ap (λ (v : Vec SharedPage Global). loaded v.items c.args.self.now.given) (sym c.in-Ok.ensures.cases)
+    ∙ renewed s.pages.value.items s.places.items s.own.items s.given (length s.places.items) s.touches still.0 c.self.invariant.words still.1
+    ∙ ap (λ (v : PagedWords). loaded s.pages.value.items v.given v.firsts) c.self.view_is
+    ∙ ap (λ (v : Vec SharedPage Global). loaded v.items c.args.self.now.given c.args.self.now.firsts) (sym c.in-Ok.ensures.cases)

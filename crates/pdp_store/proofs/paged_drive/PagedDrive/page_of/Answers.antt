@@ -44,7 +44,7 @@ returns-in-Shared c =
           ap (λ (p : Page). p.words.items) same
           ∙ piece-shared s.pages.value.items s.places.items s.own.items k there c.self.invariant.words (omega arith) is at
           ∙ ap (λ (v : PagedWords). piece k v.words) c.self.view_is;
-      has_lasts = ap (λ (p : Page). p.stamps.items) same ∙ lasts-none s.pages.value.items k there c.self.invariant.lasts at;
+      has_lasts = ap (λ (p : Page). p.stamps.value.items) same ∙ lasts-none s.pages.value.items k there c.self.invariant.lasts at;
       has_serial =
           ap (λ (p : Page). p.serial) same
           ∙ sym (ap (λ b. serial_there b c.args.given) (base_there s.pages.value.items s.places.items _ k Shared bases (omega arith) (sym is) ∙ ap (λ p. base_from Shared p) at));

@@ -1,5 +1,6 @@
-use Rattle.std.proofs.Common.{length, ap, arith}
+use Rattle.std.proofs.Common.{length, ap, arith, ◌∙◌}
 use Rattle.pdp_store.specs.Pages.{PagedWords}
+use Rattle.pdp_store.specs.DrivePlaces.{loaded}
 use Rattle.pdp_store.proofs.Pages.{length-words_of}
 use Rattle.pdp_store.proofs.DriveTaken.{count_own, fields-renewed, renewed}
 use Rattle.pdp_store.proofs.paged_drive.PagedDrive.renew.Goals as goal
@@ -16,4 +17,5 @@ returns c =
     let s = c.self.inside in
     let all = count_own s.pages.value.items s.places.items s.own.items _ (ap (λ (v : PagedWords). v.words) c.self.view_is) in
     let size = length-words_of c.args.pages.value.items in
-    renewed c.args.pages.value.items _ s.own.items c.args.given (length s.places.items) (omega (arith, c.requires.words, c.self.invariant.words)) c.self.invariant.words c.share_all.ensures
+    renewed c.args.pages.value.items _ s.own.items c.args.given (length s.places.items) s.touches (omega (arith, c.requires.words, c.self.invariant.words)) c.self.invariant.words c.share_all.ensures
+    ∙ ap (λ (v : PagedWords). loaded c.args.pages.value.items c.args.given v.firsts) c.self.view_is

@@ -11,8 +11,8 @@ use Rattle.pdp_store.proofs.paged_store.Paged.page_at.Goals as goal
 pub returns-then-index : goal.returns-then-index
 returns-then-index c =
     let inside : c.args.place * 256 < length c.self.inside.words.items = subst (λ (v : PagedStored). c.args.place * 256 < length v.words) (sym c.self.view_is) c.requires in
-    let all : length c.self.inside.words.items ≡ length c.self.inside.bases.items * 256 = c.self.invariant.all_words in
-    let places : length c.self.inside.written.items ≡ length c.self.inside.bases.items = c.self.invariant.places in
+    let all : length c.self.inside.words.items ≡ length c.self.inside.bases.items * 256 = c.self.invariant.0.all_words in
+    let places : length c.self.inside.written.items ≡ length c.self.inside.bases.items = c.self.invariant.0.places in
     let mark : true ≡ get_or c.self.inside.written.items c.args.place true = subst (λ (m : Bool). m ≡ get_or c.self.inside.written.items c.args.place m) c.if-index.true c.index.ensures in
     let none : get_or (bases_of c.self.inside.written.items c.self.inside.bases.items) c.args.place None ≡ None
     = marked_there c.self.inside.written.items c.self.inside.bases.items c.args.place (omega arith) mark in
@@ -26,8 +26,8 @@ returns-then-index c =
 pub returns-else-index : goal.returns-else-index
 returns-else-index c =
     let inside : c.args.place * 256 < length c.self.inside.words.items = subst (λ (v : PagedStored). c.args.place * 256 < length v.words) (sym c.self.view_is) c.requires in
-    let all : length c.self.inside.words.items ≡ length c.self.inside.bases.items * 256 = c.self.invariant.all_words in
-    let places : length c.self.inside.written.items ≡ length c.self.inside.bases.items = c.self.invariant.places in
+    let all : length c.self.inside.words.items ≡ length c.self.inside.bases.items * 256 = c.self.invariant.0.all_words in
+    let places : length c.self.inside.written.items ≡ length c.self.inside.bases.items = c.self.invariant.0.places in
     let mark : false ≡ get_or c.self.inside.written.items c.args.place false = subst (λ (m : Bool). m ≡ get_or c.self.inside.written.items c.args.place m) c.if-index.false c.index.ensures in
     let below : c.args.place < length c.self.inside.bases.items = omega arith in
     let base : slice_get c.self.inside.bases.items c.args.place ≡ Some c.index-else-index.result.now

@@ -14,7 +14,7 @@ loop-place-preserved c =
     let places : c.len-places.result ≡ length c.self.inside.bases.items = search rules in
     let count : length c.args.self.now.bases ≡ length c.self.inside.bases.items
     = subst (λ (v : PagedStored). length v.bases ≡ length c.self.inside.bases.items) c.self.view_is
-    (length-bases_of c.self.inside.written.items c.self.inside.bases.items c.self.invariant.places) in
+    (length-bases_of c.self.inside.written.items c.self.inside.bases.items c.self.invariant.0.places) in
     let below : c.loop-place.place < length c.args.self.now.bases = omega arith in
     let more = one_taken_more c.args.self.now c.loop-place.place c.loop-place.given c.loop-place.pages.items c.in_ok-page_at.field-0 c.loop-place.invariant below c.in_ok-page_at.ensures in
     subst (λ (pages : List SharedPage). AreTaken (c.loop-place.place + 1) pages c.given_with-given.result c.args.self.now) (sym {A = List SharedPage} c.in_ok-push.ensures.items)
@@ -25,9 +25,9 @@ returns c =
     let places : c.len-places.result ≡ length c.self.inside.bases.items = search rules in
     let count : length c.args.self.now.bases ≡ length c.self.inside.bases.items
     = subst (λ (v : PagedStored). length v.bases ≡ length c.self.inside.bases.items) c.self.view_is
-    (length-bases_of c.self.inside.written.items c.self.inside.bases.items c.self.invariant.places) in
+    (length-bases_of c.self.inside.written.items c.self.inside.bases.items c.self.invariant.0.places) in
     let words : length c.args.self.now.words ≡ length c.self.inside.bases.items * 256
-    = subst (λ (v : PagedStored). length v.words ≡ length c.self.inside.bases.items * 256) c.self.view_is c.self.invariant.all_words in
+    = subst (λ (v : PagedStored). length v.words ≡ length c.self.inside.bases.items * 256) c.self.view_is c.self.invariant.0.all_words in
     let lasts : 0 < length c.args.self.now.lasts → length c.args.self.now.lasts ≡ length c.args.self.now.words
-    = subst (λ (v : PagedStored). 0 < length v.lasts → length v.lasts ≡ length v.words) c.self.view_is c.self.invariant.all_lasts in
+    = subst (λ (v : PagedStored). 0 < length v.lasts → length v.lasts ≡ length v.words) c.self.view_is c.self.invariant.0.all_lasts in
     all_taken c.args.self.now c.loop-place.place c.loop-place.given c.loop-place.pages.items c.loop-place.invariant (omega arith) (omega arith) (grind arith)

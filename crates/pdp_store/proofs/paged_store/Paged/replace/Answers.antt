@@ -5,7 +5,7 @@ use Rattle.pdp_store.proofs.paged_store.Paged.replace.Goals as goal
 
 pub invariant_of-self : goal.invariant_of-self
 invariant_of-self c =
-    rw c.put_last.ensures (written_fields c.self.inside.words.items c.self.inside.stamps.items c.self.inside.bases.items c.self.inside.written.items c.args.i c.args.w c.args.last c.self.invariant)
+    (rw c.put_last.ensures (written_fields c.self.inside.words.items c.self.inside.stamps.items c.self.inside.bases.items c.self.inside.written.items c.args.i c.args.w c.args.last c.self.invariant.0), c.self.invariant.1)
 
 pub returns-clause-bases : goal.returns-clause-bases
 returns-clause-bases c =

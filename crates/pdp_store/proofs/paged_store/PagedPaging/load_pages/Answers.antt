@@ -8,14 +8,14 @@ put_bases-requires-clause-bases c =
     let pages : c.deref-6.result.now ≡ c.args.pages.now.value.items = search rules in
     let words : length (words_of c.args.pages.now.value.items) ≡ length c.self.inside.words.items
     = subst (λ (v : PagedStored). length (words_of c.args.pages.now.value.items) ≡ length v.words) (sym c.self.view_is) c.requires.words in
-    sym (ap length pages ∙ as_many_pages c.args.pages.now.value.items (length c.self.inside.bases.items) (words ∙ c.self.invariant.all_words))
+    sym (ap length pages ∙ as_many_pages c.args.pages.now.value.items (length c.self.inside.bases.items) (words ∙ c.self.invariant.0.all_words))
 
 pub put_bases-requires-clause-written : goal.put_bases-requires-clause-written
 put_bases-requires-clause-written c =
     let pages : c.deref-6.result.now ≡ c.args.pages.now.value.items = search rules in
     let words : length (words_of c.args.pages.now.value.items) ≡ length c.self.inside.words.items
     = subst (λ (v : PagedStored). length (words_of c.args.pages.now.value.items) ≡ length v.words) (sym c.self.view_is) c.requires.words in
-    c.self.invariant.places ∙ sym (ap length pages ∙ as_many_pages c.args.pages.now.value.items (length c.self.inside.bases.items) (words ∙ c.self.invariant.all_words))
+    c.self.invariant.0.places ∙ sym (ap length pages ∙ as_many_pages c.args.pages.now.value.items (length c.self.inside.bases.items) (words ∙ c.self.invariant.0.all_words))
 
 pub invariant_of-self : goal.invariant_of-self
 invariant_of-self c =
@@ -30,8 +30,11 @@ invariant_of-self c =
     let lasts_now : c.put_stamps.new.stamps ≡ lasts_of c.deref-6.result.now = c.put_stamps.ensures ∙ ap lasts_of pages-4 in
     let words_len : length c.put_words.new.words ≡ c.self.inside.words.len = search rules in
     let lasts_len : length c.put_stamps.new.stamps ≡ c.self.inside.stamps.len = search rules in
-    fields_of_pages c.deref-6.result.now _ _ _ _
+    let fields = fields_of_pages c.deref-6.result.now _ _ _ _
     (rewrapped c.put_words.new.words c.self.inside.words.items c.self.inside.words.len words_len ∙ words_now)
     (rewrapped c.put_stamps.new.stamps c.self.inside.stamps.items c.self.inside.stamps.len lasts_len ∙ lasts_now)
-    (as_stamped _ _ _ _ lasts words c.self.invariant.all_lasts)
-    c.put_bases.ensures
+    (as_stamped _ _ _ _ lasts words c.self.invariant.0.all_lasts)
+    c.put_bases.ensures in
+    let many : length c.deref-6.result.now ≡ length c.self.inside.bases.items
+    = as_many_pages c.deref-6.result.now (length c.self.inside.bases.items) (words ∙ c.self.invariant.0.all_words) in
+    (fields, c.self.invariant.1 ∙ sym (c.put_bases.ensures.count ∙ many))

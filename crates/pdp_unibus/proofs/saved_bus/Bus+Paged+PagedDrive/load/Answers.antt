@@ -5,5 +5,5 @@ use Rattle.pdp_unibus.proofs.saved_bus.Bus+Paged+PagedDrive.load.Goals as goal
 
 pub load_each-requires-clause-lasts : goal.load_each-requires-clause-lasts
 load_each-requires-clause-lasts c =
-    blank_sizes (λ (d : PagedWords). d.words) c.saved.inside.drives.items c.self.inside.drives.items c.saved.invariant (search rules)
+    blank_sizes (λ (d : PagedWords). d.words) c.saved.inside.drives.items c.self.inside.drives.items c.saved.invariant.0 (search rules)
     ∙ sym (no_stamps c.self.inside.drives.items)

@@ -1,0 +1,74 @@
+-- When kept states have a page alike.
+use Rattle.std.proofs.Common.{◌≡◌, ◌∙◌, ℕ, zero, suc, ◌+◌, ◌-◌, ◌*◌, ◌/◌, ◌<◌, List, [], ◌∷◌, Option, None}
+use Rattle.std.proofs.Common.{ap, arith, drop, get_or, length, min, nat_le, refl, subst, sym, take}
+use Rattle.std.specs.List.{filter}
+use Rattle.std.specs.Prelude.{slice_index_or}
+use Rattle.std.proofs.Math.Nat.{zero-div}
+use Rattle.std.proofs.lemmas.List.Elements.{All-filter}
+use Rattle.std.proofs.lemmas.List.{ext_get_or, get_or-drop, get_or-take, length-drop, length-take}
+use Rattle.pdp_store.specs.Parts.{SameWords}
+use Rattle.pdp_store.specs.Pieces.{piece}
+use Rattle.pdp_unibus.specs.BusContent.{BusContent}
+use Rattle.pdp_unibus.specs.PatchedPages.{HasPageOf, saved_lasts, saved_words}
+use Rattle.pdp_checkpoint.specs.Ladder.{AreRungs, LadderData}
+use Rattle.pdp_checkpoint.specs.Patched.{HavePageAlike}
+use Rattle.pdp_checkpoint.specs.declared.checkpoint.Checkpoint.{Checkpoint}
+use Rattle.pdp_checkpoint.proofs.Rungs.{below_is_first}
+
+-- lists of one length with the same items in a page have the same page
+same_piece : {X : Type 0} (place : ℕ) (d : X) (xs ys : List X) → length xs ≡ length ys
+    → ((k : ℕ) → k / 256 ≡ place → get_or xs k d ≡ get_or ys k d) → piece place xs ≡ piece place ys
+unfolding piece
+same_piece place d xs ys size same =
+    let from = place * 256 in
+    let left : length (drop from xs) ≡ length (drop from ys) =
+    length-drop from xs ∙ ap (λ n. n - from) size ∙ sym (length-drop from ys) in
+    let as_many : length (take 256 (drop from xs)) ≡ length (take 256 (drop from ys)) =
+    length-take 256 (drop from xs) ∙ ap (min 256) left ∙ sym (length-take 256 (drop from ys)) in
+    ext_get_or d (take 256 (drop from xs)) (take 256 (drop from ys)) as_many (λ i below.
+    let small : i < 256 = omega (arith, below, length-take 256 (drop from xs)) in
+    get_or-take 256 (drop from xs) i d small ∙ get_or-drop from xs i d ∙ same (from + i) (omega arith)
+    ∙ sym (get_or-take 256 (drop from ys) i d small ∙ get_or-drop from ys i d))
+
+-- a content of the same sizes, with the same words in the page and the same last stamps, has the
+-- page of the other
+pub has_page : (drive : Option ℕ) (word : ℕ) (other c : BusContent)
+    → length (saved_words drive c) ≡ length (saved_words drive other)
+    → SameWords (word / 256) (saved_words drive c) (saved_words drive other)
+    → length (saved_lasts drive c) ≡ length (saved_lasts drive other)
+    → ((k : ℕ) → k / 256 ≡ word / 256 → slice_index_or (saved_lasts drive c) k None ≡ slice_index_or (saved_lasts drive other) k None)
+    → HasPageOf drive word other c
+has_page drive word other c size words count lasts = record {
+  words = same_piece (word / 256) 0 (saved_words drive c) (saved_words drive other) size words;
+  lasts = same_piece (word / 256) None (saved_lasts drive c) (saved_lasts drive other) count lasts;
+}
+
+-- the state of turn 0 alone has each page alike
+alone_alike : (drive : Option ℕ) (word : ℕ) (kept : List Checkpoint) → 0 < length kept → HavePageAlike drive word (take 1 kept)
+alone_alike drive word [] some = absurd (omega (arith, some))
+alone_alike drive word (c ∷ cs) some = record {
+  content = c.saved.bus;
+  all = λ k d below. by k d below;
+}
+  where
+    by : (k : ℕ) (d : Checkpoint) → k < 1 → HasPageOf drive word c.saved.bus (get_or (c ∷ []) k d).saved.bus
+    by zero d below = record { words = refl; lasts = refl }
+    by (suc k) d below = absurd (omega (arith, below))
+
+pub first_alone_alike : (drive : Option ℕ) (word : ℕ) (l : LadderData) → AreRungs l → HavePageAlike drive word (filter (λ c. nat_le c.turn 0) l.kept)
+first_alone_alike drive word l rungs =
+    let one : 0 / l.stride + 1 ≡ 1 = ap (λ n. n + 1) (zero-div l.stride) in
+    let is : take 1 l.kept ≡ filter (λ c. nat_le c.turn 0) l.kept = sym (below_is_first l 0 rungs ∙ ap (λ n. take n l.kept) one) in
+    subst (HavePageAlike drive word) is (alone_alike drive word l.kept rungs.some)
+
+-- and so has a state that is kept alone
+pub one_alike : (drive : Option ℕ) (word turn : ℕ) (c : Checkpoint) (kept : List Checkpoint) → kept ≡ c ∷ []
+    → HavePageAlike drive word (filter (λ x. nat_le x.turn turn) kept)
+one_alike drive word turn c kept is = rw is (record {
+  content = c.saved.bus;
+  all = All-filter (λ x. nat_le x.turn turn) (λ x. HasPageOf drive word c.saved.bus x.saved.bus) (c ∷ []) (λ k d below. by k d below);
+})
+  where
+    by : (k : ℕ) (d : Checkpoint) → k < 1 → HasPageOf drive word c.saved.bus (get_or (c ∷ []) k d).saved.bus
+    by zero d below = record { words = refl; lasts = refl }
+    by (suc k) d below = absurd (omega (arith, below))

@@ -1,0 +1,104 @@
+-- A turn does the same whatever first touches are kept, and adds to them what its trace touches.
+use Rattle.std.proofs.Common.{◌≡◌, ℕ, List, ◌++◌, sym, ap, ap₂, ◌∙◌}
+use Rattle.pdp_store.specs.Firsts.{Firsts, firsts_after, no_firsts}
+use Rattle.pdp_store.proofs.FirstTouches.{firsts_after-append, no_firsts_after}
+use Rattle.pdp_unibus.proofs.Carried.{begun_carried}
+use Rattle.pdp_unibus.specs.BusWorld.{BusWorld}
+use Rattle.pdp_unibus.specs.Trace.{begun_touches}
+use Rattle.pdp_unibus.specs.declared.event.Event.{Event}
+use Rattle.pdp_operand.proofs.Carried.{carried_course}
+use Rattle.pdp_operand.specs.Laws.Trace.{trace_of}
+use Rattle.pdp_operand.specs.Phases.Course.{follow}
+use Rattle.pdp_operand.specs.Phases.Phase.{inner_of, state_of}
+use Rattle.pdp_operand.specs.Phases.World.{World, world}
+use Rattle.pdp_operand.specs.declared.processor.Processor.{Processor}
+use Rattle.pdp_cpu.specs.declared.due.Due.{Due}
+use Rattle.pdp_cpu.specs.Turns.Due.{act_of, course_of, due_now, due_of}
+use Rattle.pdp_cpu.specs.Turns.MachineState.{MachineState, after_turn, without_firsts}
+use Rattle.pdp_cpu.specs.Turns.MachineState.{world_with_firsts}
+use Rattle.pdp_cpu.specs.Turns.Turn.{act_end, beginning, clear_latch, course_at, one_turn}
+use Rattle.pdp_cpu.specs.Turns.Turn.{printed_in, processor_after_events, punched_in, started}
+use Rattle.pdp_cpu.specs.Turns.Turn.{turn_act, turn_trace}
+
+-- turn t in a world, and the same over other first touches
+pub record TurnCarried (t : ℕ) (events : List Event) (w : World) (firsts : Firsts) : Type 0 where
+  pub world_is : one_turn t events (world_with_firsts w firsts)
+      ≡ world_with_firsts (one_turn t events w) (firsts_after (turn_trace t events w) firsts)
+  pub trace : turn_trace t events (world_with_firsts w firsts) ≡ turn_trace t events w
+  pub act : turn_act t events (world_with_firsts w firsts) ≡ turn_act t events w
+  pub printed : printed_in t events (world_with_firsts w firsts) ≡ printed_in t events w
+  pub punched : punched_in t events (world_with_firsts w firsts) ≡ punched_in t events w
+
+pub turn_carried : (t : ℕ) (events : List Event) (w : World) (firsts : Firsts)
+    → TurnCarried t events w firsts
+unfolding one_turn turn_trace turn_act printed_in punched_in
+turn_carried t events w firsts =
+    let xs = begun_touches t events w.bus in
+    let first = begun_carried t events w.bus firsts in
+    let v = beginning t events w in
+    let begins : beginning t events (world_with_firsts w firsts)
+    ≡ world_with_firsts v (firsts_after xs firsts)
+    = ap (λ q. world (processor_after_events events w.processor) q.bus) first.is in
+    let course = carried_course (course_at (started v)) (started v) (firsts_after xs firsts) in
+    let acts = trace_of (course_at (started v)) (started v) in
+    record {
+      world_is = ap act_end begins ∙ ap (λ s. s.world) course.is
+          ∙ ap (world_with_firsts (act_end v)) (sym (firsts_after-append xs acts firsts));
+      trace = ap₂ ◌++◌ first.trace
+          (ap (λ u. trace_of (course_at (started u)) (started u)) begins ∙ course.trace);
+      act = ap (λ u. act_of (due_of (inner_of (started u)))) begins;
+      printed = ap (λ q. q.printed) first.is;
+      punched = ap (λ q. q.punched) first.is;
+    }
+
+none_stay : (t : ℕ) (events : List Event) (w : World) → w.bus.firsts ≡ no_firsts
+    → (one_turn t events w).bus.firsts ≡ no_firsts
+none_stay t events w none =
+    let so = turn_carried t events w no_firsts in
+    let same : world_with_firsts w no_firsts ≡ w = ap (world_with_firsts w) (sym none) in
+    ap (λ u. u.bus.firsts) (sym (ap (one_turn t events) same) ∙ so.world_is)
+    ∙ no_firsts_after (turn_trace t events w)
+
+-- what is seen of a turn if first touches are seen apart from the world
+pub turn_seen : (t : ℕ) (events : List Event) (w v : World) (firsts now : Firsts)
+    → w.bus.firsts ≡ no_firsts → v.bus.firsts ≡ no_firsts
+    → world_with_firsts v now ≡ one_turn t events (world_with_firsts w firsts)
+    → v ≡ one_turn t events w
+turn_seen t events w v firsts now none nothing is =
+    let so = turn_carried t events w firsts in
+    ap (world_with_firsts v) nothing ∙ ap without_firsts (is ∙ so.world_is)
+    ∙ ap (world_with_firsts (one_turn t events w)) (sym (none_stay t events w none))
+
+pub firsts_seen : (t : ℕ) (events : List Event) (w v : World) (firsts now : Firsts)
+    → world_with_firsts v now ≡ one_turn t events (world_with_firsts w firsts)
+    → now ≡ firsts_after (turn_trace t events w) firsts
+firsts_seen t events w v firsts now is =
+    ap (λ u. u.bus.firsts) (is ∙ (turn_carried t events w firsts).world_is)
+
+-- a state with these first touches in its world
+abbrev pub touched_state : MachineState → Firsts → MachineState
+touched_state m firsts = record m { world = world_with_firsts m.world firsts }
+
+pub state_seen : (events : List Event) (m now : MachineState) (firsts left : Firsts)
+    → m.world.bus.firsts ≡ no_firsts → now.world.bus.firsts ≡ no_firsts
+    → touched_state now left ≡ after_turn events (touched_state m firsts)
+    → now ≡ after_turn events m
+state_seen events m now firsts left none nothing is =
+    let so = turn_carried m.turn events m.world firsts in
+    same_state now _ _ _ _ (ap (λ s. s.turn) is)
+    (turn_seen m.turn events m.world now.world firsts left none nothing (ap (λ s. s.world) is))
+    (ap (λ s. s.text) is ∙ ap (λ out. m.text ++ out) so.printed)
+    (ap (λ s. s.punched) is ∙ ap (λ out. m.punched ++ out) so.punched)
+  where
+    same_state : (s : MachineState) (t : ℕ) (w : World) (xs ys : List ℕ)
+        → s.turn ≡ t → s.world ≡ w → s.text ≡ xs → s.punched ≡ ys
+        → s ≡ record { turn = t; world = w; text = xs; punched = ys }
+    same_state s t w xs ys turn world text punched =
+        λ i. record { turn = turn i; world = world i; text = text i; punched = punched i }
+
+-- what an act comes to, by what was due
+pub act_is : (p now : Processor) (b after : BusWorld) (due : Due) → due_now p b.board ≡ due
+    → (follow (course_of due) (state_of p b clear_latch)).world ≡ world now after
+    → world now after ≡ act_end (world p b)
+act_is p now b after due is follows =
+    sym follows ∙ ap (λ d. (follow (course_of d) (state_of p b clear_latch)).world) (sym is)

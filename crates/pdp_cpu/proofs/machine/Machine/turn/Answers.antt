@@ -1,0 +1,40 @@
+use Rattle.std.proofs.Common.{◌∙◌, ap, sym, length}
+use Rattle.pdp_cpu.specs.KeptTexts.{kept_over}
+use Rattle.pdp_cpu.specs.Turns.MachineState.{MachineState, MachineWithTexts}
+use Rattle.pdp_cpu.proofs.Carried.{firsts_seen, state_seen, turn_carried}
+use Rattle.pdp_cpu.proofs.machine.Machine.turn.Goals as goal
+
+pub returns-clause-act : goal.returns-clause-act
+returns-clause-act g c =
+    let m = c.args.self.now in
+    c.turn_whole.ensures.act
+    ∙ (turn_carried m.state.turn c.args.events.now m.state.world m.firsts).act
+
+pub returns-clause-turn : goal.returns-clause-turn
+returns-clause-turn g c =
+    let m = c.args.self.now in
+    let new = c.turn_whole.new.self in
+    let none = ap (λ (v : MachineWithTexts). v.state.world.bus.firsts) (sym c.self.view_is) in
+    state_seen c.args.events.now m.state new.state m.firsts new.firsts none
+    c.turn_whole.ensures.without_firsts c.turn_whole.ensures.turn
+
+pub returns-clause-kept_text : goal.returns-clause-kept_text
+returns-clause-kept_text g c =
+    let m = c.args.self.now in
+    c.turn_whole.ensures.kept_text
+    ∙ ap (λ out. kept_over m.state.turn out (length m.state.text) m.kept_text)
+    (turn_carried m.state.turn c.args.events.now m.state.world m.firsts).printed
+
+pub returns-clause-kept_punched : goal.returns-clause-kept_punched
+returns-clause-kept_punched g c =
+    let m = c.args.self.now in
+    c.turn_whole.ensures.kept_punched
+    ∙ ap (λ out. kept_over m.state.turn out (length m.state.punched) m.kept_punched)
+    (turn_carried m.state.turn c.args.events.now m.state.world m.firsts).punched
+
+pub returns-clause-firsts : goal.returns-clause-firsts
+returns-clause-firsts g c =
+    let m = c.args.self.now in
+    let new = c.turn_whole.new.self in
+    firsts_seen m.state.turn c.args.events.now m.state.world new.state.world m.firsts new.firsts
+    (ap (λ (s : MachineState). s.world) c.turn_whole.ensures.turn)

@@ -1,0 +1,23 @@
+-- The states of a run keep no first touches.
+use Rattle.std.proofs.Common.{◌≡◌, ◌∙◌, ℕ, zero, suc, List, ap, refl, sym}
+use Rattle.pdp_store.specs.Firsts.{no_firsts}
+use Rattle.pdp_store.proofs.FirstTouches.{no_firsts_after}
+use Rattle.pdp_unibus.specs.declared.event.Event.{Event}
+use Rattle.pdp_operand.specs.Phases.World.{World}
+use Rattle.pdp_cpu.proofs.Carried.{turn_carried}
+use Rattle.pdp_cpu.specs.Turns.MachineState.{world_with_firsts}
+use Rattle.pdp_cpu.specs.Turns.Turn.{one_turn, turn_trace}
+use Rattle.pdp_script.specs.Entries.{events_at}
+use Rattle.pdp_replay.specs.Past.{Past}
+use Rattle.pdp_replay.specs.States.{power, state_at}
+
+turn_is_bare : (t : ℕ) (events : List Event) (w : World) → w.bus.firsts ≡ no_firsts → (one_turn t events w).bus.firsts ≡ no_firsts
+turn_is_bare t events w none =
+    let so = turn_carried t events w no_firsts in
+    let same : world_with_firsts w no_firsts ≡ w = ap (world_with_firsts w) (sym none) in
+    ap (λ u. u.bus.firsts) (sym (ap (one_turn t events) same) ∙ so.world_is) ∙ no_firsts_after (turn_trace t events w)
+
+pub state_is_bare : (p : Past) (n : ℕ) → (state_at p n).bus.firsts ≡ no_firsts
+unfolding state_at power
+state_is_bare p zero = refl
+state_is_bare p (suc n) = turn_is_bare n (events_at p.script.entries n) (state_at p n) (state_is_bare p n)

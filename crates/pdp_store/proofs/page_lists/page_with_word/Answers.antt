@@ -1,0 +1,34 @@
+use Rattle.std.proofs.Common.{◌≡◌, ◌∙◌, ◌/◌, ◌%◌, Some, Vec, Global, ap, get_or, refl, slice_get, slice_set, sym, arith}
+use Rattle.std.proofs.lemmas.Option.{slice_get_read}
+use Rattle.pdp_store.specs.declared.page.Page.{Page}
+use Rattle.pdp_store.specs.Pages.{SharedPage}
+use Rattle.pdp_store.proofs.PageLists.{there_within}
+use Rattle.pdp_store.proofs.Pages.{piece-lasts_of, piece-words_of}
+use Rattle.pdp_store.proofs.page_lists.page_with_word.Goals as goal
+
+pub index-requires : goal.index-requires
+index-requires g c =
+    let there = there_within c.args.pages.now.value.items c.args.i c.requires.there in
+    rw c.deref.ensures (omega (arith, there, c.args.pages.now.value.ok.0))
+
+pub returns-clause-page : goal.returns-clause-page
+returns-clause-page g c =
+    let ps = c.args.pages.now.value.items in
+    let k = c.args.i / 256 in
+    let old = c.index.result.now in
+    let at : slice_get ps k ≡ Some old =
+    slice_get_read ps _ k old refl (there_within ps c.args.i c.requires.there)
+    (c.index.ensures ∙ ap (λ (v : Vec SharedPage Global). get_or v.items k old) c.deref.ensures) in
+    let made = c.in_ok-page.ensures.page in
+    let was = c.deref-2.ensures in
+    let named = c.in_ok-new.ensures.ok in
+    record {
+      has_words =
+          ap (λ (p : Page). p.words.items) named ∙ made.words
+          ∙ ap (λ (p : Page). slice_set p.words.items (c.args.i % 256) c.args.w) was
+          ∙ ap (λ xs. slice_set xs (c.args.i % 256) c.args.w) (sym (piece-words_of ps k old at));
+      has_lasts =
+          ap (λ (p : Page). p.stamps.value.items) named ∙ made.stamps ∙ ap (λ (p : Page). p.stamps.value.items) was
+          ∙ sym (piece-lasts_of ps k old c.requires.stamped at);
+      has_serial = ap (λ (p : Page). p.serial) named ∙ made.serial;
+    }

@@ -1,0 +1,83 @@
+//! First touches: for each page of a store, the first turn with an access to one of its words.
+
+ghost use Rattle.std.specs.Prelude.{◌≡◌, ◌<◌, ◌/◌, ◌+◌, length, map, replicate, slice_index_or, IfOk};
+ghost use Rattle.pdp_store.specs.Firsts.{first_before, never, first_turn, touch_page};
+
+use crate::page::PAGE_WORDS;
+use pdp_word::NoMemory;
+use std::alloc::Global;
+use std::marker::Model;
+
+// The first touch of a page that was not touched: no turn has this number.
+const NEVER: u32 = u32::MAX;
+
+/// The first touch of each page of a store, 4 bytes a page.
+#[derive(Drop)]
+pub(crate) struct FirstTouches {
+    firsts: Vec<u32>,
+}
+
+impl Model for FirstTouches {
+    ghost use Rattle.std.specs.Prelude.{List, ℕ};
+
+    ghost Value = { List ℕ };
+
+    ghost view = { λ t. t.firsts.items };
+}
+
+impl FirstTouches {
+    /// Makes the first touches of `len` words, none of them touched.
+    ///
+    /// Err(NoMemory) if a growth was refused.
+    pub(crate) fn new(alloc: Global, len: usize) -> Result<FirstTouches, NoMemory>
+        ensures { IfOk result (λ touches. touches ≡ replicate ((len + 255) / 256) never) }
+    {
+        let firsts = vec![in alloc; NEVER; len.div_ceil(PAGE_WORDS)]?;
+        Ok(FirstTouches { firsts })
+    }
+
+    /// Notes an access to page `page` in turn `turn`: the earlier turn stays.
+    #[inline(always)]
+    pub(crate) fn touch(&mut self, page: usize, turn: u32)
+        requires { page < length self.old }
+        ensures { self.new ≡ touch_page self.old page turn }
+    {
+        if turn < self.firsts[page] {
+            self.firsts[page] = turn;
+        }
+    }
+
+    /// As [`FirstTouches::touch`], for a page that may not be there; then nothing changes.
+    #[inline(always)]
+    pub(crate) fn touch_there(&mut self, page: usize, turn: u32)
+        ensures { self.new ≡ touch_page self.old page turn }
+    {
+        if page < self.firsts.len() {
+            self.touch(page, turn);
+        }
+    }
+
+    /// Returns the first touch of page `page`; `None` if it has none or is not there.
+    pub(crate) fn first(&self, page: usize) -> Option<u32>
+        ensures { result ≡ first_turn (slice_index_or self.now page never) }
+    {
+        let first = self.firsts.get(page).copied().unwrap_or(NEVER);
+        if first == NEVER { None } else { Some(first) }
+    }
+
+    /// Drops the first touches of turn `turn` and of later turns.
+    pub(crate) fn forget(&mut self, turn: u32)
+        ensures { self.new ≡ map (first_before turn) self.old }
+    {
+        for page in 0..self.firsts.len() {
+            self.firsts[page] = kept_before(turn, self.firsts[page]);
+        }
+    }
+}
+
+// Returns a first touch if it is before turn `turn`, otherwise the one of an untouched page.
+fn kept_before(turn: u32, first: u32) -> u32
+    ensures { result ≡ first_before turn first }
+{
+    if first < turn { first } else { NEVER }
+}

@@ -1,0 +1,41 @@
+-- A page of 256 words with one word changed, put into each saved bus that has this page alike (this
+-- project's profile).
+use Rattle.std.specs.Prelude.{ℕ, ◌≡◌, ◌/◌, ◌%◌, List, [], Option, Some, None, slice_index_or, slice_set}
+use Rattle.pdp_store.specs.Pages.{SharedPage, page_lasts, page_words}
+use Rattle.pdp_store.specs.Pieces.{piece}
+use Rattle.pdp_store.specs.declared.Stamp.{Stamp}
+use Rattle.pdp_unibus.specs.BusContent.{BusContent, HasWord}
+use Rattle.pdp_unibus.specs.declared.saved_bus.patched_page.PatchedPage.{PatchedPage}
+
+-- the words of core, or of the drive of this number; and their last stamps: a drive has none
+abbrev pub saved_words : Option ℕ → BusContent → List ℕ
+saved_words None c = c.core
+saved_words (Some number) c = slice_index_or c.drives number []
+
+abbrev pub saved_lasts : Option ℕ → BusContent → List (Option Stamp)
+saved_lasts None c = c.lasts
+saved_lasts (Some number) c = []
+
+-- in the page of this word, this content has the words and the last stamps of the other
+pub record HasPageOf (drive : Option ℕ) (word : ℕ) (other c : BusContent) : Type 0 where
+  pub words : piece (word / 256) (saved_words drive c)
+      ≡ piece (word / 256) (saved_words drive other)
+  pub lasts : piece (word / 256) (saved_lasts drive c)
+      ≡ piece (word / 256) (saved_lasts drive other)
+
+-- the page of this word in a list of words, with this value in the word and with its last stamps
+pub record IsPageWith (word value : ℕ) (words : List ℕ) (lasts : List (Option Stamp))
+    (page : SharedPage) : Type 0 where
+  pub changed : page_words page ≡ slice_set (piece (word / 256) words) (word % 256) value
+  pub stamps : page_lasts page ≡ piece (word / 256) lasts
+
+-- a patched page is for this word and this value
+pub record IsPatchOf (drive : Option ℕ) (word value : ℕ) (p : PatchedPage) : Type 0 where
+  pub drive_is : p.drive ≡ drive
+  pub word_is : p.word ≡ word
+  pub value_is : p.value ≡ value
+
+-- but for its word, it is the page of this content
+pub record IsPatchIn (c : BusContent) (p : PatchedPage) : Type 0 where
+  pub there : HasWord p.drive p.word c
+  pub page : IsPageWith p.word p.value (saved_words p.drive c) (saved_lasts p.drive c) p.page
