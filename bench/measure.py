@@ -1,6 +1,7 @@
 """What the measurements share: their arguments, the programs, and runs of the built program."""
 import argparse
 import os
+import re
 import subprocess
 import time
 
@@ -55,3 +56,22 @@ def rate(lines, turns, states=("run",)):
     if out.split()[-1] not in states:
         raise SystemExit(f"the program isn't in the state {' or '.join(states)}:\n{out}")
     return turns / max(some - none, 1e-9)
+
+
+def after(arguments, lines, asked):
+    """Runs the program on these lines, and then on those that are asked; no reply has more than one
+    line. Returns the seconds from asking to the last reply, and the resident kilobytes then."""
+    pipes = {"stdin": subprocess.PIPE, "stdout": subprocess.PIPE}
+    with subprocess.Popen([PROGRAM, *arguments], **pipes) as program:
+        for text in lines, asked:
+            begun = time.perf_counter()
+            program.stdin.write(text.encode())
+            program.stdin.flush()
+            for line in text.splitlines():
+                if not line.startswith("#"):
+                    program.stdout.readline()
+            seconds = time.perf_counter() - begun
+        with open(f"/proc/{program.pid}/status", encoding="ascii") as status:
+            kilobytes = int(re.search(r"VmRSS:\s+(\d+) kB", status.read())[1])
+        program.stdin.close()
+    return seconds, kilobytes
