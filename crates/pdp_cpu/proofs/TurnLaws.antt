@@ -18,18 +18,18 @@ use Rattle.pdp_operand.specs.declared.processor.Processor.{Processor}
 use Rattle.pdp_operation.specs.declared.trap.Trap.{Trap}
 use Rattle.pdp_operand.specs.Phases.Phase.{Inner, Phase, inner_of}
 use Rattle.pdp_operand.proofs.Bound.{AtMost, course_length_le}
-use Rattle.pdp_cpu.proofs.PlanSizes.{size_of_plan}
+use Rattle.pdp_instruction.proofs.PlanSizes.{size_of_plan}
 use Rattle.pdp_operand.proofs.Kept.{course_touches, course_keeps_tape, course_keeps_turn, course_keeps_stamps}
 use Rattle.pdp_operand.proofs.Outside.{course_undisturbed}
-use Rattle.pdp_cpu.specs.Handbook.Instruction.{executed, instruction, noted}
-use Rattle.pdp_cpu.specs.Handbook.TrapSequence.{handled, origin_of, push_plan, red, red_plan, sequence, trap_plan}
+use Rattle.pdp_instruction.specs.Handbook.Instruction.{executed, instruction, noted}
+use Rattle.pdp_instruction.specs.Handbook.TrapSequence.{handled, origin_of, push_plan, red, red_plan, sequence, trap_plan}
 use Rattle.pdp_cpu.specs.Turns.Due.{course_of, due_of, serve, serving, take_stack, take_trace}
 use Rattle.pdp_operand.specs.Phases.World.{World, world}
 use Rattle.pdp_cpu.specs.Turns.Turn.{beginning, clear_latch, course_at, started, act_end, at_turn, one_turn, printed_in, punched_in, turn_trace}
 use Rattle.pdp_cpu.specs.Laws.TurnLaws.{turn_phases, Undisturbed}
 use Rattle.pdp_cpu.specs.declared.due.Due.{Due}
 use Rattle.pdp_cpu.specs.declared.due.Due.TheVariants as due
-use Rattle.pdp_cpu.specs.declared.origin.Origin.{Origin}
+use Rattle.pdp_instruction.specs.declared.origin.Origin.{Origin}
 use Rattle.pdp_decode.specs.declared.instruction.Instr.{Instr}
 use Rattle.pdp_operand.specs.Phases.Course.{Course, End, Go, ends, follow}
 use Rattle.pdp_operation.specs.declared.trap.Trap.TheVariants.{OddAddress, MappingAbort, BusTimeout, Reserved, JumpToRegister, StackLimit, Breakpoint, InputOutput, Emulator, TrapInstruction}

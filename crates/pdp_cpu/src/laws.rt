@@ -1,20 +1,15 @@
 //! Laws of turns, for every turn, its events and every world.
 
-ghost use Rattle.std.specs.Prelude.{◌≡◌, ◌<◌, ◌≤◌, ℕ, All, Err, List, None, false, length, map, slice_index_or};
+ghost use Rattle.std.specs.Prelude.{◌≡◌, ◌<◌, ◌≤◌, ℕ, All, List, None, false, length, map, slice_index_or};
 ghost use Rattle.pdp_unibus.specs.BusWorld.{BusWorld};
 ghost use Rattle.pdp_unibus.specs.declared.event.Event.{Event};
-ghost use Rattle.pdp_decode.specs.declared.instruction.Instr.{Instr};
-ghost use Rattle.pdp_operand.specs.Phases.Phase.{State, Stop};
-ghost use Rattle.pdp_operand.specs.Phases.Plan.{one, run_plan};
-ghost use Rattle.pdp_cpu.specs.Handbook.Action.{plan_of};
-ghost use Rattle.pdp_cpu.specs.Handbook.Instruction.{fetch_instruction};
 ghost use Rattle.pdp_device.specs.Operation.{is_under_way};
 ghost use Rattle.pdp_store.specs.Touch.{Avoids, Part, last_write};
 ghost use Rattle.pdp_unibus.specs.Page.{AlikeOutside};
 ghost use Rattle.pdp_unibus.specs.Touched.{IsOfTurn};
 ghost use Rattle.pdp_operand.specs.declared.processor.Processor.{Processor};
 ghost use Rattle.pdp_operand.specs.declared.processor.RunState.TheVariants.{Halted};
-ghost use Rattle.pdp_cpu.specs.Laws.TurnLaws.{LeavesStatus, NoneContinues, Stays, Undisturbed, WordsStay, turn_phases, world_after};
+ghost use Rattle.pdp_cpu.specs.Laws.TurnLaws.{NoneContinues, Stays, Undisturbed, WordsStay, turn_phases, world_after};
 ghost use Rattle.pdp_cpu.specs.Turns.Turn.{one_turn, turn_trace};
 ghost use Rattle.pdp_operand.specs.Phases.World.{World, world};
 
@@ -70,16 +65,6 @@ pub fn turns_leave_what_they_never_touch()
     ensures { (part : Part) (page t : ℕ) (events : List Event) (p : Processor) (b c : BusWorld) →
         AlikeOutside part page b c → Avoids part page (turn_trace t events (world p b)) →
         Undisturbed part page t events p b c }
-{}
-
-/// A law of instructions: where the fetch or a phase of any plan can't go on, the program status word, and with it the
-/// condition codes, is as it was before.
-///
-/// That a fault leaves the codes is this project's profile.
-pub fn what_cannot_go_on_leaves_the_codes()
-    ensures fetch { (s : State) (stop : Stop) → run_plan (one fetch_instruction) s ≡ Err stop → LeavesStatus s stop }
-    ensures plan { (instr : Instr) (s : State) (stop : Stop) →
-        run_plan (plan_of instr) s ≡ Err stop → LeavesStatus s stop }
 {}
 
 /// A law of turns: a halted machine stays. Without `Continue` its processor, the program status and the mapping

@@ -1,12 +1,12 @@
-//! The processor of the PDP-11/40: one whole turn of the machine, by phases. It stands on
-//! pdp_operand, pdp_unibus, pdp_alu, pdp_decode and what is below these.
+//! The machine of the PDP-11/40: one whole turn of it, and what is saved and shown of it. It stands
+//! on pdp_instruction, pdp_operand, pdp_unibus and what is below these.
 //!
 //! # What is proved
 //!
 //! - A turn takes the machine to the next state of its definition, for every store of core and of
-//!   the drives: what is due (a trap, an interrupt, an instruction or nothing), one plan for each
-//!   row of the opcode table, and what follows a trap, the red sequence too. It tells with which
-//!   act it began, and the meter counts it (`Machine::turn`, `ready`).
+//!   the drives: its events, and then what is due (a trap, an interrupt, an instruction or nothing),
+//!   with the plans of pdp_instruction. It tells with which act it began, and the meter counts it
+//!   (`Machine::turn`, `ready`).
 //! - A turn touches the page of every word that it reads, writes, moves or compares, in core and on
 //!   the drives: the first touches after it are those before it with its trace (`Machine::turn`).
 //!   A load leaves them; `first` returns the first touch of a page, and `forget` drops late ones.
@@ -15,7 +15,6 @@
 //!   of the disk (`stamps_are_last_writes`, `touches_are_of_their_turn`).
 //! - A turn that never touches a page of core or of a drive does the same whatever the page has,
 //!   and leaves the page (`turns_leave_what_they_never_touch`).
-//! - An instruction that cannot go on leaves the codes (`what_cannot_go_on_leaves_the_codes`).
 //! - The processor of a halted machine stays until `continue`, and so do core and the drives if
 //!   nothing is under way on the disk (`halted_machines_stay`).
 //! - What was printed and punched is kept, byte by byte, with the turn of each. A load makes a
@@ -26,38 +25,23 @@
 //!   removed, and all else stays (`Machine::add_drives`, `keep_drives`).
 //! - What is read of a machine (`text`, `punched`, `devices`, `pages`).
 //!
-//! Which events a turn has, and how many turns are run, is left to pdp_replay.
+//! What an instruction and the sequence of a trap do is left to pdp_instruction, which events a turn
+//! has, and how many turns are run, to pdp_replay.
 #![tactic(auto)]
 
 mod act;
-mod branch;
-mod change_codes;
-mod control;
 mod devices;
 mod drives;
 mod due;
-mod execute;
-mod extended;
-mod instruction;
-mod jump;
 mod kept_text;
 mod laws;
 mod machine;
 mod meter;
-mod moves;
-mod one_operand;
-mod operands;
-mod origin;
 mod pages;
-mod pair;
-mod previous_mode;
 mod regs;
-mod return_from_trap;
 mod saved;
 mod serving;
 mod touched_pages;
-mod trap_sequence;
-mod two_operands;
 
 pub use act::Act;
 pub use devices::DeviceRegisters;
@@ -65,7 +49,7 @@ pub use kept_text::KeptByte;
 pub use laws::{
     halted_machines_stay, stamps_are_last_writes, touches_are_of_their_turn,
     turns_end_within_32_phases, turns_keep_the_size_of_core, turns_keep_the_sizes_of_drives,
-    turns_keep_the_tape, turns_leave_what_they_never_touch, what_cannot_go_on_leaves_the_codes,
+    turns_keep_the_tape, turns_leave_what_they_never_touch,
 };
 pub use machine::Machine;
 pub use meter::Meter;

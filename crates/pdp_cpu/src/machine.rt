@@ -19,7 +19,6 @@ ghost use Rattle.pdp_cpu.specs.Turns.Turn.{act_end, started, turn_act, turn_trac
 use crate::act::Act;
 use crate::devices::DeviceRegisters;
 use crate::due::nothing_is_pending;
-use crate::instruction::instruct;
 use crate::kept_text::{KeptByte, KeptText};
 use crate::meter::Meter;
 use crate::pages::PageRegisters;
@@ -27,6 +26,7 @@ use crate::regs::Regs;
 use crate::serving::take_what_is_due;
 use pdp_console::KlRegister;
 use pdp_icache::Lines;
+use pdp_instruction::instruct;
 use pdp_kt11::{KtRegister, PageNumber, Space};
 use pdp_operand::{Processor, RunState, Slot};
 use pdp_rk11::RkRegister;

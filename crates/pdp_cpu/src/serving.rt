@@ -7,9 +7,7 @@ ghost use Rattle.pdp_unibus.specs.Source.{vector_of};
 
 use crate::act::Act;
 use crate::due::Due;
-use crate::instruction::instruct;
-use crate::origin::Origin;
-use crate::trap_sequence::begin_sequence;
+use pdp_instruction::{Origin, begin_sequence, instruct};
 use pdp_operand::{Processor, RunState};
 use pdp_store::Store;
 use pdp_unibus::{Bus, Source};

@@ -4,7 +4,6 @@ use Rattle.pdp_unibus.specs.declared.event.Event.{Event}
 use Rattle.pdp_unibus.specs.declared.event.Event.TheVariants.{Continue}
 use Rattle.pdp_unibus.specs.BusWorld.{BusWorld}
 use Rattle.pdp_operand.specs.Laws.Count.{course_length}
-use Rattle.pdp_operand.specs.Phases.Phase.{State, Stop}
 use Rattle.pdp_store.specs.Touch.{Part}
 use Rattle.pdp_unibus.specs.Page.{AlikeOutside, SamePage}
 use Rattle.pdp_operand.specs.declared.processor.Processor.{Processor}
@@ -25,10 +24,6 @@ pub record Undisturbed (part : Part) (page t : ℕ) (events : List Event) (p : P
   pub punched : punched_in t events (world p b) ≡ punched_in t events (world p c)
   pub page_of_one : SamePage part page b (one_turn t events (world p b)).bus
   pub page_of_other : SamePage part page c (one_turn t events (world p c)).bus
-
--- the program status word, codes and all, is as it was in the state before
-abbrev pub LeavesStatus : State → Stop → Type 0
-LeavesStatus s stop = stop.world.bus.board.status ≡ s.world.bus.board.status
 
 -- none of these events is Continue
 abbrev pub NoneContinues : List Event → Type 0

@@ -1,4 +1,4 @@
-use Rattle.pdp_cpu.proofs.Endings.{stack_served}
+use Rattle.pdp_cpu.proofs.PendingTraps.{stack_served}
 use Rattle.pdp_cpu.proofs.serving.stack_trap.Goals as goal
 
 pub returns : goal.returns

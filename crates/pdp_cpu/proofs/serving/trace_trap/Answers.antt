@@ -1,4 +1,4 @@
-use Rattle.pdp_cpu.proofs.Endings.{trace_served}
+use Rattle.pdp_cpu.proofs.PendingTraps.{trace_served}
 use Rattle.pdp_cpu.proofs.serving.trace_trap.Goals as goal
 
 pub returns : goal.returns

@@ -1,0 +1,6 @@
+pub mod Steps
+pub mod Endings
+pub mod PlanSizes
+pub mod StatusKept
+pub mod PlansKeepStatus
+pub mod Fetches

@@ -1,0 +1,2 @@
+-- What the law of instructions speaks of.
+pub mod InstructionLaws

@@ -1,0 +1,91 @@
+ghost use Rattle.std.specs.Prelude.{◌≡◌, ◌%◌, Ok};
+ghost use Rattle.pdp_word.specs.Size.{span};
+ghost use Rattle.pdp_operand.specs.Contract.{Gives};
+ghost use Rattle.pdp_instruction.specs.Handbook.Operands.{operands_plan, source_first, place_first};
+ghost use Rattle.pdp_instruction.specs.KeptAnswers.{in_operands};
+
+use pdp_alu::cut;
+use pdp_decode::Spec;
+use pdp_operand::{Place, Processor, Slot, Trap, address, fetch};
+use pdp_store::Store;
+use pdp_unibus::Bus;
+use pdp_word::Size;
+
+/// The source's value and the destination's place. A source in a register is read after the address of a destination in
+/// memory was formed, any other source before.
+#[inline(always)]
+#[tactic(auto, unfolding(crate::specs::Handbook::Operands::operands_plan))]
+pub fn operands<S: Store, D: Store>(
+    processor: &mut Processor,
+    bus: &mut Bus<S, D>,
+    source: Spec,
+    destination: Spec,
+    size: Size,
+) -> Result<(u16, Place), Trap>
+    ensures gives { Gives in_operands (operands_plan size source destination)
+        processor.old bus.old result processor.new bus.new }
+{
+    let is_late = source.mode == 0 && destination.mode != 0;
+    if is_late {
+        read_late(processor, bus, source, destination, size)
+    } else if source.mode == 0 {
+        Ok(read_registers(processor, bus, source, destination, size))
+    } else {
+        read_first(processor, bus, source, destination, size)
+    }
+}
+
+/// Both operands are registers: no reference is made.
+#[inline(always)]
+#[tactic(auto, using(crate::proofs::Steps::run_keep_source, pdp_operand::proofs::Steps::run_name_register), unfolding(crate::specs::Handbook::Operands::source_first, pdp_operand::specs::Handbook::Operand::find, pdp_operand::specs::Handbook::Operand::read_operand, pdp_operand::specs::Phases::Phase::run))]
+fn read_registers<S: Store, D: Store>(
+    processor: &Processor,
+    bus: &Bus<S, D>,
+    source: Spec,
+    destination: Spec,
+    size: Size,
+) -> (u16, Place)
+    requires registers { (source.mode ≡ 0) × (destination.mode ≡ 0) }
+    ensures gives { Gives in_operands (source_first size source destination)
+        processor.now bus.now (Ok result) processor.now bus.now }
+{
+    let from = Slot::of(bus.status().mode, source.reg);
+    let to = Slot::of(bus.status().mode, destination.reg);
+    (cut(size, processor.register(from)), Place::Reg(to))
+}
+
+#[inline(never)]
+#[tactic(auto, using(crate::proofs::Steps::run_keep_source), unfolding(crate::specs::Handbook::Operands::source_first))]
+fn read_first<S: Store, D: Store>(
+    processor: &mut Processor,
+    bus: &mut Bus<S, D>,
+    source: Spec,
+    destination: Spec,
+    size: Size,
+) -> Result<(u16, Place), Trap>
+    ensures gives { Gives in_operands (source_first size source destination)
+        processor.old bus.old result processor.new bus.new }
+{
+    let place = address(processor, bus, source, size)?;
+    let value = fetch(processor, bus, place, size)?;
+    let place = address(processor, bus, destination, size)?;
+    Ok((value, place))
+}
+
+#[inline(always)]
+#[tactic(auto, using(crate::proofs::Steps::run_take_register), unfolding(crate::specs::Handbook::Operands::place_first))]
+fn read_late<S: Store, D: Store>(
+    processor: &mut Processor,
+    bus: &mut Bus<S, D>,
+    source: Spec,
+    destination: Spec,
+    size: Size,
+) -> Result<(u16, Place), Trap>
+    ensures gives { Gives in_operands (place_first size source destination)
+        processor.old bus.old result processor.new bus.new }
+{
+    let place = address(processor, bus, destination, size)?;
+    let slot = Slot::of(bus.status().mode, source.reg);
+    let value = cut(size, processor.register(slot));
+    Ok((value, place))
+}
