@@ -17,7 +17,7 @@
 //!   `codes_tell_of_the_value`).
 //!
 //! Where operands come from and where a value goes is left to pdp_operand, when codes are stored to
-//! pdp_cpu.
+//! pdp_instruction.
 #![tactic(auto)]
 
 mod arithmetic;

@@ -14,7 +14,7 @@
 //!
 //! - That the mnemonics are the handbook's texts.
 //!
-//! What an instruction does is left to pdp_cpu.
+//! What an instruction does is left to pdp_instruction.
 #![tactic(auto)]
 
 mod decoding;

@@ -16,7 +16,7 @@
 //! - A plan is the run of its phases (`plan_is_its_phases`).
 //!
 //! Where a virtual address goes is left to pdp_kt11, what an instruction does with its operands to
-//! pdp_cpu.
+//! pdp_instruction.
 #![tactic(auto)]
 
 mod laws;

@@ -3,7 +3,7 @@
 //!
 //! It stands on pdp_word, pdp_alu and pdp_decode. It has the types that decoded lines keep and the
 //! processor dispatches on, so it is below both. What an action does, phase by phase, it leaves to
-//! pdp_cpu.
+//! pdp_instruction.
 //!
 //! # What is proved
 //!
