@@ -4,4 +4,5 @@ pub mod Changed
 pub mod PatchedRungs
 pub mod DelayedRungs
 pub mod SharedPages
+pub mod PutPages
 pub mod PagesAlike

@@ -2,6 +2,8 @@
 use Rattle.std.proofs.Common.{◌≡◌, ℕ, ◌+◌, ◌/◌, min, nat_le, Option, List, length, map, take, refl, sym, ◌∙◌, arith}
 use Rattle.std.specs.List.{filter}
 use Rattle.std.proofs.lemmas.List.{take_min}
+use Rattle.pdp_unibus.specs.PatchedPages.{IsPatchOf}
+use Rattle.pdp_unibus.specs.declared.saved_bus.patched_page.PatchedPage.{PatchedPage}
 use Rattle.pdp_checkpoint.specs.declared.checkpoint.Checkpoint.{Checkpoint}
 use Rattle.pdp_checkpoint.specs.Ladder.{LadderData, AreRungs}
 use Rattle.pdp_checkpoint.specs.Patched.{with_word, patched_to}
@@ -29,3 +31,8 @@ is_patched_to l turn drive word value first now rungs first_is now_is =
       is = rw (now_is, below) refl;
       rungs = rw now_is (rungs_changed (record l { kept = first }) (with_word drive word value) (λ c. refl) cut);
     }
+
+-- a page for a word is put into states as the word is
+pub same_change : (p : PatchedPage) (drive : Option ℕ) (word value : ℕ) (kept : List Checkpoint) → IsPatchOf drive word value p
+    → map (with_word p.drive p.word p.value) kept ≡ map (with_word drive word value) kept
+same_change p drive word value kept is = rw (is.drive_is, is.word_is, is.value_is) refl

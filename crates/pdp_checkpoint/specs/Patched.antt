@@ -1,8 +1,10 @@
 -- Kept states with another value in a word (this project's profile).
-use Rattle.std.specs.Prelude.{ℕ, Option, List, nat_le, map}
+use Rattle.std.specs.Prelude.{ℕ, ◌≡◌, ◌<◌, Option, List, nat_le, length, map, slice_index_or}
 use Rattle.std.specs.List.{All, filter}
 use Rattle.pdp_unibus.specs.BusContent.{BusContent}
-use Rattle.pdp_unibus.specs.PatchedPages.{HasPageOf}
+use Rattle.pdp_unibus.specs.PatchedPages.{AreNewPages, HasPageOf}
+use Rattle.pdp_unibus.specs.declared.saved_bus.patched_page.NewPages.{NewPages}
+use Rattle.pdp_unibus.specs.declared.saved_bus.patched_page.PatchedPage.{PatchedPage}
 use Rattle.pdp_cpu.specs.Saved.{content_with_word}
 use Rattle.pdp_checkpoint.specs.declared.checkpoint.Checkpoint.{Checkpoint}
 use Rattle.pdp_checkpoint.specs.Ladder.{LadderData}
@@ -20,3 +22,8 @@ patched_to turn drive word value l = record l { kept = map (with_word drive word
 pub record HavePageAlike (drive : Option ℕ) (word : ℕ) (kept : List Checkpoint) : Type 0 where
   pub content : BusContent
   pub all : All (λ c. HasPageOf drive word content c.saved.bus) kept
+
+-- for each of these states, in their order, what takes the place of its page
+pub record AreNewPagesFor (p : PatchedPage) (kept : List Checkpoint) (pages : List NewPages) : Type 0 where
+  pub count : length pages ≡ length kept
+  pub each : (k : ℕ) (c : Checkpoint) (new : NewPages) → k < length kept → AreNewPages p (slice_index_or kept k c).saved.bus (slice_index_or pages k new)

@@ -7,7 +7,7 @@ ghost use Rattle.pdp_cpu.specs.Saved.{HasWord};
 ghost use Rattle.pdp_checkpoint.specs.Ladder.{widest_stride, checkpoint_of, next_of, best_of, kept_with, AreRungs};
 
 use crate::checkpoint::Checkpoint;
-use crate::patched::patched;
+use crate::patched::ReadyPatch;
 use crate::thin::thin;
 use pdp_cpu::PagedMachine;
 use pdp_unibus::Delays;
@@ -142,8 +142,8 @@ impl Ladder {
 
     /// Gives a word of core, or of this drive, this value in the kept states up to `turn`, and drops
     /// those of turns above it. The states up to `turn` have the page of the word alike: they share
-    /// the one page that is made. All the new states are made before the first is replaced. The
-    /// machine numbers the new page, and is left as it is. (This project's profile.)
+    /// the one page that is made. All that is needed for the new states is there before the first is
+    /// changed. The machine numbers the new page, and is left as it is. (This project's profile.)
     ///
     /// # Errors
     ///
@@ -166,8 +166,9 @@ impl Ladder {
         ensures rungs { AreRungs self.new }
     {
         let count = ((turn / self.stride) as usize + 1).min(self.kept.len());
-        let kept = patched(alloc, machine, &self.kept[..count], drive, word, value)?;
-        self.kept = kept;
+        let patch = ReadyPatch::new(alloc, machine, &self.kept[..count], drive, word, value)?;
+        self.kept.truncate(count);
+        patch.put(&mut self.kept);
         Ok(())
     }
 }

@@ -20,7 +20,7 @@
 //! - What was printed and punched is kept, byte by byte, with the turn of each. A load makes a
 //!   machine the one that was saved, on the tape that it then has (`PagedMachine::save`, `load`,
 //!   `keep_text`, `set_tape`, `Saved::set_delays`). A page with one word changed is put into each
-//!   saved machine that has this page alike (`Saved::patched_page`, `with_page`).
+//!   saved machine that has this page alike (`Saved::patched_page`, `new_pages`, `put_pages`).
 //! - Drives are added after those of the machine, with their first touches, or the last ones
 //!   removed, and all else stays (`Machine::add_drives`, `keep_drives`).
 //! - What is read of a machine (`text`, `punched`, `devices`, `pages`).

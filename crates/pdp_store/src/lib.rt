@@ -9,8 +9,9 @@
 //! - The first touch of a page is the least turn of its touches that were not forgotten
 //!   ([`Store::touch`], [`Store::first`], [`Store::forget`]). A new store has none. Only `touch` and
 //!   `forget` change first touches: writes, takes, loads and patches leave them.
-//! - What is taken of a store as pages of 256 words ([`Page`], [`Pages`]) is its words with their
-//!   stamps. A load, which needs no memory, makes the store equal to the pages ([`Paging`]).
+//! - What is taken of a store as pages of 256 words ([`Page`]) is its words with their stamps. A
+//!   load, which needs no memory, makes the store equal to the pages ([`Paged::take_pages`],
+//!   [`SharedPaging`]).
 //! - A place has as its base the page last taken or loaded there, until a word there is written,
 //!   and is taken again under its serial. Each other place is taken under a serial that was not
 //!   given before, no two of them the same, while there are serials enough
@@ -47,7 +48,7 @@ pub use page::{PAGE_WORDS, Page, Pages};
 pub use page_lists::{page_with_word, with_page};
 pub use paged_drive::PagedDrive;
 pub use paged_store::Paged;
-pub use paging::Paging;
+pub use paging::{Paging, SharedPaging};
 
 /// Who made an access to a word: the processor, or the disk in a transfer of its own.
 #[derive(Clone, Copy, Debug, PartialEq, Eq)]

@@ -10,7 +10,7 @@ use std::rc::Rc;
 /// How many words a page has.
 pub const PAGE_WORDS: usize = 256;
 
-/// A list of shared pages, itself shared: the words of a store, 256 at each place.
+/// A list of shared pages, itself shared: the words of a drive, 256 at each place.
 pub type Pages = Rc<Vec<Rc<Page>>>;
 
 /// 256 words with their last stamps, as a store had them at a place when they were taken. (This project's profile.)

@@ -23,20 +23,20 @@ use std::rc::Rc;
 pub fn page_with_word<S: Paging>(
     store: &mut S,
     alloc: Global,
-    pages: &Pages,
+    pages: &[Rc<Page>],
     i: usize,
     w: u16,
 ) -> Result<Rc<Page>, NoMemory>
-    requires there { i < length (words_of pages.now.value.items) }
-    requires stamped { HasLastOfEachOrNone (words_of pages.now.value.items) (lasts_of pages.now.value.items) }
+    requires there { i < length (words_of pages.now) }
+    requires stamped { HasLastOfEachOrNone (words_of pages.now) (lasts_of pages.now) }
     ensures words { S.words store.new ≡ S.words store.old }
     ensures lasts { S.lasts store.new ≡ S.lasts store.old }
     ensures firsts { S.firsts store.new ≡ S.firsts store.old }
     ensures bases { S.bases store.new ≡ S.bases store.old }
     ensures given { IfOk result (λ _. S.given store.new ≡ next_given (S.given store.old)) }
     ensures page { IfOk result (λ page. IsPageOf page
-        (slice_set (piece (i / 256) (words_of pages.now.value.items)) (i % 256) w)
-        (piece (i / 256) (lasts_of pages.now.value.items)) (next_serial (S.given store.old))) }
+        (slice_set (piece (i / 256) (words_of pages.now)) (i % 256) w)
+        (piece (i / 256) (lasts_of pages.now)) (next_serial (S.given store.old))) }
 {
     let page = store.patched(alloc, &pages[i / PAGE_WORDS], i % PAGE_WORDS, w)?;
     Ok(Rc::new(alloc, page)?)

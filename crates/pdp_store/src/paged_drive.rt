@@ -10,7 +10,7 @@ ghost use Rattle.pdp_store.specs.Firsts.{firsts_before, touch_page};
 
 use crate::base::new_page;
 use crate::page::{PAGE_WORDS, Page, Pages};
-use crate::paging::Paging;
+use crate::paging::{Paging, SharedPaging};
 use crate::touches::FirstTouches;
 use crate::{Stamp, Store};
 use pdp_word::NoMemory;
@@ -260,6 +260,14 @@ impl Paging for PagedDrive {
 
     ghost given = { λ s. s.given };
 
+    fn patched(&mut self, alloc: Global, page: &Page, i: usize, w: u16) -> Result<Page, NoMemory> {
+        let patched = page.changed(alloc, next_serial(self.given), i, w)?;
+        self.given = next_given(self.given);
+        Ok(patched)
+    }
+}
+
+impl SharedPaging for PagedDrive {
     fn take_pages(&mut self, alloc: Global) -> Result<Pages, NoMemory> {
         if let Some(pages) = self.kept() {
             return Ok(pages);
@@ -277,12 +285,6 @@ impl Paging for PagedDrive {
             Ok(pages) => self.renew(pages, given),
             Err(_) => self.copy_all(pages),
         }
-    }
-
-    fn patched(&mut self, alloc: Global, page: &Page, i: usize, w: u16) -> Result<Page, NoMemory> {
-        let patched = page.changed(alloc, next_serial(self.given), i, w)?;
-        self.given = next_given(self.given);
-        Ok(patched)
     }
 }
 

@@ -1,14 +1,14 @@
 //! A store in flat arrays, with the base of each place of 256 words beside them.
 
-ghost use Rattle.std.specs.Prelude.{◌≡◌, ◌<◌, ◌≤◌, ◌*◌, ◌/◌, ◌+◌, Some, None, length, map, min, replicate, slice_get, slice_set, slice_index_or, true, [], IfOk, IsErr, is_ok, if◌then◌else◌};
+ghost use Rattle.std.specs.Prelude.{◌≡◌, ◌<◌, ◌≤◌, ◌*◌, ◌/◌, ◌+◌, Some, None, length, map, min, replicate, slice_get, slice_set, slice_index_or, true, [], IfOk, OnErr, is_ok, if◌then◌else◌};
 ghost use Rattle.pdp_store.specs.Stored.{HasLastOfEachOrNone};
 ghost use Rattle.pdp_store.specs.Firsts.{firsts_before, touch_page};
-ghost use Rattle.pdp_store.specs.Pages.{blank_paged, next_given, next_serial, without_base};
+ghost use Rattle.pdp_store.specs.Pages.{blank_paged, lasts_of, next_given, next_serial, serials, without_base, words_of};
 ghost use Rattle.pdp_store.specs.Bases.{AreAllTaken, IsPageOf, given_there, serial_there};
 ghost use Rattle.pdp_store.specs.Pieces.{piece};
 
 use crate::base::{Base, new_page};
-use crate::page::{PAGE_WORDS, Page, Pages};
+use crate::page::{PAGE_WORDS, Page};
 use crate::page_runs::{piece_at, put_bases, put_stamps, put_words};
 use crate::touches::FirstTouches;
 use crate::{Paging, Stamp, Store};
@@ -276,24 +276,50 @@ impl Paged {
     }
 }
 
-impl Paging for Paged {
-    ghost bases = { λ s. s.bases };
-
-    ghost given = { λ s. s.given };
-
-    fn take_pages(&mut self, alloc: Global) -> Result<Pages, NoMemory> {
+impl Paged {
+    /// The words with their last stamps, as pages: each base is given again, and each other place as a new page under
+    /// the next serial, which becomes its base. So only the words of places without a base are copied. The list is the
+    /// caller's own.
+    ///
+    /// Err(NoMemory) where a growth was refused, or a page has as many owners as can be counted; the store is then as
+    /// before.
+    pub fn take_pages(&mut self, alloc: Global) -> Result<Vec<Rc<Page>>, NoMemory>
+        ensures words { self.new.words ≡ self.old.words }
+        ensures lasts { self.new.lasts ≡ self.old.lasts }
+        ensures firsts { self.new.firsts ≡ self.old.firsts }
+        ensures taken { IfOk result (λ pages. AreAllTaken pages.items self.new.given self.old) }
+        ensures bases { IfOk result (λ pages. self.new.bases ≡ map Some (serials pages.items)) }
+        ensures refused { OnErr result (self.new ≡ self.old) }
+    {
         let Taken { pages, given } = self.pages(alloc)?;
-        let pages = Rc::new(alloc, pages)?;
         put_bases(&mut self.bases, &mut self.written, &pages);
         self.given = given;
         Ok(pages)
     }
 
-    fn load_pages(&mut self, pages: &Pages) {
+    /// Makes the store equal to these pages, which were taken of a store of as many words, with stamps or without as
+    /// this one; each becomes the base of its place. Takes no memory.
+    ///
+    /// Serials tell pages of one store apart: pages of another store may have the same.
+    pub fn load_pages(&mut self, pages: &[Rc<Page>])
+        requires words { length (words_of pages.now) ≡ length self.old.words }
+        requires lasts { length (lasts_of pages.now) ≡ length self.old.lasts }
+        ensures words { self.new.words ≡ words_of pages.now }
+        ensures lasts { self.new.lasts ≡ lasts_of pages.now }
+        ensures bases { self.new.bases ≡ map Some (serials pages.now) }
+        ensures given { self.new.given ≡ self.old.given }
+        ensures firsts { self.new.firsts ≡ self.old.firsts }
+    {
         put_words(&mut self.words, pages);
         put_stamps(&mut self.stamps, pages);
         put_bases(&mut self.bases, &mut self.written, pages);
     }
+}
+
+impl Paging for Paged {
+    ghost bases = { λ s. s.bases };
+
+    ghost given = { λ s. s.given };
 
     fn patched(&mut self, alloc: Global, page: &Page, i: usize, w: u16) -> Result<Page, NoMemory> {
         let patched = page.changed(alloc, next_serial(self.given), i, w)?;

@@ -1,14 +1,12 @@
 -- Drives that are taken, or loaded, one after the other.
-use Rattle.std.proofs.Common.{◌≡◌, ◌∙◌, ℕ, zero, suc, ◌+◌, ◌<◌, ◌≤◌, List, [], ◌∷◌, ◌++◌, Vec, ap, ap₂, arith, add-one, drop, get_or, length, length-set, map, refl, slice_set, sym, take, append_assoc, append-nil}
+use Rattle.std.proofs.Common.{◌≡◌, ◌∙◌, ℕ, zero, suc, ◌+◌, ◌<◌, ◌≤◌, List, [], ◌∷◌, ◌++◌, ap, ap₂, arith, add-one, drop, get_or, length, map, refl, slice_set, sym, take, append_assoc, append-nil}
 use Rattle.std.proofs.Math.Seq.{map-set_same, set-append_seam, take-suc, drop-cons}
 use Rattle.std.proofs.Math.ListN.{drop_of_length-le}
 use Rattle.std.proofs.lemmas.List.{get_or-map, take_all, length-map, length-take-le, map-append, map-set}
 use Rattle.std.specs.Prelude.{Option, slice_index_or}
-use Rattle.std.specs.declared.alloc.Global.{Global}
 use Rattle.pdp_store.specs.declared.Stamp.{Stamp}
-use Rattle.pdp_store.specs.Pages.{SharedPage, lasts_of, words_of}
 use Rattle.pdp_unibus.specs.BusContent.{BusContent}
-use Rattle.pdp_unibus.specs.SavedDrives.{AreUnstamped, PageList, lists_shared, pages_lasts, pages_words}
+use Rattle.pdp_unibus.specs.SavedDrives.{AreUnstamped, PageList, pages_lasts, pages_words}
 
 -- what is seen of the drive of a number
 pub seen : {X Z : Type 0} (f : X → List Z) (xs : List X) (i : ℕ) (d : X) → i < length xs → f (get_or xs i d) ≡ slice_index_or (map f xs) i []
@@ -110,55 +108,14 @@ pub no_stamps : {X : Type 0} (drives : List X) → map length (map {A = X} {B = 
 no_stamps [] = refl
 no_stamps (x ∷ xs) = ap (λ ns. 0 ∷ ns) (no_stamps xs)
 
--- one list more is shared
-pub one_more_shared : (all first : List PageList) (i : ℕ) (pages same : PageList) → lists_shared first ≡ take i (lists_shared all)
-    → i < length all → pages ≡ get_or all i pages → same.value ≡ pages.value → lists_shared (first ++ same ∷ []) ≡ take (i + 1) (lists_shared all)
-one_more_shared all first i pages same is below there alike =
-    let within : i < length (lists_shared all) = rw length-map below in
-    let last : same.value ≡ get_or (lists_shared all) i pages.value
-    = alike ∙ ap (λ (p : PageList). p.value) there ∙ sym (get_or-map (λ (p : PageList). p.value) all i pages pages.value below) in
-    map-append (λ (p : PageList). p.value) first (same ∷ []) ∙ ap₂ (λ xs x. xs ++ x ∷ []) is last
-    ∙ sym (rw add-one (take-suc (lists_shared all) i pages.value within))
-
--- what is seen of each list is seen of the lists that share it
-same_seen : {X : Type 0} (f : Vec SharedPage Global → X) (xs ys : List PageList) → lists_shared xs ≡ lists_shared ys
-    → map (λ (p : PageList). f p.value) xs ≡ map (λ (p : PageList). f p.value) ys
-same_seen f [] [] is = refl
-same_seen f [] (y ∷ ys) is = absurd (cc is)
-same_seen f (x ∷ xs) [] is = absurd (cc is)
-same_seen f (x ∷ xs) (y ∷ ys) is =
-    let here : x.value ≡ y.value = cc is in
-    ap₂ ◌∷◌ (ap f here) (same_seen f xs ys (cc is))
-
-pub same_words : (xs ys : List PageList) → lists_shared xs ≡ lists_shared ys → map pages_words xs ≡ map pages_words ys
-same_words xs ys is = same_seen (λ (v : Vec SharedPage Global). words_of v.items) xs ys is
-
-pub same_lasts : (xs ys : List PageList) → lists_shared xs ≡ lists_shared ys → map pages_lasts xs ≡ map pages_lasts ys
-same_lasts xs ys is = same_seen (λ (v : Vec SharedPage Global). lasts_of v.items) xs ys is
-
-pub same_length : (xs ys : List PageList) → lists_shared xs ≡ lists_shared ys → length xs ≡ length ys
-same_length xs ys is = as_many_items (λ (p : PageList). p.value) (λ (p : PageList). p.value) xs ys (ap length is)
-
-blank : (xs ys : List PageList) → length xs ≡ length ys → map {A = PageList} {B = List (Option Stamp)} (λ _. []) xs ≡ map (λ _. []) ys
-blank xs ys as_many = same_constant [] xs ys as_many
-
-pub shared_unstamped : (xs ys : List PageList) → lists_shared xs ≡ lists_shared ys → AreUnstamped ys → AreUnstamped xs
-shared_unstamped xs ys is none = same_lasts xs ys is ∙ none ∙ sym (blank xs ys (same_length xs ys is))
-
--- another list takes a place, with stamps as there
-pub put_unstamped : (xs ys : List PageList) (k : ℕ) (old new : PageList) → lists_shared xs ≡ lists_shared ys → AreUnstamped ys
-    → old ≡ get_or ys k old → k < length ys → pages_lasts new ≡ pages_lasts old → AreUnstamped (slice_set xs k new)
-put_unstamped xs ys k old new is none there below lasts =
-    let same : map pages_lasts xs ≡ map pages_lasts ys = same_lasts xs ys is in
-    let as_many : length xs ≡ length ys = same_length xs ys is in
-    let first : pages_lasts new ≡ get_or (map pages_lasts xs) k [] = lasts ∙ ap pages_lasts there ∙ sym (get_or-map pages_lasts ys k old [] below) ∙ ap (λ zs. get_or zs k []) (sym same) in
-    let seen_there : pages_lasts new ≡ pages_lasts (get_or xs k old) = first ∙ get_or-map pages_lasts xs k old [] (omega (arith, as_many, below)) in
-    map-set_same pages_lasts xs k new old seen_there ∙ same ∙ none ∙ sym (blank (slice_set xs k new) ys (length-set xs k new ∙ as_many))
-
--- the words of lists, with another list in a place
-pub words_put : (xs ys : List PageList) (k : ℕ) (new : PageList) (words : List ℕ) → lists_shared xs ≡ lists_shared ys → pages_words new ≡ words
-    → map pages_words (slice_set xs k new) ≡ slice_set (map pages_words ys) k words
-words_put xs ys k new words is these = map-set pages_words xs k new ∙ ap₂ (λ zs z. slice_set zs k z) (same_words xs ys is) these
+-- another list without stamps takes a place
+pub put_unstamped : (xs : List PageList) (k : ℕ) (new : PageList) → AreUnstamped xs → pages_lasts new ≡ [] → AreUnstamped (slice_set xs k new)
+put_unstamped [] k new is none = refl
+put_unstamped (x ∷ xs) zero new is none = let rest : AreUnstamped xs = cc is in ap₂ ◌∷◌ none rest
+put_unstamped (x ∷ xs) (suc k) new is none =
+    let first : pages_lasts x ≡ [] = cc is in
+    let rest : AreUnstamped xs = cc is in
+    ap₂ ◌∷◌ first (put_unstamped xs k new rest none)
 
 -- a list that has words is there
 pub list_there : {X : Type 0} (f : X → List ℕ) (xs : List X) (k word : ℕ) → word < length (slice_index_or (map f xs) k []) → k < length xs

@@ -5,7 +5,10 @@ use Rattle.pdp_store.specs.Pages.{SharedPage, page_lasts, page_words}
 use Rattle.pdp_store.specs.Pieces.{piece}
 use Rattle.pdp_store.specs.declared.Stamp.{Stamp}
 use Rattle.pdp_unibus.specs.BusContent.{BusContent, HasWord}
+use Rattle.pdp_unibus.specs.SavedDrives.{PageList, pages_lasts, pages_words}
 use Rattle.pdp_unibus.specs.declared.saved_bus.patched_page.PatchedPage.{PatchedPage}
+use Rattle.pdp_unibus.specs.declared.saved_bus.patched_page.NewPages.{NewPages}
+use Rattle.pdp_unibus.specs.declared.saved_bus.patched_page.NewPages.TheVariants.{Core, Drive}
 
 -- the words of core, or of the drive of this number; and their last stamps: a drive has none
 abbrev pub saved_words : Option ℕ → BusContent → List ℕ
@@ -39,3 +42,21 @@ pub record IsPatchOf (drive : Option ℕ) (word value : ℕ) (p : PatchedPage) :
 pub record IsPatchIn (c : BusContent) (p : PatchedPage) : Type 0 where
   pub there : HasWord p.drive p.word c
   pub page : IsPageWith p.word p.value (saved_words p.drive c) (saved_lasts p.drive c) p.page
+
+-- another owner of the patched page, for this content's core
+pub record IsNewPage (p : PatchedPage) (c : BusContent) (page : SharedPage) : Type 0 where
+  pub drive_is : p.drive ≡ None
+  pub patch : IsPatchIn c p
+  pub same : page.value ≡ p.page.value
+
+-- a list of pages for this drive of the content: its words but for the one of the patch, and no stamps
+pub record IsNewList (p : PatchedPage) (c : BusContent) (number : ℕ) (pages : PageList) : Type 0 where
+  pub drive_is : p.drive ≡ Some number
+  pub patch : IsPatchIn c p
+  pub words : pages_words pages ≡ slice_set (slice_index_or c.drives number []) p.word p.value
+  pub lasts : pages_lasts pages ≡ []
+
+-- what takes the place of the patched page in this content
+unfoldable pub AreNewPages : PatchedPage → BusContent → NewPages → Type 0
+AreNewPages p c (Core page) = IsNewPage p c page
+AreNewPages p c (Drive number pages) = IsNewList p c number pages

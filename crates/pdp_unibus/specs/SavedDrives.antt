@@ -1,4 +1,4 @@
--- The pages of drives. No public contract names this.
+-- The pages of drives.
 use Rattle.std.specs.Prelude.{ℕ, ◌≡◌, List, [], Option, Vec, map}
 use Rattle.std.specs.declared.alloc.Global.{Global}
 use Rattle.std.specs.declared.rc.Rc.{Rc}
@@ -19,7 +19,3 @@ pages_lasts pages = lasts_of pages.value.items
 -- these pages of drives have no stamps
 abbrev pub AreUnstamped : List PageList → Type 0
 AreUnstamped drives = map pages_lasts drives ≡ map (λ _. []) drives
-
--- the lists that are shared
-abbrev pub lists_shared : List PageList → List (Vec SharedPage Global)
-lists_shared drives = map (λ pages. pages.value) drives

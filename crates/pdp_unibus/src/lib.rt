@@ -30,7 +30,8 @@
 //!   (`Bus::first_of_core`, `first_of_drive`, `forget`).
 //! - What is saved of a bus is all of it except the tape's bytes and the first touches; a load
 //!   makes the bus that again, with the tape and the first touches that it then has (`Bus::save`,
-//!   `load`, `set_tape`, `SavedBus::set_delays`, `patched_page`, `with_page`).
+//!   `load`, `set_tape`, `SavedBus::set_delays`). A page with one word changed is made for all saved
+//!   buses that have it alike, and put into each (`patched_page`, `new_pages`, `put_pages`).
 //! - Drives are added after those of the bus, with their first touches, or the last ones removed,
 //!   and all else stays (`Bus::add_drives`, `keep_drives`).
 //!
@@ -71,6 +72,6 @@ pub use laws::{
 };
 pub use priority::Priority;
 pub use register::{Register, register_at_address};
-pub use saved_bus::{PatchedPage, SavedBus};
+pub use saved_bus::{NewPages, PatchedPage, SavedBus};
 pub use source::Source;
 pub use status::Status;

@@ -9,23 +9,25 @@ use crate::board::Board;
 use crate::bus::Bus;
 use crate::delays::Delays;
 use crate::saved_drives::{load_each, take_each};
-use pdp_store::{Paged, PagedDrive, Pages, Paging, Store};
+use pdp_store::{Page, Paged, PagedDrive, Pages, Store};
 use pdp_word::NoMemory;
 use std::alloc::Global;
 use std::marker::Model;
+use std::rc::Rc;
 
 mod patched_page;
 
-pub use patched_page::PatchedPage;
+pub use patched_page::{NewPages, PatchedPage};
 
 /// A bus as it was: all of it except the bytes of its tape, which no turn changes, and the first touches of pages.
-/// Words are kept as pages that it shares with the stores of the bus.
+/// Words are kept as pages that it shares with the stores of the bus. The list of core's pages is its own, and a
+/// drive's list is shared.
 ///
 /// A contract sees it as a `BusContent`. (This project's profile.)
 #[derive(Drop)]
 pub struct SavedBus {
     board: Board,
-    core: Pages,
+    core: Vec<Rc<Page>>,
     drives: Vec<Pages>,
 
     // How many bytes of the tape had been read.
@@ -45,14 +47,14 @@ impl Model for SavedBus {
 
     ghost view = { λ s. record {
       board = s.board;
-      core = words_of s.core.value.items;
-      lasts = lasts_of s.core.value.items;
+      core = words_of s.core.items;
+      lasts = lasts_of s.core.items;
       drives = map pages_words s.drives.items;
       bytes_read = s.bytes_read;
       turn = s.turn;
     } };
 
-    ghost invariant = { λ s. AreUnstamped s.drives.items × HasLastOfEachOrNone (words_of s.core.value.items) (lasts_of s.core.value.items) };
+    ghost invariant = { λ s. AreUnstamped s.drives.items × HasLastOfEachOrNone (words_of s.core.items) (lasts_of s.core.items) };
 }
 
 impl SavedBus {
@@ -68,18 +70,18 @@ impl Bus<Paged, PagedDrive> {
     /// Core as it is now. Pages that are shared already are shared again, and only others copied.
     ///
     /// Err(NoMemory) if a growth was refused. The bus stays as it is in any case.
-    pub fn take_core(&mut self, alloc: Global) -> Result<Pages, NoMemory>
+    pub fn take_core(&mut self, alloc: Global) -> Result<Vec<Rc<Page>>, NoMemory>
         ensures same { self.new ≡ self.old }
-        ensures taken { IfOk result (λ pages. IsCoreOf pages.value.items self.old) }
+        ensures taken { IfOk result (λ pages. IsCoreOf pages.items self.old) }
     {
         let _words = self.words.len();
         self.words.take_pages(alloc)
     }
 
     /// Makes core the one of these pages, with their last stamps. Takes no memory.
-    pub fn load_core(&mut self, pages: &Pages)
-        requires { IsCoreOfSize pages.now.value.items self.old }
-        ensures { self.new ≡ with_core_of pages.now.value.items self.old }
+    pub fn load_core(&mut self, pages: &[Rc<Page>])
+        requires { IsCoreOfSize pages.now self.old }
+        ensures { self.new ≡ with_core_of pages.now self.old }
     {
         self.words.load_pages(pages);
         self.lines.clear();

@@ -2,9 +2,9 @@
 
 ghost use Rattle.std.specs.Prelude.{◌≡◌, ◌<◌, [], length, map, slice_index_or, slice_set, IfOk};
 ghost use Rattle.pdp_unibus.specs.PatchedPages.{IsPageWith};
-ghost use Rattle.pdp_unibus.specs.SavedDrives.{lists_shared, pages_lasts, pages_words};
+ghost use Rattle.pdp_unibus.specs.SavedDrives.{pages_lasts, pages_words};
 
-use pdp_store::{Page, Pages, Paging, page_with_word};
+use pdp_store::{Page, Pages, Paging, SharedPaging, page_with_word};
 use pdp_word::NoMemory;
 use std::alloc::Global;
 use std::rc::Rc;
@@ -13,7 +13,7 @@ use std::rc::Rc;
 ///
 /// Err(NoMemory) where a growth was refused; the words of the drives stay in any case.
 #[tactic(auto, using(crate::proofs::SavedDrives::one_more))]
-pub(crate) fn take_each<D: Paging>(
+pub(crate) fn take_each<D: SharedPaging>(
     alloc: Global,
     drives: &mut Vec<D>,
 ) -> Result<Vec<Pages>, NoMemory>
@@ -35,7 +35,11 @@ pub(crate) fn take_each<D: Paging>(
 ///
 /// Err(NoMemory) where a growth was refused; the words of the drives stay in any case.
 #[tactic(auto, using(crate::proofs::SavedDrives::same_for_one, crate::proofs::SavedDrives::seen))]
-fn take_one<D: Paging>(alloc: Global, drives: &mut Vec<D>, number: usize) -> Result<Pages, NoMemory>
+fn take_one<D: SharedPaging>(
+    alloc: Global,
+    drives: &mut Vec<D>,
+    number: usize,
+) -> Result<Pages, NoMemory>
     requires { number < length drives.old.items }
     ensures count { length drives.new.items ≡ length drives.old.items }
     ensures same_words { map D.words drives.new.items ≡ map D.words drives.old.items }
@@ -49,7 +53,7 @@ fn take_one<D: Paging>(alloc: Global, drives: &mut Vec<D>, number: usize) -> Res
 
 /// Loads each drive from the pages of its number. Takes no memory.
 #[tactic(auto, using(crate::proofs::SavedDrives::none_loaded, crate::proofs::SavedDrives::size_at, crate::proofs::SavedDrives::one_loaded, crate::proofs::SavedDrives::all_loaded))]
-pub(crate) fn load_each<D: Paging>(drives: &mut Vec<D>, pages: &Vec<Pages>)
+pub(crate) fn load_each<D: SharedPaging>(drives: &mut Vec<D>, pages: &Vec<Pages>)
     requires words { map length (map pages_words pages.now.items) ≡ map length (map D.words drives.old.items) }
     requires lasts { map length (map pages_lasts pages.now.items) ≡ map length (map D.lasts drives.old.items) }
     ensures words { map D.words drives.new.items ≡ map pages_words pages.now.items }
@@ -63,7 +67,7 @@ pub(crate) fn load_each<D: Paging>(drives: &mut Vec<D>, pages: &Vec<Pages>)
 
 /// Loads the drive of this number from the pages of this number. Takes no memory.
 #[tactic(auto, using(crate::proofs::SavedDrives::seen, crate::proofs::SavedDrives::put_one, crate::proofs::SavedDrives::same_for_one))]
-fn load_one<D: Paging>(drives: &mut Vec<D>, pages: &Vec<Pages>, number: usize)
+fn load_one<D: SharedPaging>(drives: &mut Vec<D>, pages: &Vec<Pages>, number: usize)
     requires within { number < length drives.old.items }
     requires there { number < length pages.now.items }
     requires words { length (slice_index_or (map pages_words pages.now.items) number []) ≡ length (slice_index_or (map D.words drives.old.items) number []) }
@@ -74,20 +78,6 @@ fn load_one<D: Paging>(drives: &mut Vec<D>, pages: &Vec<Pages>, number: usize)
     ensures firsts { map D.firsts drives.new.items ≡ map D.firsts drives.old.items }
 {
     drives[number].load_pages(&pages[number]);
-}
-
-/// The same pages of each drive once more.
-///
-/// Err(NoMemory) where a growth was refused, or a list has as many owners as can be counted.
-#[tactic(auto, using(crate::proofs::SavedDrives::one_more_shared))]
-pub(crate) fn share_each(alloc: Global, drives: &[Pages]) -> Result<Vec<Pages>, NoMemory>
-    ensures { IfOk result (λ shared. lists_shared shared.items ≡ lists_shared drives.now) }
-{
-    let mut shared = Vec::with_capacity(alloc, drives.len())?;
-    for pages in drives {
-        shared.push(pages.clone()?)?;
-    }
-    Ok(shared)
 }
 
 /// The page of a word in these pages, which are those of the drive of this number, with the word changed. The drive

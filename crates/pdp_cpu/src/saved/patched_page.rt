@@ -2,10 +2,10 @@
 
 ghost use Rattle.std.specs.Prelude.{◌≡◌, IfOk};
 ghost use Rattle.pdp_cpu.specs.Saved.{HasWord, content_with_word};
-ghost use Rattle.pdp_unibus.specs.PatchedPages.{IsPatchIn, IsPatchOf};
+ghost use Rattle.pdp_unibus.specs.PatchedPages.{AreNewPages, IsPatchIn, IsPatchOf};
 
 use super::{PagedMachine, Saved};
-use pdp_unibus::PatchedPage;
+use pdp_unibus::{NewPages, PatchedPage};
 use pdp_word::NoMemory;
 use std::alloc::Global;
 
@@ -36,26 +36,27 @@ impl Saved {
             .patched_page(alloc, &mut machine.bus, number, word, value)
     }
 
-    /// The same machine with a patched page in place of its own page, which is the same except for
-    /// the word that is changed. All other pages are shared. (This project's profile.)
+    /// What takes the place of the page that was patched here: all the memory that `put_pages` needs.
+    /// (This project's profile.)
     ///
     /// # Errors
     ///
     /// `NoMemory` if a growth was refused, or if pages have as many owners as can be counted.
-    #[tactic(auto, unfolding(crate::specs::Saved::content_with_word))]
-    pub fn with_page(&self, alloc: Global, page: &PatchedPage) -> Result<Saved, NoMemory>
+    pub fn new_pages(&self, alloc: Global, page: &PatchedPage) -> Result<NewPages, NoMemory>
         requires { IsPatchIn self.now.bus page.now }
-        ensures { IfOk result (λ saved. saved
-            ≡ content_with_word page.now.drive page.now.word page.now.value self.now) }
+        ensures { IfOk result (λ new. AreNewPages page.now self.now.bus new) }
     {
-        let bus = self.bus.with_page(alloc, page)?;
-        Ok(Saved {
-            turn: self.turn,
-            processor: self.processor,
-            bus,
-            text_length: self.text_length,
-            punched_length: self.punched_length,
-        })
+        self.bus.new_pages(alloc, page)
+    }
+
+    /// Puts the pages that were made for it in place of its own. The machine is the same then, but
+    /// for the word of the patched page. It takes no memory. (This project's profile.)
+    #[tactic(auto, unfolding(crate::specs::Saved::content_with_word))]
+    pub fn put_pages(&mut self, page: &PatchedPage, new: NewPages)
+        requires { AreNewPages page.now self.old.bus new }
+        ensures { self.new ≡ content_with_word page.now.drive page.now.word page.now.value self.old }
+    {
+        self.bus.put_pages(page, new);
     }
 }
 

@@ -2,17 +2,17 @@
 
 ghost use Rattle.std.specs.Prelude.{◌≡◌, ◌<◌, Some, None, [], length, slice_index_or, IfOk};
 ghost use Rattle.pdp_unibus.specs.BusContent.{HasWord, content_with_word};
-ghost use Rattle.pdp_unibus.specs.PatchedPages.{IsPatchIn, IsPatchOf};
+ghost use Rattle.pdp_unibus.specs.PatchedPages.{AreNewPages, IsNewList, IsNewPage, IsPatchIn, IsPatchOf};
 
 use super::SavedBus;
 use crate::bus::Bus;
-use crate::saved_drives::{patch_one, share_each};
-use pdp_store::{PAGE_WORDS, Page, Paged, PagedDrive, page_with_word, with_page};
+use crate::saved_drives::patch_one;
+use pdp_store::{PAGE_WORDS, Page, Paged, PagedDrive, Pages, page_with_word, with_page};
 use pdp_word::NoMemory;
 use std::alloc::Global;
 use std::rc::Rc;
 
-/// A page of 256 words with one word changed. Each saved bus that has the page alike can share it.
+/// A page of 256 words with one word changed. All saved buses that have the page alike can share it.
 /// (This project's profile.)
 #[derive(Drop)]
 pub struct PatchedPage {
@@ -24,6 +24,15 @@ pub struct PatchedPage {
     pub value: u16,
     /// The page where it is, with this value in it.
     pub page: Rc<Page>,
+}
+
+/// What takes the place of a page in one saved bus. (This project's profile.)
+#[derive(Drop)]
+pub enum NewPages {
+    /// The page itself, for core.
+    Core(Rc<Page>),
+    /// For the drive of this number, counted from 0: the list of its pages with the new one in it.
+    Drive(usize, Pages),
 }
 
 impl SavedBus {
@@ -113,70 +122,69 @@ impl SavedBus {
         })
     }
 
-    /// The content with a patched page in place of its own page, which is the same except for the
-    /// word that is changed. All other pages are shared. (This project's profile.)
+    /// What takes the place of the page that was patched here: all the memory that `put_pages` needs.
+    /// (This project's profile.)
     ///
     /// # Errors
     ///
     /// `NoMemory` if a growth was refused, or if pages have as many owners as can be counted.
-    pub fn with_page(&self, alloc: Global, page: &PatchedPage) -> Result<SavedBus, NoMemory>
+    #[tactic(auto, unfolding(crate::specs::PatchedPages::AreNewPages))]
+    pub fn new_pages(&self, alloc: Global, page: &PatchedPage) -> Result<NewPages, NoMemory>
         requires { IsPatchIn self.now page.now }
-        ensures { IfOk result (λ saved. saved
-            ≡ content_with_word page.now.drive page.now.word page.now.value self.now) }
+        ensures { IfOk result (λ new. AreNewPages page.now self.now new) }
     {
         match page.drive {
-            None => self.with_page_of_core(alloc, page),
-            Some(number) => self.with_page_of_drive(alloc, number, page),
+            None => Ok(NewPages::Core(page.page.clone()?)),
+            Some(number) => self.pages_of_drive(alloc, number, page),
         }
     }
 
-    // The content with a patched page of core.
+    // The list of pages of the drive of this number, with the patched page in it.
     //
     // Err(NoMemory) as above.
-    #[tactic(auto, unfolding(crate::specs::BusContent::content_with_word))]
-    fn with_page_of_core(&self, alloc: Global, page: &PatchedPage) -> Result<SavedBus, NoMemory>
-        requires core { page.now.drive ≡ None }
-        requires page { IsPatchIn self.now page.now }
-        ensures { IfOk result (λ saved. saved
-            ≡ content_with_word None page.now.word page.now.value self.now) }
-    {
-        let core = with_page(alloc, &self.core, page.word / PAGE_WORDS, &page.page)?;
-        let drives = share_each(alloc, &self.drives)?;
-        Ok(SavedBus {
-            board: self.board.copy(),
-            core,
-            drives,
-            bytes_read: self.bytes_read,
-            turn: self.turn,
-        })
-    }
-
-    // The content with a patched page of the drive of this number.
-    //
-    // Err(NoMemory) as above.
-    #[tactic(auto, unfolding(crate::specs::BusContent::content_with_word))]
-    fn with_page_of_drive(
+    fn pages_of_drive(
         &self,
         alloc: Global,
         number: usize,
         page: &PatchedPage,
-    ) -> Result<SavedBus, NoMemory>
+    ) -> Result<NewPages, NoMemory>
         requires drive { page.now.drive ≡ Some number }
         requires page { IsPatchIn self.now page.now }
-        ensures { IfOk result (λ saved. saved
-            ≡ content_with_word (Some number) page.now.word page.now.value self.now) }
+        ensures { IfOk result (λ new. AreNewPages page.now self.now new) }
     {
         let place = page.word / PAGE_WORDS;
         let pages = with_page(alloc, &self.drives[number], place, &page.page)?;
-        let mut drives = share_each(alloc, &self.drives)?;
-        drives[number] = pages;
-        let core = self.core.clone()?;
-        Ok(SavedBus {
-            board: self.board.copy(),
-            core,
-            drives,
-            bytes_read: self.bytes_read,
-            turn: self.turn,
-        })
+        Ok(NewPages::Drive(number, pages))
+    }
+
+    /// Puts the pages that were made for it in place of its own. The content is the same then, but
+    /// for the word of the patched page. It takes no memory. (This project's profile.)
+    #[tactic(auto, unfolding(crate::specs::PatchedPages::AreNewPages))]
+    pub fn put_pages(&mut self, page: &PatchedPage, new: NewPages)
+        requires { AreNewPages page.now self.old new }
+        ensures { self.new ≡ content_with_word page.now.drive page.now.word page.now.value self.old }
+    {
+        match new {
+            NewPages::Core(shared) => self.put_page_of_core(page, shared),
+            NewPages::Drive(number, pages) => self.put_list_of_drive(number, page, pages),
+        }
+    }
+
+    // Puts the patched page in place of the page of core.
+    #[tactic(auto, unfolding(crate::specs::BusContent::content_with_word))]
+    fn put_page_of_core(&mut self, page: &PatchedPage, shared: Rc<Page>)
+        requires { IsNewPage page.now self.old shared }
+        ensures { self.new ≡ content_with_word page.now.drive page.now.word page.now.value self.old }
+    {
+        self.core[page.word / PAGE_WORDS] = shared;
+    }
+
+    // Puts this list in place of the list of the drive of this number.
+    #[tactic(auto, unfolding(crate::specs::BusContent::content_with_word))]
+    fn put_list_of_drive(&mut self, number: usize, page: &PatchedPage, pages: Pages)
+        requires { IsNewList page.now self.old number pages }
+        ensures { self.new ≡ content_with_word page.now.drive page.now.word page.now.value self.old }
+    {
+        self.drives[number] = pages;
     }
 }

@@ -1,26 +1,22 @@
-use Rattle.std.proofs.Common.{◌≡◌, ◌∙◌, ◌/◌, ◌%◌, Some, Vec, Global, ap, get_or, refl, slice_get, slice_set, sym, arith}
+use Rattle.std.proofs.Common.{◌≡◌, ◌∙◌, ◌/◌, ◌%◌, Some, ap, refl, slice_get, slice_set, sym}
 use Rattle.std.proofs.lemmas.Option.{slice_get_read}
 use Rattle.pdp_store.specs.declared.page.Page.{Page}
-use Rattle.pdp_store.specs.Pages.{SharedPage}
 use Rattle.pdp_store.proofs.PageLists.{there_within}
 use Rattle.pdp_store.proofs.Pages.{piece-lasts_of, piece-words_of}
 use Rattle.pdp_store.proofs.page_lists.page_with_word.Goals as goal
 
-pub index-requires : goal.index-requires
-index-requires g c =
-    let there = there_within c.args.pages.now.value.items c.args.i c.requires.there in
-    rw c.deref.ensures (omega (arith, there, c.args.pages.now.value.ok.0))
+pub bounds-pages-i : goal.bounds-pages-i
+bounds-pages-i g c = there_within c.args.pages.now c.args.i c.requires.there
 
 pub returns-clause-page : goal.returns-clause-page
 returns-clause-page g c =
-    let ps = c.args.pages.now.value.items in
+    let ps = c.args.pages.now in
     let k = c.args.i / 256 in
-    let old = c.index.result.now in
+    let old = c.index-pages-i.result in
     let at : slice_get ps k ≡ Some old =
-    slice_get_read ps _ k old refl (there_within ps c.args.i c.requires.there)
-    (c.index.ensures ∙ ap (λ (v : Vec SharedPage Global). get_or v.items k old) c.deref.ensures) in
+    slice_get_read ps _ k old refl (there_within ps c.args.i c.requires.there) c.index-pages-i.is in
     let made = c.in_ok-page.ensures.page in
-    let was = c.deref-2.ensures in
+    let was = c.deref.ensures in
     let named = c.in_ok-new.ensures.ok in
     record {
       has_words =

@@ -1,34 +1,39 @@
-use Rattle.std.proofs.Common.{All, ap, arith, length-take, nat_le, subst, sym, take, ◌∙◌}
+use Rattle.std.proofs.Common.{rules, ◌≡◌, All, ap, arith, length, length-take, map, nat_le, subst, sym, take, ◌∙◌}
 use Rattle.std.specs.List.{filter}
 use Rattle.std.proofs.lemmas.List.Elements.{All-take}
+use Rattle.std.specs.Vec.{with_items}
+use Rattle.pdp_store.proofs.PagedTakes.{rewrapped}
 use Rattle.pdp_cpu.specs.Saved.{HasWord}
 use Rattle.pdp_checkpoint.specs.declared.checkpoint.Checkpoint.{Checkpoint}
 use Rattle.pdp_checkpoint.specs.Ladder.{LadderData}
-use Rattle.pdp_checkpoint.proofs.PatchedRungs.{IsPatchedTo, first_are_low, is_patched_to}
+use Rattle.pdp_checkpoint.proofs.PatchedRungs.{IsPatchedTo, first_are_low, is_patched_to, same_change}
 use Rattle.pdp_checkpoint.specs.Patched.{HavePageAlike}
 use Rattle.pdp_checkpoint.proofs.ladder.Ladder.patch.Goals as goal
 
-pub patched-requires-clause-some : goal.patched-requires-clause-some
-patched-requires-clause-some c = omega (arith, c.self.invariant.some, length-take c.min-count.result c.deref.result.now)
+pub new-requires-clause-some : goal.new-requires-clause-some
+new-requires-clause-some c = omega (arith, c.self.invariant.some, length-take c.min-count.result c.deref.result.now)
 
-pub patched-requires-clause-there : goal.patched-requires-clause-there
-patched-requires-clause-there c =
+pub new-requires-clause-there : goal.new-requires-clause-there
+new-requires-clause-there c =
     let there : Checkpoint → Type 0 = λ x. HasWord c.args.drive c.args.word x.saved in
     All-take there c.min-count.result c.deref.result.now
     (subst (All there) (sym (ap (λ (l : LadderData). l.kept) c.self.view_is) ∙ sym c.deref.ensures.value) c.requires.there)
 
-pub patched-requires-clause-alike : goal.patched-requires-clause-alike
-patched-requires-clause-alike c =
+pub new-requires-clause-alike : goal.new-requires-clause-alike
+new-requires-clause-alike c =
     let l : LadderData = record { kept = c.self.inside.kept.items; stride = c.self.inside.stride } in
     let low = first_are_low l c.args.turn (take c.min-count.result c.deref.result.now) c.self.invariant (cc) in
     let alike = HavePageAlike c.args.drive c.args.word in
     subst alike (sym low) (subst (λ (x : LadderData). alike (filter (λ s. nat_le s.turn c.args.turn) x.kept)) (sym c.self.view_is) c.requires.alike)
 
-after : (c : goal.After-drop-self-inside)
-    → IsPatchedTo c.args.turn c.args.drive c.args.word c.args.value (record { kept = c.self.inside.kept.items; stride = c.self.inside.stride }) (record { kept = c.in_ok-kept.kept.items; stride = c.self.inside.stride })
+after : (c : goal.After-self-1)
+    → IsPatchedTo c.args.turn c.args.drive c.args.word c.args.value (record { kept = c.self.inside.kept.items; stride = c.self.inside.stride }) (record { kept = (with_items c.truncate.new.self c.put.new.kept).items; stride = c.self.inside.stride })
 after c =
     let l : LadderData = record { kept = c.self.inside.kept.items; stride = c.self.inside.stride } in
-    is_patched_to l c.args.turn c.args.drive c.args.word c.args.value (take c.min-count.result c.deref.result.now) _ c.self.invariant (cc) c.in_ok-kept.ensures.states
+    let as_many : length c.put.new.kept ≡ c.truncate.new.self.len = search rules in
+    is_patched_to l c.args.turn c.args.drive c.args.word c.args.value c.truncate.new.self.items _ c.self.invariant (c.truncate.ensures.items ∙ cc)
+    (rewrapped c.put.new.kept c.truncate.new.self.items c.truncate.new.self.len as_many ∙ c.put.ensures ∙ ap (map _) c.deref_mut.ensures.value
+    ∙ same_change c.in_ok-patch.patch.page c.args.drive c.args.word c.args.value c.truncate.new.self.items c.in_ok-patch.ensures.patch)
 
 pub invariant_of-self : goal.invariant_of-self
 invariant_of-self c = (after c).rungs
