@@ -2,7 +2,7 @@
 
 ghost use Rattle.std.specs.Prelude.{◌≡◌, length};
 
-use pdp_store::{Agent, PAGE_WORDS, PagedDrive, Pages, Paging, Stamp, Store};
+use pdp_store::{Agent, PAGE_WORDS, PagedDrive, Pages, SharedPaging, Stamp, Store};
 use pdp_word::NoMemory;
 use std::process::Abort;
 

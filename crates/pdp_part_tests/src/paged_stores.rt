@@ -1,6 +1,6 @@
 //! A store taken as pages, loaded from them, and a page patched.
 
-use pdp_store::{Agent, Paged, Pages, Paging, Stamp, Store};
+use pdp_store::{Agent, Page, Paged, Paging, Stamp, Store};
 use pdp_word::NoMemory;
 use std::rc::Rc;
 
@@ -10,12 +10,12 @@ const FIVE: Stamp = Stamp {
 };
 
 // The serial of the page at this place.
-fn serial_at(pages: &Pages, place: usize) -> Option<u64> {
+fn serial_at(pages: &[Rc<Page>], place: usize) -> Option<u64> {
     pages.get(place).map(|page| page.serial)
 }
 
 // Whether both have one and the same page at this place.
-fn is_shared_at(these: &Pages, those: &Pages, place: usize) -> bool {
+fn is_shared_at(these: &[Rc<Page>], those: &[Rc<Page>], place: usize) -> bool {
     match (these.get(place), those.get(place)) {
         (Some(this), Some(that)) => Rc::ptr_eq(this, that),
         _ => false,
