@@ -1,0 +1,12 @@
+-- The fields are what the chain yields.
+use Rattle.std.proofs.Common.{rules, tests}
+use Rattle.std.proofs.lemmas.Iterator.Consumers.{map_from_collect, YieldsList-from_filter}
+use Rattle.std.proofs.lemmas.Iterator.Splits.{YieldsList-from_slice_split}
+use Rattle.disassemble.specs.Line.{is_field, is_separator}
+use Rattle.disassemble.proofs.line.fields_of.Goals as goal
+
+pub returns : goal.returns
+returns c = map_from_collect _ c.collect.ensures.ran
+    (YieldsList-from_filter _ is_field
+    (YieldsList-from_slice_split _ is_separator {f = c.split.result.pred} c.args.line.now (cc) (cc) (cc) (λ x r q k. search (rules, tests)))
+    c.filter.ensures.closure (λ x r q k. search (rules, tests)))

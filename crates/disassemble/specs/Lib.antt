@@ -1,0 +1,4 @@
+pub mod Line
+pub mod Answer
+pub mod Ending
+pub mod CommandLine

@@ -1,0 +1,53 @@
+//! disassemble: PDP-11 words in, the text of their instructions out, a line for each line. It
+//! stands on pdp_disassembler, which makes the text, on pdp_word for the numbers of lines, on
+//! arrayvec and itoa for the text of answers, and on clap, which reads the command line.
+//!
+//! # What is proved
+//!
+//! - The answer to a line is that of the definition: a count of words and a text, or what is wrong
+//!   with the line (`answer_to`).
+//!
+//! # What is only tested
+//!
+//! - The text of help; the built program on lines whose texts are known from outside.
+//!
+//! What standard input and output do is left to the system.
+#![tactic(auto)]
+
+mod answer;
+mod command_line;
+mod ending;
+mod line;
+mod lines;
+
+use command_line::help_asked;
+use ending::Ending;
+use std::env;
+use std::io::{BufReader, Write};
+use std::process::ExitCode;
+
+fn main(rt: HostRuntime) -> ExitCode {
+    let ending = match run(&rt) {
+        Ok(()) => Ending::Done,
+        Err(ending) => ending,
+    };
+    let line = ending.line();
+    if !line.is_empty() {
+        // where this can't be written there is nobody to tell
+        let _ = rt.eprintln(line);
+    }
+    ExitCode::from(ending.status())
+}
+
+// Writes the help that the command line asks for, or answers the lines of standard input.
+fn run(rt: &HostRuntime) -> Result<(), Ending> {
+    let words = env::args(rt)?.collect::<Vec<String>>(rt.alloc())?;
+    match help_asked(rt.alloc(), words.as_slice())? {
+        Some(help) => rt.stdout().write_all(help.as_bytes())?,
+        None => {
+            let mut reader = BufReader::new(rt.alloc(), rt.stdin())?;
+            lines::answer_lines(rt.alloc(), &mut reader, &mut rt.stdout())?;
+        }
+    }
+    Ok(())
+}
