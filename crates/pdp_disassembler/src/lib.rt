@@ -8,9 +8,11 @@
 #![tactic(auto)]
 
 mod disassembly;
+mod laws;
 mod operands;
 mod operators;
 mod texts;
 
 pub use disassembly::{Disassembly, disassemble};
+pub use laws::texts_say_words;
 pub use texts::{InstructionText, LONGEST_TEXT};
