@@ -24,15 +24,23 @@ word_of_number (Some number) = if nat_lt number 0o200000 then Ok number else Err
 
 -- the word that a field shows: 1 to 6 octal digits, at most 177777
 abbrev pub word_in_field : List ℕ → Result ℕ BadLine
-word_in_field field = if nat_lt 6 (length field) then Err Digits else word_of_number (number_of 8 field)
+word_in_field field =
+    if nat_lt 6 (length field) then Err Digits else word_of_number (number_of 8 field)
+
+-- a word, or what is wrong with its field
+abbrev pub WordRead : Type 0
+WordRead = Result ℕ BadLine
 
 -- the code of these words, or what is wrong with the first bad one
-abbrev pub code_with : Result ℕ BadLine → Result ℕ BadLine → Result ℕ BadLine → Result ℕ BadLine → Result Code BadLine
+abbrev pub code_with : WordRead → WordRead → WordRead → WordRead → Result Code BadLine
 code_with (Err bad) word next last = Err bad
 code_with (Ok address) (Err bad) next last = Err bad
 code_with (Ok address) (Ok word) (Err bad) last = Err bad
 code_with (Ok address) (Ok word) (Ok next) (Err bad) = Err bad
-code_with (Ok address) (Ok word) (Ok next) (Ok last) = Ok (record { address = address; words = word ∷ next ∷ last ∷ [] })
+code_with (Ok address) (Ok word) (Ok next) (Ok last) = Ok (record {
+  address = address;
+  words = word ∷ next ∷ last ∷ [];
+})
 
 -- the code that four fields show: an address, an instruction word, and the two words that follow
 abbrev pub code_in_fields : List (List ℕ) → Result Code BadLine

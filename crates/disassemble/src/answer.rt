@@ -1,6 +1,6 @@
 // The answer to a line.
 ghost use Rattle.std.specs.Prelude.{◌≡◌, ◌+◌, ◌≤◌, ◌++◌, IfOk, length};
-ghost use Rattle.disassemble.specs.Answer.{answer_text, answer_to, reason_text};
+ghost use Rattle.disassemble.specs.Answer.{answer_text, line_answer, reason_text};
 
 use crate::line::{BadLine, Code, code_on};
 use arrayvec::ArrayVec;
@@ -16,8 +16,9 @@ pub type AnswerText = ArrayVec<u8, LONGEST_ANSWER>;
 
 /// The answer to a line, which comes without its line feed: how many words the instruction takes,
 /// and its text.
-pub fn answer_to(alloc: Global, line: &[u8]) -> Result<AnswerText, AllocError>
-    ensures { IfOk result (λ text. text.items ≡ answer_to line.now) }
+#[tactic(auto, unfolding(crate::specs::Answer::line_answer))]
+pub fn line_answer(alloc: Global, line: &[u8]) -> Result<AnswerText, AllocError>
+    ensures { IfOk result (λ text. text.items ≡ line_answer line.now) }
 {
     match code_on(alloc, line)? {
         Ok(code) => Ok(instruction_answer(code)),

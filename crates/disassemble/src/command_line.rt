@@ -1,7 +1,7 @@
 // The command line.
 ghost use Rattle.std.specs.Prelude.{◌≡◌, map};
 ghost use Rattle.clap.specs.Words.{FailsBy, app_of, fault_of};
-ghost use Rattle.disassemble.specs.CommandLine.{AsksHelp, command_line};
+ghost use Rattle.disassemble.specs.CommandLine.{AsksHelp, help_command};
 
 use crate::ending::Ending;
 use clap::error::ErrorKind;
@@ -15,17 +15,18 @@ const LINES: &str = "\
 Each line of standard input is an address, the word there, and the two words that
 follow, all octal with 1 to 6 digits and with spaces between them:
   1000 012700 000005 000000
-Each is answered by a line on standard output: how many words the instruction takes,
-and its text. Words past that count are ignored.
+The reply is a line on standard output: how many words the instruction takes, and its
+text. Words past that count are ignored.
   2 MOV #5,R0
-A word that is no instruction is a directive, as is 000260, which does nothing:
+A word that is no instruction is shown as a directive. So is 000260, which sets no
+condition code, because NOP is the text of 000240.
   1 .WORD 075000
-A line that can't be read is answered by 'bad line: ' and the reason.";
+The reply to a line that can't be read is 'bad line: ' and the reason.";
 
 /// The help that these words ask for, the program's name first. `BadArguments` if there is any
 /// other word. `NoMemory` as soon as it is out of memory.
 pub fn help_asked<S: AsStr>(alloc: Global, words: &[S]) -> Result<Option<String>, Ending>
-    ensures { AsksHelp (fault_of command_line (map S.text words.now)) result }
+    ensures { AsksHelp (fault_of help_command (map S.text words.now)) result }
 {
     match matches_of(alloc, words) {
         Ok(_) => Ok(None),
@@ -39,13 +40,13 @@ pub fn help_asked<S: AsStr>(alloc: Global, words: &[S]) -> Result<Option<String>
 
 // What clap finds in these words.
 fn matches_of<'a, S: AsStr>(alloc: Global, words: &'a [S]) -> Result<ArgMatches<'a>, Error>
-    ensures { FailsBy (fault_of command_line (map S.text words.entry.now)) result }
+    ensures { FailsBy (fault_of help_command (map S.text words.entry.now)) result }
 {
     command(alloc).try_get_matches_from(words)
 }
 
 fn command<'a>(alloc: Global) -> Command<'a>
-    ensures { app_of result ≡ command_line }
+    ensures { app_of result ≡ help_command }
 {
     Command::new(alloc, "disassemble")
         .about(ABOUT)

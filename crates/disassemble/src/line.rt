@@ -38,7 +38,8 @@ pub fn code_on(alloc: Global, line: &[u8]) -> Result<Result<Code, BadLine>, Allo
 }
 
 fn code_of(address: &[u8], word: &[u8], next: &[u8], last: &[u8]) -> Result<Code, BadLine>
-    ensures { result ≡ code_in_fields (address.now ∷ word.now ∷ next.now ∷ last.now ∷ []) }
+    ensures { result
+        ≡ code_in_fields (address.now ∷ word.now ∷ next.now ∷ last.now ∷ []) }
 {
     let address = word_in(address)?;
     let words = [word_in(word)?, word_in(next)?, word_in(last)?];
@@ -46,7 +47,8 @@ fn code_of(address: &[u8], word: &[u8], next: &[u8], last: &[u8]) -> Result<Code
 }
 
 fn fields_of(alloc: Global, line: &[u8]) -> Result<Vec<&[u8]>, AllocError>
-    ensures { IfOk result (λ fields. map (λ field. field.now) fields.items ≡ fields_of line.now) }
+    ensures { IfOk result (λ fields.
+        map (λ field. field.now) fields.items ≡ fields_of line.now) }
 {
     line.split(|byte| is_separator(*byte))
         .filter(|field| !field.is_empty())

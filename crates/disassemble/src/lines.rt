@@ -1,44 +1,66 @@
 // The lines of the input, answered one by one.
-ghost use Rattle.std.specs.Prelude.{◌≡◌};
-ghost use Rattle.disassemble.specs.Answer.{line_in};
+ghost use Rattle.std.specs.Prelude.{◌≡◌, OnOk, IfOk, IfSome};
+ghost use Rattle.std.specs.Io.KnownBytes.{Appends};
+ghost use Rattle.std.specs.Str.Lines.{strip_carriage_return};
+ghost use Rattle.disassemble.specs.Answer.{AnswersNext, answers_of, line_in};
 
-use crate::answer::answer_to;
+use crate::answer::line_answer;
 use std::alloc::Global;
 use std::io::{BufRead, Error, ErrorKind, Result, Write};
 
-/// Answers each line of `reader` on `writer`. Each answer is written before more is read.
+/// Answers each line of `reader` on `writer`. Each answer is written and flushed before the next
+/// line is read.
 ///
 /// # Errors
 ///
-/// Those of the reader and of the writer, and out of memory. The answers to all earlier lines were
-/// written then.
+/// Those of the reader and of the writer, and out of memory. The contract doesn't say what was
+/// written before an error.
 pub fn answer_lines<R: BufRead, W: Write>(
     alloc: Global,
     reader: &mut R,
     writer: &mut W,
-) -> Result<()> {
-    let mut read = Vec::new(alloc);
-    for _ in 0..u64::MAX {
-        read.clear();
-        if reader.read_until(b'\n', &mut read)? == 0 {
+) -> Result<()>
+    ensures { OnOk result (IfSome (R.remaining reader.old) (λ text.
+        Appends (W.contents writer.old) (W.contents writer.new) (answers_of text))) }
+{
+    'lines: for _ in 0..u64::MAX {
+        if !answer_next(alloc, reader, writer)? {
             return Ok(());
         }
-        let answer = answer_to(alloc, line_in(read.as_slice()))?;
-        writer.write_all(answer.as_slice())?;
-        writer.flush()?;
     }
     Err(Error::from(ErrorKind::Other))
 }
 
-// A line without its line feed, and without a carriage return before that.
+// Answers the next line, and returns whether there was one.
+fn answer_next<R: BufRead, W: Write>(alloc: Global, reader: &mut R, writer: &mut W) -> Result<bool>
+    ensures { IfOk result (λ was_line. AnswersNext (R.remaining reader.old) (R.remaining reader.new)
+        (W.contents writer.old) (W.contents writer.new) was_line) }
+{
+    let mut read = Vec::new(alloc);
+    if reader.read_until(b'\n', &mut read)? == 0 {
+        return Ok(false);
+    }
+    let answer = line_answer(alloc, line_in(read.as_slice()))?;
+    writer.write_all(answer.as_slice())?;
+    writer.flush()?;
+    Ok(true)
+}
+
+// A line as it was read, without what ended it.
 fn line_in(read: &[u8]) -> &[u8]
     ensures { result.now ≡ line_in read.now }
 {
     match read.split_last() {
-        Some((b'\n', front)) => match front.split_last() {
-            Some((b'\r', line)) => line,
-            _ => front,
-        },
+        Some((b'\n', line)) => without_return(line),
         _ => read,
+    }
+}
+
+fn without_return(line: &[u8]) -> &[u8]
+    ensures { result.now ≡ strip_carriage_return line.now }
+{
+    match line.split_last() {
+        Some((b'\r', front)) => front,
+        _ => line,
     }
 }

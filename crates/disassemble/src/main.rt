@@ -5,7 +5,8 @@
 //! # What is proved
 //!
 //! - The answer to a line is that of the definition: a count of words and a text, or what is wrong
-//!   with the line (`answer_to`).
+//!   with the line (`line_answer`). If the run ends well, the answers to all lines were written, in
+//!   their order (`answer_lines`).
 //!
 //! # What is only tested
 //!

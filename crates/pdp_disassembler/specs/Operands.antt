@@ -13,7 +13,7 @@ use Rattle.pdp_disassembler.specs.declared.operands.Operands.TheVariants.{Absent
 abbrev pub is_of_no_code : Codes → Bool
 is_of_no_code flags = not (flags.n || flags.z || flags.v || flags.c)
 
--- The operands of an instruction. SetCodes of no code has the text of its word, since NOP is ClearCodes of none.
+-- The operands of an instruction. SetCodes of no code is shown by its word, since NOP is ClearCodes of none.
 abbrev pub operands_of : Instr → Operands
 operands_of Halt = Absent
 operands_of Wait = Absent
@@ -93,9 +93,13 @@ operands_of (Mfpi operand) = Single operand
 operands_of (Mtpi operand) = Single operand
 operands_of Reserved = Word
 
--- an operand has a word of its own: in the index modes, and in the immediate and absolute modes of PC
+-- an immediate or absolute operand: autoincrement of PC
+abbrev pub is_immediate : Spec → Bool
+is_immediate operand = operand.reg == 7 && (operand.mode == 2 || operand.mode == 3)
+
+-- an operand has a word of its own: an index, an immediate value or an absolute address
 abbrev pub takes_word : Spec → Bool
-takes_word operand = nat_le 6 operand.mode || operand.reg == 7 && (operand.mode == 2 || operand.mode == 3)
+takes_word operand = nat_le 6 operand.mode || is_immediate operand
 
 abbrev pub words_of_operand : Spec → ℕ
 words_of_operand operand = if takes_word operand then 1 else 0
@@ -105,7 +109,8 @@ abbrev pub words_that_follow : Operands → ℕ
 words_that_follow (Single operand) = words_of_operand operand
 words_that_follow (RegisterFirst register operand) = words_of_operand operand
 words_that_follow (RegisterLast operand register) = words_of_operand operand
-words_that_follow (Double source destination) = words_of_operand source + words_of_operand destination
+words_that_follow (Double source destination) =
+    words_of_operand source + words_of_operand destination
 words_that_follow _ = 0
 
 -- modes and registers are below 8

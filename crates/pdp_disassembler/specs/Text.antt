@@ -1,6 +1,6 @@
--- The text of an instruction, in the syntax of MACRO-11 (PDP-11 MACRO-11 Language Reference Manual; DEC PDP-11/40
--- Processor Handbook (1972), Instruction set and Addressing modes). Numbers are octal, without leading zeros except
--- after .WORD.
+-- The text of an instruction, in the syntax of MACRO-11 (DEC PDP-11/40 Processor Handbook (1972),
+-- Instruction set and Addressing modes; this project's profile). Numbers are octal, without leading
+-- zeros except after .WORD.
 use Rattle.std.specs.Prelude.{ℕ, ℤ, Bool, ◌+◌, ◌*◌, ◌%◌, ◌&&◌, ◌==◌, nat_lt, if◌then◌else◌, List, [], ◌∷◌, ◌++◌, codes, slice_index, take}
 use Rattle.std.specs.Int.{w16, cast_unsigned}
 use Rattle.pdp_word.specs.Number.{octal_digits}
@@ -51,7 +51,7 @@ moded_text mode word name =
 abbrev pub further : ℕ → ℕ → ℕ
 further address count = (address + count) % 0o200000
 
--- the address that a relative operand names, whose word is at this address: PC has gone past that word
+-- the address that a relative operand names, whose word is at this address: PC is past that word
 abbrev pub relative_target : ℕ → ℕ → ℕ
 relative_target address word = further (address + 2) word
 
@@ -61,14 +61,19 @@ operand_text address word operand =
     if operand.reg == 7 && operand.mode == 2 then codes "#" ++ octal_text word
     else if operand.reg == 7 && operand.mode == 3 then codes "@#" ++ octal_text word
     else if operand.reg == 7 && operand.mode == 6 then octal_text (relative_target address word)
-    else if operand.reg == 7 && operand.mode == 7 then codes "@" ++ octal_text (relative_target address word)
+    else if operand.reg == 7 && operand.mode == 7
+    then codes "@" ++ octal_text (relative_target address word)
     else moded_text operand.mode word (register_name operand.reg)
+
+-- an instruction's only or first operand: its word comes after the instruction word
+abbrev pub first_text : ℕ → ℕ → Spec → List ℕ
+first_text address next operand = operand_text (further address 2) next operand
 
 -- an instruction's second operand: its word comes after that of the first, if that has one
 abbrev pub second_text : ℕ → ℕ → ℕ → Spec → Spec → List ℕ
 second_text address next last first second =
     if takes_word first then operand_text (further address 4) last second
-    else operand_text (further address 2) next second
+    else first_text address next second
 
 -- where the branch at this address goes
 abbrev pub branch_target : ℕ → ℤ → ℕ
@@ -83,16 +88,18 @@ unfoldable pub operands_text : ℕ → ℕ → ℕ → ℕ → Operands → List
 operands_text address word next last Absent = []
 operands_text address word next last (Register register) = codes " " ++ register_name register
 operands_text address word next last (Number number) = codes " " ++ octal_text number
-operands_text address word next last (Branch offset) = codes " " ++ octal_text (branch_target address offset)
+operands_text address word next last (Branch offset) =
+    codes " " ++ octal_text (branch_target address offset)
 operands_text address word next last (Loop register words) =
     codes " " ++ register_name register ++ codes "," ++ octal_text (loop_target address words)
-operands_text address word next last (Single operand) = codes " " ++ operand_text (further address 2) next operand
+operands_text address word next last (Single operand) = codes " " ++ first_text address next operand
 operands_text address word next last (RegisterFirst register operand) =
-    codes " " ++ register_name register ++ codes "," ++ operand_text (further address 2) next operand
+    codes " " ++ register_name register ++ codes "," ++ first_text address next operand
 operands_text address word next last (RegisterLast operand register) =
-    codes " " ++ operand_text (further address 2) next operand ++ codes "," ++ register_name register
+    codes " " ++ first_text address next operand ++ codes "," ++ register_name register
 operands_text address word next last (Double source destination) =
-    codes " " ++ operand_text (further address 2) next source ++ codes "," ++ second_text address next last source destination
+    codes " " ++ first_text address next source
+    ++ codes "," ++ second_text address next last source destination
 operands_text address word next last Word = codes " " ++ octal_digits 6 word
 
 -- texts with a space between each two
@@ -128,7 +135,7 @@ set_text flags =
     else if is_of_all_codes flags then codes "SCC"
     else code_operators (codes "SE") flags
 
--- what a text begins with: a mnemonic, the operators of condition codes, or .WORD where the syntax has neither
+-- what a text begins with: a mnemonic, the operators of condition codes, or .WORD if there is neither
 unfoldable pub operator_text : Instr → List ℕ
 operator_text (ClearCodes flags) = clear_text flags
 operator_text (SetCodes flags) = set_text flags

@@ -28,13 +28,13 @@ pub struct Disassembly {
 /// cleared or set together have a space between them, as `CLV CLC`. Words past those that the
 /// instruction takes are ignored.
 ///
-/// Source: PDP-11 MACRO-11 Language Reference Manual; DEC PDP-11/40 Processor Handbook (1972),
-/// Instruction set and Addressing modes. The directives and the joined operators are this project's
-/// profile.
+/// Source: DEC PDP-11/40 Processor Handbook (1972), Instruction set and Addressing modes; the
+/// directives and the joined operators are this project's profile.
 #[tactic(auto, unfolding(crate::specs::Text::instruction_text))]
 pub fn disassemble(address: u16, words: [u16; 3]) -> Disassembly
     ensures text { result.text.items ≡ instruction_text address words }
     ensures word_count { result.word_count ≡ word_count words }
+    ensures most { result.word_count ≤ 3 }
 {
     let [word, _, _] = words;
     let instr = decode(word);
@@ -53,8 +53,8 @@ pub fn disassemble(address: u16, words: [u16; 3]) -> Disassembly
 fn add_operands(text: &mut InstructionText, address: u16, words: [u16; 3], operands: Operands)
     requires valid { OperandsFit operands }
     requires room { length text.old.items ≤ 11 }
-    ensures operands_text { text.new.items ≡ text.old.items
-        ++ operands_text address (slice_index words 0) (slice_index words 1) (slice_index words 2) operands }
+    ensures { text.new.items ≡ text.old.items ++ operands_text address
+        (slice_index words 0) (slice_index words 1) (slice_index words 2) operands }
 {
     let [word, next, last] = words;
     if operands == Operands::Absent {

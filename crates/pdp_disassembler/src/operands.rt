@@ -1,15 +1,14 @@
 // What stands after the mnemonic of an instruction.
 ghost use Rattle.std.specs.Prelude.{◌≡◌};
 ghost use Rattle.pdp_decode.specs.Instruction.{FieldsFit};
-ghost use Rattle.pdp_disassembler.specs.Operands.{OperandsFit, operands_of, takes_word, words_of_operand, words_that_follow};
+ghost use Rattle.pdp_disassembler.specs.Operands.{OperandsFit, is_immediate, operands_of, takes_word, words_of_operand, words_that_follow};
 
 use pdp_decode::{Instr, Spec};
 use pdp_word::Codes;
 
 /// The operands of an instruction, in the order of its text.
 ///
-/// Source: DEC PDP-11/40 Processor Handbook (1972), Instruction set; PDP-11 MACRO-11 Language
-/// Reference Manual.
+/// Source: DEC PDP-11/40 Processor Handbook (1972), Instruction set.
 #[derive(Clone, Copy, Debug, PartialEq, Eq)]
 pub enum Operands {
     /// None.
@@ -204,10 +203,17 @@ pub fn words_of(operand: Spec) -> usize
     if takes_word(operand) { 1 } else { 0 }
 }
 
-/// Whether an operand has a word of its own: index modes do, and immediate, absolute and relative
-/// ones, which are modes of PC.
+/// Whether an operand has a word of its own. The index modes do, of which the relative ones are a
+/// case, and so do immediate and absolute operands.
 pub fn takes_word(operand: Spec) -> bool
     ensures { result ≡ takes_word operand }
 {
-    operand.mode >= 6 || (operand.reg == 7 && (operand.mode == 2 || operand.mode == 3))
+    operand.mode >= 6 || is_immediate(operand)
+}
+
+// Whether an operand is immediate or absolute: autoincrement of PC.
+fn is_immediate(operand: Spec) -> bool
+    ensures { result ≡ is_immediate operand }
+{
+    operand.reg == 7 && (operand.mode == 2 || operand.mode == 3)
 }

@@ -84,7 +84,8 @@ pub fn add_operand(text: &mut InstructionText, address: u16, word: u16, operand:
 fn add_moded(text: &mut InstructionText, mode: u8, word: u16, register: u8)
     requires register { register < 8 }
     requires room { length text.old.items + 11 ≤ LONGEST_TEXT }
-    ensures moded_text { text.new.items ≡ text.old.items ++ moded_text mode word (register_name register) }
+    ensures moded_text { text.new.items
+        ≡ text.old.items ++ moded_text mode word (register_name register) }
     ensures length { length text.new.items ≤ length text.old.items + 11 }
 {
     match mode {
