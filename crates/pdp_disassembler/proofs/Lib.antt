@@ -5,3 +5,5 @@ pub mod FittingFields
 pub mod Assembler
 pub mod ReadForms
 pub mod ReadTexts
+pub mod SameTexts
+pub mod TextsAndWords

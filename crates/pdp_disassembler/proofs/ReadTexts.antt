@@ -12,7 +12,7 @@ use Rattle.pdp_decode.specs.declared.instruction.Spec.{Spec}
 use Rattle.pdp_decode.specs.declared.instruction.Instr.{Instr}
 use Rattle.pdp_decode.specs.declared.instruction.Instr.TheVariants.{Halt, Wait, Rti, Bpt, Iot, Reset, Rtt, Jmp, Rts, Jsr, Mark, Sob, Emt, Trap, ClearCodes, SetCodes, Br, Bne, Beq, Bge, Blt, Bgt, Ble, Bpl, Bmi, Bhi, Blos, Bvc, Bvs, Bcc, Bcs, Mov, Movb, Cmp, Cmpb, Bit, Bitb, Bic, Bicb, Bis, Bisb, Add, Sub, Xor, Mul, Div, Ash, Ashc, Swab, Clr, Clrb, Com, Comb, Inc, Incb, Dec, Decb, Neg, Negb, Adc, Adcb, Sbc, Sbcb, Ror, Rorb, Rol, Rolb, Asr, Asrb, Asl, Aslb, Sxt, Tst, Tstb, Mfpi, Mtpi, Reserved}
 use Rattle.pdp_disassembler.specs.Operands.{operands_of, takes_word, words_that_follow}
-use Rattle.pdp_disassembler.specs.TextLaw.{AreThreeWords, TextSaysWords}
+use Rattle.pdp_disassembler.specs.TextLaw.{AreThreeWords}
 use Rattle.pdp_disassembler.specs.Text.{further, instruction_text, words_taken, operand_text, operands_text, operator_text, register_name, second_text}
 use Rattle.pdp_disassembler.specs.declared.operands.Operands.{Operands}
 use Rattle.pdp_disassembler.specs.declared.operands.Operands.TheVariants.{Single, RegisterFirst, RegisterLast, Double}
@@ -214,7 +214,7 @@ by_two word next last false true = refl
 by_two word next last false false = refl
 
 -- the words that an instruction takes
-taken_words : (word next last : ℕ) (operands : Operands)
+pub taken_words : (word next last : ℕ) (operands : Operands)
     → take (1 + words_that_follow operands) (word ∷ next ∷ last ∷ []) ≡ word ∷ following next last operands
 taken_words word next last (Single operand) = by_one word next last (takes_word operand)
 taken_words word next last (RegisterFirst register operand) = by_one word next last (takes_word operand)
@@ -245,15 +245,10 @@ three_read address word next last are =
     ∙ sym (taken_words word next last (operands_of (decoded word)))
 
 -- the text of an instruction is read back as the words that it takes
-instruction_reads : (address : ℕ) (words : List ℕ) → AreThreeWords words
+pub instruction_reads : (address : ℕ) (words : List ℕ) → AreThreeWords words
     → words_read address (instruction_text address words) ≡ words_taken words
 instruction_reads address [] are = let e = are.three in absurd (omega arith)
 instruction_reads address (word ∷ []) are = let e = are.three in absurd (omega arith)
 instruction_reads address (word ∷ next ∷ []) are = let e = are.three in absurd (omega arith)
 instruction_reads address (word ∷ next ∷ last ∷ []) are = three_read address word next last are
 instruction_reads address (word ∷ next ∷ last ∷ other ∷ others) are = let e = are.three in absurd (omega arith)
-
--- so equal texts have equal words
-pub text_says_words : TextSaysWords
-text_says_words address words others are also same =
-    sym (instruction_reads address words are) ∙ ap (words_read address) same ∙ instruction_reads address others also

@@ -1,5 +1,5 @@
 -- What the text of an instruction says of its words (this project's profile).
-use Rattle.std.specs.Prelude.{◌≡◌, ℕ, ◌<◌, List, length}
+use Rattle.std.specs.Prelude.{◌≡◌, ◌↔◌, ℕ, ◌<◌, List, length}
 use Rattle.std.specs.List.{All}
 use Rattle.pdp_disassembler.specs.Text.{instruction_text, words_taken}
 
@@ -8,10 +8,10 @@ pub record AreThreeWords (words : List ℕ) : Type 0 where
   pub three : length words ≡ 3
   pub fit : All (λ word. word < 0o200000) words
 
--- If two instructions at one address have one text, they have the same words, as many as each
--- takes. So the text can be assembled back.
-abbrev pub TextSaysWords : Type 0
-TextSaysWords =
+-- Two instructions at one address have one text exactly if they have the same words, as many as each
+-- takes. So the text can be assembled back, and shows no word that the instruction doesn't take.
+abbrev pub TextsAreOfWords : Type 0
+TextsAreOfWords =
     (address : ℕ) (words others : List ℕ) → AreThreeWords words → AreThreeWords others
-    → instruction_text address words ≡ instruction_text address others
-    → words_taken words ≡ words_taken others
+    → (instruction_text address words ≡ instruction_text address others)
+    ↔ (words_taken words ≡ words_taken others)

@@ -14,5 +14,5 @@ mod operators;
 mod texts;
 
 pub use disassembly::{Disassembly, disassemble};
-pub use laws::texts_say_words;
+pub use laws::equal_texts_have_equal_words;
 pub use texts::{InstructionText, LONGEST_TEXT};
