@@ -44,9 +44,13 @@ answered_more (Some text) None left written now after was_line (more, out, is, w
 answered_more (Some text) (Some unread) left written now after was_line (more, out, is, writes, goes) (drops, also, was) =
     let same : unread ≡ more = cc in
     let reply = read_answer (take_through 10 unread) in
-    let rest = answers_of (drop_through 10 unread) in
-    (drop_through 10 unread, out ++ reply, drops, Appends-trans written now after out reply writes also,
-        goes ∙ ap (λ l. out ++ answers_of l) (sym same) ∙ ap (λ l. out ++ l) (answers_next unread) ∙ sym (append_assoc out reply rest))
+    let rest = answers_of (drop_through 10 unread) in (
+      drop_through 10 unread,
+      out ++ reply,
+      drops,
+      Appends-trans written now after out reply writes also,
+      goes ∙ ap (λ l. out ++ answers_of l) (sym same) ∙ ap (λ l. out ++ l) (answers_next unread) ∙ sym (append_assoc out reply rest),
+    )
 
 -- where there was no further line, all are answered
 pub answered_all : (unread rest left written now after : Option (List ℕ)) (was_line : Bool) → Answered unread rest written now
@@ -60,7 +64,7 @@ answered_all (Some text) (Some unread) left written now after was_line (more, ou
     let nothing : reply ++ answers_of (drop_through 10 unread) ≡ [] = sym (answers_next unread) ∙ answers_of_nothing unread none in
     let no_reply : reply ≡ [] = front_of_nothing reply (answers_of (drop_through 10 unread)) nothing in
     let whole : answers_of text ≡ out ++ reply =
-        goes ∙ ap (λ l. out ++ answers_of l) (sym same) ∙ ap (λ l. out ++ l) (answers_of_nothing unread none) ∙ ap (λ l. out ++ l) (sym no_reply) in
+    goes ∙ ap (λ l. out ++ answers_of l) (sym same) ∙ ap (λ l. out ++ l) (answers_of_nothing unread none) ∙ ap (λ l. out ++ l) (sym no_reply) in
     let Q : List ℕ → Type 0 = λ l. Appends written after l in
     subst Q (sym whole) (Appends-trans written now after out reply writes also)
   where

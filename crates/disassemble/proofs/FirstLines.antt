@@ -35,22 +35,30 @@ Cuts text = IsWhole text ⊎ ((front : List ℕ) × (rest : List ℕ) × IsCut t
 cuts_with : (byte : ℕ) (text : List ℕ) (feeds : Bool) → is_feed byte ≡ feeds → Cuts text → Cuts (byte ∷ text)
 cuts_with byte text true e cut =
     let is : byte ≡ 10 = grind (arith, nat_tests) in
-    inr ([], text, record {
-      parts = rw e refl;
-      taken = rw e (ap (λ b. b ∷ []) is);
-      left = rw e refl;
-    })
+    inr (
+      [],
+      text,
+      record {
+        parts = rw e refl;
+        taken = rw e (ap (λ b. b ∷ []) is);
+        left = rw e refl;
+      },
+    )
 cuts_with byte text false e (inl whole) = inl (record {
   parts = rw (e, whole.parts) refl;
   taken = rw (e, whole.taken) refl;
   left = rw (e, whole.left) refl;
   inside = rw e whole.inside;
 })
-cuts_with byte text false e (inr (front, rest, cut)) = inr (byte ∷ front, rest, record {
-  parts = rw (e, cut.parts) refl;
-  taken = rw (e, cut.taken) refl;
-  left = rw (e, cut.left) refl;
-})
+cuts_with byte text false e (inr (front, rest, cut)) = inr (
+  byte ∷ front,
+  rest,
+  record {
+    parts = rw (e, cut.parts) refl;
+    taken = rw (e, cut.taken) refl;
+    left = rw (e, cut.left) refl;
+  },
+)
 
 cuts : (text : List ℕ) → Cuts text
 cuts [] = inl (record { parts = refl; taken = refl; left = refl; inside = refl })
