@@ -1,14 +1,13 @@
 -- What a read up to the first LF takes is the first line.
-use Rattle.std.proofs.Common.{◌≡◌, ℕ, ◌+◌, ◌-◌, ◌<◌, ◌⊎◌, inl, inr, Bool, true, false, List, [], ◌∷◌, ◌++◌, length, take, get_or, refl, sym, ap, ◌∙◌, cond, arith, eq-eqb}
-use Rattle.std.specs.Prelude.{◌==◌, not, slice_index, if◌then◌else◌}
-use Rattle.std.specs.List.{flat_map, list_all, onto_first, slice_split}
+use Rattle.std.proofs.Common.{◌≡◌, ℕ, ◌-◌, ◌<◌, ◌⊎◌, inl, inr, Bool, true, false, List, [], ◌∷◌, ◌++◌, length, take, get_or, refl, ap, cond, arith}
+use Rattle.std.specs.Prelude.{◌==◌, not, slice_index}
+use Rattle.std.specs.List.{list_all, onto_first, slice_split}
 use Rattle.std.specs.Io.BufRead.{take_through, drop_through}
 use Rattle.std.specs.Str.Lines.{lines, lines_of_parts, strip_carriage_return}
-use Rattle.std.proofs.lemmas.Bool.{and_from}
 use Rattle.std.proofs.lemmas.Bool.Decides.{nat_tests}
 use Rattle.std.proofs.lemmas.List.{get_or_push, length_push, take_at}
 use Rattle.std.proofs.lemmas.List.Folds.{list_all_at}
-use Rattle.disassemble.specs.Answer.{answers_of, line_answer, line_in, read_answer}
+use Rattle.disassemble.specs.Answer.{answers_of, line_in, read_answer}
 
 abbrev is_feed : ℕ → Bool
 is_feed byte = byte == 10

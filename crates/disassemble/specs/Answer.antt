@@ -18,7 +18,8 @@ reason_text Range = codes "a number over 177777"
 
 -- how many words the instruction takes, and its text
 abbrev pub code_text : Code → List ℕ
-code_text code = decimal (word_count code.words) ++ codes " " ++ instruction_text code.address code.words
+code_text code =
+    decimal (word_count code.words) ++ codes " " ++ instruction_text code.address code.words
 
 -- the answer to a line with this code, or with this wrong
 abbrev pub answer_text : Result Code BadLine → List ℕ
@@ -44,9 +45,10 @@ line_in read =
 abbrev pub read_answer : List ℕ → List ℕ
 read_answer read = if length read == 0 then [] else line_answer (line_in read)
 
--- The next line was answered, if there was one: of a reader and a writer whose bytes are known before and after.
-abbrev pub AnswersNext : Option (List ℕ) → Option (List ℕ) → Option (List ℕ) → Option (List ℕ) → Bool
-    → Type 0
+-- The next line was answered, if there was one: of a reader and a writer whose bytes are known before
+-- and after.
+abbrev pub AnswersNext : Option (List ℕ) → Option (List ℕ) → Option (List ℕ) → Option (List ℕ)
+    → Bool → Type 0
 AnswersNext unread rest written now was_line = IfSome unread (λ text.
     (rest ≡ Some (drop_through 10 text))
     × Appends written now (read_answer (take_through 10 text))

@@ -1,6 +1,6 @@
 -- An assembler that undoes the texts of instructions: from the address and the text to the words.
-use Rattle.std.proofs.Common.{◌≡◌, ℕ, ◌+◌, ◌-◌, ◌*◌, ◌/◌, ◌%◌, ◌^◌, ◌<◌, Bool, true, false, List, [], ◌∷◌, ◌++◌, Option, Some, None, length, refl, sym, ap, subst, ◌∙◌, cond, drop, arith, append_assoc}
-use Rattle.std.specs.Prelude.{ℤ, ◌==◌, not, codes, if◌then◌else◌}
+use Rattle.std.proofs.Common.{ℕ, ◌+◌, ◌-◌, ◌*◌, ◌/◌, ◌%◌, Bool, List, [], ◌∷◌, ◌++◌, Option, Some, None, length, drop}
+use Rattle.std.specs.Prelude.{◌==◌, not, codes, if◌then◌else◌}
 use Rattle.pdp_word.specs.Number.{worth}
 use Rattle.pdp_disassembler.specs.Text.{further}
 use Rattle.pdp_disassembler.proofs.Cutting.{front, beyond}

@@ -1,5 +1,5 @@
 -- What the opcode table decodes has a word: its fields fit.
-use Rattle.std.proofs.Common.{◌≡◌, ℕ, ◌≤◌, ◌<◌, ◌%◌, ◌⊎◌, inl, inr, refl, sym, subst, List, [], ◌∷◌, arith}
+use Rattle.std.proofs.Common.{ℕ, ◌<◌, inl, inr, sym, subst, List, [], ◌∷◌, arith}
 use Rattle.std.specs.Int.{w8}
 use Rattle.std.specs.Int.RustNames.{FitsSigned}
 use Rattle.std.proofs.lemmas.Int.{ints}

@@ -13,7 +13,7 @@ use Rattle.pdp_decode.specs.declared.instruction.Spec.{Spec}
 use Rattle.pdp_disassembler.specs.Operands.{takes_word}
 use Rattle.pdp_disassembler.specs.Text.{octal_text, operand_text, register_name, relative_target}
 use Rattle.pdp_disassembler.proofs.Cutting.{front, beyond, stops, front-append, beyond-append}
-use Rattle.pdp_disassembler.proofs.OctalTexts.{IsOctal, octal_is}
+use Rattle.pdp_disassembler.proofs.OctalTexts.{octal_is}
 
 -- two texts are the same
 abbrev pub same : List ℕ → List ℕ → Bool

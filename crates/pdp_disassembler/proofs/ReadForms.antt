@@ -1,7 +1,7 @@
 -- Each form's operands are read back.
-use Rattle.std.proofs.Common.{◌≡◌, ℕ, ℤ, zero, suc, ◌+◌, ◌-◌, ◌*◌, ◌/◌, ◌%◌, ◌^◌, ◌<◌, ◌≤◌, ◌⊎◌, inl, inr, Bool, true, false, List, [], ◌∷◌, ◌++◌, length, refl, sym, ap, subst, ◌∙◌, cond, drop, arith, append_assoc}
+use Rattle.std.proofs.Common.{◌≡◌, ℕ, ℤ, ◌+◌, ◌-◌, ◌*◌, ◌%◌, ◌^◌, ◌<◌, ◌≤◌, ◌⊎◌, inl, inr, Bool, true, false, List, [], ◌∷◌, ◌++◌, length, refl, ◌∙◌, arith, append_assoc}
 use Rattle.std.specs.Prelude.{codes, if◌then◌else◌}
-use Rattle.std.specs.Int.{w8, w16, cast_unsigned}
+use Rattle.std.specs.Int.{w8, cast_unsigned}
 use Rattle.std.specs.Int.RustNames.{FitsSigned}
 use Rattle.std.proofs.lemmas.Int.{ints}
 use Rattle.std.proofs.lemmas.Bool.Decides.{nat_tests}
@@ -13,9 +13,9 @@ use Rattle.pdp_decode.specs.Format.{digits_of}
 use Rattle.pdp_decode.specs.declared.instruction.Spec.{Spec}
 use Rattle.pdp_disassembler.specs.Operands.{takes_word}
 use Rattle.pdp_disassembler.specs.Text.{branch_target, further, loop_target, octal_text, operand_text, register_name, second_text}
-use Rattle.pdp_disassembler.proofs.Assembler.{Alone, Numbered, Branching, Looping, One, Two, Swapped, Directive, after_comma, assembled, offset_back, words_back}
-use Rattle.pdp_disassembler.proofs.Cutting.{front, beyond, front-append, beyond-append}
-use Rattle.pdp_disassembler.proofs.OctalTexts.{IsOctal, octal_is}
+use Rattle.pdp_disassembler.proofs.Assembler.{Numbered, Branching, Looping, One, Two, Swapped, Directive, after_comma, assembled, offset_back, words_back}
+use Rattle.pdp_disassembler.proofs.Cutting.{front, front-append, beyond-append}
+use Rattle.pdp_disassembler.proofs.OctalTexts.{octal_is}
 use Rattle.pdp_disassembler.proofs.OperandTexts.{SaysOperand, below_eight, is_plain, operand_read, operand_says, own_words}
 
 -- a number is worth what it shows

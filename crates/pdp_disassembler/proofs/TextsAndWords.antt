@@ -1,8 +1,8 @@
 -- The text of an instruction says its words, and shows no others.
-use Rattle.std.proofs.Common.{◌≡◌, ℕ, ◌+◌, List, [], ◌∷◌, ◌++◌, take, refl, sym, ap, subst, ◌∙◌, arith}
+use Rattle.std.proofs.Common.{◌≡◌, ℕ, List, [], ◌∷◌, ◌++◌, refl, sym, ap, subst, ◌∙◌, arith}
 use Rattle.pdp_decode.specs.Table.{decoded}
 use Rattle.pdp_disassembler.specs.Operands.{operands_of}
-use Rattle.pdp_disassembler.specs.Text.{instruction_text, operands_text, operator_text, words_taken}
+use Rattle.pdp_disassembler.specs.Text.{instruction_text, operator_text, words_taken}
 use Rattle.pdp_disassembler.specs.TextLaw.{AreThreeWords, TextsAreOfWords}
 use Rattle.pdp_disassembler.proofs.Assembler.{words_read}
 use Rattle.pdp_disassembler.proofs.ReadTexts.{following, instruction_reads, taken_words}

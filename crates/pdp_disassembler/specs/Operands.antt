@@ -1,6 +1,6 @@
 -- The operands of an instruction as its text has them, and how many words they take
 -- (DEC PDP-11/40 Processor Handbook (1972), Instruction set and Addressing modes).
-use Rattle.std.specs.Prelude.{ℕ, Bool, true, false, ◌+◌, ◌<◌, ◌&&◌, ◌||◌, ◌==◌, not, nat_le, if◌then◌else◌}
+use Rattle.std.specs.Prelude.{ℕ, Bool, ◌+◌, ◌<◌, ◌&&◌, ◌||◌, ◌==◌, not, nat_le, if◌then◌else◌}
 use Rattle.pdp_word.specs.declared.codes.Codes.{Codes}
 use Rattle.pdp_decode.specs.Fields.{IsSpec}
 use Rattle.pdp_decode.specs.declared.instruction.Spec.{Spec}
@@ -13,7 +13,8 @@ use Rattle.pdp_disassembler.specs.declared.operands.Operands.TheVariants.{Absent
 abbrev pub is_of_no_code : Codes → Bool
 is_of_no_code flags = not (flags.n || flags.z || flags.v || flags.c)
 
--- The operands of an instruction. SetCodes of no code is shown by its word, since NOP is ClearCodes of none.
+-- The operands of an instruction. SetCodes of no code is shown by its word, since NOP is the text of
+-- ClearCodes of none.
 abbrev pub operands_of : Instr → Operands
 operands_of Halt = Absent
 operands_of Wait = Absent

@@ -135,7 +135,7 @@ set_text flags =
     else if is_of_all_codes flags then codes "SCC"
     else code_operators (codes "SE") flags
 
--- what a text begins with: a mnemonic, the operators of condition codes, or .WORD if there is neither
+-- what a text begins with: a mnemonic, the operators of condition codes, or .WORD
 unfoldable pub operator_text : Instr → List ℕ
 operator_text (ClearCodes flags) = clear_text flags
 operator_text (SetCodes flags) = set_text flags

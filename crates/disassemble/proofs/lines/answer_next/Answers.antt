@@ -1,5 +1,5 @@
 -- A line was read and answered.
-use Rattle.std.proofs.Common.{rules, arith, ap, ◌∙◌}
+use Rattle.std.proofs.Common.{rules, ap, ◌∙◌}
 use Rattle.disassemble.specs.Answer.{line_answer, line_in}
 use Rattle.disassemble.proofs.AnsweredLines.{line_answered}
 use Rattle.disassemble.proofs.lines.answer_next.Goals as goal
