@@ -1,0 +1,105 @@
+"""The table of explore's own commands. Each module adds its commands to it."""
+import re
+from dataclasses import dataclass, field
+from typing import Callable, Dict, Iterator, Optional
+
+from .disassembly import Disassembler, Symbols
+from .children import ExploreError
+from .machine import LAST_TURN, Machine
+from .replies import Registers
+
+
+@dataclass
+class Explorer:
+    """What the commands work on."""
+
+    machine: Machine
+    disassembler: Disassembler
+    symbols: Symbols = field(default_factory=Symbols)
+    shown: Optional[Registers] = None
+    shown_turn: int = 0
+    is_terminal: bool = False
+
+
+@dataclass(frozen=True)
+class Arguments:
+    """The named parts of a command's words. A part that isn't there is None."""
+
+    parts: Dict[str, Optional[str]]
+
+    def optional(self, name: str) -> Optional[str]:
+        return self.parts[name]
+
+    def text(self, name: str) -> str:
+        return self.parts[name] or ""
+
+    def decimal(self, name: str, default: int = 0) -> int:
+        return int(self.parts[name] or default)
+
+    def octal(self, name: str, default: int = 0) -> int:
+        return int(self.parts[name] or f"{default:o}", 8)
+
+
+Run = Callable[[Explorer, Arguments], Iterator[str]]
+
+
+@dataclass(frozen=True)
+class Command:
+    """A command: its form, the words that have this form, and what it is for."""
+
+    form: str
+    pattern: "re.Pattern[str]"
+    summary: str
+    detail: str
+    run: Run
+
+    @property
+    def name(self) -> str:
+        return self.form.split()[0]
+
+    def lines(self, explorer: Explorer, words: str) -> Iterator[str]:
+        match = self.pattern.fullmatch(words.strip())
+        if match is None:
+            raise ExploreError(f"the form is: {self.form}")
+        return self.run(explorer, Arguments(match.groupdict()))
+
+
+COMMANDS: Dict[str, Command] = {}
+# The parts of patterns: a turn, a count and an event are decimal, an address and a word octal.
+PARTS = {
+    "decimal": r"\d{1,10}",
+    "octal": r"[0-7]{1,10}",
+    "from": r"((^| )from (?P<first>\d{1,10}))?",
+    "to": r"((^| )to (?P<last>\d{1,10}))?",
+}
+
+
+def command(form: str, pattern: str, summary: str) -> Callable[[Run], Run]:
+    """Adds the function to the table. Its docstring is the detail of `help`. In the pattern a
+    space stands for any space, and <turn:decimal> for a named part."""
+
+    def part(found: "re.Match[str]") -> str:
+        return f"(?P<{found[1]}>{PARTS[found[2]]})"
+
+    whole = re.sub(r"<(\w+):(\w+)>", part, pattern)
+    whole = whole.replace("{from}", PARTS["from"]).replace("{to}", PARTS["to"]).replace(" ", r"\s+")
+
+    def register(run: Run) -> Run:
+        detail = "\n".join(line.strip() for line in (run.__doc__ or "").strip().splitlines())
+        made = Command(form, re.compile(whole), summary, detail, run)
+        COMMANDS[made.name] = made
+        return run
+
+    return register
+
+
+SEARCHED_TURNS = 1_000_000
+
+
+def turn_range(arguments: Arguments, first: int = 0, turns: int = SEARCHED_TURNS) -> range:
+    """The turns of `[from N] [to M]`: from this turn on, and so many, if nothing else is said."""
+    begin = arguments.decimal("first", first)
+    last = arguments.decimal("last", begin + turns - 1)
+    if last < begin:
+        raise ExploreError(f"turn {last} comes before turn {begin}")
+    return range(begin, min(last + 1, LAST_TURN))

@@ -1,0 +1,105 @@
+"""Several programs at work on one list of tasks, and a progress bar."""
+import os
+import queue
+import sys
+import threading
+import time
+from dataclasses import dataclass
+from typing import Callable, Dict, Iterator, List, Sequence, Tuple, TypeVar
+
+from .children import ExploreError
+from .machine import Machine
+
+Task = TypeVar("Task")
+Result = TypeVar("Result")
+WIDTH = 30
+
+
+@dataclass
+class Progress:
+    """A bar on standard error, if that is a terminal."""
+
+    total: int
+    what: str
+    done: int = 0
+    begun: float = 0.0
+    shown: float = 0.0
+
+    def __enter__(self) -> "Progress":
+        self.begun = time.monotonic()
+        self.is_shown = sys.stderr.isatty()
+        return self
+
+    def step(self, count: int = 1) -> None:
+        self.done += count
+        now = time.monotonic()
+        if self.is_shown and now - self.shown > 0.1 and now - self.begun > 0.5:
+            self.shown = now
+            bar = "#" * (WIDTH * self.done // max(1, self.total))
+            seconds = now - self.begun
+            sys.stderr.write(
+                f"\r[{bar:<{WIDTH}}] {self.done}/{self.total} {self.what}, {seconds:.0f} s "
+            )
+            sys.stderr.flush()
+
+    def __exit__(self, *what: object) -> None:
+        if self.is_shown and self.shown:
+            sys.stderr.write("\r" + " " * (WIDTH + 50) + "\r")
+            sys.stderr.flush()
+
+
+def processors() -> int:
+    return len(os.sched_getaffinity(0)) if hasattr(os, "sched_getaffinity") else os.cpu_count() or 1
+
+
+def each_of(
+    machine: Machine,
+    tasks: Sequence[Task],
+    work: Callable[[Machine, Task], Result],
+    hands: int,
+) -> Iterator[Tuple[Task, Result]]:
+    """Does each task on one of so many twins of the machine, and yields the results as they come.
+    When nobody reads on, the twins end with what they do."""
+    left: "queue.SimpleQueue" = queue.SimpleQueue()
+    results: "queue.SimpleQueue" = queue.SimpleQueue()
+    for task in tasks:
+        left.put(task)
+    twins: List[Machine] = []
+    stop = threading.Event()
+
+    def hand() -> None:
+        try:
+            twin = machine.twin()
+            twins.append(twin)
+            while not stop.is_set():
+                task = left.get_nowait()
+                results.put((task, work(twin, task), None))
+        except queue.Empty:
+            pass
+        except Exception as error:  # it is raised again by the one who reads the results
+            results.put((None, None, error))
+
+    threads = [threading.Thread(target=hand, daemon=True) for _ in range(min(hands, len(tasks)))]
+    try:
+        for thread in threads:
+            thread.start()
+        for _ in range(len(tasks)):
+            task, result, error = results.get()
+            if error is not None:
+                raise error if isinstance(error, ExploreError) else ExploreError(repr(error))
+            yield task, result
+    finally:
+        stop.set()
+        for twin in twins:
+            twin.close()
+
+
+def in_order(results: Iterator[Tuple[int, Result]]) -> Iterator[Tuple[int, Result]]:
+    """The results of the tasks 0, 1 and so on in this order."""
+    kept: Dict[int, Result] = {}
+    wanted = 0
+    for number, result in results:
+        kept[number] = result
+        while wanted in kept:
+            yield wanted, kept.pop(wanted)
+            wanted += 1

@@ -1,0 +1,120 @@
+"""The machine at a turn as a command file of SIMH's pdp11: `export`."""
+from pathlib import Path
+from typing import Iterator, List, Tuple
+
+from .commands import Arguments, Explorer, command
+from .machine import MOST_WORDS, ExploreError, Machine
+from .replies import Devices, Mode, Pages, Registers, words_of
+from .script import write_whole
+
+UNIT_BYTES, DRIVE_WORDS, IMAGE_OF_CORE = 0o20000, 1_247_232, 256
+MODEL_NAMES = {Mode.KERNEL: "KI", Mode.USER: "UI"}
+ENABLE, DONE = 0o100, 0o200
+
+
+def core_words(machine: Machine, turn: int) -> List[int]:
+    """All of core before the turn."""
+    count = machine.units() * UNIT_BYTES // 2
+    places = range(0, count, MOST_WORDS)
+    lines = [f"mem {turn} {2 * at:o} {MOST_WORDS}" for at in places]
+    return [word for reply in machine.ask_all(lines) for word in words_of(reply)]
+
+
+def drive_image(machine: Machine, turn: int, drive: int) -> bytes:
+    places = range(0, DRIVE_WORDS, MOST_WORDS)
+    lines = [machine.disk_line(turn, drive, at, MOST_WORDS) for at in places]
+    words = (word for reply in machine.ask_all(lines) for word in words_of(reply))
+    return b"".join(word.to_bytes(2, "little") for word in words)
+
+
+def runs_of(words: List[int]) -> Iterator[Tuple[int, int, int]]:
+    """Runs of equal words that aren't 0: the first address, the last address, the word."""
+    begin = 0
+    for at in range(1, len(words) + 1):
+        if at == len(words) or words[at] != words[begin]:
+            if words[begin]:
+                yield 2 * begin, 2 * (at - 1), words[begin]
+            begin = at
+
+
+def core_lines(words: List[int]) -> Iterator[str]:
+    for first, last, word in runs_of(words):
+        yield f"d {first:o} {word:o}" if first == last else f"d {first:o}-{last:o} {word:o}"
+
+
+def register_lines(registers: Registers, pages: Pages) -> Iterator[str]:
+    for name in ("R0", "R1", "R2", "R3", "R4", "R5", "KSP", "USP", "PC"):
+        yield f"d {name} {registers.words[name]:o}"
+    yield f"d PSW {registers.ps:o}"
+    yield f"d MMR0 {pages.sr0:o}"
+    yield f"d MMR2 {pages.sr2:o}"
+    for mode, name in MODEL_NAMES.items():
+        for page in range(8):
+            yield f"d {name}PAR{page} {pages.addresses[mode][page]:o}"
+            yield f"d {name}PDR{page} {pages.descriptors[mode][page]:o}"
+
+
+def device_lines(devices: Devices) -> Iterator[str]:
+    words = devices.words
+    yield f"d tti BUF {words['TKB']:o}"
+    for unit, status in (("tti", "TKS"), ("tto", "TPS"), ("clk", "LKS")):
+        yield f"d {unit} DONE {words[status] >> 7 & 1}"
+        yield f"d {unit} IE {words[status] >> 6 & 1}"
+    for name in ("RKCS", "RKER", "RKWC", "RKBA", "RKDA"):
+        yield f"d rk {name} {words[name]:o}"
+    yield f"d rk DONE {words['RKCS'] >> 7 & 1}"
+    yield f"d rk IE {words['RKCS'] >> 6 & 1}"
+    yield f"d SR {words['SWR']:o}"
+
+
+def left_out(machine: Machine, turn: int, registers: Registers, devices: Devices) -> Iterator[str]:
+    """What another emulator can't take over, of what is under way."""
+    busy = {"disk": devices.disk_is_ready, "printer": devices.words["TPS"] & DONE}
+    busy["punch"] = devices.words["PPS"] & DONE
+    for name, is_ready in busy.items():
+        if not is_ready:
+            yield f"what the {name} does in turn {turn} is dropped"
+    if registers.state == "wait":
+        yield "the processor waits: it runs on at once"
+    if any(it.turn >= turn for it in machine.past.script()):
+        yield f"the events from turn {turn} on are not in it: keys are typed by hand"
+
+
+def changed_drives(machine: Machine) -> range:
+    return range(8) if machine.past.version == 2 else range(1)
+
+
+@command("export FILE at N", r"(?P<file>.+) at <turn:decimal>", "the state before turn N, for SIMH")
+def export(explorer: Explorer, arguments: Arguments) -> Iterator[str]:
+    """Writes the machine before turn N as a command file of SIMH's PDP-11, `pdp11 FILE`, and each
+    drive as an image beside it, FILE.rk0 and so on (FILE without its ending). Core, registers,
+    mapping and the registers of keyboard, printer, clock and disk are in it. What a device is
+    doing, requests, tape and events aren't; the reply names what is lost at this turn."""
+    machine, turn = explorer.machine, arguments.decimal("turn")
+    path = Path(arguments.text("file"))
+    registers, devices = machine.registers(turn), machine.devices(turn)
+    lost = list(left_out(machine, turn, registers, devices))
+    images = []
+    for drive in changed_drives(machine):
+        image = drive_image(machine, turn, drive)
+        if drive == 0 or any(image):
+            images.append((drive, path.with_suffix(f".rk{drive}"), image))
+    try:
+        for _, name, image in images:
+            name.write_bytes(image)
+    except OSError as error:
+        raise ExploreError(f"{path}: {error.strerror}") from error
+    lines = [
+        f"; the machine before turn {turn}, by Nezdrab's explore",
+        "set cpu 11/40",
+        "set cpu 256K",
+    ]
+    lines += [f"; {it}" for it in lost]
+    lines += [f"attach rk{drive} {name.resolve()}" for drive, name, _ in images]
+    lines += core_lines(core_words(machine, turn))
+    lines += register_lines(registers, machine.pages(turn))
+    lines += device_lines(devices)
+    write_whole(path, "".join(f"{it}\n" for it in lines))
+    names = ", ".join(str(it) for it in (path, *(name for _, name, _ in images)))
+    yield f"written: {names}; run it: pdp11 {path}, then: step, go or examine"
+    yield from lost

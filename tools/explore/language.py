@@ -1,0 +1,144 @@
+"""The forms of the session language, and which word of a refused line is the wrong one."""
+from dataclasses import dataclass
+from typing import Dict, List, Optional
+
+from .past import LINE_DEVICES, Past
+
+OCTAL, DECIMAL = frozenset("01234567"), frozenset("0123456789")
+LONGEST_LINE, MOST_DIGITS = 200, 10
+
+
+@dataclass(frozen=True)
+class Number:
+    """A number of the language, by its letter."""
+
+    title: str
+    digits: frozenset
+    largest: Optional[int] = None
+
+    def fault(self, letter: str, word: str) -> Optional[str]:
+        base = "octal" if self.digits == OCTAL else "decimal"
+        wrong = sorted(set(word) - self.digits)
+        if wrong:
+            return f"{letter}, {self.title}, is {base}, and '{word}' has '{wrong[0]}'"
+        if len(word) > MOST_DIGITS:
+            return f"{letter}, {self.title}, has {len(word)} digits, more than {MOST_DIGITS}"
+        if self.largest is not None and int(word, 8) > self.largest:
+            return f"{letter}, {self.title}, is {word}, more than {self.largest:o}"
+        return None
+
+
+NUMBERS = {
+    "A": Number("an address of core", OCTAL),
+    "I": Number("the number of a word of a drive", OCTAL),
+    "D": Number("a drive", OCTAL),
+    "W": Number("a word", OCTAL, 0o177777),
+    "B": Number("a byte", OCTAL, 0o377),
+    "N": Number("a turn, or a count of turns", DECIMAL),
+    "T": Number("a turn", DECIMAL),
+    "C": Number("a count", DECIMAL),
+    "E": Number("the number of an event", DECIMAL),
+}
+FORMS = {
+    "core": "A W",
+    "uncore": "A",
+    "disk": "I W",
+    "patches": "",
+    "tape": "B ..",
+    "delay": "L N",
+    "at": "T event",
+    "alter": "E T event",
+    "drop": "E",
+    "regs": "N",
+    "mem": "N A C",
+    "dsk": "N I C",
+    "text": "N",
+    "punched": "N",
+    "last": "N A",
+    "devices": "N",
+    "pages": "N",
+    "trail": "N C",
+    "version": "2",
+}
+FORMS_OF_EIGHT_DRIVES = {"disk": "D I W", "dsk": "N D I C"}
+EVENTS = {
+    "key": "B",
+    "switches": "W",
+    "continue": "",
+    "tick": "",
+    "printer": "",
+    "reader": "",
+    "punch": "",
+    "disk": "",
+}
+MEANINGS = {
+    "1": "the memory that the line needs was refused",
+    "2": "the address, or one of the range, is not in core",
+    "3": "the address is odd",
+    "4": "the number, or one of the range, is past the end of a drive",
+    "5": "no event has this number; events lists them",
+    "6": "the script is full",
+    "7": "the turn or the delay is above 1000000000",
+    "8": "the count is not 1 to 256; of a trail not 1 to 64, or above its turn",
+    "9": "this core word has no patch; patches lists them",
+    "11": f"the line has more than {LONGEST_LINE} bytes",
+    "16": "the drive's number is above 7",
+}
+
+
+def form_of(word: str, past: Past) -> str:
+    """The form of a line that begins with this word, such as `core A W`."""
+    own: Dict[str, str] = FORMS_OF_EIGHT_DRIVES if past.version == 2 else {}
+    return f"{word} {own.get(word, FORMS[word])}".rstrip()
+
+
+def fault_of_event(words: List[str]) -> Optional[str]:
+    if not words:
+        return "the event is missing"
+    if words[0] not in EVENTS:
+        known = ", ".join(f"{name} {EVENTS[name]}".rstrip() for name in EVENTS)
+        return f"there is no event '{words[0]}'; events are {known}"
+    return fault_of_words(EVENTS[words[0]].split(), words[1:])
+
+
+def fault_of_words(letters: List[str], words: List[str]) -> Optional[str]:
+    """What is wrong with the words in the places of these letters."""
+    for at, letter in enumerate(letters):
+        if letter == "event":
+            return fault_of_event(words[at:])
+        if letter == "..":
+            letter, words = "B", words[:at] + words[at:]
+            found = (NUMBERS["B"].fault("B", it) for it in words[at:])
+            return next((it for it in found if it), None)
+        if at >= len(words):
+            return None if letters[at:] == ["B", ".."] else f"{letter} is missing"
+        wrong = fault_of_word(letter, words[at])
+        if wrong:
+            return wrong
+    extra = words[len(letters) :]
+    return f"'{extra[0]}' is too much" if extra else None
+
+
+def fault_of_word(letter: str, word: str) -> Optional[str]:
+    if letter == "L":
+        known = ", ".join(sorted(LINE_DEVICES))
+        return None if word in LINE_DEVICES else f"there is no device '{word}'; L is {known}"
+    if letter == "2":
+        return None if word == "2" else f"'{word}' is no version that a line leads to"
+    return NUMBERS[letter].fault(letter, word)
+
+
+def explanation(line: str, reply: str, past: Past) -> str:
+    """Why this line got this refusal."""
+    number = reply.split()[1]
+    if number != "10":
+        return MEANINGS.get(number, "")
+    word, *words = line.split()
+    if word not in FORMS:
+        return f"there is no line '{word}'; help lists the commands"
+    form = form_of(word, past)
+    wrong = fault_of_words(form.split()[1:], words) or "it has another form"
+    if word in FORMS_OF_EIGHT_DRIVES:
+        drives = "one drive" if past.version == 1 else "eight drives"
+        wrong += f" (version {past.version} has {drives})"
+    return f"{form}: {wrong}"

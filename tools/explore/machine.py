@@ -1,0 +1,194 @@
+"""The program pdp11 as a child process, and the machine that it runs."""
+import copy
+import os
+from dataclasses import dataclass, field
+from pathlib import Path
+from typing import Iterator, List, Optional, Sequence
+
+import sessions
+
+from .children import Child, ExploreError, ProgramEnded
+from .past import Past
+from .replies import Devices, LastWrite, Pages, Registers, Turn, text_of, turns_of, words_of
+
+LAST_TURN = 1_000_000_000
+MOST_TURNS_OF_A_TRAIL = 64
+MOST_WORDS = 256
+# How many lines are sent before their replies are read. They have room in a pipe, so the program
+# never waits for explore while explore waits for the program.
+SENT_AHEAD, SHORT_SENT_AHEAD = 16, 100
+EDITS = {sessions.command_of(it).decode() for it in sessions.LANGUAGE if it.kind == sessions.EDIT}
+COUNTED = {it.decode() for it in sessions.COUNTED}
+
+
+class Refused(ExploreError):
+    """A question or an edit of explore's own was refused."""
+
+
+class Program(Child):
+    """A running pdp11."""
+
+    def reply(self) -> str:
+        """The next reply, with all its lines, without the last LF."""
+        lines = [self.line()]
+        words = lines[0].split()
+        if len(words) == 2 and words[0] in COUNTED and words[1].isdigit():
+            lines += [self.line() for _ in range(int(words[1]))]
+        return "\n".join(lines)
+
+    def ask_all(self, lines: Sequence[str], ahead: int) -> Iterator[str]:
+        """The replies to these lines, each of which has one."""
+        for at in range(0, len(lines), ahead):
+            part = lines[at : at + ahead]
+            self.send(part)
+            yield from [self.reply() for _ in part]
+
+
+@dataclass(frozen=True)
+class Start:
+    """How the program is started: the file, its options, and the folder that their paths are in."""
+
+    program: str
+    options: Sequence[str]
+    folder: Path
+
+    def command(self) -> List[str]:
+        has_stride = any(it.split("=")[0] == "--stride" for it in self.options)
+        # the program doubles the stride as a run grows, so a small one costs long runs nothing
+        return [self.program, *([] if has_stride else ["--stride", "64"]), *self.options]
+
+
+def is_taken(reply: str) -> bool:
+    return reply == "ok" or reply.startswith("event ")
+
+
+@dataclass
+class Machine:
+    """A program with the edits that it took. It is started again if it ends, with these edits."""
+
+    start: Start
+    journal: List[str] = field(default_factory=list)
+    past: Past = field(default_factory=Past)
+    is_closed: bool = False
+
+    def __post_init__(self) -> None:
+        self.program = self._started()
+
+    def _started(self) -> Program:
+        program = Program(self.start.command(), self.start.folder)
+        try:
+            for _ in program.ask_all(["regs 0", *self.journal], SHORT_SENT_AHEAD):
+                pass
+        except ExploreError:
+            program.close()
+            raise
+        return program
+
+    def restart(self) -> None:
+        """Starts the program again, with all edits. Only the states that it kept are lost."""
+        self.program.close()
+        if self.is_closed:
+            raise ProgramEnded("the program was closed")
+        self.program = self._started()
+
+    def twin(self, edits: Optional[Sequence[str]] = None) -> "Machine":
+        """Another program with the same edits, or with these."""
+        if edits is None:
+            return Machine(self.start, list(self.journal), copy.deepcopy(self.past))
+        twin = Machine(self.start)
+        for line in edits:
+            twin.ask(line)
+        return twin
+
+    def close(self) -> None:
+        self.is_closed = True
+        self.program.close()
+
+    # Lines
+
+    def ask(self, line: str) -> str:
+        """The reply to a line that has one. An edit that was taken is kept."""
+        (reply,) = self.ask_all([line])
+        if line.split()[0] in EDITS and is_taken(reply):
+            self.journal.append(line)
+            self.past.apply(line, reply)
+        return reply
+
+    def ask_all(self, lines: Sequence[str], ahead: int = SENT_AHEAD) -> Iterator[str]:
+        """The replies to lines, one by one. Edits among them aren't kept."""
+        try:
+            yield from self.program.ask_all(lines, ahead)
+        except ProgramEnded as error:
+            self.restart()
+            raise ProgramEnded(f"{error}; it was started again, with all edits") from error
+        except KeyboardInterrupt:
+            self.restart()
+            raise
+
+    def read(self, line: str) -> str:
+        """The reply to a question, which mustn't be refused."""
+        reply = self.ask(line)
+        if reply.startswith("refused"):
+            raise Refused(f"{line}: {reply}")
+        return reply
+
+    # Questions
+
+    def registers(self, turn: int) -> Registers:
+        return Registers.of(self.read(f"regs {turn}"))
+
+    def devices(self, turn: int) -> Devices:
+        return Devices.of(self.read(f"devices {turn}"))
+
+    def pages(self, turn: int) -> Pages:
+        return Pages.of(self.read(f"pages {turn}"))
+
+    def words(self, turn: int, address: int, count: int = 1) -> List[int]:
+        return words_of(self.read(f"mem {turn} {address:o} {count}"))
+
+    def word(self, turn: int, address: int) -> int:
+        return self.words(turn, address)[0]
+
+    def disk_line(self, turn: int, drive: int, index: int, count: int = 1) -> str:
+        named = f"{drive:o} " if self.past.version == 2 else ""
+        return f"dsk {turn} {named}{index:o} {count}"
+
+    def disk_word(self, turn: int, drive: int, index: int) -> int:
+        return words_of(self.read(self.disk_line(turn, drive, index)))[0]
+
+    def last(self, turn: int, address: int) -> Optional[LastWrite]:
+        return LastWrite.of(self.read(f"last {turn} {address:o}"))
+
+    def text(self, turn: int) -> bytes:
+        return text_of(self.read(f"text {turn}"))
+
+    def text_length(self, turn: int) -> int:
+        return int(self.read(f"text {turn}").split(":")[0].split()[1])
+
+    def turn(self, turn: int) -> Turn:
+        """What the machine does in this turn."""
+        return turns_of(self.read(f"trail {turn + 1} 1"))[0]
+
+    def trail_lines(self, first: int, count: int) -> List[str]:
+        """The questions that list these turns."""
+        ends = range(first, first + count, MOST_TURNS_OF_A_TRAIL)
+        parts = [(at, min(MOST_TURNS_OF_A_TRAIL, first + count - at)) for at in ends]
+        return [f"trail {at + part} {part}" for at, part in parts]
+
+    def turns(self, first: int, count: int) -> Iterator[Turn]:
+        """These turns, by as many trails as it takes. A reply of a trail has some 1,300 bytes."""
+        for reply in self.ask_all(self.trail_lines(first, count)):
+            if reply.startswith("refused"):
+                raise Refused(f"trail: {reply}")
+            yield from turns_of(reply)
+
+    def units(self) -> int:
+        """How many units of 4,096 words of core there are."""
+        words = [word for it in self.start.options for word in it.split("=")]
+        return int(words[words.index("--units") + 1]) if "--units" in words else 31
+
+
+def existing_program(path: str) -> str:
+    if not os.access(path, os.X_OK):
+        raise ExploreError(f"{path}: no such program")
+    return os.path.abspath(path)

@@ -1,0 +1,143 @@
+"""The options of explore, and how it begins and ends."""
+import argparse
+import os
+import subprocess
+import sys
+from pathlib import Path
+from typing import List, Optional, Tuple
+
+import sessions
+
+from .commands import Explorer
+from .disassembly import Disassembler
+from .language import explanation
+from .machine import EDITS, ExploreError, Machine, Start, existing_program
+from .prompt import Prompt, read_at_terminal, read_lines
+from .sweep import raw_lines
+
+ROOT = Path(__file__).resolve().parents[2]
+FILES = ["core", "disk", *(f"disk{it}" for it in range(1, 8)), "tape"]
+VALUES = {"units": "N", "start": "A", "stride": "N"}
+DESCRIPTION = """A prompt over the session language of Nezdrab's PDP-11 (docs/LANGUAGE.md): its lines go through,
+and beside them there are commands to see instructions, to find the turn in which something happens,
+to sweep an event over many turns, and to draw a run. At the prompt `help` lists them all. SESSION
+is read first: its edits are made, its questions aren't asked. If a file of its name with the ending
+.args is beside it, the options in it hold, one word a line, unless options are given here. Lines
+from a pipe are read too: ./explore --echo examples/first-run.session < my.lines"""
+
+
+def arguments(words: List[str]) -> argparse.Namespace:
+    parser = argparse.ArgumentParser(
+        prog="explore",
+        description=DESCRIPTION,
+        allow_abbrev=False,
+        formatter_class=argparse.RawDescriptionHelpFormatter,
+    )
+    of_program = parser.add_argument_group("options of pdp11 (./pdp11 --help)")
+    for name in FILES:
+        of_program.add_argument(f"--{name}", metavar="FILE")
+    for name, value in VALUES.items():
+        of_program.add_argument(f"--{name}", metavar=value)
+    parser.add_argument(
+        "--echo", action="store_true", help="shows each line from a pipe before its replies"
+    )
+    parser.add_argument(
+        "--sweep",
+        metavar="TEXT",
+        help="does one part of a sweep, as `sweep --jobs` writes it, and ends",
+    )
+    parser.add_argument(
+        "--program", metavar="FILE", help="a built pdp11, in place of crates/pdp11/out/pdp11"
+    )
+    parser.add_argument(
+        "--disassembler", metavar="FILE", help="a built disassemble, in place of the repository's"
+    )
+    parser.add_argument("session", metavar="SESSION", nargs="?")
+    return parser.parse_args(words)
+
+
+def options_of(found: argparse.Namespace) -> Tuple[List[str], Path]:
+    """The options of the program, and the folder that their paths are in."""
+    given = [(name, getattr(found, name)) for name in (*FILES, *VALUES)]
+    options = [word for name, value in given if value is not None for word in (f"--{name}", value)]
+    if options or not found.session:
+        return options, Path.cwd()
+    beside = Path(found.session).with_suffix(".args")
+    if not beside.exists():
+        return [], Path.cwd()
+    return beside.read_text().splitlines(), beside.resolve().parent
+
+
+def built(name: str) -> str:
+    """The program of this crate, built first if it must be."""
+    path = ROOT / "crates" / name / "out" / name
+    if subprocess.run([str(ROOT / "tools" / "build"), name], stdin=subprocess.DEVNULL).returncode:
+        raise ExploreError(f"{path.relative_to(ROOT)} can't be built")
+    return str(path)
+
+
+def disassembler_of(given: Optional[str]) -> Disassembler:
+    """Without the program explore goes on, and shows words."""
+    try:
+        return Disassembler(existing_program(given) if given else built("disassemble"))
+    except ExploreError as error:
+        print(f"explore: {error}; instructions are shown as words", file=sys.stderr)
+        return Disassembler(None)
+
+
+def read_session(machine: Machine, path: Path) -> None:
+    """Makes the edits of a session. Its questions have no effect, and aren't asked."""
+    try:
+        lines = path.read_bytes().split(b"\n")
+    except OSError as error:
+        raise ExploreError(f"{path}: {error.strerror}") from error
+    asked = {it.decode() for it in sessions.QUESTIONS} | {"patches"}
+    for number, line in enumerate(lines, 1):
+        text = line.removesuffix(b"\r").decode(errors="surrogateescape")
+        if not sessions.has_reply(line) or text.split()[:1] and text.split()[0] in asked:
+            continue
+        reply = machine.ask(text)
+        if reply.startswith("refused"):
+            why = explanation(text, reply, machine.past) if text.split()[0] in EDITS else ""
+            print(f"explore: {path}:{number}: {text}: {reply} {why}".rstrip(), file=sys.stderr)
+
+
+def explore(found: argparse.Namespace) -> None:
+    if found.session and not Path(found.session).is_file():
+        raise ExploreError(f"{found.session}: no such file")
+    options, folder = options_of(found)
+    program = existing_program(found.program) if found.program else built("pdp11")
+    machine = Machine(Start(program, options, folder))
+    disassembler = disassembler_of(found.disassembler)
+    explorer = Explorer(machine, disassembler, is_terminal=sys.stdin.isatty())
+    try:
+        if found.session:
+            read_session(machine, Path(found.session))
+        prompt = Prompt(explorer, found.echo)
+        if found.sweep is not None:
+            prompt.show(raw_lines(explorer, found.sweep))
+        elif explorer.is_terminal:
+            read_at_terminal(prompt)
+        else:
+            read_lines(prompt)
+        sys.stdout.flush()
+    finally:
+        machine.close()
+        disassembler.close()
+
+
+def main() -> int:
+    try:
+        explore(arguments(sys.argv[1:]))
+        return 0
+    except ExploreError as error:
+        print(f"explore: {error}", file=sys.stderr)
+        return 1
+    except BrokenPipeError:
+        # nobody reads the output: what is left of it goes nowhere
+        os.dup2(os.open(os.devnull, os.O_WRONLY), sys.stdout.fileno())
+        print("explore: the output can't be written", file=sys.stderr)
+        return 3
+    except KeyboardInterrupt:
+        print("explore: stopped", file=sys.stderr)
+        return 130

@@ -1,0 +1,164 @@
+"""A run as one HTML file: `page`."""
+import html
+from pathlib import Path
+from typing import Iterator, List, Sequence, Tuple
+
+from .commands import Arguments, Explorer, command
+from .drawing import COLORS, shown, svg
+from .children import ExploreError
+from .past import DELAYS
+from .picture import Byte, Picture, end_of, picture_of
+from .replies import VECTORS, Mode
+from .script import write_whole
+
+WIDE, NARROW = 960, 364
+STYLE = """
+body{margin:0 auto;max-width:960px;padding:12px 18px;font:15px/1.5 system-ui,sans-serif;background:#fff;color:#1f2328}
+h1{font-size:1.3em}h2{font-size:1.05em;margin:1.6em 0 .4em}
+svg{display:block;max-width:100%;height:auto}.narrow{display:none}
+table{border-collapse:collapse;font-size:.9em}td,th{text-align:left;padding:2px 14px 2px 0;vertical-align:top}
+td,pre,code{font-family:ui-monospace,Menlo,Consolas,monospace}.scroll{overflow-x:auto}
+th{font-weight:600;color:#656d76}pre{white-space:pre-wrap;font-size:.9em}
+@media (max-width:640px){body{padding:10px}.wide{display:none}.narrow{display:block}}
+@media (prefers-color-scheme:dark){body{background:#0d1117;color:#e6edf3}th{color:#9198a1}a{color:#6cb6ff}}
+"""
+
+
+def table(heads: Sequence[str], rows: Sequence[Sequence[str]]) -> str:
+    """A table of HTML, or nothing without rows."""
+    if not rows:
+        return ""
+    head = "".join(f"<th>{html.escape(it)}</th>" for it in heads)
+    body = "".join(
+        "<tr>" + "".join(f"<td>{html.escape(it)}</td>" for it in row) + "</tr>" for row in rows
+    )
+    return f'<div class="scroll"><table><tr>{head}</tr>{body}</table></div>'
+
+
+def section(title: str, inside: str) -> str:
+    return f"<h2>{html.escape(title)}</h2>{inside}" if inside else ""
+
+
+def text_rows(text: Sequence[Byte]) -> List[Tuple[str, str, str]]:
+    """The lines of the console: the turns of the first and last byte, and the text."""
+    rows: List[Tuple[str, str, str]] = []
+    line: List[Byte] = []
+    for byte in text:
+        line.append(byte)
+        if byte.value == 0o12:
+            rows.append(
+                (str(line[0].turn), str(byte.turn), "".join(shown(it.value) for it in line))
+            )
+            line = []
+    if line:
+        rows.append(
+            (str(line[0].turn), str(line[-1].turn), "".join(shown(it.value) for it in line))
+        )
+    return rows
+
+
+def words_of(picture: Picture) -> str:
+    parts = []
+    for history in picture.words:
+        rows = [
+            (
+                str(it.turn),
+                f"{it.word:06o}",
+                it.writer or "",
+                it.how if it.writer else "before this turn",
+            )
+            for it in history.values
+        ]
+        title = history.name if history.is_whole else f"{history.name} (not all changes)"
+        parts.append(section(title, table(("turn", "value", "writer", "by"), rows)))
+    return "".join(parts)
+
+
+def edits_of(explorer: Explorer, picture: Picture) -> str:
+    past = explorer.machine.past
+    rows = [(str(it.number), str(it.turn), it.explained()) for it in picture.events]
+    events = section("Events of these turns", table(("event", "turn", "what"), rows))
+    delays = [(name, str(turns)) for name, turns in past.delays.items() if turns != DELAYS[name]]
+    lines = [it for it in past.lines() if it.startswith(("core", "disk", "tape", "version"))]
+    patches = ""
+    if lines:
+        patches = f"<details><summary>{len(lines)} lines</summary><pre>{html.escape(chr(10).join(lines))}</pre></details>"
+    return (
+        events
+        + section("Delays", table(("device", "turns"), delays))
+        + section("Patches and tape", patches)
+    )
+
+
+def interrupts_of(picture: Picture) -> str:
+    counts = {it.vector: 0 for it in picture.interrupts}
+    for turn in picture.interrupts:
+        counts[turn.vector] += 1
+    rows = [
+        (f"{it or 0:03o}", VECTORS.get(it or 0, ""), str(count))
+        for it, count in sorted(counts.items())
+    ]
+    some = "" if picture.lists_all_turns else "<p>Of the turns that were listed alone.</p>"
+    return section(
+        "Interrupts", table(("vector", "device", "how many"), rows) + some if rows else ""
+    )
+
+
+def marks_of(explorer: Explorer, picture: Picture) -> List[Tuple[int, str]]:
+    """The symbols that label the PC: those of the modes in which the turns run."""
+    modes = {it.mode for it in picture.columns} & {Mode.KERNEL, Mode.USER}
+    return [
+        (value, name) for (mode, value), name in explorer.symbols.names.items() if mode in modes
+    ]
+
+
+def whole_page(explorer: Explorer, picture: Picture) -> str:
+    turns = picture.turns
+    title = f"The turns {turns.start} to {turns.stop - 1}"
+    marks = marks_of(explorer, picture)
+    drawings = "".join(
+        f'<div class="{name}">{svg(picture, width, marks)}</div>'
+        for name, width in (("wide", WIDE), ("narrow", NARROW))
+    )
+    console = section("Console", table(("from turn", "to turn", "text"), text_rows(picture.text)))
+    body = (
+        drawings
+        + console
+        + words_of(picture)
+        + edits_of(explorer, picture)
+        + interrupts_of(picture)
+    )
+    return (
+        '<!DOCTYPE html><html lang="en"><head><meta charset="utf-8">'
+        '<meta name="viewport" content="width=device-width,initial-scale=1">'
+        '<meta name="color-scheme" content="light dark"><link rel="icon" href="data:,">'
+        f"<title>{title}</title><style>{STYLE}{COLORS}</style></head>"
+        f"<body><h1>{title}</h1>{body}</body></html>\n"
+    )
+
+
+@command(
+    "page FILE [from N] [to M] [words A ..] [disk [D:]I ..]",
+    r"(?P<file>\S+){from}{to}( words (?P<words>[0-7]+( [0-7]+)*))?( disk (?P<disk>[0-7:]+( [0-7:]+)*))?",
+    "a picture of the turns N to M, as one HTML file",
+)
+def page(explorer: Explorer, arguments: Arguments) -> Iterator[str]:
+    """Draws the turns N to M: PC with mode and priority behind it, what the disk does, interrupts,
+    the console's text, the words that are named as steps with who wrote them, and the events. A
+    file that ends in .svg is the drawing alone. Without `from` N is 0; without `to` M is soon after
+    the halt, or N + 100000. Up to 1000000 turns each turn is looked at, of more some of each column.
+    Symbols that were read label the PC."""
+    machine, path = explorer.machine, Path(arguments.text("file"))
+    first = arguments.decimal("first", 0)
+    turns = range(first, end_of(machine, first, arguments.optional("last")))
+    if not turns:
+        raise ExploreError(f"turn {arguments.text('last')} comes before turn {first}")
+    addresses = [int(it, 8) for it in arguments.text("words").split()]
+    named = [it.rpartition(":") for it in arguments.text("disk").split()]
+    drive_words = [(int(drive or "0", 8), int(index, 8)) for drive, _, index in named]
+    picture = picture_of(explorer, turns, addresses, drive_words)
+    if path.suffix == ".svg":
+        write_whole(path, svg(picture, WIDE, marks_of(explorer, picture), COLORS) + "\n")
+    else:
+        write_whole(path, whole_page(explorer, picture))
+    yield f"the turns {turns.start} to {turns.stop - 1} are in {path}, {path.stat().st_size} bytes"

@@ -1,0 +1,170 @@
+"""The prompt: lines of the session language go through, explore's own commands are done here."""
+import cmd
+import os
+import readline
+import sys
+from pathlib import Path
+from typing import Iterable, List, Optional
+
+from . import compare, export, listing, page, script, search, sweep  # noqa: F401, they add commands
+from .commands import COMMANDS, Explorer
+from .language import FORMS, explanation, form_of
+from .children import ExploreError
+
+PROMPT = "explore> "
+INTRODUCTION = "lines of the session language, and help, see, until, sweep ..; quit ends"
+LINE_HELP = {
+    "core": "makes the core word at A equal to W as of power-up: a patch",
+    "uncore": "takes back the patch of the core word at A",
+    "disk": "makes a word of a drive equal to W as of power-up: a patch",
+    "patches": "lists the patches",
+    "tape": "puts a paper tape with these bytes into the reader as of power-up",
+    "delay": "sets how many turns printer, reader, punch, disk or clock takes",
+    "at": "puts an event at turn T: key B, tick, switches W, continue, or a device",
+    "alter": "gives event E another turn and another event",
+    "drop": "takes event E out",
+    "regs": "the registers before turn N",
+    "mem": "C words of core from address A on, before turn N",
+    "dsk": "C words of a drive from word I on, before turn N",
+    "text": "what was printed before turn N",
+    "punched": "what was punched before turn N",
+    "last": "the last write to the core word at A before turn N",
+    "devices": "the registers of the devices before turn N",
+    "pages": "the registers of memory management before turn N",
+    "trail": "the C turns before turn N: PC and act",
+    "version": "gives the machine eight drives",
+}
+OWN_HELP = {
+    "help": ("help [WORD]", "what there is, or what the command WORD does"),
+    "quit": ("quit", "ends; Ctrl-D does too"),
+}
+NUMBERS = (
+    "A, X, I, D, W and B are octal. N, M, T, C, K and E are decimal. A question about turn N is about"
+    " the machine before it."
+)
+
+
+class Prompt(cmd.Cmd):
+    """Reads lines, and shows what each gives."""
+
+    prompt = PROMPT
+
+    def __init__(self, explorer: Explorer, echo: bool = False):
+        super().__init__()
+        self.explorer = explorer
+        self.echo = echo
+
+    def show(self, lines: Iterable[str]) -> None:
+        for line in lines:
+            print(line, flush=self.explorer.is_terminal)
+
+    # cmd.Cmd calls these
+
+    def onecmd(self, line: str) -> bool:
+        """Does one line, and tells whether it was the last one."""
+        word, _, rest = line.strip().partition(" ")
+        try:
+            if line == "EOF" or word == "quit":
+                return True
+            if not word or line.startswith("#"):
+                return False
+            self.do(word, rest, line)
+        except ExploreError as error:
+            print(f"{word}: {error}")
+        except KeyboardInterrupt:
+            print(f"\n{word}: stopped; the edits are all there")
+        return False
+
+    def emptyline(self) -> bool:
+        return False
+
+    def completenames(self, text: str, *ignored: object) -> List[str]:
+        return sorted(it for it in {*COMMANDS, *OWN_HELP, *FORMS} if it.startswith(text))
+
+    def completedefault(self, *ignored: object) -> List[str]:
+        text = str(ignored[0])
+        return [str(it) for it in Path(".").glob(f"{text}*")] if text else []
+
+    # What a line does
+
+    def do(self, word: str, rest: str, line: str) -> None:
+        if word in ("help", "?"):
+            self.show(self.help_lines(rest.strip()))
+        elif word in COMMANDS:
+            self.show(COMMANDS[word].lines(self.explorer, rest))
+        else:
+            self.pass_on(line)
+
+    def pass_on(self, line: str) -> None:
+        machine = self.explorer.machine
+        reply = machine.ask(line)
+        print(reply)
+        if reply.startswith("refused"):
+            why = explanation(line, reply, machine.past)
+            print(f"  {why}" if why else "", end="\n" if why else "")
+
+    def help_lines(self, word: str) -> List[str]:
+        past = self.explorer.machine.past
+        if word in COMMANDS:
+            found = COMMANDS[word]
+            return [found.form, "", *found.detail.splitlines()]
+        if word in OWN_HELP:
+            return [" : ".join(OWN_HELP[word])]
+        if word in FORMS:
+            return [form_of(word, past), "", f"{LINE_HELP[word]}. Details: docs/LANGUAGE.md"]
+        if word:
+            return [f"there is no command '{word}'; help lists them"]
+        return self.overview()
+
+    def overview(self) -> List[str]:
+        past = self.explorer.machine.past
+        own = sorted([*((it.form, it.summary) for it in COMMANDS.values()), *OWN_HELP.values()])
+        lines = ["commands of explore (help WORD has more):"]
+        for form, summary in own:
+            for part in form.split("  or  "):
+                lines.append(f"  {part}")
+            lines.append(f"      {summary}")
+        lines += ["", "lines of the session language (docs/LANGUAGE.md):"]
+        lines += [f"  {form_of(word, past):<16}  {text}" for word, text in LINE_HELP.items()]
+        return [*lines, "", NUMBERS]
+
+
+def history_file() -> Optional[Path]:
+    """Where the lines of earlier prompts are."""
+    folder = os.environ.get("XDG_STATE_HOME") or os.path.expanduser("~/.local/state")
+    return Path(folder) / "nezdrab" / "history" if os.path.isabs(folder) else None
+
+
+def read_at_terminal(prompt: Prompt) -> None:
+    """The loop at a terminal: line editing and history; Ctrl-C at the prompt drops the line."""
+    path = history_file()
+    if path and path.exists():
+        try:
+            readline.read_history_file(path)
+        except OSError:
+            pass
+    intro = INTRODUCTION
+    while True:
+        try:
+            prompt.cmdloop(intro)
+            break
+        except KeyboardInterrupt:
+            print("^C")
+            intro = ""
+    if path:
+        try:
+            path.parent.mkdir(parents=True, exist_ok=True)
+            readline.set_history_length(2000)
+            readline.write_history_file(path)
+        except OSError:
+            pass
+
+
+def read_lines(prompt: Prompt) -> None:
+    """Lines from a file or a pipe. With echo each is shown before what it gives."""
+    for line in sys.stdin.buffer:
+        text = line.decode(errors="surrogateescape").rstrip("\n").removesuffix("\r")
+        if prompt.echo and text.strip():
+            print(text if text.startswith("#") else f"{PROMPT}{text}")
+        if prompt.onecmd(text):
+            return

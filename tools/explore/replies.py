@@ -1,0 +1,240 @@
+"""The replies of the session language as types with names."""
+from dataclasses import dataclass
+from enum import Enum
+from typing import Dict, List, Optional, Tuple
+
+
+class Mode(Enum):
+    """The mode of the processor, bits 15-14 of PS."""
+
+    KERNEL = "kernel"
+    MODE_01 = "01"
+    MODE_10 = "10"
+    USER = "user"
+
+    @classmethod
+    def current(cls, ps: int) -> "Mode":
+        return list(cls)[ps >> 14 & 3]
+
+    @classmethod
+    def previous(cls, ps: int) -> "Mode":
+        return list(cls)[ps >> 12 & 3]
+
+
+def named_words(fields: List[str]) -> Dict[str, int]:
+    """The words of a reply such as `R0 000005 R1 000000 ..`, by their names."""
+    return {name: int(word, 8) for name, word in zip(fields[::2], fields[1::2])}
+
+
+@dataclass(frozen=True)
+class Registers:
+    """The reply of `regs`."""
+
+    words: Dict[str, int]
+    state: str
+
+    @classmethod
+    def of(cls, reply: str) -> "Registers":
+        fields = reply.split()
+        return cls(named_words(fields[:-1]), fields[-1])
+
+    @property
+    def pc(self) -> int:
+        return self.words["PC"]
+
+    @property
+    def ps(self) -> int:
+        return self.words["PS"]
+
+    @property
+    def mode(self) -> Mode:
+        return Mode.current(self.ps)
+
+    @property
+    def priority(self) -> int:
+        return self.ps >> 5 & 7
+
+    def status(self) -> str:
+        """PS in words, such as `kernel, previous user, priority 4, .Z.C`."""
+        codes = "".join(
+            name if self.ps >> bit & 1 else "." for name, bit in zip("NZVC", (3, 2, 1, 0))
+        )
+        trace = ", T" if self.ps >> 4 & 1 else ""
+        previous = Mode.previous(self.ps).value
+        return f"{self.mode.value}, previous {previous}, priority {self.priority}{trace}, {codes}"
+
+
+class DiskFunction(Enum):
+    """The function in bits 3-1 of RKCS."""
+
+    CONTROL_RESET = 0
+    WRITE = 1
+    READ = 2
+    WRITE_CHECK = 3
+    SEEK = 4
+    READ_CHECK = 5
+    DRIVE_RESET = 6
+    WRITE_LOCK = 7
+
+    @property
+    def title(self) -> str:
+        return self.name.lower().replace("_", " ")
+
+
+SECTOR_WORDS, SECTORS, SURFACES = 256, 12, 2
+KEY_WAITS, DISK_READY = 0o200, 0o200
+
+
+@dataclass(frozen=True)
+class Devices:
+    """The reply of `devices`."""
+
+    words: Dict[str, int]
+
+    @classmethod
+    def of(cls, reply: str) -> "Devices":
+        return cls(named_words(reply.split()[1:]))
+
+    @property
+    def key_waits(self) -> bool:
+        return bool(self.words["TKS"] & KEY_WAITS)
+
+    @property
+    def disk_is_ready(self) -> bool:
+        return bool(self.words["RKCS"] & DISK_READY)
+
+    @property
+    def function(self) -> DiskFunction:
+        return DiskFunction(self.words["RKCS"] >> 1 & 7)
+
+    @property
+    def bus_address(self) -> int:
+        return (self.words["RKCS"] & 0o60) << 12 | self.words["RKBA"] & 0o177776
+
+    @property
+    def word_count(self) -> int:
+        return 0o200000 - self.words["RKWC"]
+
+    @property
+    def stays(self) -> bool:
+        """Bit 11 of RKCS: the bus address doesn't grow."""
+        return bool(self.words["RKCS"] >> 11 & 1)
+
+    @property
+    def drive(self) -> int:
+        return self.words["RKDA"] >> 13
+
+    @property
+    def sector(self) -> int:
+        """The sector's number, from 0 on."""
+        address = self.words["RKDA"]
+        track = (address >> 5 & 0o377) * SURFACES + (address >> 4 & 1)
+        return track * SECTORS + (address & 0o17)
+
+
+SPACES = {Mode.KERNEL: "K", Mode.USER: "U"}
+IO_PAGE, PHYSICAL = 0o160000, 0o1000000
+
+
+@dataclass(frozen=True)
+class Pages:
+    """The reply of `pages`."""
+
+    sr0: int
+    sr2: int
+    descriptors: Dict[Mode, Tuple[int, ...]]
+    addresses: Dict[Mode, Tuple[int, ...]]
+
+    @classmethod
+    def of(cls, reply: str) -> "Pages":
+        fields = reply.split()
+
+        def words(name: str, count: int) -> Tuple[int, ...]:
+            at = fields.index(name) + 1
+            return tuple(int(word, 8) for word in fields[at : at + count])
+
+        descriptors = {mode: words(f"{it}PDR", 8) for mode, it in SPACES.items()}
+        addresses = {mode: words(f"{it}PAR", 8) for mode, it in SPACES.items()}
+        return cls(words("SR0", 1)[0], words("SR2", 1)[0], descriptors, addresses)
+
+    @property
+    def mapping_is_on(self) -> bool:
+        return bool(self.sr0 & 1)
+
+    def physical(self, mode: Mode, address: int) -> Optional[int]:
+        """Where a read of this virtual address goes, or None if memory management aborts it."""
+        if not self.mapping_is_on:
+            return address if address < IO_PAGE else address + PHYSICAL - 0o200000
+        if mode not in self.descriptors:
+            return None
+        page, block = address >> 13, address >> 6 & 0o177
+        descriptor = self.descriptors[mode][page]
+        length, grows_down = descriptor >> 8 & 0o177, descriptor >> 3 & 1
+        is_outside = block < length if grows_down else block > length
+        if is_outside or descriptor >> 1 & 3 not in (1, 3):
+            return None
+        frame = self.addresses[mode][page]
+        return ((frame + block << 6) + (address & 0o77)) % PHYSICAL
+
+
+@dataclass(frozen=True)
+class LastWrite:
+    """The reply of `last`, unless it is `last never`."""
+
+    turn: int
+    writer: str
+    word: int
+
+    @classmethod
+    def of(cls, reply: str) -> Optional["LastWrite"]:
+        fields = reply.split()
+        if fields[1] == "never":
+            return None
+        return cls(int(fields[1]), fields[2], int(fields[3], 8))
+
+
+INSTRUCTION, INTERRUPT = "instr", "irq"
+VECTORS = {
+    0o60: "keyboard",
+    0o64: "printer",
+    0o70: "reader",
+    0o74: "punch",
+    0o100: "clock",
+    0o220: "disk",
+}
+
+
+@dataclass(frozen=True)
+class Turn:
+    """A line of the reply of `trail`. The vector is that of an interrupt."""
+
+    turn: int
+    pc: int
+    act: str
+    vector: Optional[int]
+
+    @classmethod
+    def of(cls, line: str) -> "Turn":
+        turn, pc, act, *vector = line.split()
+        return cls(int(turn), int(pc, 8), act, int(vector[0], 8) if vector else None)
+
+    def interrupt(self) -> str:
+        vector = self.vector or 0
+        return f"interrupt {vector:03o} {VECTORS.get(vector, '')}".rstrip()
+
+
+def words_of(reply: str) -> List[int]:
+    """The words of a reply of `mem` or `dsk`."""
+    return [int(word, 8) for word in reply.split()[1:]]
+
+
+def turns_of(reply: str) -> List[Turn]:
+    return [Turn.of(line) for line in reply.splitlines()[1:]]
+
+
+def text_of(reply: str) -> bytes:
+    """The bytes of a reply of `text` or `punched`."""
+    shown = reply.rstrip("\n").partition(":")[2]
+    parts = shown.split("\\")
+    tail = b"".join(bytes([int(it[:3], 8)]) + it[3:].encode() for it in parts[1:])
+    return parts[0].encode() + tail

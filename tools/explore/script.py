@@ -1,0 +1,134 @@
+"""Events and the past: `events`, `save`, `type`."""
+import os
+import re
+from pathlib import Path
+from typing import Iterator, List, Optional
+
+from .commands import Arguments, Explorer, command
+from .children import ExploreError
+from .machine import LAST_TURN, Machine
+
+ESCAPES = {"r": 0o15, "n": 0o12, "t": 0o11, "e": 0o33, "\\": 0o134, '"': 0o42}
+WAITED_TURNS = 10_000_000
+
+
+@command("events", "", "all events, with their numbers")
+def events(explorer: Explorer, arguments: Arguments) -> Iterator[str]:
+    """Lists the events in the order in which they happen, each with its number, its turn, and for
+    a key its character."""
+    script = explorer.machine.past.script()
+    yield f"{len(script)} event{'' if len(script) == 1 else 's'}"
+    for event in script:
+        yield f"event {event.number:>5}  at {event.turn:>10}  {event.explained()}"
+
+
+def write_whole(path: Path, text: str) -> None:
+    """Writes a file so that it is there whole or not at all."""
+    beside = path.with_name(f"{path.name}.{os.getpid()}")
+    try:
+        beside.write_text(text)
+        os.replace(beside, path)
+    except OSError as error:
+        raise ExploreError(f"{path} can't be written: {error.strerror}") from error
+    finally:
+        beside.unlink(missing_ok=True)
+
+
+def absolute_options(machine: Machine) -> List[str]:
+    """The options, with absolute paths, so that they can be used in another folder."""
+    words = [part for it in machine.start.options for part in it.split("=", 1)]
+    are_files = re.compile(r"--(core|disk[1-7]?|tape)")
+    before = [""] + words
+    folder = machine.start.folder
+    pairs = zip(before, words)
+    return [str(folder / it) if are_files.fullmatch(option) else it for option, it in pairs]
+
+
+@command("save FILE", r"(?P<file>.+)", "the past, as a session that gives the same machine")
+def save(explorer: Explorer, arguments: Arguments) -> Iterator[str]:
+    """Writes version, tape, delays, patches and events as lines of a session. Events are numbered
+    anew, in the order in which they happen. If there are options, such as `--disk`, they are
+    written to a file beside it, with the ending `.args`; `./explore FILE` reads both."""
+    path = Path(arguments.text("file"))
+    lines = list(explorer.machine.past.lines())
+    write_whole(path, "".join(f"{it}\n" for it in lines))
+    options = absolute_options(explorer.machine)
+    beside = path.with_suffix(".args")
+    if options:
+        write_whole(beside, "".join(f"{it}\n" for it in options))
+    yield f"{len(lines)} lines in {path}" + (f", the options in {beside}" if options else "")
+
+
+def typed_bytes(text: str) -> List[int]:
+    """The bytes of a TEXT: `\\r`, `\\n`, `\\t`, `\\e`, and three octal digits, as in replies."""
+    if len(text) > 1 and text[0] == text[-1] == '"':
+        text = text[1:-1]
+    found: List[int] = []
+    for octal, escape, plain in re.findall(r"\\([0-3][0-7]{2})|\\(.?)|([^\\]+)", text):
+        if octal:
+            found.append(int(octal, 8))
+        elif plain:
+            found += plain.encode("latin-1", errors="replace")
+        elif escape in ESCAPES:
+            found.append(ESCAPES[escape])
+        else:
+            raise ExploreError(
+                f"'\\{escape}' is none of \\r \\n \\t \\e \\\\ \\\" and \\ with three octal digits"
+            )
+    return found
+
+
+def first_free(machine: Machine, first: int) -> int:
+    """The first turn from `first` on before which no key waits and which has no key yet."""
+    limit = min(first + WAITED_TURNS, LAST_TURN)
+    begin = first
+    for bound in [*sorted({it for it in machine.past.key_turns() if first <= it < limit}), limit]:
+        found = first_free_between(machine, begin, bound)
+        if found is not None:
+            return found
+        begin = bound + 1
+    raise ExploreError(f"the key before turn {first} isn't taken within {WAITED_TURNS} turns")
+
+
+def first_free_between(machine: Machine, first: int, bound: int) -> Optional[int]:
+    """The same, of turns that have no key. Then the keyboard goes once at most from waiting to
+    free, so halving finds the turn."""
+    waiting, step = first - 1, 1
+    while waiting + step < bound and machine.devices(waiting + step).key_waits:
+        waiting, step = waiting + step, 2 * step
+    free = min(waiting + step, bound)
+    while free - waiting > 1:
+        middle = (waiting + free) // 2
+        if machine.devices(middle).key_waits:
+            waiting = middle
+        else:
+            free = middle
+    return free if free < bound else None
+
+
+@command(
+    "type TEXT [from TURN] [every N]",
+    r"(?P<text>.+?)( from (?P<first>\d{1,10}))?( every (?P<every>\d{1,10}))?",
+    "an event for each key of TEXT",
+)
+def type_text(explorer: Explorer, arguments: Arguments) -> Iterator[str]:
+    r"""Adds a key for each byte of TEXT, each at the first turn at which no earlier key waits (bit
+    7 of TKS is clear), and at least N turns after the one before. Without `from` it begins after
+    the last key of the script. Enter is \r, a space is itself; there are \n \t \e \\ \" too, and \015
+    for a byte in octal. A TEXT with spaces at its end, or with ` from ` in it, stands in "quotes".
+    """
+    machine = explorer.machine
+    every, keys = arguments.decimal("every", 1), typed_bytes(arguments.text("text"))
+    after_keys = max((it + 1 for it in machine.past.key_turns()), default=0)
+    turn = arguments.decimal("first", after_keys)
+    typed = 0
+    try:
+        for byte in keys:
+            turn = first_free(machine, turn)
+            reply = machine.ask(f"at {turn} key {byte:o}")
+            if reply.startswith("refused"):
+                raise ExploreError(reply)
+            yield f"{reply} at {turn} key {byte:o}"
+            typed, turn = typed + 1, turn + max(1, every)
+    except ExploreError as error:
+        raise ExploreError(f"{error}; {typed} of {len(keys)} keys are typed") from error

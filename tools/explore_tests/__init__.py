@@ -1,0 +1,1 @@
+"""The tests of explore, which tools/test_explore.py runs."""

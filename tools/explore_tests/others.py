@@ -1,0 +1,226 @@
+"""What explore writes for others: sessions, SIMH, browsers, GNU parallel."""
+import re
+import shutil
+import struct
+import subprocess
+import unittest
+import zlib
+from pathlib import Path
+from typing import List, Tuple
+
+import sessions
+
+from .common import BUILT, ROOT, SECONDS, Case
+
+QUESTIONED_TURNS = (0, 1, 7, 40, 400, 5000)
+CHROMIUM = next(
+    filter(None, map(shutil.which, ("chromium", "chromium-browser", "google-chrome"))), None
+)
+WIDTHS = (1000, 400)
+
+
+def is_simh(program: str) -> bool:
+    """SIMH's pdp11 has the same name as this repository's."""
+    try:
+        ended = subprocess.run(
+            [program, "/dev/null"], input="exit\n", capture_output=True, text=True, timeout=SECONDS
+        )
+    except (OSError, subprocess.TimeoutExpired):
+        return False
+    return "PDP-11 simulator" in ended.stdout
+
+
+SIMH = next(
+    (it for it in filter(None, [shutil.which("pdp11"), shutil.which("simh-pdp11")]) if is_simh(it)),
+    None,
+)
+
+
+class Saved(Case):
+    """A past that is saved and read again answers as before."""
+
+    def questions(self, lines: bytes) -> str:
+        drive = "0 " if b"version 2" in lines else ""
+        return "".join(
+            f"regs {it}\nmem {it} 0 256\nmem {it} 1000 256\ndsk {it} {drive}0 256\ntext {it}\npunched {it}\n"
+            f"devices {it}\npages {it}\nlast {it} 1000\n"
+            + (f"trail {it} {min(it, 64)}\n" if it else "")
+            for it in QUESTIONED_TURNS
+        )
+
+    def test_each_example(self) -> None:
+        for stored in sessions.sessions_of(str(ROOT / "examples")):
+            if "/long/" in stored.name:
+                continue
+            with self.subTest(stored.name):
+                self.saved_answers_equally(stored)
+
+    def test_each_row_of_the_script(self) -> None:
+        for stored in sessions.sessions_of(str(ROOT / "rows" / "key-in-the-past")):
+            with self.subTest(stored.name):
+                self.saved_answers_equally(stored)
+
+    def saved_answers_equally(self, stored: sessions.Session) -> None:
+        saved = self.folder / "saved.session"
+        self.explore(f"save {saved}\n", f"{stored.name}.session")
+        questions = self.questions(stored.lines)
+        edits = [it for it in sessions.lines_of(stored.lines) if self.is_edit(it)]
+        options = [str(Path(stored.folder) / it) if "." in it else it for it in stored.args]
+        text = b"".join(it if it.endswith(b"\n") else it + b"\n" for it in edits).decode()
+        before = self.pdp11(text + questions, *options).splitlines()
+        lines = saved.read_text()
+        after = self.pdp11(lines + questions, *options).splitlines()
+        self.assertNotIn("refused", " ".join(after[: len(lines.splitlines())]))
+        self.assertEqual(after[len(lines.splitlines()) :], before[len(edits) :])
+        if options:
+            self.assertEqual(saved.with_suffix(".args").read_text().split("\n")[:-1], options)
+            saved.with_suffix(".args").unlink()
+
+    @staticmethod
+    def is_edit(line: bytes) -> bool:
+        words = line.split()
+        edits = {sessions.command_of(it) for it in sessions.LANGUAGE if it.kind == sessions.EDIT}
+        return sessions.has_reply(line) and words[0] in edits
+
+    def test_numbers_of_events_and_the_order_in_a_turn(self) -> None:
+        edits = "at 9 key 101\nat 5 tick\nat 9 key 102\nat 9 key 103\nalter 1 9 key 104\nalter 3 8 tick\nalter 3 9 tick\ndrop 2\n"
+        self.explore(edits + "save past\n")
+        self.assertEqual(
+            (self.folder / "past").read_text(), "at 9 key 104\nat 9 key 103\nat 9 tick\n"
+        )
+
+
+@unittest.skipUnless(SIMH, "SIMH's pdp11 isn't installed")
+class Exported(Case):
+    """SIMH goes on from an exported turn as this machine does."""
+
+    def registers_of_simh(self, commands: Path, steps: int) -> List[int]:
+        names = ["R0", "R1", "R2", "R3", "R4", "R5", "PC", "PSW"]
+        script = f"do {commands}\nstep {steps}\n" + "".join(f"ex {it}\n" for it in names) + "exit\n"
+        (self.folder / "run.ini").write_text(script)
+        ended = subprocess.run(
+            [SIMH, "run.ini"],
+            stdin=subprocess.DEVNULL,
+            cwd=self.folder,
+            capture_output=True,
+            text=True,
+            timeout=SECONDS,
+        )
+        found = dict(re.findall(r"^(\w+):\s+([0-7]+)\s*$", ended.stdout, re.MULTILINE))
+        self.assertEqual([it for it in names if it not in found], [], ended.stdout)
+        return [int(found[it], 8) for it in names]
+
+    def goes_on(self, session: str, turn: int, steps: int) -> None:
+        self.explore(f"export it.ini at {turn}\n", f"examples/{session}.session")
+        reply = self.explore(f"regs {turn + steps}\n", f"examples/{session}.session").split()
+        ours = [
+            int(reply[reply.index(it) + 1], 8)
+            for it in ("R0", "R1", "R2", "R3", "R4", "R5", "PC", "PS")
+        ]
+        self.assertEqual(
+            self.registers_of_simh(self.folder / "it.ini", steps), ours, (session, turn, steps)
+        )
+
+    def test_instructions(self) -> None:
+        for turn in range(4, 12):
+            self.goes_on("end-a-loop-in-its-past", turn, 3)
+
+    def test_mapping(self) -> None:
+        for turn in (2, 9, 14, 20):
+            self.goes_on("page-somewhere-else", turn, 4)
+
+    def test_user_mode_with_a_kernel(self) -> None:
+        for turn in (14, 40, 61, 200, 2000):
+            self.goes_on("ledger/ledger", turn, 6)
+
+    def test_the_drive_is_an_image(self) -> None:
+        self.explore("export it.ini at 40\n", "examples/who-wrote-this-word.session")
+        image = (self.folder / "it.rk0").read_bytes()
+        self.assertEqual((len(image), image[:4]), (2_494_464, b"\x47\x00\x00\x00"))
+
+
+def pixels_of(path: Path) -> Tuple[int, int, int]:
+    """Width, height, and how many colours the rows of a PNG of 8 bits have."""
+    data = path.read_bytes()
+    width, height, depth, kind = struct.unpack(">IIBB", data[16:26])
+    packed, at = b"", 8
+    while at < len(data):
+        (length,) = struct.unpack(">I", data[at : at + 4])
+        if data[at + 4 : at + 8] == b"IDAT":
+            packed += data[at + 8 : at + 8 + length]
+        at += 12 + length
+    raw = zlib.decompress(packed)
+    channels = {2: 3, 6: 4}[kind]
+    size = 1 + width * channels
+    rows = {raw[row * size + 1 : (row + 1) * size] for row in range(height)}
+    assert depth == 8
+    return width, height, len(rows)
+
+
+@unittest.skipUnless(CHROMIUM, "chromium isn't installed")
+class Drawn(Case):
+    """A browser shows a page, and has nothing to say of it."""
+
+    def test_a_page_at_two_widths(self) -> None:
+        lines = "page it.html words 2000 disk 0\npage it.svg words 2000\n"
+        self.explore(lines, "examples/who-wrote-this-word.session")
+        for name in ("it.html", "it.svg"):
+            for width in WIDTHS:
+                self.is_shown(name, width)
+
+    def is_shown(self, name: str, width: int) -> None:
+        picture = self.folder / f"{name}.{width}.png"
+        ended = subprocess.run(
+            [
+                CHROMIUM,
+                "--headless",
+                "--no-sandbox",
+                "--disable-gpu",
+                "--hide-scrollbars",
+                "--enable-logging=stderr",
+                f"--user-data-dir={self.folder}/chromium",
+                f"--window-size={width},900",
+                f"--screenshot={picture}",
+                f"file://{self.folder}/{name}",
+            ],
+            capture_output=True,
+            text=True,
+            timeout=SECONDS,
+        )
+        self.assertTrue(picture.exists(), ended.stderr)
+        self.assertEqual([it for it in ended.stderr.splitlines() if "CONSOLE" in it], [])
+        shown_width, _, rows = pixels_of(picture)
+        self.assertEqual(shown_width, width)
+        self.assertGreater(rows, 100, "the page is nearly empty")
+
+    def test_nothing_comes_from_outside(self) -> None:
+        self.explore("page it.html\n", "examples/who-wrote-this-word.session")
+        page = (self.folder / "it.html").read_text()
+        self.assertEqual(
+            re.findall(r"(?:src|href)=\"(?!data:)[^\"]*\"|url\(|@import|<script", page), []
+        )
+
+
+@unittest.skipUnless(shutil.which("parallel"), "GNU parallel isn't installed")
+class Parallel(Case):
+    """A sweep in parts, one command a line."""
+
+    def test_jobs_are_done_and_gathered(self) -> None:
+        sweep = "key 101 from 0 to 90: regs 95\n"
+        session = "examples/one-key-sooner.session"
+        whole = self.explore(f"sweep {sweep}", session)
+        self.explore(f"sweep --jobs jobs {sweep}", session)
+        built = f"./explore --program {BUILT.program} --disassembler {BUILT.disassembler}"
+        jobs = (self.folder / "jobs").read_text().replace("./explore", built)
+        ended = subprocess.run(
+            ["parallel", "-j", "4"],
+            input=jobs,
+            cwd=ROOT,
+            capture_output=True,
+            text=True,
+            timeout=SECONDS,
+        )
+        self.assertEqual(ended.returncode, 0, ended.stderr)
+        (self.folder / "out").write_text(ended.stdout)
+        gathered = self.explore("sweep --gather out\n").splitlines()
+        self.assertEqual(gathered[1:], whole.splitlines())
