@@ -11,7 +11,7 @@ from .listing import turn_in_words
 from .machine import SHORT_SENT_AHEAD, ExploreError, Machine
 from .replies import SECTOR_WORDS, Devices, DiskFunction, words_of
 
-MOST_LOOKS = 20_000
+MOST_LOOKS = 10_000
 COARSE_LOOKS = 256
 
 
@@ -127,10 +127,12 @@ def begin_of(machine: Machine, turn: int) -> Optional[int]:
 
 @dataclass(frozen=True)
 class Change:
-    """The last change of a word, if there is one, and whether it is surely the last."""
+    """The last change of a word, if there is one, whether it is surely the last, and how many
+    looks show that."""
 
     turn: Optional[int]
     is_exact: bool
+    looks: int
 
 
 def is_exact(word: DiskWord, turns: range) -> bool:
@@ -146,11 +148,11 @@ def last_change(word: DiskWord, turn: int, all_of_them: bool) -> Change:
     guess = word.change_between(low, turn) if word.value(low) != value else None
     rest = range(0 if guess is None else guess + 1, turn)
     if not rest:
-        return Change(guess, True)
+        return Change(guess, True, 0)
     if not all_of_them and not is_exact(word, rest):
-        return Change(guess, False)
+        return Change(guess, False, word.look_count(rest))
     found = word.last_change_exactly(rest)
-    return Change(guess if found is None else found, True)
+    return Change(guess if found is None else found, True, word.look_count(rest))
 
 
 def change_lines(explorer: Explorer, word: DiskWord, turn: int) -> Iterator[str]:

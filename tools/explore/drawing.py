@@ -14,7 +14,8 @@ COLORS = """
 --text:#e6edf3}}
 .run .ground{fill:var(--ground)}.run text{font:11px ui-monospace,Menlo,Consolas,monospace;fill:var(--ink)}
 .run .faint{fill:var(--faint)}.run .grid{stroke:var(--grid);stroke-width:1;fill:none}
-.run .pc{stroke:var(--pc);stroke-width:1.6;fill:none}.run .user{fill:var(--user)}.run .raised{fill:var(--raised)}
+.run .pc{stroke:var(--pc);stroke-width:1.6;fill:none}.run .range{fill:var(--pc);opacity:.55}
+.run .user{fill:var(--user)}.run .raised{fill:var(--raised)}
 .run .cpu{fill:var(--cpu)}.run .disk{fill:var(--disk)}.run .irq{fill:var(--irq)}.run .key{fill:var(--key)}
 .run .step{stroke:var(--faint);stroke-width:1.4;fill:none}.run .bar{fill:var(--disk);opacity:.85}
 """.replace(
@@ -146,16 +147,20 @@ def draw_counter(canvas: Canvas, picture: Picture, marks: Sequence[Tuple[int, st
             label = name[: (canvas.left - 10) // 7] if name else f"{counter:06o}"
             canvas.text(canvas.left - 4, seen + 4, label, "faint", "end")
             canvas.add(f'<path class="grid" d="M{canvas.left} {seen:.1f}h4"/>')
-    path: List[str] = []
-    for column, after in zip(picture.columns, [*picture.columns[1:], None]):
-        begin, end = canvas.x(column.turn), canvas.x(after.turn if after else canvas.turns.stop)
-        path.append(f"{'L' if path else 'M'}{begin:.1f} {y(column.least):.1f}")
-        path.append(
-            f"V{y(column.largest):.1f}H{end:.1f}"
-            if column.least != column.largest
-            else f"H{end:.1f}"
+    ends = [*(it.turn for it in picture.columns[1:]), canvas.turns.stop]
+    if picture.block == 1:
+        path = f"M{canvas.left} {y(picture.columns[0].least):.1f}"
+        path += "".join(
+            f"V{y(it.least):.1f}H{canvas.x(end):.1f}" for it, end in zip(picture.columns, ends)
         )
-    canvas.add(f'<path class="pc" d="{"".join(path)}"/>')
+        canvas.add(f'<path class="pc" d="{path}"/>')
+        return
+    parts = []
+    for column, end in zip(picture.columns, ends):
+        x, wide = canvas.x(column.turn), canvas.x(end) - canvas.x(column.turn)
+        high = y(column.least) - y(column.largest) + 1.5
+        parts.append(f"M{x:.1f} {y(column.largest):.1f}h{wide:.1f}v{high:.1f}h-{wide:.1f}z")
+    canvas.add(f'<path class="range" d="{"".join(parts)}"/>')
 
 
 def draw_disk(canvas: Canvas, columns: Sequence[Column]) -> None:
@@ -181,11 +186,16 @@ def draw_interrupts(canvas: Canvas, picture: Picture) -> None:
         return
     top = canvas.lane("interrupts", LANE)
     rows = Rows(canvas, top + 29, 1)
+    drawn, named = set(), ""
     for turn in picture.interrupts:
-        canvas.rectangle(
-            canvas.x(turn.turn), top + 5, 1.5, 12, "irq", f"turn {turn.turn}: {turn.interrupt()}"
-        )
-        rows.put(canvas.x(turn.turn), VECTORS.get(turn.vector or 0, f"{turn.vector:03o}"), "irq")
+        x, name = canvas.x(turn.turn), VECTORS.get(turn.vector or 0, f"{turn.vector:03o}")
+        if (round(x), name) not in drawn:
+            drawn.add((round(x), name))
+            title = f"turn {turn.turn}: {turn.interrupt()}"
+            canvas.rectangle(x, top + 5, 1.5, 12, "irq", title)
+        if name != named:
+            rows.put(x, name, "irq")
+            named = name
 
 
 def draw_text(canvas: Canvas, picture: Picture) -> None:
@@ -219,13 +229,14 @@ def heights_of(history: WordHistory) -> Dict[int, float]:
 
 def draw_word(canvas: Canvas, history: WordHistory) -> None:
     """The values of a word as steps, each with who wrote it."""
-    top = canvas.lane(history.name, WORD_LANE)
     heights = heights_of(history)
+    height = WORD_LANE if len(heights) > 1 else LANE
+    top = canvas.lane(history.name, height)
     rows = Rows(canvas, top + 13, 2)
     path: List[str] = []
     marks: List[str] = []
     for value in history.values:
-        x, y = canvas.x(value.turn), top + WORD_LANE - 6 - 22 * heights[value.word]
+        x, y = canvas.x(value.turn), top + height - 6 - 22 * heights[value.word]
         path.append(f"H{x:.1f}V{y:.1f}" if path else f"M{x:.1f} {y:.1f}")
         if value.writer:
             title = html.escape(
@@ -258,7 +269,8 @@ def draw_axis(canvas: Canvas) -> None:
     for turn in ticks_of(canvas.turns, max(2, int((canvas.width - canvas.left) / widest))):
         x = canvas.x(turn)
         canvas.add(f'<path class="grid" d="M{x:.1f} {top:.1f}v5"/>')
-        canvas.text(x, top + 17, str(turn), "faint", "middle")
+        if x + widest / 2 < canvas.width:
+            canvas.text(x, top + 17, str(turn), "faint", "middle")
 
 
 def legend(canvas: Canvas, picture: Picture) -> None:

@@ -1,4 +1,5 @@
 """The machine at a turn as a command file of SIMH's pdp11: `export`."""
+import struct
 from pathlib import Path
 from typing import Iterator, List, Tuple
 
@@ -7,24 +8,31 @@ from .machine import MOST_WORDS, ExploreError, Machine
 from .replies import Devices, Mode, Pages, Registers, words_of
 from .script import write_whole
 
-UNIT_BYTES, DRIVE_WORDS, IMAGE_OF_CORE = 0o20000, 1_247_232, 256
+UNIT_BYTES, DRIVE_WORDS = 0o20000, 1_247_232
 MODEL_NAMES = {Mode.KERNEL: "KI", Mode.USER: "UI"}
 ENABLE, DONE = 0o100, 0o200
 
 
+def parsed(replies: Iterator[str]) -> Iterator[List[int]]:
+    """The words of replies. Most of them are zeros, which are not read one by one."""
+    zeros = " 000000" * MOST_WORDS
+    for reply in replies:
+        yield [0] * MOST_WORDS if reply[3:] == zeros else words_of(reply)
+
+
 def core_words(machine: Machine, turn: int) -> List[int]:
     """All of core before the turn."""
-    count = machine.units() * UNIT_BYTES // 2
-    places = range(0, count, MOST_WORDS)
-    lines = [f"mem {turn} {2 * at:o} {MOST_WORDS}" for at in places]
-    return [word for reply in machine.ask_all(lines) for word in words_of(reply)]
+    places = range(0, machine.units() * UNIT_BYTES, 2 * MOST_WORDS)
+    lines = [f"mem {turn} {at:o} {MOST_WORDS}" for at in places]
+    return [word for words in parsed(machine.ask_all(lines)) for word in words]
 
 
 def drive_image(machine: Machine, turn: int, drive: int) -> bytes:
     places = range(0, DRIVE_WORDS, MOST_WORDS)
     lines = [machine.disk_line(turn, drive, at, MOST_WORDS) for at in places]
-    words = (word for reply in machine.ask_all(lines) for word in words_of(reply))
-    return b"".join(word.to_bytes(2, "little") for word in words)
+    return b"".join(
+        struct.pack(f"<{MOST_WORDS}H", *words) for words in parsed(machine.ask_all(lines))
+    )
 
 
 def runs_of(words: List[int]) -> Iterator[Tuple[int, int, int]]:
@@ -75,7 +83,9 @@ def left_out(machine: Machine, turn: int, registers: Registers, devices: Devices
         if not is_ready:
             yield f"what the {name} does in turn {turn} is dropped"
     if registers.state == "wait":
-        yield "the processor waits: it runs on at once"
+        yield "the processor waits: there it runs on at once"
+    if registers.state == "halted":
+        yield "the processor is halted: there it runs on with the instruction after the HALT"
     if any(it.turn >= turn for it in machine.past.script()):
         yield f"the events from turn {turn} on are not in it: keys are typed by hand"
 

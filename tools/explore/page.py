@@ -1,13 +1,14 @@
 """A run as one HTML file: `page`."""
 import html
+import re
 from pathlib import Path
-from typing import Iterator, List, Sequence, Tuple
+from typing import Dict, Iterator, List, Sequence, Tuple
 
 from .commands import Arguments, Explorer, command
 from .drawing import COLORS, shown, svg
 from .children import ExploreError
 from .past import DELAYS
-from .picture import Byte, Picture, end_of, picture_of
+from .picture import Byte, Picture, guessed_last, picture_of
 from .replies import VECTORS, Mode
 from .script import write_whole
 
@@ -137,28 +138,50 @@ def whole_page(explorer: Explorer, picture: Picture) -> str:
     )
 
 
-@command(
-    "page FILE [from N] [to M] [words A ..] [disk [D:]I ..]",
-    r"(?P<file>\S+){from}{to}( words (?P<words>[0-7]+( [0-7]+)*))?( disk (?P<disk>[0-7:]+( [0-7:]+)*))?",
-    "a picture of the turns N to M, as one HTML file",
-)
+KEYS = {
+    "from": r"\d{1,10}",
+    "to": r"\d{1,10}",
+    "words": r"[0-7]{1,6}",
+    "disk": r"([0-7]:)?[0-7]{1,7}",
+}
+FORM = "page FILE [from N] [to M] [words A ..] [disk [D:]I ..]"
+
+
+def keyed(words: Sequence[str]) -> Dict[str, List[str]]:
+    """What follows each of the keys."""
+    found: Dict[str, List[str]] = {it: [] for it in KEYS}
+    key = ""
+    for word in words:
+        if word in KEYS:
+            key = word
+        elif not key or not re.fullmatch(KEYS[key], word):
+            raise ExploreError(f"'{word}' is wrong; the form is: {FORM}")
+        else:
+            found[key].append(word)
+    return found
+
+
+@command(FORM, r"(?P<file>\S+)(?P<rest>.*)", "a picture of the turns N to M, as one HTML file")
 def page(explorer: Explorer, arguments: Arguments) -> Iterator[str]:
     """Draws the turns N to M: PC with mode and priority behind it, what the disk does, interrupts,
     the console's text, the words that are named as steps with who wrote them, and the events. A
     file that ends in .svg is the drawing alone. Without `from` N is 0; without `to` M is soon after
-    the halt, or N + 100000. Up to 1000000 turns each turn is looked at, of more some of each column.
-    Symbols that were read label the PC."""
+    the halt, or N + 99999. Up to 1000000 turns each turn is looked at, of more turns some of each
+    column. If a column is several turns, the ground behind it is that of its first turn. Symbols
+    that were read label the PC."""
     machine, path = explorer.machine, Path(arguments.text("file"))
-    first = arguments.decimal("first", 0)
-    turns = range(first, end_of(machine, first, arguments.optional("last")))
+    found = keyed(arguments.text("rest").split())
+    first = int((found["from"] or ["0"])[-1])
+    last = int(found["to"][-1]) if found["to"] else guessed_last(machine, first)
+    turns = range(first, last + 1)
     if not turns:
-        raise ExploreError(f"turn {arguments.text('last')} comes before turn {first}")
-    addresses = [int(it, 8) for it in arguments.text("words").split()]
-    named = [it.rpartition(":") for it in arguments.text("disk").split()]
+        raise ExploreError(f"turn {last} comes before turn {first}")
+    addresses = [int(it, 8) for it in found["words"]]
+    named = [it.rpartition(":") for it in found["disk"]]
     drive_words = [(int(drive or "0", 8), int(index, 8)) for drive, _, index in named]
     picture = picture_of(explorer, turns, addresses, drive_words)
     if path.suffix == ".svg":
         write_whole(path, svg(picture, WIDE, marks_of(explorer, picture), COLORS) + "\n")
     else:
         write_whole(path, whole_page(explorer, picture))
-    yield f"the turns {turns.start} to {turns.stop - 1} are in {path}, {path.stat().st_size} bytes"
+    yield f"the turns {first} to {last} are in {path}"

@@ -6,15 +6,14 @@ from typing import Dict, Iterator, List, Optional, Tuple
 from .commands import Explorer
 from .crew import Progress
 from .disk_words import MOST_LOOKS, DiskWord
-from .listing import turn_in_words
-from .machine import MOST_TURNS_OF_A_TRAIL, Machine
+from .machine import LAST_TURN, MOST_TURNS_OF_A_TRAIL, Machine
 from .past import Event
 from .replies import INTERRUPT, Devices, Mode, Registers, Turn, turns_of
-from .search import writes_of
+from .search import writer_in_words, writes_of
 
 COLUMNS = 600
 MOST_LISTED_TURNS = 1_000_000
-MOST_WRITES, MOST_BYTES = 400, 2_000
+MOST_WRITES, DESCRIBED_WRITES, MOST_BYTES = 400, 60, 2_000
 GUESSED_TURNS, MARGIN = 100_000, 4
 
 
@@ -66,22 +65,25 @@ class Picture:
     turns: range
     columns: List[Column]
     interrupts: List[Turn]
+    block: int
     lists_all_turns: bool
     text: List[Byte]
     words: List[WordHistory]
     events: List[Event]
 
 
-def guessed_end(machine: Machine, first: int) -> int:
-    """Where a picture ends if nothing is said: soon after the halt, or after many turns."""
-    end = first + GUESSED_TURNS
+def guessed_last(machine: Machine, first: int) -> int:
+    """The last turn of a picture if nothing is said: soon after the halt, or after many turns."""
+    end = min(first + GUESSED_TURNS, LAST_TURN)
     if machine.registers(end).state != "halted":
-        return end
+        return end - 1
     low, high = first, end
     while high - low > 1:
         middle = (low + high) // 2
-        low, high = (low, middle) if machine.registers(middle).state == "halted" else (middle, high)
-    return max(high + MARGIN, *(it.turn + MARGIN for it in machine.past.script()), first + MARGIN)
+        is_halted = machine.registers(middle).state == "halted"
+        low, high = (low, middle) if is_halted else (middle, high)
+    events = [it.turn for it in machine.past.script() if it.turn < end]
+    return max(high, first, *events) + MARGIN
 
 
 def block_size(turns: range) -> int:
@@ -155,7 +157,7 @@ def core_history(explorer: Explorer, address: int, turns: range) -> WordHistory:
     begin = machine.word(turns.start if is_whole else writes[0].turn, address)
     values = [Value(turns.start, begin, "", "before")]
     for write in writes:
-        how = turn_in_words(explorer, write.turn) if len(writes) <= 60 else ""
+        how = writer_in_words(explorer, write) if len(writes) <= DESCRIBED_WRITES else ""
         values.append(Value(write.turn, write.word, write.writer, how))
     return WordHistory(f"core {address:06o}", values, is_whole)
 
@@ -184,8 +186,6 @@ def picture_of(
     words += [disk_history(explorer, drive, index, turns) for drive, index in drive_words]
     events = [it for it in machine.past.script() if it.turn in turns]
     whole = len(turns) <= MOST_LISTED_TURNS
-    return Picture(turns, columns, interrupts, whole, bytes_of(machine, turns), words, events)
-
-
-def end_of(machine: Machine, first: int, last: Optional[str]) -> int:
-    return int(last) + 1 if last else guessed_end(machine, first)
+    text = bytes_of(machine, turns)
+    size = block_size(turns)
+    return Picture(turns, columns, interrupts, size, whole, text, words, events)

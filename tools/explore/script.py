@@ -63,6 +63,8 @@ def typed_bytes(text: str) -> List[int]:
     """The bytes of a TEXT: `\\r`, `\\n`, `\\t`, `\\e`, and three octal digits, as in replies."""
     if len(text) > 1 and text[0] == text[-1] == '"':
         text = text[1:-1]
+    elif re.search(r" (from|every)( |$)", text):
+        raise ExploreError("a turn is missing; a TEXT with ' from ' or ' every ' stands in quotes")
     found: List[int] = []
     for octal, escape, plain in re.findall(r"\\([0-3][0-7]{2})|\\(.?)|([^\\]+)", text):
         if octal:

@@ -15,12 +15,13 @@ BLOCKS_OF_ONE = 4
 
 def first_at(machine: Machine, block: range, address: int) -> Optional[int]:
     """The first turn of these that runs an instruction with this PC, by trails."""
+    shown = f" {address:06o} {INSTRUCTION}"
     for reply in machine.ask_all(machine.trail_lines(block.start, len(block))):
         if reply.startswith("refused"):
             raise ExploreError(f"trail: {reply}")
-        for turn in turns_of(reply):
-            if turn.pc == address and turn.act == INSTRUCTION:
-                return turn.turn
+        if shown in reply:
+            turns = turns_of(reply)
+            return next(it.turn for it in turns if (it.pc, it.act) == (address, INSTRUCTION))
     return None
 
 
@@ -83,10 +84,16 @@ def next_write(machine: Machine, address: int, turns: range) -> Optional[LastWri
 
 def write_in_words(explorer: Explorer, write: LastWrite) -> str:
     """A write in one line: the turn, who wrote, the word, and the instruction or the function."""
-    line = f"turn {write.turn}: {write.writer} {write.word:06o}"
+    return (
+        f"turn {write.turn}: {write.writer} {write.word:06o}, by {writer_in_words(explorer, write)}"
+    )
+
+
+def writer_in_words(explorer: Explorer, write: LastWrite) -> str:
+    """The instruction that wrote, or the function of the disk."""
     if write.writer == "cpu":
-        return f"{line}, by {turn_in_words(explorer, write.turn)}"
-    return f"{line}, by {DiskWord.function_in_words(explorer, write.turn)}"
+        return turn_in_words(explorer, write.turn)
+    return DiskWord.function_in_words(explorer, write.turn)
 
 
 @command("next A [from N] [to M]", r"<address:octal>{from}{to}", "the next write to a core word")
@@ -137,7 +144,7 @@ WORD_OF_DISK = r"((?P<drive>[0-7]) )?"
 
 @command(
     "first core A = W [from N] [to M]  or  first disk [D] I = W [from N] [to M] [exactly]",
-    rf"(?P<kind>core|disk) {WORD_OF_DISK}<address:octal> ?= ?<value:octal>{{from}}{{to}}(?P<exactly> exactly)?",
+    rf"(?P<kind>core|disk) {WORD_OF_DISK}<address:octal>\s*=\s*<value:octal>{{from}}{{to}}(?P<exactly> exactly)?",
     "the first turn that makes a word W",
 )
 def first(explorer: Explorer, arguments: Arguments) -> Iterator[str]:
@@ -169,15 +176,19 @@ def first_on_disk(
     if word.value(turns.start) == value:
         yield f"{word.name} is {value:06o} before turn {turns.start} already"
         return
-    exact = all_of_them or is_exact(word, turns)
-    found = word.first_value(turns, value) if exact else word.some_turn_to(turns, value)
+    # a turn that is found soon leaves few turns before it to look at
+    guess = None if is_exact(word, turns) else word.some_turn_to(turns, value)
+    before = turns if guess is None else range(turns.start, guess + 1)
+    exact = all_of_them or is_exact(word, before)
+    found = word.first_value(before, value) if exact else guess
     if found is None:
         where = "in" if exact else "found by halving in"
         yield f"not {where} the turns {turns.start} to {turns.stop - 1}"
         return
     yield from change_lines(explorer, word, found)
     if not exact:
-        yield f"found by halving: a change to {value:06o}, which needn't be the first; exactly asks at each completion"
+        yield f"found by halving: a change to {value:06o}, which needn't be the first"
+        yield f"with exactly, {word.look_count(before)} questions show the first"
 
 
 @command(
@@ -194,8 +205,9 @@ def where(explorer: Explorer, arguments: Arguments) -> Iterator[str]:
     word = DiskWord(explorer.machine, arguments.octal("drive"), arguments.octal("address"))
     found = last_change(word, turn, bool(arguments.optional("exactly")))
     if found.turn is None:
-        yield f"{word.name} is {word.value(turn):06o} since power-up"
+        yield f"{word.name} has been {word.value(turn):06o} since power-up"
     else:
         yield from change_lines(explorer, word, found.turn)
     if not found.is_exact:
-        yield f"found by halving: changes that were undone before turn {turn} aren't seen; exactly looks for them"
+        yield f"found by halving: a change that was undone before turn {turn} isn't seen"
+        yield f"with exactly, {found.looks} questions show each"

@@ -189,7 +189,7 @@ def job_lines(explorer: Explorer, sweep: Sweep, path: Path) -> Iterator[str]:
         words = ["./explore", options, "--sweep", shlex.quote(text), shlex.quote(str(session))]
         lines.append(" ".join(filter(None, words)))
     write_whole(path, "".join(f"{it}\n" for it in lines))
-    yield f"{len(lines)} commands in {path}, which read {session}"
+    yield f"{len(lines)} commands in {path}, which read {path}.session"
     yield f"run them in this folder: parallel < {path} > {path}.out; then: sweep --gather {path}.out"
 
 
