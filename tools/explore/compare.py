@@ -119,9 +119,11 @@ def compare(explorer: Explorer, arguments: Arguments) -> Iterator[str]:
         for aspect in ASPECTS:
             found = parting(without, machine, aspect, turns)
             if found is None:
-                yield f"{aspect.title}: no difference found in the turns {turns.start} to {turns.stop - 1}"
+                where = f"in the turns {turns.start} to {turns.stop - 1}"
+                yield f"{aspect.title}: no difference found {where}"
                 continue
             when = "in" if found.is_first else "at the latest in"
-            yield f"{aspect.title} part {when} turn {found.turn}: {differences(found.before, found.after)}"
+            what = differences(found.before, found.after)
+            yield f"{aspect.title} part {when} turn {found.turn}: {what}"
     finally:
         without.close()

@@ -6,21 +6,7 @@ from typing import Dict, List, Sequence, Tuple
 from .picture import Column, Picture, WordHistory
 from .replies import VECTORS, Mode
 
-COLORS = """
-.run{--ground:#fff;--ink:#1f2328;--faint:#656d76;--grid:#d8dee4;--pc:#0b5cad;--user:#dcebfb;--raised:#fdecd2;
---cpu:#0b5cad;--disk:#b45309;--irq:#8a3ffc;--key:#1a7f37;--text:#1f2328}
-@media (prefers-color-scheme:dark){.run{--ground:#0d1117;--ink:#e6edf3;--faint:#9198a1;--grid:#30363d;
---pc:#6cb6ff;--user:#15304d;--raised:#44300f;--cpu:#6cb6ff;--disk:#f0a45d;--irq:#c297ff;--key:#57c26a;
---text:#e6edf3}}
-.run .ground{fill:var(--ground)}.run text{font:11px ui-monospace,Menlo,Consolas,monospace;fill:var(--ink)}
-.run .faint{fill:var(--faint)}.run .grid{stroke:var(--grid);stroke-width:1;fill:none}
-.run .pc{stroke:var(--pc);stroke-width:1.6;fill:none}.run .range{fill:var(--pc);opacity:.55}
-.run .user{fill:var(--user)}.run .raised{fill:var(--raised)}
-.run .cpu{fill:var(--cpu)}.run .disk{fill:var(--disk)}.run .irq{fill:var(--irq)}.run .key{fill:var(--key)}
-.run .step{stroke:var(--faint);stroke-width:1.4;fill:none}.run .bar{fill:var(--disk);opacity:.85}
-""".replace(
-    "\n", ""
-)
+NAMESPACE = "http://www.w3.org/2000/svg"
 CHARACTER = 6.7
 LANE, PC_LANE, WORD_LANE, ROW, AXIS = 34, 150, 62, 14, 30
 FEW_VALUES = 6
@@ -51,17 +37,15 @@ class Canvas:
     def text(self, x: float, y: float, text: str, kind: str = "", anchor: str = "start") -> None:
         words = f' class="{kind}"' if kind else ""
         where = "" if anchor == "start" else f' text-anchor="{anchor}"'
-        self.add(
-            f'<text x="{x:.1f}" y="{y:.1f}"{words}{where} xml:space="preserve">{html.escape(text)}</text>'
-        )
+        at = f'x="{x:.1f}" y="{y:.1f}"'
+        self.add(f'<text {at}{words}{where} xml:space="preserve">{html.escape(text)}</text>')
 
     def rectangle(
         self, x: float, y: float, wide: float, high: float, kind: str, title: str = ""
     ) -> None:
         inside = f"<title>{html.escape(title)}</title>" if title else ""
-        self.add(
-            f'<rect class="{kind}" x="{x:.1f}" y="{y:.1f}" width="{wide:.1f}" height="{high:.1f}">{inside}</rect>'
-        )
+        size = f'width="{wide:.1f}" height="{high:.1f}"'
+        self.add(f'<rect class="{kind}" x="{x:.1f}" y="{y:.1f}" {size}>{inside}</rect>')
 
     def lane(self, name: str, height: float) -> float:
         """Begins a lane below the others, with a line above it; returns its top."""
@@ -164,7 +148,8 @@ def draw_counter(canvas: Canvas, picture: Picture, marks: Sequence[Tuple[int, st
 
 
 def draw_disk(canvas: Canvas, columns: Sequence[Column]) -> None:
-    """The functions of the disk, from the turn that begins one to the one that completes it."""
+    """The functions of the disk, from the turn that begins one to the one that completes it. What
+    is under way before a turn began in an earlier one."""
     if not any(it.disk for it in columns):
         return
     top = canvas.lane("disk", LANE - 8)
@@ -173,8 +158,8 @@ def draw_disk(canvas: Canvas, columns: Sequence[Column]) -> None:
         if at == len(columns) or columns[at].disk != columns[begin].disk:
             end = columns[at].turn if at < len(columns) else canvas.turns.stop
             if columns[begin].disk:
-                x = canvas.x(columns[begin].turn)
-                wide = max(1.5, canvas.x(end) - x)
+                x = canvas.x(max(canvas.turns.start, columns[begin].turn - 1))
+                wide = max(1.5, canvas.x(end - 1) - x)
                 label = columns[begin].disk
                 canvas.rectangle(x, top + 20, wide, 3, "bar", label)
                 rows.put(x, label, "disk")
@@ -256,9 +241,8 @@ def draw_events(canvas: Canvas, picture: Picture) -> None:
     for event in picture.events:
         x = canvas.x(event.turn)
         title = f"event {event.number}: at {event.turn} {event.explained()}"
-        canvas.add(
-            f'<path class="key" d="M{x:.1f} {top + 4:.1f}l4 9h-8z"><title>{html.escape(title)}</title></path>'
-        )
+        inside = f"<title>{html.escape(title)}</title>"
+        canvas.add(f'<path class="key" d="M{x:.1f} {top + 4:.1f}l4 9h-8z">{inside}</path>')
         rows.put(x - 3, event.explained().split("  ")[-1].strip("'"), "key")
     canvas.bottom = top + ROW * max(1, rows.used) + 18
 
@@ -299,9 +283,9 @@ def svg(picture: Picture, width: int, symbols: Sequence[Tuple[int, str]], style:
     draw_events(canvas, picture)
     draw_axis(canvas)
     height = canvas.bottom
-    begin = f'<svg xmlns="http://www.w3.org/2000/svg" class="run" viewBox="0 0 {width} {height:.0f}" role="img"'
-    size = f' width="{width}" height="{height:.0f}"'
-    label = f' aria-label="The turns {picture.turns.start} to {picture.turns.stop - 1} of a run"'
+    size = f'viewBox="0 0 {width} {height:.0f}" width="{width}" height="{height:.0f}"'
+    label = f"The turns {picture.turns.start} to {picture.turns.stop - 1} of a run"
+    begin = f'<svg xmlns="{NAMESPACE}" class="run" role="img" {size} aria-label="{label}">'
     inside = f"<style>{style}</style>" if style else ""
     ground = f'<rect class="ground" width="{width}" height="{height:.0f}"/>'
-    return f"{begin}{size}{label}>{inside}{ground}{''.join(canvas.parts)}</svg>"
+    return f"{begin}{inside}{ground}{''.join(canvas.parts)}</svg>"

@@ -94,8 +94,8 @@ def turn_in_words(explorer: Explorer, turn: int) -> str:
 def see(explorer: Explorer, arguments: Arguments) -> Iterator[str]:
     """Shows the C turns before turn N, 16 if C isn't given: the turn, the mode, PC as the program
     has it, the address of core that it is at, the instruction or interrupt, and the symbol.
-    With mapping off both addresses are the same. The turns before one another's end are shown by
-    as many trails as it takes."""
+    With mapping off both addresses are the same. C may be large: 64 turns are one question, and
+    each turn a few more."""
     end = arguments.decimal("turn")
     count = min(end, arguments.decimal("count", 16))
     if count == 0:

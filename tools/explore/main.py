@@ -18,12 +18,14 @@ from .sweep import raw_lines
 ROOT = Path(__file__).resolve().parents[2]
 FILES = ["core", "disk", *(f"disk{it}" for it in range(1, 8)), "tape"]
 VALUES = {"units": "N", "start": "A", "stride": "N"}
-DESCRIPTION = """A prompt over the session language of Nezdrab's PDP-11 (docs/LANGUAGE.md): its lines go through,
+DESCRIPTION = """\
+A prompt over the session language of Nezdrab's PDP-11 (docs/LANGUAGE.md). Its lines go through,
 and beside them there are commands to see instructions, to find the turn in which something happens,
-to sweep an event over many turns, and to draw a run. At the prompt `help` lists them all. SESSION
-is read first: its edits are made, its questions aren't asked. If a file of its name with the ending
-.args is beside it, the options in it hold, one word a line, unless options are given here. Lines
-from a pipe are read too: ./explore --echo examples/first-run.session < my.lines"""
+to sweep an event over many turns, and to draw a run. At the prompt `help` lists them all.
+
+SESSION is read first: its edits are made, its questions aren't asked. If a file of its name with
+the ending .args is beside it, the options in it hold, one word a line, unless options are given
+here. Lines from a pipe are read too: ./explore --echo SESSION < my.lines"""
 
 
 def arguments(words: List[str]) -> argparse.Namespace:

@@ -5,7 +5,8 @@ from pathlib import Path
 from typing import Dict, Iterator, List, Sequence, Tuple
 
 from .commands import Arguments, Explorer, command
-from .drawing import COLORS, shown, svg
+from . import styles
+from .drawing import shown, svg
 from .children import ExploreError
 from .past import DELAYS
 from .picture import Byte, Picture, guessed_last, picture_of
@@ -13,16 +14,6 @@ from .replies import VECTORS, Mode
 from .script import write_whole
 
 WIDE, NARROW = 960, 364
-STYLE = """
-body{margin:0 auto;max-width:960px;padding:12px 18px;font:15px/1.5 system-ui,sans-serif;background:#fff;color:#1f2328}
-h1{font-size:1.3em}h2{font-size:1.05em;margin:1.6em 0 .4em}
-svg{display:block;max-width:100%;height:auto}.narrow{display:none}
-table{border-collapse:collapse;font-size:.9em}td,th{text-align:left;padding:2px 14px 2px 0;vertical-align:top}
-td,pre,code{font-family:ui-monospace,Menlo,Consolas,monospace}.scroll{overflow-x:auto}
-th{font-weight:600;color:#656d76}pre{white-space:pre-wrap;font-size:.9em}
-@media (max-width:640px){body{padding:10px}.wide{display:none}.narrow{display:block}}
-@media (prefers-color-scheme:dark){body{background:#0d1117;color:#e6edf3}th{color:#9198a1}a{color:#6cb6ff}}
-"""
 
 
 def table(heads: Sequence[str], rows: Sequence[Sequence[str]]) -> str:
@@ -83,7 +74,9 @@ def edits_of(explorer: Explorer, picture: Picture) -> str:
     lines = [it for it in past.lines() if it.startswith(("core", "disk", "tape", "version"))]
     patches = ""
     if lines:
-        patches = f"<details><summary>{len(lines)} lines</summary><pre>{html.escape(chr(10).join(lines))}</pre></details>"
+        inside = html.escape("\n".join(lines))
+        head = f"<summary>{len(lines)} lines</summary>"
+        patches = f"<details>{head}<pre>{inside}</pre></details>"
     return (
         events
         + section("Delays", table(("device", "turns"), delays))
@@ -133,7 +126,7 @@ def whole_page(explorer: Explorer, picture: Picture) -> str:
         '<!DOCTYPE html><html lang="en"><head><meta charset="utf-8">'
         '<meta name="viewport" content="width=device-width,initial-scale=1">'
         '<meta name="color-scheme" content="light dark"><link rel="icon" href="data:,">'
-        f"<title>{title}</title><style>{STYLE}{COLORS}</style></head>"
+        f"<title>{title}</title><style>{styles.PAGE}{styles.PICTURE}</style></head>"
         f"<body><h1>{title}</h1>{body}</body></html>\n"
     )
 
@@ -181,7 +174,7 @@ def page(explorer: Explorer, arguments: Arguments) -> Iterator[str]:
     drive_words = [(int(drive or "0", 8), int(index, 8)) for drive, _, index in named]
     picture = picture_of(explorer, turns, addresses, drive_words)
     if path.suffix == ".svg":
-        write_whole(path, svg(picture, WIDE, marks_of(explorer, picture), COLORS) + "\n")
+        write_whole(path, svg(picture, WIDE, marks_of(explorer, picture), styles.PICTURE) + "\n")
     else:
         write_whole(path, whole_page(explorer, picture))
     yield f"the turns {first} to {last} are in {path}"

@@ -39,8 +39,8 @@ OWN_HELP = {
     "quit": ("quit", "ends; Ctrl-D does too"),
 }
 NUMBERS = (
-    "A, X, I, D, W and B are octal. N, M, T, C, K and E are decimal. A question about turn N is about"
-    " the machine before it."
+    "A, X, I, D, W and B are octal, N, M, T, C, K and E decimal. A question about turn N is about "
+    "the machine before it."
 )
 
 

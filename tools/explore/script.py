@@ -116,8 +116,8 @@ def first_free_between(machine: Machine, first: int, bound: int) -> Optional[int
 def type_text(explorer: Explorer, arguments: Arguments) -> Iterator[str]:
     r"""Adds a key for each byte of TEXT, each at the first turn at which no earlier key waits (bit
     7 of TKS is clear), and at least N turns after the one before. Without `from` it begins after
-    the last key of the script. Enter is \r, a space is itself; there are \n \t \e \\ \" too, and \015
-    for a byte in octal. A TEXT with spaces at its end, or with ` from ` in it, stands in "quotes".
+    the last key of the script. Enter is \r; there are \n \t \e \\ \" too, and \015 for a
+    byte in octal. A TEXT with spaces at its end, or with ` from ` in it, stands in "quotes".
     """
     machine = explorer.machine
     every, keys = arguments.decimal("every", 1), typed_bytes(arguments.text("text"))

@@ -58,7 +58,8 @@ def until(explorer: Explorer, arguments: Arguments) -> Iterator[str]:
     turns, address = turn_range(arguments), arguments.octal("address")
     found = first_of_blocks(explorer.machine, turns, address)
     if found is None:
-        yield f"not in the turns {turns.start} to {turns.stop - 1}; on: until PC {address:o} from {turns.stop}"
+        on = f"until PC {address:o} from {turns.stop}"
+        yield f"not in the turns {turns.start} to {turns.stop - 1}; on: {on}"
     else:
         yield f"turn {found}: {turn_in_words(explorer, found)}"
 
@@ -104,7 +105,8 @@ def next_command(explorer: Explorer, arguments: Arguments) -> Iterator[str]:
     turns, address = turn_range(arguments), arguments.octal("address")
     found = next_write(explorer.machine, address, turns)
     if found is None:
-        yield f"no write in the turns {turns.start} to {turns.stop - 1}; on: next {address:o} from {turns.stop}"
+        on = f"next {address:o} from {turns.stop}"
+        yield f"no write in the turns {turns.start} to {turns.stop - 1}; on: {on}"
     else:
         yield write_in_words(explorer, found)
 
@@ -144,7 +146,8 @@ WORD_OF_DISK = r"((?P<drive>[0-7]) )?"
 
 @command(
     "first core A = W [from N] [to M]  or  first disk [D] I = W [from N] [to M] [exactly]",
-    rf"(?P<kind>core|disk) {WORD_OF_DISK}<address:octal>\s*=\s*<value:octal>{{from}}{{to}}(?P<exactly> exactly)?",
+    rf"(?P<kind>core|disk) {WORD_OF_DISK}<address:octal>\s*=\s*<value:octal>"
+    r"{from}{to}(?P<exactly> exactly)?",
     "the first turn that makes a word W",
 )
 def first(explorer: Explorer, arguments: Arguments) -> Iterator[str]:

@@ -190,7 +190,8 @@ def job_lines(explorer: Explorer, sweep: Sweep, path: Path) -> Iterator[str]:
         lines.append(" ".join(filter(None, words)))
     write_whole(path, "".join(f"{it}\n" for it in lines))
     yield f"{len(lines)} commands in {path}, which read {path}.session"
-    yield f"run them in this folder: parallel < {path} > {path}.out; then: sweep --gather {path}.out"
+    yield f"run them in this folder: parallel < {path} > {path}.out"
+    yield f"then: sweep --gather {path}.out"
 
 
 def gathered(paths: Sequence[str]) -> Iterator[str]:

@@ -47,7 +47,8 @@ class BadInput(Case):
             self.error.splitlines(),
             [
                 "explore: bad.session:2: core 1001 7: refused 3 OddAddress the address is odd",
-                "explore: bad.session:3: core 9 9: refused 10 BadLine core A W: A, an address of core, is octal, and '9' has '9'",
+                "explore: bad.session:3: core 9 9: refused 10 BadLine core A W: A, an address of"
+                " core, is octal, and '9' has '9'",
                 "explore: bad.session:4: at 3 key: refused 10 BadLine at T event: B is missing",
             ],
         )

@@ -42,7 +42,8 @@ class Saved(Case):
     def questions(self, lines: bytes) -> str:
         drive = "0 " if b"version 2" in lines else ""
         return "".join(
-            f"regs {it}\nmem {it} 0 256\nmem {it} 1000 256\ndsk {it} {drive}0 256\ntext {it}\npunched {it}\n"
+            f"regs {it}\nmem {it} 0 256\nmem {it} 1000 256\ndsk {it} {drive}0 256\n"
+            f"text {it}\npunched {it}\n"
             f"devices {it}\npages {it}\nlast {it} 1000\n"
             + (f"trail {it} {min(it, 64)}\n" if it else "")
             for it in QUESTIONED_TURNS
@@ -83,7 +84,8 @@ class Saved(Case):
         return sessions.has_reply(line) and words[0] in edits
 
     def test_numbers_of_events_and_the_order_in_a_turn(self) -> None:
-        edits = "at 9 key 101\nat 5 tick\nat 9 key 102\nat 9 key 103\nalter 1 9 key 104\nalter 3 8 tick\nalter 3 9 tick\ndrop 2\n"
+        edits = "at 9 key 101\nat 5 tick\nat 9 key 102\nat 9 key 103\nalter 1 9 key 104\n"
+        edits += "alter 3 8 tick\nalter 3 9 tick\ndrop 2\n"
         self.explore(edits + "save past\n")
         self.assertEqual(
             (self.folder / "past").read_text(), "at 9 key 104\nat 9 key 103\nat 9 tick\n"
@@ -155,6 +157,16 @@ def pixels_of(path: Path) -> Tuple[int, int, int]:
     rows = {raw[row * size + 1 : (row + 1) * size] for row in range(height)}
     assert depth == 8
     return width, height, len(rows)
+
+
+class Stored(Case):
+    """The picture of README is what `page` draws now."""
+
+    def test_the_picture_of_an_update_that_gets_lost(self) -> None:
+        lines = "core 1214 2000\npage it.svg to 40 words 2000\n"
+        self.explore(lines, "examples/who-wrote-this-word.session")
+        drawn = (self.folder / "it.svg").read_text()
+        self.assertEqual(drawn, (ROOT / "docs" / "lost-update.svg").read_text())
 
 
 @unittest.skipUnless(CHROMIUM, "chromium isn't installed")
