@@ -32,7 +32,6 @@ class Terminal(Case):
         self.addCleanup(os.close, ours)
         self.addCleanup(self.child.wait)
         self.addCleanup(self.child.kill)
-        self.wait_for(b"explore> ")
 
     def wait_for(self, text: bytes) -> str:
         """Reads until the text is there; returns what was read up to it."""
@@ -45,11 +44,11 @@ class Terminal(Case):
         return before.decode()
 
     def type(self, text: str) -> None:
+        """Types at the next prompt. What is typed before it is echoed twice."""
+        self.wait_for(b"explore> ")
         os.write(self.ours, text.encode())
 
     def end(self) -> None:
-        """Ends with Ctrl-D, at a prompt that wasn't seen yet."""
-        self.wait_for(b"explore> ")
         self.type("\x04")
         self.assertEqual(self.child.wait(SECONDS), 0)
 
@@ -82,8 +81,8 @@ class Terminal(Case):
         self.begin()
         self.type("core 1000 1")
         self.wait_for(b"core 1000 1")
+        time.sleep(0.5)  # a signal counts once readline waits for input
         os.killpg(self.child.pid, signal.SIGINT)
-        self.wait_for(b"explore> ")
         self.type("patches\n")
         self.wait_for(b"patches 0")
         self.end()
