@@ -100,8 +100,9 @@ def see(explorer: Explorer, arguments: Arguments) -> Iterator[str]:
     count = min(end, arguments.decimal("count", 16))
     if count == 0:
         raise ExploreError(f"no turn comes before turn {end}, or C is 0")
+    turns = list(explorer.machine.turns(end - count, count))
     yield HEADING
-    for turn in list(explorer.machine.turns(end - count, count)):
+    for turn in turns:
         yield seen(explorer, turn).line()
 
 

@@ -179,7 +179,7 @@ class Machine:
         """These turns, by as many trails as it takes. A reply of a trail has some 1,300 bytes."""
         for reply in self.ask_all(self.trail_lines(first, count)):
             if reply.startswith("refused"):
-                raise Refused(f"trail: {reply}")
+                raise Refused(f"turns {first} to {first + count - 1}: {reply}")
             yield from turns_of(reply)
 
     def units(self) -> int:

@@ -67,7 +67,10 @@ def options_of(found: argparse.Namespace) -> Tuple[List[str], Path]:
     beside = Path(found.session).with_suffix(".args")
     if not beside.exists():
         return [], Path.cwd()
-    return beside.read_text().splitlines(), beside.resolve().parent
+    try:
+        return beside.read_text().splitlines(), beside.resolve().parent
+    except (OSError, ValueError) as error:
+        raise ExploreError(f"{beside} can't be read: {error}") from error
 
 
 def built(name: str) -> str:

@@ -69,7 +69,9 @@ class Prompt(cmd.Cmd):
             if not word or line.startswith("#"):
                 return False
             self.do(word, rest, line)
-        except ExploreError as error:
+        except BrokenPipeError:
+            raise
+        except (ExploreError, OSError) as error:
             print(f"{word}: {error}")
         except KeyboardInterrupt:
             print(f"\n{word}: stopped; the edits are all there")

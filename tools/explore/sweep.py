@@ -87,7 +87,7 @@ class Results:
     def read(self, path: Path) -> None:
         """Adds what a file has. A last line without its end was cut off, and counts for nothing."""
         try:
-            lines = path.read_text().split("\n")[:-1]
+            lines = path.read_text(errors="replace").split("\n")[:-1]
         except OSError as error:
             raise ExploreError(f"{path}: {error.strerror}") from error
         for number, line in enumerate(lines, 1):

@@ -53,6 +53,24 @@ class BadInput(Case):
             ],
         )
 
+    def test_files_that_are_no_text(self) -> None:
+        (self.folder / "my.session").write_text("core 1000 5\n")
+        (self.folder / "my.args").write_bytes(b"\xff\xfe\n")
+        self.fails("my.args can't be read", "my.session")
+        (self.folder / "kept").write_bytes(b"\xff\xfe\n\x00\n")
+        written = self.explore("sweep --gather kept\nsymbols kept\nsweep --gather .\nregs 0\n")
+        lines = written.splitlines()
+        self.assertEqual(lines[0], "sweep: kept:1: no line of a sweep")
+        self.assertEqual(lines[1], "symbols: kept:1: neither NAME OCTAL nor a line of nm")
+        self.assertEqual(lines[2], "sweep: .: Is a directory")
+        self.assertTrue(lines[3].startswith("R0 000000"))
+
+    def test_turns_and_words_that_are_not_there(self) -> None:
+        lines = "see 1000000001\nshow 9999999999\nwhere disk 4604000 5\nnext 760000 to 9\n"
+        written = self.explore(lines + "first core 1001 = 5\npage it.html from 1000000001\n")
+        for line, number in zip(written.splitlines(), (7, 7, 4, 2, 3, 7)):
+            self.assertIn(f": refused {number} ", line)
+
     def test_bytes_that_are_no_text(self) -> None:
         (self.folder / "bad.session").write_bytes(
             b"core 1000 5\r\ncore \xff\xfe 1\n\x00\n" + b"#" * 300 + b"\n"
