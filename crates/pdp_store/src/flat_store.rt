@@ -108,6 +108,11 @@ impl Store for Flat {
         self.touches.first(page)
     }
 
+    #[inline(always)]
+    fn is_touched(&self, i: usize, turn: u32) -> bool {
+        self.touches.is_touched_there(i / PAGE_WORDS, turn)
+    }
+
     fn forget(&mut self, turn: u32) {
         self.touches.forget(turn);
     }

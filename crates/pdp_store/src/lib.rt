@@ -7,7 +7,7 @@
 //! - A store is its list of words with the stamp of the last write to each, and with the first
 //!   touch of each page ([`Store`]); [`Flat`] keeps that contract in three arrays.
 //! - The first touch of a page is the least turn of its touches that were not forgotten
-//!   ([`Store::touch`], [`Store::first`], [`Store::forget`]). A new store has none. Only `touch` and
+//!   ([`Store::touch`], [`Store::first`], [`Store::is_touched`], [`Store::forget`]). A new store has none. Only `touch` and
 //!   `forget` change first touches: writes, takes, loads and patches leave them.
 //! - What is taken of a store as pages of 256 words ([`Page`]) is its words with their stamps. A
 //!   load, which needs no memory, makes the store equal to the pages ([`Paged::take_pages`],
@@ -27,7 +27,7 @@
 //! pdp_unibus and pdp_rk11.
 #![tactic(auto)]
 
-ghost use Rattle.std.specs.Prelude.{◌≡◌, ◌<◌, ◌*◌, ◌/◌, length, map, slice_index, slice_index_or, slice_set};
+ghost use Rattle.std.specs.Prelude.{◌≡◌, ◌<◌, ◌*◌, ◌/◌, length, map, nat_le, slice_index, slice_index_or, slice_set};
 ghost use Rattle.pdp_store.specs.Stored.{HasLastOfEachOrNone};
 ghost use Rattle.pdp_store.specs.Firsts.{firsts_before, never, first_turn, touch_page};
 
@@ -137,6 +137,12 @@ pub trait Store {
     /// forgotten, and if the store has no such page.
     fn first(&self, page: usize) -> Option<u32>
         ensures { result ≡ first_turn (slice_index_or (firsts self.now) page never) };
+
+    /// Whether the page of word `i` was touched in turn `turn` or before it, so that a touch in that
+    /// turn would change nothing.
+    fn is_touched(&self, i: usize, turn: u32) -> bool
+        requires { i < length (words self.now) }
+        ensures { result ≡ nat_le (slice_index_or (firsts self.now) (i / 256) never) turn };
 
     /// Drops the first touches of turn `turn` and of later turns; earlier ones stay.
     fn forget(&mut self, turn: u32)

@@ -202,6 +202,11 @@ impl Store for PagedDrive {
         self.touches.first(page)
     }
 
+    #[inline(always)]
+    fn is_touched(&self, i: usize, turn: u32) -> bool {
+        self.touches.is_touched_there(i / PAGE_WORDS, turn)
+    }
+
     fn forget(&mut self, turn: u32)
         ensures words { self.new.words ≡ self.old.words }
         ensures firsts { self.new.firsts ≡ firsts_before turn self.old.firsts }

@@ -198,6 +198,11 @@ impl Store for Paged {
         self.touches.first(page)
     }
 
+    #[inline(always)]
+    fn is_touched(&self, i: usize, turn: u32) -> bool {
+        self.touches.is_touched(i / PAGE_WORDS, turn)
+    }
+
     fn forget(&mut self, turn: u32)
         ensures words { self.new.words ≡ self.old.words }
         ensures lasts { self.new.lasts ≡ self.old.lasts }

@@ -1,6 +1,6 @@
 //! First touches: for each page of a store, the first turn with an access to one of its words.
 
-ghost use Rattle.std.specs.Prelude.{◌≡◌, ◌<◌, ◌/◌, ◌+◌, length, map, replicate, slice_index_or, IfOk};
+ghost use Rattle.std.specs.Prelude.{◌≡◌, ◌<◌, ◌/◌, ◌+◌, length, map, nat_le, replicate, slice_index_or, IfOk};
 ghost use Rattle.pdp_store.specs.Firsts.{first_before, never, first_turn, touch_page};
 
 use crate::page::PAGE_WORDS;
@@ -63,6 +63,23 @@ impl FirstTouches {
     {
         let first = self.firsts.get(page).copied().unwrap_or(NEVER);
         if first == NEVER { None } else { Some(first) }
+    }
+
+    /// Whether page `page` was touched in turn `turn` or before it.
+    #[inline(always)]
+    pub(crate) fn is_touched(&self, page: usize, turn: u32) -> bool
+        requires { page < length self.now }
+        ensures { result ≡ nat_le (slice_index_or self.now page never) turn }
+    {
+        self.firsts[page] <= turn
+    }
+
+    /// As [`FirstTouches::is_touched`], for a page that may not be there; then it was not touched.
+    #[inline(always)]
+    pub(crate) fn is_touched_there(&self, page: usize, turn: u32) -> bool
+        ensures { result ≡ nat_le (slice_index_or self.now page never) turn }
+    {
+        self.firsts.get(page).copied().unwrap_or(NEVER) <= turn
     }
 
     /// Drops the first touches of turn `turn` and of later turns.

@@ -10,6 +10,7 @@ pub mod StatusLaws
 pub mod TapeLaws
 pub mod Tapes
 pub mod Watching
+pub mod Directs
 pub mod Kept
 pub mod Pairs
 mod SavedDrives

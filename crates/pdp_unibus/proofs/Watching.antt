@@ -52,7 +52,7 @@ ticks_later turn t p above after before =
       not_zero n positive = grind (arith, nat_tests, positive)
 
 -- a turn in which nothing happens but by events, and has none, begins and nothing more
-begun_quietly : (t : ℕ) (w : BusWorld) → IsQuiet t w.board → begun t [] w ≡ at_start (in_turn t w)
+pub begun_quietly : (t : ℕ) (w : BusWorld) → IsQuiet t w.board → begun t [] w ≡ at_start (in_turn t w)
 unfolding begun before_disk
 begun_quietly t w quiet =
     ap (λ (p : Progress). disk_due (punch_due (reader_due (printer_due p)))) (none clock_ticked quiet.clock)

@@ -9,6 +9,8 @@ pub mod Tape
 pub mod Beginning
 pub mod SingleBytes
 pub mod Watch
+pub mod Direct
+pub mod Calm
 pub mod LastTurn
 pub mod Laws
 pub mod Placed

@@ -41,6 +41,7 @@ impl<S: Store, D: Store> Bus<S, D> {
         self.take_punch(&mut output);
         self.take_disk();
         self.watch = self.board.watch(self.turn);
+        self.look();
         output
     }
 
@@ -171,6 +172,7 @@ impl<S: Store, D: Store> Bus<S, D> {
         ensures single { (o : Output) → IsSingle self.old.board o → IsSingle self.new.board o }
     {
         self.watch = Watch::unknown();
+        self.direct = 0;
         self.board
             .disk
             .complete(&mut self.words, &mut self.drives, self.turn);

@@ -28,6 +28,10 @@
 //!   writes. So does a fetch whose line is at hand (`Bus::kept_word`). The first touch of a page of
 //!   core or of a drive is the least turn of its touches that were not forgotten
 //!   (`Bus::first_of_core`, `first_of_drive`, `forget`).
+//! - An access that goes to core and changes no mapping register: a read gives the word or byte and
+//!   leaves the bus, as its page was touched before; a write leaves what a bus cycle leaves. One
+//!   that isn't so does nothing (`Bus::core_word`, `core_byte`, `write_core`, `write_core_byte`).
+//! - Up to which turn the bus is calm, so that nothing comes between instructions (`calm_until`).
 //! - What is saved of a bus is all of it except the tape's bytes and the first touches; a load
 //!   makes the bus that again, with the tape and the first touches that it then has (`Bus::save`,
 //!   `load`, `set_tape`, `SavedBus::set_delays`). A page with one word changed is made for all saved
@@ -44,6 +48,7 @@ mod beginning;
 mod board;
 mod bus;
 mod delays;
+mod direct;
 mod drives;
 mod event;
 mod last_turn;

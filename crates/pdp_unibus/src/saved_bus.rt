@@ -112,10 +112,12 @@ impl Bus<Paged, PagedDrive> {
     {
         self.load_core(&saved.core);
         load_each(&mut self.drives, &saved.drives);
+        self.direct = 0;
         self.board = saved.board.copy();
         self.tape.go_to(saved.bytes_read);
         self.turn = saved.turn;
         self.watch = self.board.watch(self.turn);
+        self.look();
     }
 
     /// Puts another tape into the reader, of which as many bytes count as read. Takes no memory.
