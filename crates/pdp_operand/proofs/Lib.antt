@@ -1,4 +1,7 @@
 pub mod Steps
+pub mod Slots
+pub mod Found
+pub mod CoreReferences
 pub mod Flattening
 pub mod Carried
 pub mod Shape
