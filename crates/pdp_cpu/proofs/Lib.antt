@@ -6,3 +6,4 @@ pub mod DriveSizes
 pub mod Halted
 pub mod Dues
 mod KeptTexts
+pub mod CalmTurns

@@ -5,3 +5,4 @@ pub mod Devices
 pub mod MachineState
 pub mod Pages
 pub mod Regs
+pub mod CalmTurns

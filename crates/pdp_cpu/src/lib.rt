@@ -7,6 +7,8 @@
 //!   the drives: its events, and then what is due (a trap, an interrupt, an instruction or nothing),
 //!   with the plans of pdp_instruction. It tells with which act it began, and the meter counts it
 //!   (`Machine::turn`, `ready`).
+//! - A burst of n turns of a calm machine is n turns of the definition without events, and the
+//!   meter counts n (`Machine::run_calmly`).
 //! - A turn touches the page of every word that it reads, writes, moves or compares, in core and on
 //!   the drives: the first touches after it are those before it with its trace (`Machine::turn`).
 //!   A load leaves them; `first` returns the first touch of a page, and `forget` drops late ones.
@@ -30,6 +32,7 @@
 #![tactic(auto)]
 
 mod act;
+mod calm_turns;
 mod devices;
 mod drives;
 mod due;
@@ -55,6 +58,7 @@ pub use machine::Machine;
 pub use meter::Meter;
 pub use pages::PageRegisters;
 pub use pdp_operand::RunState;
+pub use pdp_quick::WordTable;
 pub use pdp_unibus::LAST_TURN;
 pub use regs::Regs;
 pub use saved::{PagedMachine, Saved};

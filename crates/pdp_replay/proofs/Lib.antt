@@ -41,3 +41,4 @@ pub mod EditedDelays
 pub mod EditedSetups
 pub mod Engines
 pub mod MoreDrives
+pub mod CalmWays

@@ -9,6 +9,7 @@ use Rattle.pdp_cpu.specs.Drives.{state_with_drives}
 use Rattle.pdp_cpu.specs.KeptTexts.{kept_before}
 use Rattle.pdp_cpu.specs.Saved.{state_cut}
 use Rattle.pdp_cpu.specs.Turns.MachineState.{MachineState, MachineWithTexts}
+use Rattle.pdp_script.specs.Entries.{events_at}
 use Rattle.pdp_script.specs.Script.{ScriptData}
 use Rattle.pdp_replay.specs.FirstTouches.{first_of}
 use Rattle.pdp_replay.specs.KeptStates.{AreKept, IsInRun, KeepsTexts}
@@ -24,6 +25,10 @@ use Rattle.pdp_replay.specs.declared.patch.PatchKey.TheVariants.{Core, Disk}
 pub record IsUnderWay (p : Past) (known : ℕ) (m : MachineWithTexts) : Type 0 where
   pub here : m.state ≡ at p m.state.turn
   pub texts : KeepsTexts p (max known m.state.turn) m
+
+-- no turn from this one on and before that one has events
+abbrev pub IsWithoutEvents : Past → ℕ → ℕ → Type 0
+IsWithoutEvents p from to = (turn : ℕ) → from ≤ turn → turn < to → events_at p.script.entries turn ≡ []
 
 -- what is kept is that of this run; and if the machine is said to be in a state of it, it is
 pub record IsKeptRun (p : Past) (r : KeptRun) : Type 0 where

@@ -14,7 +14,7 @@ use crate::image::{core_store, drive_store};
 use crate::origin::Origin;
 use crate::turns::run_part;
 use pdp_checkpoint::Ladder;
-use pdp_cpu::{Act, Machine, Meter, PagedMachine};
+use pdp_cpu::{Act, Machine, Meter, PagedMachine, WordTable};
 use pdp_icache::Lines;
 use pdp_script::Script;
 use pdp_unibus::{Delays, LAST_TURN};
@@ -22,11 +22,12 @@ use pdp_word::NoMemory;
 use std::alloc::Global;
 use std::mem;
 
-/// The machine of a run, the states of it that are kept, the count of the turns that were run, the known turn, up to
+/// The machine of a run, what each word is carried out by, the states that are kept, the count of the turns that were run, the known turn, up to
 /// which all is kept that ought to be, and whether the machine is in the run's state of its turn.
 #[derive(Drop)]
 pub(crate) struct KeptRun {
     pub(crate) machine: PagedMachine,
+    pub(crate) words: WordTable,
     pub(crate) ladder: Ladder,
     pub(crate) meter: Meter,
     pub(crate) known: u32,
@@ -53,8 +54,10 @@ impl KeptRun {
         let lines = Lines::new(alloc)?;
         let mut machine = Machine::power(alloc, lines, origin.start, core, drives, tape, delays);
         let ladder = Ladder::new(alloc, origin.stride, &mut machine)?;
+        let words = WordTable::new(alloc)?;
         Ok(KeptRun {
             machine,
+            words,
             ladder,
             meter: Meter::new(),
             known: 0,
@@ -176,7 +179,7 @@ impl KeptRun {
         let end = self.ladder.next().min(to);
         // While the meter is apart from the machine, the loop counts in a register.
         let mut counting = mem::replace(&mut self.meter, Meter::new());
-        let ran = run_part(&mut self.machine, script, &mut counting, end);
+        let ran = run_part(&mut self.machine, &self.words, script, &mut counting, end);
         self.meter = counting;
         self.settle(alloc)?;
         ran

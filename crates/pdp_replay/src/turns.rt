@@ -2,10 +2,10 @@
 
 ghost use Rattle.std.specs.Prelude.{◌≡◌, ◌+◌, ◌≤◌, ◌<◌, [], ℕ, OnOk, OnErr};
 ghost use Rattle.pdp_script.specs.Entries.{events_at};
-ghost use Rattle.pdp_replay.specs.KeptRuns.{IsUnderWay};
+ghost use Rattle.pdp_replay.specs.KeptRuns.{IsUnderWay, IsWithoutEvents};
 ghost use Rattle.pdp_replay.specs.Past.{Past};
 
-use pdp_cpu::{Meter, PagedMachine};
+use pdp_cpu::{Meter, PagedMachine, WordTable};
 use pdp_script::Script;
 use pdp_unibus::LAST_TURN;
 use pdp_word::NoMemory;
@@ -15,6 +15,7 @@ use pdp_word::NoMemory;
 /// Err where a turn's room was refused; the machine is then in the state of the turn that it came to.
 pub(crate) fn run_part(
     machine: &mut PagedMachine,
+    words: &WordTable,
     script: &Script,
     meter: &mut Meter,
     to: u32,
@@ -30,7 +31,7 @@ pub(crate) fn run_part(
 {
     while machine.turns() < to {
         let quiet = quiet_until(script, machine.turns(), to);
-        run_quiet(machine, meter, quiet)?;
+        run_quiet(machine, words, meter, quiet)?;
         if quiet < to {
             next_turn(machine, script, meter)?;
         }
@@ -54,20 +55,51 @@ fn quiet_until(script: &Script, from: u32, to: u32) -> u32
 /// Runs the machine to this turn without events; the meter counts each turn.
 ///
 /// Err where a turn's room was refused; the machine is then in the state of the turn that it came to.
-fn run_quiet(machine: &mut PagedMachine, meter: &mut Meter, to: u32) -> Result<(), NoMemory>
+fn run_quiet(
+    machine: &mut PagedMachine,
+    words: &WordTable,
+    meter: &mut Meter,
+    to: u32,
+) -> Result<(), NoMemory>
     requires forward { machine.old.state.turn ≤ to }
     requires limit { to ≤ LAST_TURN }
-    ensures way { (p : Past) (known : ℕ) → ((turn : ℕ) → machine.old.state.turn ≤ turn → turn < to → events_at p.script.entries turn ≡ []) → IsUnderWay p known machine.old → IsUnderWay p known machine.new }
+    ensures way { (p : Past) (known : ℕ) → IsWithoutEvents p machine.old.state.turn to → IsUnderWay p known machine.old → IsUnderWay p known machine.new }
     ensures turn { OnOk result (machine.new.state.turn ≡ to) }
     ensures least { machine.old.state.turn ≤ machine.new.state.turn }
     ensures most { machine.new.state.turn ≤ to }
     ensures ran { meter.new + machine.old.state.turn ≤ meter.old + machine.new.state.turn }
     ensures counted { meter.old ≤ meter.new }
 {
-    for _turn in machine.turns()..to {
-        machine.ready()?;
-        machine.turn(meter, &[]);
+    while machine.turns() < to {
+        run_some(machine, words, meter, to)?;
     }
+    Ok(())
+}
+
+/// Runs the machine through some turns before this one, without events: as long as it is calm, or
+/// its next turn if it isn't. The meter counts each turn.
+///
+/// Err where a turn's room was refused; the machine is then as it was.
+fn run_some(
+    machine: &mut PagedMachine,
+    words: &WordTable,
+    meter: &mut Meter,
+    to: u32,
+) -> Result<(), NoMemory>
+    requires forward { machine.old.state.turn < to }
+    requires limit { to ≤ LAST_TURN }
+    ensures way { (p : Past) (known : ℕ) → IsWithoutEvents p machine.old.state.turn to → IsUnderWay p known machine.old → IsUnderWay p known machine.new }
+    ensures on { OnOk result (machine.old.state.turn < machine.new.state.turn) }
+    ensures least { machine.old.state.turn ≤ machine.new.state.turn }
+    ensures most { machine.new.state.turn ≤ to }
+    ensures ran { meter.new + machine.old.state.turn ≤ meter.old + machine.new.state.turn }
+    ensures counted { meter.old ≤ meter.new }
+{
+    if machine.run_calmly(words, meter, to) > 0 {
+        return Ok(());
+    }
+    machine.ready()?;
+    machine.turn(meter, &[]);
     Ok(())
 }
 

@@ -1,16 +1,17 @@
-use Rattle.std.proofs.Common.{◌≡◌, ℕ, ◌+◌, ◌≤◌, ◌<◌, []}
-use Rattle.pdp_script.specs.Entries.{events_at}
-use Rattle.pdp_replay.specs.KeptRuns.{IsUnderWay}
+use Rattle.std.proofs.Common.{◌≡◌, ℕ, ◌+◌, ◌-◌, ◌≤◌}
+use Rattle.pdp_replay.specs.KeptRuns.{IsUnderWay, IsWithoutEvents}
 use Rattle.pdp_replay.specs.Past.{Past}
 use Rattle.pdp_replay.proofs.turns.run_quiet.Given as goal
 
-abbrev pub invariant-loop-turn : goal.invariant-loop-turn
-invariant-loop-turn l = record {
-  way : (p : Past) (known : ℕ) → ((turn : ℕ) → l.fn.machine.state.turn ≤ turn → turn < l.to → events_at p.script.entries turn ≡ [])
+abbrev pub invariant-loop-machine : goal.invariant-loop-machine
+invariant-loop-machine l = record {
+  way : (p : Past) (known : ℕ) → IsWithoutEvents p l.fn.machine.state.turn l.to
       → IsUnderWay p known l.fn.machine → IsUnderWay p known l.machine;
-  turn : l.machine.state.turn ≡ l._turn;
-  begun : l.fn.machine.state.turn ≤ l._turn;
-  within : l._turn ≤ l.to;
-  ran : l.meter + l.fn.machine.state.turn ≤ l.fn.meter + l._turn;
+  begun : l.fn.machine.state.turn ≤ l.machine.state.turn;
+  within : l.machine.state.turn ≤ l.to;
+  ran : l.meter + l.fn.machine.state.turn ≤ l.fn.meter + l.machine.state.turn;
   counted : l.fn.meter ≤ l.meter;
 }
+
+abbrev pub decreases-loop-machine : goal.decreases-loop-machine
+decreases-loop-machine l = l.to - l.machine.state.turn
