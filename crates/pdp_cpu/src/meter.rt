@@ -39,7 +39,7 @@ impl Meter {
         self.turns = self.turns.saturating_add(1);
     }
 
-    /// Counts so many turns; at 18,446,744,073,709,551,615 it stays there.
+    /// Counts `turns` turns; at 18,446,744,073,709,551,615 it stays there.
     pub(crate) fn add(&mut self, turns: u32)
         ensures counted { self.new ≡ min (self.old + turns) (2 ^ 64 - 1) }
         ensures grows { self.old ≤ self.new }

@@ -17,9 +17,9 @@ pub enum Operands {
     Register(u8),
     /// A number: the words of MARK, the code of EMT or TRAP.
     Number(u8),
-    /// The target of a branch, which is so many words from the PC that follows the instruction.
+    /// The target of a branch: its offset, in words, from the PC that follows the instruction.
     Branch(i8),
-    /// SOB: its register, and its target, which is so many words before that PC.
+    /// SOB: its register, and how many words its target is before that PC.
     Loop { register: u8, words: u8 },
     /// One operand with a mode.
     Single(Spec),
