@@ -20,6 +20,9 @@ MODULES = (scripts, texts, prompt, bad_input, others)
 
 
 def main():
+    if sys.argv[1:] in (["--help"], ["-h"]):
+        print(__doc__)
+        sys.exit(0)
     if len(sys.argv) != 3:
         sys.exit(__doc__)
     BUILT.program, BUILT.disassembler = map(sessions.existing_program, sys.argv[1:])

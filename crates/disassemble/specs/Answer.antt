@@ -1,5 +1,7 @@
 -- The answers to lines (this project's profile).
-use Rattle.std.specs.Prelude.{◌≡◌, ℕ, ◌-◌, Bool, ◌==◌, not, if◌then◌else◌, List, [], ◌++◌, length, slice_index, take, codes, decimal, Option, Some, Result, Ok, Err, IfSome}
+use Rattle.std.specs.Prelude.{◌≡◌, ℕ, ◌-◌, Bool, ◌==◌, not, if◌then◌else◌, List, [], ◌++◌, length}
+use Rattle.std.specs.Prelude.{slice_index, take, codes, decimal, Option, Some, Result, Ok, Err}
+use Rattle.std.specs.Prelude.{IfSome}
 use Rattle.std.specs.List.{flat_map}
 use Rattle.std.specs.Io.BufRead.{take_through, drop_through}
 use Rattle.std.specs.Io.KnownBytes.{Appends}
@@ -45,8 +47,8 @@ line_in read =
 abbrev pub read_answer : List ℕ → List ℕ
 read_answer read = if length read == 0 then [] else line_answer (line_in read)
 
--- The next line was answered, if there was one: of a reader and a writer whose bytes are known before
--- and after.
+-- The next line was answered, if there was one: of a reader and a writer whose bytes are known
+-- before and after.
 abbrev pub AnswersNext : Option (List ℕ) → Option (List ℕ) → Option (List ℕ) → Option (List ℕ)
     → Bool → Type 0
 AnswersNext unread rest written now was_line = IfSome unread (λ text.

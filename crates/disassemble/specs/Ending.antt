@@ -3,7 +3,8 @@ use Rattle.std.specs.Prelude.{ℕ, List, [], codes}
 use Rattle.std.specs.declared.io.ErrorKind.{ErrorKind}
 use Rattle.std.specs.declared.io.ErrorKind.TheVariants.{OutOfMemory}
 use Rattle.disassemble.specs.declared.ending.Ending.{Ending}
-use Rattle.disassemble.specs.declared.ending.Ending.TheVariants.{Done, BadArguments, InputOrOutput, NoMemory}
+use Rattle.disassemble.specs.declared.ending.Ending.TheVariants.{Done, BadArguments, InputOrOutput}
+use Rattle.disassemble.specs.declared.ending.Ending.TheVariants.{NoMemory}
 
 abbrev pub ending_status : Ending → ℕ
 ending_status Done = 0

@@ -68,5 +68,6 @@ fn add(answer: &mut AnswerText, bytes: &[u8])
     requires { length answer.old.items + length bytes.now ≤ LONGEST_ANSWER }
     ensures { answer.new.items ≡ answer.old.items ++ bytes.now }
 {
+    // it never fails: there is room, as the contract requires
     let _ = answer.try_extend_from_slice(bytes);
 }

@@ -1,6 +1,8 @@
 -- What the words of the command line ask for (this project's profile).
-use Rattle.std.specs.Prelude.{◌≡◌, ◌≢◌, List, [], ◌∷◌, map, Option, Some, None, Result, Ok, Err, ◌⊎◌, codes, option_map, string_bytes}
-use Rattle.clap.specs.Words.{App, Kinds, IsAmong, Row, Rule, Text, first_of, matches_of, new_app, new_rule, with_rule}
+use Rattle.std.specs.Prelude.{◌≡◌, ◌≢◌, List, [], ◌∷◌, map, Option, Some, None, Result, Ok, Err}
+use Rattle.std.specs.Prelude.{◌⊎◌, codes, option_map, string_bytes}
+use Rattle.clap.specs.Words.{App, Kinds, IsAmong, Row, Rule, Text, first_of, matches_of, new_app}
+use Rattle.clap.specs.Words.{new_rule, with_rule}
 use Rattle.clap.specs.declared.builder.action.ArgAction.TheVariants.{Set}
 use Rattle.clap.specs.declared.error.kind.ErrorKind.{ErrorKind}
 use Rattle.clap.specs.declared.error.kind.ErrorKind.TheVariants.{DisplayHelp}
@@ -30,10 +32,12 @@ with_options (name ∷ names) app = with_options names (with_rule app (option_ru
 -- the options that name files, and those that are numbers
 abbrev pub with_files : App → App
 with_files app =
-    with_rule (with_options drive_options (with_rule app (option_rule (codes "core")))) (option_rule (codes "tape"))
+    with_rule (with_options drive_options (with_rule app (option_rule (codes "core"))))
+    (option_rule (codes "tape"))
 
 abbrev pub with_numbers : App → App
-with_numbers app = with_rule (with_rule (with_rule app (option_rule (codes "units"))) (option_rule (codes "start"))) (option_rule (codes "stride"))
+with_numbers app = with_rule (with_rule (with_rule app (option_rule (codes "units"))) (option_rule
+    (codes "start"))) (option_rule (codes "stride"))
 
 -- the program's options, beside which clap knows -h and --help
 abbrev pub command_line : App
@@ -43,24 +47,28 @@ command_line = with_numbers (with_files (new_app (codes "pdp11")))
 abbrev pub options_in : List Text → Option Options
 options_in words =
     let rows = matches_of command_line words in
-    options_given (first_of (codes "units") rows) (first_of (codes "start") rows) (first_of (codes "stride") rows)
+    options_given (first_of (codes "units") rows) (first_of (codes "start") rows) (first_of
+    (codes "stride") rows)
 
 -- the names of the files that the words of these rows give, each where its option is given
 pub record AreNamesIn (rows : List Row) (names : FileNames) : Type 0 where
   pub core : option_map string_bytes names.core ≡ first_of (codes "core") rows
-  pub drives : map (λ name. option_map string_bytes name) names.drives.items ≡ map (λ option. first_of option rows) drive_options
+  pub drives : map (λ name. option_map string_bytes name) names.drives.items ≡ map
+      (λ option. first_of option rows) drive_options
   pub tape : option_map string_bytes names.tape ≡ first_of (codes "tape") rows
 
 -- a fault that is not asking for help
 abbrev pub IsRefused : Kinds → Type 0
 IsRefused faults = (kind : ErrorKind) × (kind ≢ DisplayHelp) × IsAmong kind faults
 
--- An answer about words in which clap finds these faults, of which asking for help is one: so help wins over a
--- number that can't be read, which is looked at where there is no fault.
+-- An answer about words in which clap finds these faults, of which asking for help is one: so help
+-- wins over a number that can't be read, which is looked at where there is no fault.
 abbrev pub Asks : Kinds → List Text → Result Request Exit → Type 0
 Asks faults words (Ok (Help text)) = IsAmong DisplayHelp faults
 Asks faults words (Ok (Session options names)) =
-    (faults ≡ []) × (options_in words ≡ Some options) × AreNamesIn (matches_of command_line words) names
-Asks faults words (Err BadArguments) = IsRefused faults ⊎ ((faults ≡ []) × (options_in words ≡ None))
+    (faults ≡ []) × (options_in words ≡ Some options) × AreNamesIn (matches_of command_line words)
+    names
+Asks faults words (Err BadArguments) = IsRefused faults ⊎ ((faults ≡ []) × (options_in words
+    ≡ None))
 Asks faults words (Err NoMemory) = Unit {0}
 Asks faults words (Err _) = ⊥

@@ -1,17 +1,20 @@
 -- The exit statuses and the lines on standard error (this project's profile).
 use Rattle.std.specs.Prelude.{ℕ, ◌≡◌, List, [], Result, Ok, Err, codes}
 use Rattle.pdp_script.specs.declared.faults.Fault.{Fault}
-use Rattle.pdp_script.specs.declared.faults.Fault.TheVariants.{NoMemory as FaultNoMemory, Input, Output, BadImage as FaultBadImage, BadSetup as FaultBadSetup}
+use Rattle.pdp_script.specs.declared.faults.Fault.TheVariants.{NoMemory as FaultNoMemory, Input}
+use Rattle.pdp_script.specs.declared.faults.Fault.TheVariants.{Output, BadImage as FaultBadImage}
+use Rattle.pdp_script.specs.declared.faults.Fault.TheVariants.{BadSetup as FaultBadSetup}
 use Rattle.pdp11.specs.declared.exit.Exit.{Exit}
-use Rattle.pdp11.specs.declared.exit.Exit.TheVariants.{Done, BadArguments, InputOrOutput, NoMemory, BadImage, BadSetup}
+use Rattle.pdp11.specs.declared.exit.Exit.TheVariants.{Done, BadArguments, InputOrOutput, NoMemory}
+use Rattle.pdp11.specs.declared.exit.Exit.TheVariants.{BadImage, BadSetup}
 
-abbrev pub status_of : Exit → ℕ
-status_of Done = 0
-status_of BadArguments = 2
-status_of InputOrOutput = 3
-status_of NoMemory = 4
-status_of BadImage = 5
-status_of BadSetup = 5
+abbrev pub exit_status : Exit → ℕ
+exit_status Done = 0
+exit_status BadArguments = 2
+exit_status InputOrOutput = 3
+exit_status NoMemory = 4
+exit_status BadImage = 5
+exit_status BadSetup = 5
 
 abbrev pub line_of : Exit → List ℕ
 line_of Done = []
@@ -23,10 +26,10 @@ line_of BadSetup = codes "pdp11: refused 15 BadSetup"
 
 -- a status and a line that stand in one row of the table
 abbrev pub IsListed : ℕ → List ℕ → Type 0
-IsListed status line = (exit : Exit) × (status ≡ status_of exit) × (line ≡ line_of exit)
+IsListed status line = (exit : Exit) × (status ≡ exit_status exit) × (line ≡ line_of exit)
 
--- how the program ends after a session: faults 2 to 11 and 16 are replies, and end none, so the last row is 12 and
--- 13
+-- how the program ends after a session: faults 2 to 11 and 16 are replies, and end none, so the
+-- last row is 12 and 13
 abbrev pub exit_of : Result (Unit {0}) Fault → Exit
 exit_of (Ok x) = Done
 exit_of (Err FaultNoMemory) = NoMemory

@@ -1,4 +1,5 @@
--- The program: its exit, its files, the words of its command line, what its files hold and its whole run (this project's profile).
+-- The program: its exit, its files, the words of its command line, what its files hold and its
+-- whole run (this project's profile).
 pub mod Exit
 pub mod Files
 pub mod Numbers

@@ -4,11 +4,13 @@ use Rattle.pdp_word.specs.Number.{number_of}
 use Rattle.pdp_session.specs.Grammar.Arguments.{◌>>=◌, largest_number}
 use Rattle.pdp11.specs.declared.options.Options.{Options}
 
--- The number of an option whose field holds numbers up to `largest`: its default where the option isn't given, and
--- none where its text is no number in this base. A number that the field can't hold becomes the largest that it can.
+-- The number of an option whose field holds numbers up to `largest`: its default where the option
+-- isn't given, and none where its text is no number in this base. A number that the field can't
+-- hold becomes the largest that it can.
 abbrev pub number_given : ℕ → ℕ → ℕ → Option (List ℕ) → Option ℕ
 number_given base largest default None = Some default
-number_given base largest default (Some text) = option_map (λ number. min number largest) (number_of base text)
+number_given base largest default (Some text) = option_map (λ number. min number largest)
+    (number_of base text)
 
 -- the options, where each has its number
 abbrev pub all_given : Option ℕ → Option ℕ → Option ℕ → Option Options
@@ -18,8 +20,8 @@ all_given units start stride = do
   n ← stride
   Some (record { units = u; start = a; stride = n })
 
--- what the texts of --units, --start and --stride give, in fields of 8, 16 and 32 bits: without them 31, 1000 octal and
--- 10,000
+-- what the texts of --units, --start and --stride give, in fields of 8, 16 and 32 bits: without
+-- them 31, 1000 octal and 10,000
 abbrev pub units_number : Option (List ℕ) → Option ℕ
 units_number text = number_given 10 255 31 text
 

@@ -1,13 +1,14 @@
 -- What the program has done with its streams when it ends (this project's profile).
 use Rattle.std.specs.Prelude.{◌≡◌, ℕ, ◌++◌, List, [], Option, Result, Ok, Err, string_bytes}
-use Rattle.std.specs.Io.KnownBytes.{Appends, Keeps}
+use Rattle.std.specs.Io.KnownBytes.{Appends}
 use Rattle.clap.specs.Words.{Text, fault_of}
 use Rattle.pdp_script.specs.declared.faults.Fault.{Fault}
 use Rattle.pdp_unibus.specs.Delays.{standard_delays}
 use Rattle.pdp_replay.specs.Past.{starting_past}
-use Rattle.pdp_replay.specs.Setup.{SetupData}
+use Rattle.pdp_replay.specs.Past.Setup.{SetupData}
 use Rattle.pdp_session.specs.Session.{Session}
-use Rattle.pdp11.specs.Exit.{status_of, line_of, exit_of}
+use Rattle.pdp_session.specs.Streams.{OutputData, StreamsData}
+use Rattle.pdp11.specs.Exit.{exit_status, line_of, exit_of}
 use Rattle.pdp11.specs.CommandLine.{Asks, command_line}
 use Rattle.pdp11.specs.Media.{Contents, AreMediaOf}
 use Rattle.pdp11.specs.declared.command_line.FileNames.{FileNames}
@@ -17,7 +18,8 @@ use Rattle.pdp11.specs.declared.options.Options.{Options}
 use Rattle.pdp11.specs.declared.command_line.Request.{Request}
 use Rattle.pdp11.specs.declared.command_line.Request.TheVariants.{Help, Session as SessionWith}
 
--- what a run with these options, images and tape starts from: one drive, no patch, and the standard delays
+-- what a run with these options, images and tape starts from: one drive, no patch, and the standard
+-- delays
 abbrev pub setup_with : Options → Contents → SetupData
 setup_with options media = record {
   units = options.units;
@@ -32,45 +34,51 @@ setup_with options media = record {
 }
 
 -- a text was written whole, or the writer failed after a beginning of it
-abbrev pub Shows : List ℕ → Option (List ℕ) → Option (List ℕ) → Exit → Type 0
-Shows text before after Done = Appends before after text
-Shows text before after InputOrOutput = (taken : List ℕ) × (rest : List ℕ) × (text ≡ taken ++ rest) × Appends before after taken
+abbrev pub Shows : List ℕ → OutputData → OutputData → Exit → Type 0
+Shows text before after Done = Appends before.written after.written text
+Shows text before after InputOrOutput =
+    (taken : List ℕ) × (rest : List ℕ) × (text ≡ taken ++ rest)
+    × Appends before.written after.written taken
 Shows text before after _ = ⊥
 
--- the session of these options, images and tape was answered, and the program ends as its result says
-pub record RunsSession (options : Options) (media : Contents) (before after : Option (List ℕ)) (pulls pulls_after : ℕ) (before_out after_out : Option (List ℕ)) (exit : Exit) : Type 0 where
+-- the session of these options, images and tape was answered, and the program ends as its result
+-- says
+pub record RunsSession (options : Options) (media : Contents) (before after : StreamsData)
+    (exit : Exit) : Type 0 where
   pub answer : Result (Unit {0}) Fault
-  pub session : Session (starting_past (setup_with options media)) before after pulls pulls_after before_out after_out answer
+  pub session : Session (starting_past (setup_with options media)) before after answer
   pub ends : exit ≡ exit_of answer
 
--- what is done with what the files hold, or with the exit in place of it: then nothing was read or written
-abbrev pub GoesOn : Options → Result Contents Exit → Option (List ℕ) → Option (List ℕ) → ℕ → ℕ → Option (List ℕ) → Option (List ℕ) → Exit → Type 0
-GoesOn options (Ok media) before after pulls pulls_after before_out after_out exit =
-    RunsSession options media before after pulls pulls_after before_out after_out exit
-GoesOn options (Err cause) before after pulls pulls_after before_out after_out exit =
-    Keeps before after × (pulls_after ≡ pulls) × Keeps before_out after_out × (exit ≡ cause)
+-- what is done with what the files hold, or with the exit in place of it: then nothing was read or
+-- written
+abbrev pub GoesOnWith : Options → Result Contents Exit → StreamsData → StreamsData → Exit → Type 0
+GoesOnWith options (Ok media) before after exit = RunsSession options media before after exit
+GoesOnWith options (Err cause) before after exit = (after ≡ before) × (exit ≡ cause)
 
 -- the files were read, and then the session was answered
-pub record Starts (contents : Text → Option (List ℕ)) (options : Options) (names : FileNames) (before after : Option (List ℕ)) (pulls pulls_after : ℕ) (before_out after_out : Option (List ℕ)) (exit : Exit) : Type 0 where
+pub record Starts (contents : Text → Option (List ℕ)) (options : Options) (names : FileNames)
+    (before after : StreamsData) (exit : Exit) : Type 0 where
   pub media : Result Contents Exit
   pub is_media : AreMediaOf contents options.units names media
-  pub goes : GoesOn options media before after pulls pulls_after before_out after_out exit
+  pub goes : GoesOnWith options media before after exit
 
--- what was done where the words ask for this: the known contents of files, the reader's known bytes and pulls before and
--- after, and the writer's bytes
-abbrev pub Does : (Text → Option (List ℕ)) → Result Request Exit → Option (List ℕ) → Option (List ℕ) → ℕ → ℕ → Option (List ℕ) → Option (List ℕ) → Exit → Type 0
-Does contents (Ok (Help text)) before after pulls pulls_after before_out after_out exit =
-    Keeps before after × (pulls_after ≡ pulls) × Shows (string_bytes text) before_out after_out exit
-Does contents (Ok (SessionWith options names)) before after pulls pulls_after before_out after_out exit =
-    Starts contents options names before after pulls pulls_after before_out after_out exit
-Does contents (Err cause) before after pulls pulls_after before_out after_out exit =
-    Keeps before after × (pulls_after ≡ pulls) × Keeps before_out after_out × (exit ≡ cause)
+-- what was done if the words ask for this: the known contents of files, and the streams before and
+-- after
+abbrev pub DoesRequest : (Text → Option (List ℕ)) → Result Request Exit → StreamsData → StreamsData
+    → Exit
+    → Type 0
+DoesRequest contents (Ok (Help text)) before after exit =
+    (after.input ≡ before.input) × Shows (string_bytes text) before.output after.output exit
+DoesRequest contents (Ok (SessionWith options names)) before after exit =
+    Starts contents options names before after exit
+DoesRequest contents (Err cause) before after exit = (after ≡ before) × (exit ≡ cause)
 
 -- the whole run: what the words ask for was done, and its exit is told
-pub record Tells (words : List Text) (contents : Text → Option (List ℕ)) (before after : Option (List ℕ)) (pulls pulls_after : ℕ) (before_out after_out : Option (List ℕ)) (status : ℕ) (line : List ℕ) : Type 0 where
+pub record Tells (words : List Text) (contents : Text → Option (List ℕ))
+    (before after : StreamsData) (status : ℕ) (line : List ℕ) : Type 0 where
   pub asked : Result Request Exit
   pub exit : Exit
   pub asks : Asks (fault_of command_line words) words asked
-  pub does : Does contents asked before after pulls pulls_after before_out after_out exit
-  pub told_status : status ≡ status_of exit
+  pub does : DoesRequest contents asked before after exit
+  pub told_status : status ≡ exit_status exit
   pub told_line : line ≡ line_of exit

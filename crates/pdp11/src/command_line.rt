@@ -1,6 +1,8 @@
 ghost use Rattle.std.specs.Prelude.{◌≡◌, false, map, option_map, string_bytes, IfOk};
-ghost use Rattle.clap.specs.Words.{FailsBy, app_of, fault_of, found_of, matches_of, first_of, rows_of, rule_of, with_rule};
-ghost use Rattle.pdp11.specs.CommandLine.{AreNamesIn, Asks, command_line, drive_options, option_rule, with_files, with_numbers, with_options};
+ghost use Rattle.clap.specs.Words.{FailsBy, app_of, fault_of, found_of, matches_of, first_of};
+ghost use Rattle.clap.specs.Words.{rows_of, rule_of, with_rule};
+ghost use Rattle.pdp11.specs.CommandLine.{AreNamesIn, Asks, command_line, drive_options};
+ghost use Rattle.pdp11.specs.CommandLine.{option_rule, with_files, with_numbers, with_options};
 
 use crate::exit::Exit;
 use crate::options::{Options, read_options};
@@ -48,7 +50,8 @@ EVENT is key B, tick, printer, reader, punch, disk, switches W or continue.";
 pub enum Request {
     /// This text of help.
     Help(String),
-    /// A session with these options, and with the images and the tape that the files of these names hold.
+    /// A session with these options, and with the images and the tape that the files of these names
+    /// hold.
     Session { options: Options, names: FileNames },
 }
 
@@ -63,9 +66,9 @@ pub struct FileNames {
     pub tape: Option<String>,
 }
 
-/// What these words ask for, the program's name first. `BadArguments`: an option is unknown, is given twice or
-/// without a value, there is a word that belongs to none, or a number can't be read. Help wins over the last.
-/// `NoMemory` as soon as it is out of memory.
+/// What these words ask for, the program's name first. `BadArguments`: an option is unknown, is
+/// given twice or without a value, there is a word that belongs to none, or a number can't be read.
+/// Help wins over the last. `NoMemory` as soon as it is out of memory.
 pub fn read_words<S: AsStr>(alloc: Global, words: &[S]) -> Result<Request, Exit>
     ensures { Asks (fault_of command_line (map S.text words.now)) (map S.text words.now) result }
 {
@@ -128,7 +131,8 @@ fn owned_names(alloc: Global, names: [Option<&str>; 8]) -> Result<Vec<Option<Str
 }
 
 fn owned_name(alloc: Global, name: Option<&str>) -> Result<Option<String>, AllocError>
-    ensures { IfOk result (λ owned. option_map string_bytes owned ≡ option_map (λ text. text.now) name.entry) }
+    ensures { IfOk result (λ owned.
+        option_map string_bytes owned ≡ option_map (λ text. text.now) name.entry) }
 {
     match name {
         Some(name) => Ok(Some(String::from_str(alloc, name)?)),
@@ -165,7 +169,8 @@ fn with_files<'a>(alloc: Global, command: Command<'a>) -> Result<Command<'a>, Al
 
 // With the options that name the images of the drives.
 fn with_drives<'a>(alloc: Global, command: Command<'a>) -> Result<Command<'a>, AllocError>
-    ensures { IfOk result (λ more. app_of more ≡ with_options drive_options (app_of command.entry)) }
+    ensures { IfOk result (λ more.
+        app_of more ≡ with_options drive_options (app_of command.entry)) }
 {
     let first = "Words of the drive from word 0 on [default: zeros]";
     let second = "Words of drive 1, which version 2 has [default: zeros]";
@@ -186,7 +191,8 @@ fn with_file<'a>(
     name: &'a str,
     help: &'a str,
 ) -> Result<Command<'a>, AllocError>
-    ensures { IfOk result (λ more. app_of more ≡ with_rule (app_of command.entry) (option_rule name.entry.now)) }
+    ensures { IfOk result (λ more.
+        app_of more ≡ with_rule (app_of command.entry) (option_rule name.entry.now)) }
 {
     command.arg(option(alloc, name, "FILE", help))
 }

@@ -1,5 +1,5 @@
 ghost use Rattle.std.specs.Prelude.{◌≡◌};
-ghost use Rattle.pdp11.specs.Exit.{status_of, line_of, exit_of};
+ghost use Rattle.pdp11.specs.Exit.{exit_status, line_of, exit_of};
 ghost use Rattle.pdp11.specs.declared.exit.Exit.TheVariants.{NoMemory};
 
 use pdp_script::Fault;
@@ -25,7 +25,7 @@ pub enum Exit {
 impl Exit {
     /// The exit status: 0, 2, 3, 4, and 5 for a bad image or setup (this project's profile).
     pub fn status(self) -> u8
-        ensures { result ≡ status_of self }
+        ensures { result ≡ exit_status self }
     {
         match self {
             Exit::Done => 0,
@@ -36,7 +36,8 @@ impl Exit {
         }
     }
 
-    /// The line for standard error, without its line feed; empty where there is none (this project's profile).
+    /// The line for standard error, without its line feed; empty where there is none (this
+    /// project's profile).
     pub fn line(self) -> &'static str
         ensures { result.now ≡ line_of self }
     {

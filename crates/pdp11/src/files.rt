@@ -1,4 +1,5 @@
-ghost use Rattle.std.specs.Prelude.{◌≡◌, ◌≤◌, ◌||◌, Bool, false, ℕ, List, Option, None, IfOk, IfSome, length, take};
+ghost use Rattle.std.specs.Prelude.{◌≡◌, ◌≤◌, ◌||◌, Bool, false, ℕ, List, Option, None, IfOk};
+ghost use Rattle.std.specs.Prelude.{IfSome, length, take};
 ghost use Rattle.pdp11.specs.Files.{is_unreadable};
 ghost use Rattle.pdp11.specs.declared.files.FileFailure.TheVariants.{NoMemory};
 
@@ -24,15 +25,17 @@ pub trait Files {
     // the bytes of the file of this name, where they are known
     ghost contents: { Self → List ℕ → Option (List ℕ) };
 
-    /// The bytes of the file of this name, or of a longer file the first `most`. No more of it is read.
+    /// The bytes of the file of this name, or of a longer file the first `most`. No more of it is
+    /// read.
     ///
     /// # Errors
     ///
-    /// [`FileFailure::Unreadable`] if the file can't be read, and [`FileFailure::NoMemory`] if there is no memory
-    /// for these bytes.
+    /// [`FileFailure::Unreadable`] if the file can't be read, and [`FileFailure::NoMemory`] if
+    /// there is no memory for these bytes.
     fn bytes(&mut self, alloc: Global, name: &str, most: usize) -> Result<Vec<u8>, FileFailure>
         ensures bound { IfOk result (λ bytes. length bytes.items ≤ most) }
-        ensures front { IfOk result (λ bytes. IfSome (contents self.old name.now) (λ known. bytes.items ≡ take most known)) }
+        ensures front { IfOk result (λ bytes. IfSome (contents self.old name.now) (λ known.
+            bytes.items ≡ take most known)) }
         ensures fails { has_failed self.new ≡ (has_failed self.old || is_unreadable result) }
         ensures same { contents self.new ≡ contents self.old };
 
@@ -100,15 +103,16 @@ const CHUNK: usize = 4_096;
 ///
 /// # Errors
 ///
-/// [`FileFailure::Unreadable`] if the feed fails before that, and [`FileFailure::NoMemory`] if there is no memory for
-/// these bytes.
+/// [`FileFailure::Unreadable`] if the feed fails before that, and [`FileFailure::NoMemory`] if
+/// there is no memory for these bytes.
 pub fn first_bytes<R: Feed>(
     alloc: Global,
     feed: &mut R,
     most: usize,
 ) -> Result<Vec<u8>, FileFailure>
     ensures bound { IfOk result (λ bytes. length bytes.items ≤ most) }
-    ensures front { IfOk result (λ bytes. IfSome (R.remaining feed.old) (λ known. bytes.items ≡ take most known)) }
+    ensures front { IfOk result (λ bytes. IfSome (R.input feed.old).unread (λ known.
+        bytes.items ≡ take most known)) }
 {
     let mut bytes = Vec::new(alloc);
     let mut chunk = [0; CHUNK];

@@ -11,7 +11,8 @@
 //!
 //! # What is only tested
 //!
-//! - The text of help; the worked rows, tables and examples on the built program.
+//! - The text of help, streams that fail, and images of the largest size; the worked rows, tables
+//!   and examples, all on the built program.
 //!
 //! What a command line or a file holds, and what standard input and output do, is left to the
 //! system.
@@ -53,7 +54,8 @@ fn main(rt: HostRuntime) -> ExitCode {
     ExitCode::from(status)
 }
 
-// The words of the command line, the program's name first. Words that aren't text are bad arguments.
+// The words of the command line, the program's name first. Words that aren't text are bad
+// arguments.
 fn words_of(rt: &HostRuntime) -> Result<Vec<String>, Exit> {
     match env::args(rt) {
         Ok(words) => Ok(words.collect::<Vec<String>>(rt.alloc())?),

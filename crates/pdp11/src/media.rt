@@ -1,6 +1,7 @@
 ghost use Rattle.std.specs.Prelude.{◌≡◌, true, Err, map, option_map, string_bytes};
 ghost use Rattle.pdp_script.specs.Refusal.{result_map};
-ghost use Rattle.pdp11.specs.Media.{AreFilesOf, AreImagesOf, IsFileOf, IsImageOf, AreMediaOf, contents_of, most_of_core, most_of_disk};
+ghost use Rattle.pdp11.specs.Media.{AreFilesOf, AreImagesOf, IsFileOf, IsImageOf, AreMediaOf};
+ghost use Rattle.pdp11.specs.Media.{contents_of, most_of_core, most_of_disk};
 
 use crate::command_line::FileNames;
 use crate::exit::Exit;
@@ -9,8 +10,8 @@ use pdp_script::Fault;
 use pdp_session::read_image;
 use std::alloc::Global;
 
-/// What the files of a session hold: the words of the images of core and of each drive, and the bytes of the tape.
-/// Each is empty where no file is named.
+/// What the files of a session hold: the words of the images of core and of each drive, and the
+/// bytes of the tape. Each is empty where no file is named.
 #[derive(Drop)]
 pub struct Media {
     pub core: Vec<u16>,
@@ -31,14 +32,16 @@ const DRIVE_BYTES: usize = 2_494_464;
 // The most bytes of a paper tape.
 const TAPE_BYTES: usize = 1_048_576;
 
-// One word past its limit shows that an image is too long, however long its file is. So no more of the file is read.
+// One word past its limit shows that an image is too long, however long its file is. So no more of
+// the file is read.
 const WORD_BYTES: usize = 2;
 
-/// Reads the files of these names, for a core of `units` units. Of an image it reads at most one word more than core
-/// or a drive has room for, and of the tape one byte more than its limit: the setup is refused with that.
+/// Reads the files of these names, for a core of `units` units. Of an image it reads at most one
+/// word more than core or a drive has room for, and of the tape one byte more than its limit: the
+/// setup is refused with that.
 ///
-/// All files are read before an image is looked at: a file that can't be read is told before an image of an odd number
-/// of bytes. `NoMemory` as soon as it is out of memory.
+/// All files are read before an image is looked at: a file that can't be read is told before an
+/// image of an odd number of bytes. `NoMemory` as soon as it is out of memory.
 pub fn read_media<F: Files>(
     alloc: Global,
     units: u8,
@@ -96,7 +99,8 @@ fn read_drives<F: Files>(
     names: Vec<Option<String>>,
     files: &mut F,
 ) -> Result<Vec<Vec<u8>>, Exit>
-    ensures read { AreFilesOf (F.contents files.old) most_of_disk (map (λ name. option_map string_bytes name) names.items)
+    ensures read { AreFilesOf (F.contents files.old) most_of_disk
+        (map (λ name. option_map string_bytes name) names.items)
         (result_map (λ drives. map (λ bytes. bytes.items) drives.items) result) }
     ensures failed { result ≡ Err Exit.InputOrOutput → F.has_failed files.new ≡ true }
     ensures same { F.contents files.new ≡ F.contents files.old }

@@ -10,20 +10,20 @@ const UNITS: u8 = 31;
 // The start address where none is given.
 const START: u16 = 0o1000;
 
-/// The numbers that a run starts from, each as its field holds it: a number that its field can't hold is the
-/// field's largest one, which is out of range too.
+/// The numbers that a run starts from, each as its field holds it: a number that its field can't
+/// hold is the field's largest one, which is out of range too.
 #[derive(Clone, Copy, Debug, PartialEq, Eq)]
 pub struct Options {
     /// The size of core, in units of 4,096 words.
     pub units: u8,
     /// The address that PC has at power-up.
     pub start: u16,
-    /// How many turns apart states are kept at first.
+    /// How many turns apart checkpoints are at first.
     pub stride: u32,
 }
 
-/// The options with these texts, decimal, octal and decimal: without them 31 units, start address 1000 and a
-/// stride of 10,000 turns. `None` where a text is no number of 1 to 10 digits.
+/// The options with these texts, decimal, octal and decimal: without them 31 units, start address
+/// 1000 and a stride of 10,000 turns. `None` where a text is no number of 1 to 10 digits.
 pub fn read_options(
     units: Option<&str>,
     start: Option<&str>,

@@ -2,7 +2,8 @@ ghost use Rattle.std.specs.Prelude.{◌≡◌, ◌≢◌, ◌⊎◌, true, false
 ghost use Rattle.pdp11.specs.Exit.{IsListed};
 ghost use Rattle.pdp11.specs.Media.{contents_of};
 ghost use Rattle.pdp11.specs.ProgramRun.{RunsSession, Shows, Starts, Tells, setup_with};
-ghost use Rattle.pdp_replay.specs.Setup.{given};
+ghost use Rattle.pdp_replay.specs.Past.Setup.{given_setup};
+ghost use Rattle.pdp_session.specs.Streams.{streams_of};
 
 use crate::command_line::{FileNames, Request, read_words};
 use crate::exit::Exit;
@@ -13,8 +14,8 @@ use pdp_session::{Drain, Feed, Setup, run};
 use std::alloc::Global;
 use std::convert::AsStr;
 
-/// Runs the program on these words (the program's name first), files and streams. Answers the exit status and the
-/// line for standard error, empty where there is none (this project's profile):
+/// Runs the program on these words (the program's name first), files and streams. Returns the exit
+/// status and the line for standard error, empty if there is none (this project's profile):
 ///
 /// | status | line | when |
 /// |---|---|---|
@@ -22,9 +23,11 @@ use std::convert::AsStr;
 /// | 2 | `pdp11: bad arguments` | the words are wrong, or a number can't be read |
 /// | 3 | `pdp11: input or output` | a file can't be read, or the reader or the writer failed |
 /// | 4 | `pdp11: refused 1 NoMemory` | no memory before the first line |
-/// | 5 | `pdp11: refused 14 BadImage`, `pdp11: refused 15 BadSetup` | an image has an odd number of bytes, or the setup is refused |
+/// | 5 | `pdp11: refused 14 BadImage` | an image has an odd length, or it or the tape is too long |
+/// | 5 | `pdp11: refused 15 BadSetup` | units, start address or stride are out of range |
 ///
-/// Out of memory is told as soon as it is met; of several other causes the first in the order of docs/LANGUAGE.md.
+/// Out of memory is told as soon as it is met; of several other causes the first in the order of
+/// docs/LANGUAGE.md.
 pub fn outcome<R: Feed, W: Drain, F: Files, S: AsStr>(
     alloc: Global,
     words: &[S],
@@ -32,13 +35,15 @@ pub fn outcome<R: Feed, W: Drain, F: Files, S: AsStr>(
     reader: &mut R,
     writer: &mut W,
 ) -> (u8, &'static str)
-    requires reads { R.has_failed reader.old ≡ false }
-    requires drains { W.has_failed writer.old ≡ false }
+    requires reads { (R.input reader.old).has_failed ≡ false }
+    requires drains { (W.output writer.old).has_failed ≡ false }
     ensures listed { IsListed result.0 result.1.now }
     ensures failed { result.0 ≡ 3 →
-        (R.has_failed reader.new ≡ true) ⊎ ((W.has_failed writer.new ≡ true) ⊎ (F.has_failed files.new ≡ true)) }
-    ensures tells { Tells (map S.text words.now) (F.contents files.old) (R.remaining reader.old) (R.remaining reader.new)
-        (R.pulls reader.old) (R.pulls reader.new) (W.written writer.old) (W.written writer.new) result.0 result.1.now }
+        ((R.input reader.new).has_failed ≡ true)
+        ⊎ (((W.output writer.new).has_failed ≡ true) ⊎ (F.has_failed files.new ≡ true)) }
+    ensures tells { Tells (map S.text words.now) (F.contents files.old)
+        (streams_of (R.input reader.old) (W.output writer.old))
+        (streams_of (R.input reader.new) (W.output writer.new)) result.0 result.1.now }
 {
     let exit = match read_words(alloc, words) {
         Ok(Request::Help(text)) => show(text.as_bytes(), writer),
@@ -52,8 +57,8 @@ pub fn outcome<R: Feed, W: Drain, F: Files, S: AsStr>(
 
 // Writes a text whole, or a beginning of it up to where the writer fails or takes no byte.
 fn show<W: Drain>(text: &[u8], writer: &mut W) -> Exit
-    ensures shows { Shows text.now (W.written writer.old) (W.written writer.new) result }
-    ensures fails { result ≢ Exit.Done → W.has_failed writer.new ≡ true }
+    ensures shows { Shows text.now (W.output writer.old) (W.output writer.new) result }
+    ensures fails { result ≢ Exit.Done → (W.output writer.new).has_failed ≡ true }
 {
     let mut rest = text;
     while !rest.is_empty() {
@@ -75,12 +80,14 @@ fn start_session<R: Feed, W: Drain, F: Files>(
     reader: &mut R,
     writer: &mut W,
 ) -> Exit
-    requires reads { R.has_failed reader.old ≡ false }
-    requires drains { W.has_failed writer.old ≡ false }
+    requires reads { (R.input reader.old).has_failed ≡ false }
+    requires drains { (W.output writer.old).has_failed ≡ false }
     ensures failed { result ≡ Exit.InputOrOutput →
-        (R.has_failed reader.new ≡ true) ⊎ ((W.has_failed writer.new ≡ true) ⊎ (F.has_failed files.new ≡ true)) }
-    ensures starts { Starts (F.contents files.old) options names (R.remaining reader.old) (R.remaining reader.new)
-        (R.pulls reader.old) (R.pulls reader.new) (W.written writer.old) (W.written writer.new) result }
+        ((R.input reader.new).has_failed ≡ true)
+        ⊎ (((W.output writer.new).has_failed ≡ true) ⊎ (F.has_failed files.new ≡ true)) }
+    ensures starts { Starts (F.contents files.old) options names
+        (streams_of (R.input reader.old) (W.output writer.old))
+        (streams_of (R.input reader.new) (W.output writer.new)) result }
 {
     match read_media(alloc, options.units, names, files) {
         Ok(media) => answer_lines(alloc, options, media, reader, writer),
@@ -96,12 +103,13 @@ fn answer_lines<R: Feed, W: Drain>(
     reader: &mut R,
     writer: &mut W,
 ) -> Exit
-    requires reads { R.has_failed reader.old ≡ false }
-    requires drains { W.has_failed writer.old ≡ false }
+    requires reads { (R.input reader.old).has_failed ≡ false }
+    requires drains { (W.output writer.old).has_failed ≡ false }
     ensures failed { result ≡ Exit.InputOrOutput →
-        (R.has_failed reader.new ≡ true) ⊎ (W.has_failed writer.new ≡ true) }
-    ensures answers { RunsSession options (contents_of media) (R.remaining reader.old) (R.remaining reader.new)
-        (R.pulls reader.old) (R.pulls reader.new) (W.written writer.old) (W.written writer.new) result }
+        ((R.input reader.new).has_failed ≡ true) ⊎ ((W.output writer.new).has_failed ≡ true) }
+    ensures answers { RunsSession options (contents_of media)
+        (streams_of (R.input reader.old) (W.output writer.old))
+        (streams_of (R.input reader.new) (W.output writer.new)) result }
 {
     let setup = setup_of(options, media);
     Exit::of_session(run(alloc, setup, reader, writer))
@@ -109,7 +117,7 @@ fn answer_lines<R: Feed, W: Drain>(
 
 // The setup of these options, images and tape.
 fn setup_of(options: Options, media: Media) -> Setup
-    ensures { given result ≡ setup_with options (contents_of media) }
+    ensures { given_setup result ≡ setup_with options (contents_of media) }
 {
     Setup {
         units: options.units,
@@ -120,6 +128,3 @@ fn setup_of(options: Options, media: Media) -> Setup
         stride: options.stride,
     }
 }
-
-#[cfg(test)]
-mod tests;

@@ -10,8 +10,8 @@ use Rattle.pdp_alu.proofs.Iterations.{iterate_last}
 use Rattle.pdp_alu.proofs.ShiftLaws.{signed_by, left_fits, doubled_power, right_divides, right_keeps_fits, shifts_left, shifts_right, plain_signed, signed_long_by, times_one}
 use Rattle.pdp_word.specs.Bits.{bit_of, field}
 use Rattle.pdp_word.specs.declared.size.Size.TheVariants.{Word}
-use Rattle.pdp_word.specs.Word.{signed}
-use Rattle.pdp_alu.specs.ArithmeticShifts.{ash_effect, ashc_effect, shifted_left, shifted_right, sign_part, unshifted}
+use Rattle.pdp_word.specs.Word.{signed_value}
+use Rattle.pdp_alu.specs.ArithmeticShifts.{ash_effect, ashc_effect, shifted_left, shifted_right, sign_part, shifting_from}
 use Rattle.pdp_alu.specs.Long.{overflows_long, signed_long}
 use Rattle.pdp_alu.specs.Operand.{is_beyond, overflows}
 use Rattle.pdp_alu.specs.Shifts.{differ}
@@ -86,11 +86,11 @@ left_marks sign (suc n) s fits =
           ∙ ap (is_beyond sign) (doubled_power (signed_by sign s.number) n)
 
 pub word_overflow : (word count : ℕ) → word < 0o200000 → count < 0o40
-    → (ash_effect word count).codes.v ≡ overflows Word (signed word *ℤ pos (2 ^ count))
+    → (ash_effect word count).codes.v ≡ overflows Word (signed_value word *ℤ pos (2 ^ count))
 unfolding ash_effect
 word_overflow word count fits small =
     ap (λ s. s.sign_changed) (shifts_left 0o100000 word count small)
-    ∙ left_marks 0o100000 count (unshifted word) fits
+    ∙ left_marks 0o100000 count (shifting_from word) fits
     ∙ ap (λ x. is_beyond 0o100000 (x *ℤ pos (2 ^ count))) (sym (plain_signed word fits))
 
 pub long_overflow : (long count : ℕ) → long < 2 ^ 32 → count < 0o40
@@ -98,7 +98,7 @@ pub long_overflow : (long count : ℕ) → long < 2 ^ 32 → count < 0o40
 unfolding ashc_effect
 long_overflow long count fits small =
     ap (λ s. s.sign_changed) (shifts_left (2 ^ 31) long count small)
-    ∙ left_marks (2 ^ 31) count (unshifted long) fits
+    ∙ left_marks (2 ^ 31) count (shifting_from long) fits
     ∙ ap (λ x. is_beyond (2 ^ 31) (x *ℤ pos (2 ^ count))) (sym (signed_long_by long))
 
 -- to the left the number is multiplied, and what is above the sign bit is lost
@@ -143,21 +143,21 @@ twice_more number n = twice number (2 ^ n) ∙ ap (λ q. number * q) (sym (two-p
   twice m p = omega arith
 
 word_carry_by : (word n : ℕ) → word < 0o200000
-    → bit_of (iterate (shifted_left 0o100000) n (unshifted word)).out ≡ field 16 1 (word * 2 ^ n)
+    → bit_of (iterate (shifted_left 0o100000) n (shifting_from word)).out ≡ field 16 1 (word * 2 ^ n)
 word_carry_by word zero fits = unmoved (word * 2 ^ 0) (omega arith) where
   unmoved : (m : ℕ) → m < 0o200000 → 0 ≡ m / 2 ^ 16 % 2
   unmoved m small = omega arith
 word_carry_by word (suc n) fits =
-    ap bit_of (left_out 0o100000 n (unshifted word) fits) ∙ above_word (word * 2 ^ n)
+    ap bit_of (left_out 0o100000 n (shifting_from word) fits) ∙ above_word (word * 2 ^ n)
     ∙ ap (λ m. m / 2 ^ 16 % 2) (twice_more word n)
 
 long_carry_by : (long n : ℕ) → long < 2 ^ 32
-    → bit_of (iterate (shifted_left (2 ^ 31)) n (unshifted long)).out ≡ field 32 1 (long * 2 ^ n)
+    → bit_of (iterate (shifted_left (2 ^ 31)) n (shifting_from long)).out ≡ field 32 1 (long * 2 ^ n)
 long_carry_by long zero fits = unmoved (long * 2 ^ 0) (omega arith) where
   unmoved : (m : ℕ) → m < 2 ^ 32 → 0 ≡ m / 2 ^ 32 % 2
   unmoved m small = omega arith
 long_carry_by long (suc n) fits =
-    ap bit_of (left_out (2 ^ 31) n (unshifted long) fits) ∙ above_long (long * 2 ^ n)
+    ap bit_of (left_out (2 ^ 31) n (shifting_from long) fits) ∙ above_long (long * 2 ^ n)
     ∙ ap (λ m. m / 2 ^ 32 % 2) (twice_more long n)
 
 pub word_carry : (word count : ℕ) → word < 0o200000 → count < 0o40
@@ -194,16 +194,16 @@ right_out sign n s fits =
     ∙ ap (λ x. int_rem_euclid x (pos 2)) (right_divides sign n s fits)
 
 right_carry_by : (sign number count : ℕ) → number < 2 * sign → 0 < count
-    → pos (bit_of (iterate (shifted_right sign) count (unshifted number)).out)
+    → pos (bit_of (iterate (shifted_right sign) count (shifting_from number)).out)
     ≡ int_rem_euclid (int_div_euclid (signed_by sign number) (pos (2 ^ (count - 1)))) (pos 2)
 right_carry_by sign number zero fits some = elim some [ ]
 right_carry_by sign number (suc n) fits some =
-    right_out sign n (unshifted number) fits
+    right_out sign n (shifting_from number) fits
     ∙ ap (λ m. int_rem_euclid (int_div_euclid (signed_by sign number) (pos (2 ^ m))) (pos 2)) (omega arith)
 
 pub word_right_carry : (word count : ℕ) → word < 0o200000 → 0 < count → count ≤ 0o40
     → pos (bit_of (ash_effect word (0o100 - count)).codes.c)
-    ≡ int_rem_euclid (int_div_euclid (signed word) (pos (2 ^ (count - 1)))) (pos 2)
+    ≡ int_rem_euclid (int_div_euclid (signed_value word) (pos (2 ^ (count - 1)))) (pos 2)
 unfolding ash_effect
 word_right_carry word count fits some few =
     ap (λ s. pos (bit_of s.out)) (shifts_right 0o100000 word count some few)
@@ -223,6 +223,6 @@ pub right_never_overflows : (number count : ℕ) → 0 < count → count ≤ 0o4
     → ((ash_effect number (0o100 - count)).codes.v ≡ false) × ((ashc_effect number (0o100 - count)).codes.v ≡ false)
 unfolding ash_effect ashc_effect
 right_never_overflows number count some few = (
-  ap (λ s. s.sign_changed) (shifts_right 0o100000 number count some few) ∙ right_keeps_sign 0o100000 count (unshifted number),
-  ap (λ s. s.sign_changed) (shifts_right (2 ^ 31) number count some few) ∙ right_keeps_sign (2 ^ 31) count (unshifted number),
+  ap (λ s. s.sign_changed) (shifts_right 0o100000 number count some few) ∙ right_keeps_sign 0o100000 count (shifting_from number),
+  ap (λ s. s.sign_changed) (shifts_right (2 ^ 31) number count some few) ∙ right_keeps_sign (2 ^ 31) count (shifting_from number),
 )

@@ -7,8 +7,8 @@ use Rattle.std.proofs.lemmas.Int.{ints}
 use Rattle.std.proofs.Math.IntN.{*ℤ_comm}
 use Rattle.std.proofs.Math.Nat.{two-pow-succ, pow-succ', div-div-eq-div-mul}
 use Rattle.pdp_alu.proofs.Divisions.{product_of_sum}
-use Rattle.pdp_word.specs.Word.{signed}
-use Rattle.pdp_alu.specs.ArithmeticShifts.{ash_effect, ashc_effect, shifted_by, shifted_left, shifted_right, unshifted}
+use Rattle.pdp_word.specs.Word.{signed_value}
+use Rattle.pdp_alu.specs.ArithmeticShifts.{ash_effect, ashc_effect, shifted_by, shifted_left, shifted_right, shifting_from}
 use Rattle.pdp_alu.specs.Long.{signed_long}
 use Rattle.pdp_alu.specs.declared.shifting.Shifting.{Shifting}
 
@@ -94,37 +94,37 @@ right_keeps_fits sign (suc n) s fits = right_keeps_fits sign n (shifted_right si
 
 -- which shifts a source names
 pub shifts_left : (sign number count : ℕ) → count < 0o40
-    → shifted_by sign number count ≡ iterate (shifted_left sign) count (unshifted number)
+    → shifted_by sign number count ≡ iterate (shifted_left sign) count (shifting_from number)
 shifts_left sign number count small = chosen (count % 0o100) (omega arith) where
   chosen : (c : ℕ) → c ≡ count
-      → (if nat_lt c 0o40 then iterate (shifted_left sign) c (unshifted number) else iterate (shifted_right sign) (0o100 - c) (unshifted number))
-      ≡ iterate (shifted_left sign) count (unshifted number)
+      → (if nat_lt c 0o40 then iterate (shifted_left sign) c (shifting_from number) else iterate (shifted_right sign) (0o100 - c) (shifting_from number))
+      ≡ iterate (shifted_left sign) count (shifting_from number)
   chosen c is = grind arith
 
 pub shifts_right : (sign number count : ℕ) → 0 < count → count ≤ 0o40
-    → shifted_by sign number (0o100 - count) ≡ iterate (shifted_right sign) count (unshifted number)
+    → shifted_by sign number (0o100 - count) ≡ iterate (shifted_right sign) count (shifting_from number)
 shifts_right sign number count some few = chosen ((0o100 - count) % 0o100) (0o100 - (0o100 - count) % 0o100) (omega arith) (omega arith) where
   chosen : (c n : ℕ) → 0o40 ≤ c → n ≡ count
-      → (if nat_lt c 0o40 then iterate (shifted_left sign) c (unshifted number) else iterate (shifted_right sign) n (unshifted number))
-      ≡ iterate (shifted_right sign) count (unshifted number)
+      → (if nat_lt c 0o40 then iterate (shifted_left sign) c (shifting_from number) else iterate (shifted_right sign) n (shifting_from number))
+      ≡ iterate (shifted_right sign) count (shifting_from number)
   chosen c n right is = grind arith
 
-signed_word : (n : ℕ) → n < 0o200000 → signed (n % 0o200000) ≡ signed_by 0o100000 n
+signed_word : (n : ℕ) → n < 0o200000 → signed_value (n % 0o200000) ≡ signed_by 0o100000 n
 signed_word n fits = grind (arith, ints)
 
 pub signed_long_by : (n : ℕ) → signed_long n ≡ signed_by (2 ^ 31) n
 signed_long_by n = grind (arith, ints)
 
-pub plain_signed : (n : ℕ) → n < 0o200000 → signed n ≡ signed_by 0o100000 n
+pub plain_signed : (n : ℕ) → n < 0o200000 → signed_value n ≡ signed_by 0o100000 n
 plain_signed n fits = grind (arith, ints)
 
 pub word_to_the_left : (word count : ℕ) → word < 0o200000 → count < 0o40 → (ash_effect word count).codes.v ≡ false
-    → signed (ash_effect word count).value ≡ signed word *ℤ pos (2 ^ count)
+    → signed_value (ash_effect word count).value ≡ signed_value word *ℤ pos (2 ^ count)
 unfolding ash_effect
 word_to_the_left word count fits small clear =
-    ap (λ s. signed (s.number % 0o200000)) (shifts_left 0o100000 word count small)
-    ∙ signed_word (iterate (shifted_left 0o100000) count (unshifted word)).number (left_keeps_fits 0o100000 count (unshifted word) fits)
-    ∙ (left_multiplies 0o100000 count (unshifted word) fits (ap (λ s. s.sign_changed) (sym (shifts_left 0o100000 word count small)) ∙ clear)).1
+    ap (λ s. signed_value (s.number % 0o200000)) (shifts_left 0o100000 word count small)
+    ∙ signed_word (iterate (shifted_left 0o100000) count (shifting_from word)).number (left_keeps_fits 0o100000 count (shifting_from word) fits)
+    ∙ (left_multiplies 0o100000 count (shifting_from word) fits (ap (λ s. s.sign_changed) (sym (shifts_left 0o100000 word count small)) ∙ clear)).1
     ∙ ap (λ x. x *ℤ pos (2 ^ count)) (sym (plain_signed word fits))
 
 pub long_to_the_left : (long count : ℕ) → long < 2 ^ 32 → count < 0o40 → (ashc_effect long count).codes.v ≡ false
@@ -132,17 +132,17 @@ pub long_to_the_left : (long count : ℕ) → long < 2 ^ 32 → count < 0o40 →
 unfolding ashc_effect
 long_to_the_left long count fits small clear =
     ap (λ s. signed_long s.number) (shifts_left (2 ^ 31) long count small)
-    ∙ signed_long_by (iterate (shifted_left (2 ^ 31)) count (unshifted long)).number
-    ∙ (left_multiplies (2 ^ 31) count (unshifted long) fits (ap (λ s. s.sign_changed) (sym (shifts_left (2 ^ 31) long count small)) ∙ clear)).1
+    ∙ signed_long_by (iterate (shifted_left (2 ^ 31)) count (shifting_from long)).number
+    ∙ (left_multiplies (2 ^ 31) count (shifting_from long) fits (ap (λ s. s.sign_changed) (sym (shifts_left (2 ^ 31) long count small)) ∙ clear)).1
     ∙ ap (λ x. x *ℤ pos (2 ^ count)) (sym (signed_long_by long))
 
 pub word_to_the_right : (word count : ℕ) → word < 0o200000 → 0 < count → count ≤ 0o40
-    → signed (ash_effect word (0o100 - count)).value ≡ int_div_euclid (signed word) (pos (2 ^ count))
+    → signed_value (ash_effect word (0o100 - count)).value ≡ int_div_euclid (signed_value word) (pos (2 ^ count))
 unfolding ash_effect
 word_to_the_right word count fits some few =
-    ap (λ s. signed (s.number % 0o200000)) (shifts_right 0o100000 word count some few)
-    ∙ signed_word (iterate (shifted_right 0o100000) count (unshifted word)).number (right_keeps_fits 0o100000 count (unshifted word) fits)
-    ∙ right_divides 0o100000 count (unshifted word) fits
+    ap (λ s. signed_value (s.number % 0o200000)) (shifts_right 0o100000 word count some few)
+    ∙ signed_word (iterate (shifted_right 0o100000) count (shifting_from word)).number (right_keeps_fits 0o100000 count (shifting_from word) fits)
+    ∙ right_divides 0o100000 count (shifting_from word) fits
     ∙ ap (λ x. int_div_euclid x (pos (2 ^ count))) (sym (plain_signed word fits))
 
 pub long_to_the_right : (long count : ℕ) → long < 2 ^ 32 → 0 < count → count ≤ 0o40
@@ -150,6 +150,6 @@ pub long_to_the_right : (long count : ℕ) → long < 2 ^ 32 → 0 < count → c
 unfolding ashc_effect
 long_to_the_right long count fits some few =
     ap (λ s. signed_long s.number) (shifts_right (2 ^ 31) long count some few)
-    ∙ signed_long_by (iterate (shifted_right (2 ^ 31)) count (unshifted long)).number
-    ∙ right_divides (2 ^ 31) count (unshifted long) fits
+    ∙ signed_long_by (iterate (shifted_right (2 ^ 31)) count (shifting_from long)).number
+    ∙ right_divides (2 ^ 31) count (shifting_from long) fits
     ∙ ap (λ x. int_div_euclid x (pos (2 ^ count))) (sym (signed_long_by long))

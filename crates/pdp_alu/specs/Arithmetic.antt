@@ -1,10 +1,10 @@
--- The effects of ADD, SUB and CMP: the sum or the difference, V where the signed one does not fit, C where the unsigned
--- one does not (DEC PDP-11/40 Processor Handbook (1972), Instruction set).
+-- The effects of ADD, SUB and CMP: the sum or the difference, V where the signed one does not fit,
+-- C where the unsigned one does not (DEC PDP-11/40 Processor Handbook (1972), Instruction set).
 use Rattle.std.specs.Prelude.{ℕ, ◌+◌, ◌-◌, ◌%◌, ◌+ℤ◌, ◌-ℤ◌, nat_le, nat_lt}
 use Rattle.pdp_word.specs.declared.size.Size.{Size}
 use Rattle.pdp_word.specs.declared.size.Size.TheVariants.{Word}
 use Rattle.pdp_word.specs.Size.{span}
-use Rattle.pdp_word.specs.Word.{signed}
+use Rattle.pdp_word.specs.Word.{signed_value}
 use Rattle.pdp_alu.specs.declared.effect.Effect.{Effect}
 use Rattle.pdp_alu.specs.Effect.{effect}
 use Rattle.pdp_alu.specs.Operand.{overflows, signed_at}
@@ -12,7 +12,8 @@ use Rattle.pdp_alu.specs.Operand.{overflows, signed_at}
 -- ADD: destination plus source; C on a carry out of the word
 unfoldable pub add_effect : ℕ → ℕ → Effect
 add_effect source destination =
-    effect Word (destination + source) (overflows Word (signed destination +ℤ signed source))
+    effect Word (destination + source) (overflows Word (signed_value destination +ℤ signed_value
+    source))
     (nat_le (span Word) (destination + source))
 
 -- one operand less another, both cut to the size; C on a borrow
@@ -20,7 +21,8 @@ abbrev pub difference : Size → ℕ → ℕ → Effect
 difference size minuend subtrahend =
     let from = minuend % span size in
     let less = subtrahend % span size in
-    effect size (span size + from - less) (overflows size (signed_at size from -ℤ signed_at size less)) (nat_lt from less)
+    effect size (span size + from - less) (overflows size (signed_at size from -ℤ signed_at size
+    less)) (nat_lt from less)
 
 -- SUB: destination minus source
 unfoldable pub sub_effect : ℕ → ℕ → Effect

@@ -6,7 +6,8 @@ use Rattle.pdp_word.specs.Size.{is_negative}
 use Rattle.pdp_word.specs.Word.{join, low_byte, high_byte}
 use Rattle.pdp_alu.specs.declared.effect.Effect.{Effect}
 
--- SWAB: the bytes of the word exchanged; N and Z are of the low byte of the result, V and C are cleared
+-- SWAB: the bytes of the word exchanged; N and Z are of the low byte of the result, V and C are
+-- cleared
 unfoldable pub swab_effect : ℕ → Effect
 swab_effect word =
     let swapped = join (low_byte word) (high_byte word) in

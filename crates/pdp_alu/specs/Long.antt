@@ -1,6 +1,7 @@
 -- Numbers of 32 bits, which two registers hold: the high word in R, the low word in R or 1
 -- (DEC PDP-11/40 Processor Handbook (1972), Extended instruction set).
-use Rattle.std.specs.Prelude.{ℕ, ℤ, pos, ◌+◌, ◌*◌, ◌/◌, ◌%◌, ◌^◌, ◌-ℤ◌, ◌==◌, Bool, nat_le, if◌then◌else◌}
+use Rattle.std.specs.Prelude.{ℕ, ℤ, pos, ◌+◌, ◌*◌, ◌/◌, ◌%◌, ◌^◌, ◌-ℤ◌, ◌==◌, Bool, nat_le}
+use Rattle.std.specs.Prelude.{if◌then◌else◌}
 use Rattle.pdp_alu.specs.declared.long.LongEffect.{LongEffect}
 use Rattle.pdp_alu.specs.Operand.{is_beyond}
 

@@ -27,7 +27,8 @@ width Byte = 8
 
 -- an operand below the span, as a signed number: less the span where its top bit is set
 abbrev pub signed_at : Size → ℕ → ℤ
-signed_at size operand = if is_negative size operand then pos operand -ℤ pos (span size) else pos operand
+signed_at size operand = if is_negative size operand then pos operand -ℤ pos
+    (span size) else pos operand
 
 -- whether a number is below the negative of this bound, or not below the bound
 abbrev pub is_beyond : ℕ → ℤ → Bool

@@ -1,6 +1,7 @@
 ghost use Rattle.std.specs.Prelude.{◌≡◌, ◌<◌, ◌≤◌, ◌*◌, ◌^◌};
 ghost use Rattle.std.specs.Fn.{iterate};
-ghost use Rattle.pdp_alu.specs.ArithmeticShifts.{ash_effect, ashc_effect, shifted_by, shifted_left, shifted_right, unshifted};
+ghost use Rattle.pdp_alu.specs.ArithmeticShifts.{ash_effect, ashc_effect, shifted_by, shifted_left};
+ghost use Rattle.pdp_alu.specs.ArithmeticShifts.{shifted_right, shifting_from};
 
 use crate::effect::Effect;
 use crate::long::LongEffect;
@@ -12,10 +13,11 @@ const WORD_SIGN: u32 = 1 << 15;
 
 const LONG_SIGN: u32 = 1 << 31;
 
-/// ASH: a word shifted arithmetically by the signed low six bits of the source, to the left, or to the right where they
-/// are negative. N and Z are of the result. C is the last bit that was moved out, and V is set where the sign changed
-/// at any single shift; both are clear where the count is 0 (DEC PDP-11/40 Processor Handbook (1972), Extended
-/// instruction set, ASH; V and C are this project's profile).
+/// ASH: a word shifted arithmetically by the signed low six bits of the source, to the left, or to
+/// the right where they are negative. N and Z are of the result. C is the last bit that was moved
+/// out, and V is set where the sign changed at any single shift; both are clear where the count is
+/// 0 (DEC PDP-11/40 Processor Handbook (1972), Extended instruction set, ASH; V and C are this
+/// project's profile).
 #[inline]
 #[tactic(auto, unfolding(crate::specs::ArithmeticShifts::ash_effect))]
 pub fn ash(word: u16, source: u16) -> Effect
@@ -30,8 +32,9 @@ pub fn ash(word: u16, source: u16) -> Effect
     )
 }
 
-/// ASHC: a number of 32 bits shifted as ASH shifts a word. N and Z are of the 32 bits
-/// (DEC PDP-11/40 Processor Handbook (1972), Extended instruction set, ASHC; V and C are this project's profile).
+/// ASHC: a number of 32 bits shifted as ASH shifts a word. N and Z are of the 32 bits (DEC
+/// PDP-11/40 Processor Handbook (1972), Extended instruction set, ASHC; V and C are this project's
+/// profile).
 #[inline]
 #[tactic(auto, unfolding(crate::specs::ArithmeticShifts::ashc_effect))]
 pub fn ashc(long: u32, source: u16) -> LongEffect
@@ -60,7 +63,7 @@ fn shift(sign: u32, number: u32, source: u16) -> Shifting
 fn shift_left(sign: u32, number: u32, count: u16) -> Shifting
     requires sign { sign ≤ 2 ^ 31 }
     requires number { number < 2 * sign }
-    ensures shifted { result ≡ iterate (shifted_left sign) count (unshifted number) }
+    ensures shifted { result ≡ iterate (shifted_left sign) count (shifting_from number) }
     ensures fits { result.number < 2 * sign }
 {
     let mut shifting = Shifting::unshifted(number);
@@ -74,7 +77,7 @@ fn shift_left(sign: u32, number: u32, count: u16) -> Shifting
 fn shift_right(sign: u32, number: u32, count: u16) -> Shifting
     requires sign { sign ≤ 2 ^ 31 }
     requires number { number < 2 * sign }
-    ensures shifted { result ≡ iterate (shifted_right sign) count (unshifted number) }
+    ensures shifted { result ≡ iterate (shifted_right sign) count (shifting_from number) }
     ensures fits { result.number < 2 * sign }
 {
     let mut shifting = Shifting::unshifted(number);

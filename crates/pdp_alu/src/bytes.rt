@@ -4,8 +4,8 @@ ghost use Rattle.pdp_alu.specs.Bytes.{swab_effect, sxt_effect};
 use crate::effect::Effect;
 use pdp_word::{Codes, join, low_byte};
 
-/// SWAB: the word with its bytes exchanged. N and Z are of the low byte of the result, V and C are cleared
-/// (DEC PDP-11/40 Processor Handbook (1972), Instruction set, SWAB).
+/// SWAB: the word with its bytes exchanged. N and Z are of the low byte of the result, V and C are
+/// cleared (DEC PDP-11/40 Processor Handbook (1972), Instruction set, SWAB).
 #[inline]
 #[tactic(auto, unfolding(crate::specs::Bytes::swab_effect))]
 pub fn swab(word: u16) -> Effect

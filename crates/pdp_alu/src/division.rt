@@ -1,7 +1,9 @@
-ghost use Rattle.std.specs.Prelude.{◌≡◌, ◌<◌, ◌≤◌, ◌^◌, int_div, int_rem, unsigned_abs, if◌then◌else◌};
+ghost use Rattle.std.specs.Prelude.{◌≡◌, ◌<◌, ◌≤◌, ◌^◌, int_div, int_rem, unsigned_abs};
+ghost use Rattle.std.specs.Prelude.{if◌then◌else◌};
 ghost use Rattle.std.specs.Int.RustNames.{FitsSigned};
 ghost use Rattle.std.specs.Int.{w16, cast_unsigned};
-ghost use Rattle.pdp_alu.specs.Division.{div_effect, divided, division, overflow_codes, zero_divisor_codes};
+ghost use Rattle.pdp_alu.specs.Division.{div_effect, quotient_and_remainder, division};
+ghost use Rattle.pdp_alu.specs.Division.{overflow_codes, zero_divisor_codes};
 ghost use Rattle.pdp_alu.specs.declared.quotient.Div.TheVariants.{Kept};
 
 use crate::long::signed_long;
@@ -9,10 +11,11 @@ use crate::operand::{is_negative, overflows};
 use crate::quotient::Div;
 use pdp_word::{Codes, Size, signed};
 
-/// DIV: a signed number of 32 bits divided by a signed word, the quotient rounded towards 0, so that a remainder has
-/// the dividend's sign. N and Z are of the quotient, V and C are cleared. Nothing is divided where the divisor is 0,
-/// with the codes NZVC 0111, or where the quotient is no signed word, with the codes 0010 (DEC PDP-11/40 Processor
-/// Handbook (1972), Extended instruction set, DIV; the codes where nothing is divided are this project's profile).
+/// DIV: a signed number of 32 bits divided by a signed word, the quotient rounded towards 0, so
+/// that a remainder has the dividend's sign. N and Z are of the quotient, V and C are cleared.
+/// Nothing is divided where the divisor is 0, with the codes NZVC 0111, or where the quotient is no
+/// signed word, with the codes 0010 (DEC PDP-11/40 Processor Handbook (1972), Extended instruction
+/// set, DIV; the codes where nothing is divided are this project's profile).
 #[inline]
 #[tactic(auto, unfolding(crate::specs::Division::div_effect))]
 pub fn div(dividend: u32, divisor: u16) -> Div
@@ -75,7 +78,7 @@ fn word_of(number: i64) -> u16
 // A division that was done: N and Z are of the quotient.
 #[inline]
 fn divided(quotient: u16, remainder: u16) -> Div
-    ensures { result ≡ divided quotient remainder }
+    ensures { result ≡ quotient_and_remainder quotient remainder }
 {
     let codes = Codes {
         n: is_negative(Size::Word, quotient),

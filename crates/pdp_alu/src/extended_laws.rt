@@ -1,13 +1,19 @@
 //! Laws of MUL, DIV, ASH and ASHC, for all operands that fit.
 
 ghost use Rattle.pdp_alu.specs.ExtendedLaws.{QuotientsExist, QuotientsAreUnique, DivisionsAreExact};
-ghost use Rattle.pdp_alu.specs.ExtendedLaws.{WordShiftsMultiply, LongShiftsMultiply, OverflowMarksWordMultiples, OverflowMarksLongMultiples};
-ghost use Rattle.pdp_alu.specs.ExtendedLaws.{CarryIsBitAboveWord, CarryIsBitAboveLong, CountZeroMovesNothing, CountsHaveSixBits};
-ghost use Rattle.pdp_alu.specs.ExtendedLaws.{WordShiftsDivide, LongShiftsDivide, CarryIsBitBelowWord, CarryIsBitBelowLong, RightShiftsNeverOverflow};
-ghost use Rattle.pdp_alu.specs.ExtendedLaws.{ProductsAreExact, LowProductsAreExact, CarryMarksLongProducts};
+ghost use Rattle.pdp_alu.specs.ExtendedLaws.{WordShiftsMultiply, LongShiftsMultiply};
+ghost use Rattle.pdp_alu.specs.ExtendedLaws.{OverflowMarksWordMultiples};
+ghost use Rattle.pdp_alu.specs.ExtendedLaws.{OverflowMarksLongMultiples};
+ghost use Rattle.pdp_alu.specs.ExtendedLaws.{CarryIsBitAboveWord, CarryIsBitAboveLong};
+ghost use Rattle.pdp_alu.specs.ExtendedLaws.{CountZeroMovesNothing, CountsHaveSixBits};
+ghost use Rattle.pdp_alu.specs.ExtendedLaws.{WordShiftsDivide, LongShiftsDivide};
+ghost use Rattle.pdp_alu.specs.ExtendedLaws.{CarryIsBitBelowWord, CarryIsBitBelowLong};
+ghost use Rattle.pdp_alu.specs.ExtendedLaws.{RightShiftsNeverOverflow};
+ghost use Rattle.pdp_alu.specs.ExtendedLaws.{ProductsAreExact, LowProductsAreExact};
+ghost use Rattle.pdp_alu.specs.ExtendedLaws.{CarryMarksLongProducts};
 
-/// A law and no code: each dividend and each divisor but 0 have one quotient and one remainder. They are those of
-/// `int_div` and `int_rem`, by which DIV is defined.
+/// A law and no code: each dividend and each divisor but 0 have one quotient and one remainder.
+/// They are those of `int_div` and `int_rem`, by which DIV is defined.
 ///
 /// Source: DEC PDP-11/40 Processor Handbook (1972), Extended instruction set, DIV.
 #[tactic(auto, using(crate::proofs::Divisions::division_exists))]
@@ -16,8 +22,8 @@ pub fn quotients_are_unique()
     ensures unique { QuotientsAreUnique }
 {}
 
-/// A law and no code: DIV divides the signed numbers, with the quotient and the remainder as signed words. It does so
-/// unless the divisor is 0 or the quotient is no signed word.
+/// A law and no code: DIV divides the signed numbers, with the quotient and the remainder as signed
+/// words. It does so unless the divisor is 0 or the quotient is no signed word.
 ///
 /// Source: DEC PDP-11/40 Processor Handbook (1972), Extended instruction set, DIV.
 #[tactic(auto, using(crate::proofs::WordDivisions::division_of_words))]
@@ -25,9 +31,10 @@ pub fn divisions_are_exact()
     ensures { DivisionsAreExact }
 {}
 
-/// A law and no code: where V is clear, ASH and ASHC to the left multiply the signed number by 2 to the count. V is set
-/// exactly where that product does not fit, so where the sign changes at any single shift. C is the last bit that was
-/// moved out. The count is the low six bits of the source, and 0 moves nothing.
+/// A law and no code: where V is clear, ASH and ASHC to the left multiply the signed number by 2 to
+/// the count. V is set exactly where that product does not fit, so where the sign changes at any
+/// single shift. C is the last bit that was moved out. The count is the low six bits of the source,
+/// and 0 moves nothing.
 ///
 /// Source: DEC PDP-11/40 Processor Handbook (1972), Extended instruction set, ASH and ASHC.
 #[tactic(auto, using(crate::proofs::ShiftLaws::word_to_the_left, crate::proofs::ShiftLaws::long_to_the_left, crate::proofs::ShiftCodes::word_overflow, crate::proofs::ShiftCodes::long_overflow, crate::proofs::ShiftCodes::word_carry, crate::proofs::ShiftCodes::long_carry), unfolding(crate::specs::ArithmeticShifts::ash_effect, crate::specs::ArithmeticShifts::ashc_effect))]
@@ -42,8 +49,8 @@ pub fn shifts_to_the_left_multiply()
     ensures count { CountsHaveSixBits }
 {}
 
-/// A law and no code: ASH and ASHC to the right divide the signed number by 2 to the count, rounded down. C is the last
-/// bit that was moved out, and V is clear.
+/// A law and no code: ASH and ASHC to the right divide the signed number by 2 to the count, rounded
+/// down. C is the last bit that was moved out, and V is clear.
 ///
 /// Source: DEC PDP-11/40 Processor Handbook (1972), Extended instruction set, ASH and ASHC.
 #[tactic(auto, using(crate::proofs::ShiftLaws::word_to_the_right, crate::proofs::ShiftLaws::long_to_the_right, crate::proofs::ShiftCodes::word_right_carry, crate::proofs::ShiftCodes::long_right_carry))]
@@ -55,8 +62,8 @@ pub fn shifts_to_the_right_divide()
     ensures overflow { RightShiftsNeverOverflow }
 {}
 
-/// A law and no code: the product of MUL is that of the signed words, and where C is clear its low word alone is. C is
-/// set exactly where the product is no signed word, and V is clear.
+/// A law and no code: the product of MUL is that of the signed words, and where C is clear its low
+/// word alone is. C is set exactly where the product is no signed word, and V is clear.
 ///
 /// Source: DEC PDP-11/40 Processor Handbook (1972), Extended instruction set, MUL.
 #[tactic(auto, using(crate::proofs::Products::signed_product, crate::proofs::Products::signed_low_product), unfolding(crate::specs::Multiplication::mul_effect))]

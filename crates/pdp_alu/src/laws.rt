@@ -1,18 +1,28 @@
 //! Laws of the effects, for all operands that fit.
 
 ghost use Rattle.pdp_alu.specs.Laws.{SumsAreExact, SignedSumsAreExact, OverflowMarksSums};
-ghost use Rattle.pdp_alu.specs.Laws.{DifferencesAreExact, SignedDifferencesAreExact, OverflowMarksDifferences};
-ghost use Rattle.pdp_alu.specs.Laws.{ComparisonsTellEqual, ComparisonsTellBelow, ComparisonsTellLess, OverflowMarksComparisons};
-ghost use Rattle.pdp_alu.specs.Laws.{ComplementsUndoThemselves, NegativesUndoThemselves, NegativesAreComplementsPlusOne};
-ghost use Rattle.pdp_alu.specs.Laws.{IncrementsAddOne, OverflowMarksIncrements, DecrementsTakeOne, OverflowMarksDecrements, NegativesNegate, OverflowMarksNegatives};
-ghost use Rattle.pdp_alu.specs.Laws.{CarriesRunOn, OverflowMarksCarries, BorrowsRunOn, OverflowMarksBorrows};
-ghost use Rattle.pdp_alu.specs.Laws.{RotationsUndoEachOther, RotationsGiveCarryBack, ShiftsHalve, ShiftsDouble, OverflowMarksDoubles};
-ghost use Rattle.pdp_alu.specs.Laws.{BitsAreTested, BitsAreCleared, BitsAreSet, BitsAreFlipped, LogicTellsOfItsValue};
-ghost use Rattle.pdp_alu.specs.Laws.{ClearingLeavesZero, TestsTellOfTheOperand, MovesKeepTheSource, ExtensionsSpreadTheSign};
+ghost use Rattle.pdp_alu.specs.Laws.{DifferencesAreExact, SignedDifferencesAreExact};
+ghost use Rattle.pdp_alu.specs.Laws.{OverflowMarksDifferences};
+ghost use Rattle.pdp_alu.specs.Laws.{ComparisonsTellEqual, ComparisonsTellBelow};
+ghost use Rattle.pdp_alu.specs.Laws.{ComparisonsTellLess, OverflowMarksComparisons};
+ghost use Rattle.pdp_alu.specs.Laws.{ComplementsUndoThemselves, NegativesUndoThemselves};
+ghost use Rattle.pdp_alu.specs.Laws.{NegativesAreComplementsPlusOne};
+ghost use Rattle.pdp_alu.specs.Laws.{IncrementsAddOne, OverflowMarksIncrements, DecrementsTakeOne};
+ghost use Rattle.pdp_alu.specs.Laws.{OverflowMarksDecrements, NegativesNegate};
+ghost use Rattle.pdp_alu.specs.Laws.{OverflowMarksNegatives};
+ghost use Rattle.pdp_alu.specs.Laws.{CarriesRunOn, OverflowMarksCarries, BorrowsRunOn};
+ghost use Rattle.pdp_alu.specs.Laws.{OverflowMarksBorrows};
+ghost use Rattle.pdp_alu.specs.Laws.{RotationsUndoEachOther, RotationsGiveCarryBack, ShiftsHalve};
+ghost use Rattle.pdp_alu.specs.Laws.{ShiftsDouble, OverflowMarksDoubles};
+ghost use Rattle.pdp_alu.specs.Laws.{BitsAreTested, BitsAreCleared, BitsAreSet, BitsAreFlipped};
+ghost use Rattle.pdp_alu.specs.Laws.{LogicTellsOfItsValue};
+ghost use Rattle.pdp_alu.specs.Laws.{ClearingLeavesZero, TestsTellOfTheOperand, MovesKeepTheSource};
+ghost use Rattle.pdp_alu.specs.Laws.{ExtensionsSpreadTheSign};
 ghost use Rattle.pdp_alu.specs.Laws.{SwapsExchangeBytes, SwapsUndoThemselves};
 
-/// A law and no code: with C as the bit above the word, the sum of ADD is that of the operands. Where V is clear the
-/// signed sum is that of the signed operands, and V is set exactly where that is no signed word.
+/// A law and no code: with C as the bit above the word, the sum of ADD is that of the operands.
+/// Where V is clear the signed sum is that of the signed operands, and V is set exactly where that
+/// is no signed word.
 ///
 /// Source: DEC PDP-11/40 Processor Handbook (1972), Instruction set, ADD.
 #[tactic(auto, unfolding(crate::specs::Arithmetic::add_effect))]
@@ -22,9 +32,9 @@ pub fn sums_are_exact()
     ensures overflow { OverflowMarksSums }
 {}
 
-/// A law and no code: with C as a borrow from the bit above the word, the difference of SUB is that of the operands.
-/// Where V is clear the signed difference is that of the signed operands, and V is set exactly where that is no signed
-/// word.
+/// A law and no code: with C as a borrow from the bit above the word, the difference of SUB is that
+/// of the operands. Where V is clear the signed difference is that of the signed operands, and V is
+/// set exactly where that is no signed word.
 ///
 /// Source: DEC PDP-11/40 Processor Handbook (1972), Instruction set, SUB.
 #[tactic(auto, unfolding(crate::specs::Arithmetic::sub_effect))]
@@ -34,9 +44,9 @@ pub fn differences_are_exact()
     ensures overflow { OverflowMarksDifferences }
 {}
 
-/// A law and no code: after CMP, Z tells whether source equals destination, C whether it is below it, and N exclusive
-/// or V whether it is below it as a signed number, as the branches take them. V is set exactly where the signed
-/// difference does not fit.
+/// A law and no code: after CMP, Z tells whether source equals destination, C whether it is below
+/// it, and N exclusive or V whether it is below it as a signed number, as the branches take them. V
+/// is set exactly where the signed difference does not fit.
 ///
 /// Source: DEC PDP-11/40 Processor Handbook (1972), Instruction set, CMP.
 #[tactic(auto, using(crate::proofs::EffectLaws::less_after_cmp), unfolding(crate::specs::Arithmetic::cmp_effect))]
@@ -57,8 +67,8 @@ pub fn complements_and_negatives_undo_themselves()
     ensures complement_plus_one { NegativesAreComplementsPlusOne }
 {}
 
-/// A law and no code: where V is clear, INC, DEC and NEG have the signed result that their names say, and V is set
-/// exactly where that result does not fit.
+/// A law and no code: where V is clear, INC, DEC and NEG have the signed result that their names
+/// say, and V is set exactly where that result does not fit.
 ///
 /// Source: DEC PDP-11/40 Processor Handbook (1972), Instruction set, INC, DEC and NEG.
 #[tactic(auto, unfolding(crate::specs::SingleOperand::inc_effect, crate::specs::SingleOperand::dec_effect, crate::specs::SingleOperand::neg_effect))]
@@ -71,9 +81,9 @@ pub fn overflow_marks_wrong_signed_results()
     ensures negative_overflow { OverflowMarksNegatives }
 {}
 
-/// A law and no code: with the new C as the bit above the operand, ADC adds the old C to it and SBC takes the old C
-/// from it, so that sums and differences of many words can be formed word by word. V is set exactly where the signed
-/// result does not fit.
+/// A law and no code: with the new C as the bit above the operand, ADC adds the old C to it and SBC
+/// takes the old C from it, so that sums and differences of many words can be formed word by word.
+/// V is set exactly where the signed result does not fit.
 ///
 /// Source: DEC PDP-11/40 Processor Handbook (1972), Instruction set, ADC and SBC.
 #[tactic(auto, unfolding(crate::specs::SingleOperand::adc_effect, crate::specs::SingleOperand::sbc_effect))]
@@ -93,8 +103,8 @@ pub fn rotations_undo_each_other()
     ensures carry { RotationsGiveCarryBack }
 {}
 
-/// A law and no code: ASR halves a signed number, with C as the rest. ASL doubles it where V is clear, and V is set
-/// exactly where the double does not fit.
+/// A law and no code: ASR halves a signed number, with C as the rest. ASL doubles it where V is
+/// clear, and V is set exactly where the double does not fit.
 ///
 /// Source: DEC PDP-11/40 Processor Handbook (1972), Instruction set, ASR and ASL.
 #[tactic(auto, unfolding(crate::specs::Shifts::asl_effect, crate::specs::Shifts::asr_effect))]
@@ -104,9 +114,9 @@ pub fn shifts_halve_and_double()
     ensures overflow { OverflowMarksDoubles }
 {}
 
-/// A law and no code: BIT, BIC, BIS and XOR go bit by bit, of which BIT takes those of both operands, BIC those of the
-/// destination alone, BIS those of either, and XOR those of one alone. N and Z tell of the value, V is clear, C is
-/// kept.
+/// A law and no code: BIT, BIC, BIS and XOR go bit by bit, of which BIT takes those of both
+/// operands, BIC those of the destination alone, BIS those of either, and XOR those of one alone. N
+/// and Z tell of the value, V is clear, C is kept.
 ///
 /// Source: DEC PDP-11/40 Processor Handbook (1972), Instruction set, BIT, BIC, BIS and XOR.
 #[tactic(auto, using(crate::proofs::BitLaws::tested_bits, crate::proofs::BitLaws::cleared_bits, crate::proofs::BitLaws::set_bits, crate::proofs::BitLaws::flipped_bits))]
@@ -118,8 +128,8 @@ pub fn logic_goes_bit_by_bit()
     ensures codes { LogicTellsOfItsValue }
 {}
 
-/// A law and no code: CLR leaves 0, TST and MOV leave their operand, and SXT the sign in every bit. N and Z tell of the
-/// value and V is clear; CLR and TST clear C, MOV and SXT keep it.
+/// A law and no code: CLR leaves 0, TST and MOV leave their operand, and SXT the sign in every bit.
+/// N and Z tell of the value and V is clear; CLR and TST clear C, MOV and SXT keep it.
 ///
 /// Source: DEC PDP-11/40 Processor Handbook (1972), Instruction set, CLR, TST, MOV and SXT.
 #[tactic(auto, using(crate::proofs::BitLaws::sign_tells), unfolding(crate::specs::SingleOperand::clr_effect, crate::specs::Effect::tst_effect, crate::specs::Effect::mov_effect, crate::specs::Bytes::sxt_effect))]
@@ -130,8 +140,8 @@ pub fn codes_tell_of_the_value()
     ensures extended { ExtensionsSpreadTheSign }
 {}
 
-/// A law and no code: SWAB exchanges the bytes, with N and Z of the low byte of the result and V and C clear, and
-/// undoes itself.
+/// A law and no code: SWAB exchanges the bytes, with N and Z of the low byte of the result and V
+/// and C clear, and undoes itself.
 ///
 /// Source: DEC PDP-11/40 Processor Handbook (1972), Instruction set, SWAB.
 #[tactic(auto, unfolding(crate::specs::Bytes::swab_effect))]

@@ -5,9 +5,9 @@ ghost use Rattle.pdp_alu.specs.Logic.{bic_effect, bis_effect, bit_effect, xor_ef
 use crate::effect::Effect;
 use pdp_word::{Codes, Size};
 
-/// BIT and BITB: the bits that destination and source both have, of words those of the low bytes where the size is a
-/// byte; they are not stored. N and Z are of them, V is cleared, C is kept (DEC PDP-11/40 Processor Handbook (1972),
-/// Instruction set, BIT).
+/// BIT and BITB: the bits that destination and source both have, of words those of the low bytes
+/// where the size is a byte; they are not stored. N and Z are of them, V is cleared, C is kept (DEC
+/// PDP-11/40 Processor Handbook (1972), Instruction set, BIT).
 #[inline]
 #[tactic(auto, unfolding(crate::specs::Logic::bit_effect))]
 pub fn bit(size: Size, source: u16, destination: u16, codes: Codes) -> Effect
@@ -17,8 +17,9 @@ pub fn bit(size: Size, source: u16, destination: u16, codes: Codes) -> Effect
     Effect::new(size, destination & source, false, codes.c)
 }
 
-/// BIC and BICB: the bits of destination that source lacks, of words those of the low bytes where the size is a byte.
-/// N and Z are of them, V is cleared, C is kept (DEC PDP-11/40 Processor Handbook (1972), Instruction set, BIC).
+/// BIC and BICB: the bits of destination that source lacks, of words those of the low bytes where
+/// the size is a byte. N and Z are of them, V is cleared, C is kept (DEC PDP-11/40 Processor
+/// Handbook (1972), Instruction set, BIC).
 #[inline]
 #[tactic(auto, unfolding(crate::specs::Logic::bic_effect))]
 pub fn bic(size: Size, source: u16, destination: u16, codes: Codes) -> Effect
@@ -28,8 +29,9 @@ pub fn bic(size: Size, source: u16, destination: u16, codes: Codes) -> Effect
     Effect::new(size, destination & !source, false, codes.c)
 }
 
-/// BIS and BISB: the bits that destination or source has, of words those of the low bytes where the size is a byte.
-/// N and Z are of them, V is cleared, C is kept (DEC PDP-11/40 Processor Handbook (1972), Instruction set, BIS).
+/// BIS and BISB: the bits that destination or source has, of words those of the low bytes where the
+/// size is a byte. N and Z are of them, V is cleared, C is kept (DEC PDP-11/40 Processor Handbook
+/// (1972), Instruction set, BIS).
 #[inline]
 #[tactic(auto, unfolding(crate::specs::Logic::bis_effect))]
 pub fn bis(size: Size, source: u16, destination: u16, codes: Codes) -> Effect
@@ -39,8 +41,8 @@ pub fn bis(size: Size, source: u16, destination: u16, codes: Codes) -> Effect
     Effect::new(size, destination | source, false, codes.c)
 }
 
-/// XOR: the bits in which the register and destination differ, both words. N and Z are of them, V is cleared, C is kept
-/// (DEC PDP-11/40 Processor Handbook (1972), Instruction set, XOR).
+/// XOR: the bits in which the register and destination differ, both words. N and Z are of them, V
+/// is cleared, C is kept (DEC PDP-11/40 Processor Handbook (1972), Instruction set, XOR).
 #[inline]
 #[tactic(auto, unfolding(crate::specs::Logic::xor_effect))]
 pub fn xor(register: u16, destination: u16, codes: Codes) -> Effect

@@ -1,7 +1,8 @@
 ghost use Rattle.std.specs.Prelude.{◌≡◌, ◌<◌, ◌≤◌, ◌*◌, ◌^◌};
-ghost use Rattle.pdp_alu.specs.ArithmeticShifts.{shifted_left, shifted_right, unshifted};
+ghost use Rattle.pdp_alu.specs.ArithmeticShifts.{shifted_left, shifted_right, shifting_from};
 
-// A number that is being shifted, the bit that was moved out last, and whether the sign has changed.
+// A number that is being shifted, the bit that was moved out last, and whether the sign has
+// changed.
 #[derive(Clone, Copy)]
 pub struct Shifting {
     pub number: u32,
@@ -13,7 +14,7 @@ impl Shifting {
     // A number before it is shifted.
     #[inline]
     pub fn unshifted(number: u32) -> Shifting
-        ensures { result ≡ unshifted number }
+        ensures { result ≡ shifting_from number }
     {
         Shifting {
             number,

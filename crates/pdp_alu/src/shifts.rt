@@ -1,14 +1,16 @@
 ghost use Rattle.std.specs.Prelude.{◌≡◌, ◌%◌, ◌<◌};
 ghost use Rattle.pdp_word.specs.Size.{span};
-ghost use Rattle.pdp_alu.specs.Shifts.{asl_effect, asr_effect, moved_left, moved_right, rol_effect, ror_effect, shifted};
+ghost use Rattle.pdp_alu.specs.Shifts.{asl_effect, asr_effect, moved_left, moved_right, rol_effect};
+ghost use Rattle.pdp_alu.specs.Shifts.{ror_effect, shift_effect};
 
 use crate::effect::Effect;
 use crate::operand::{cut, is_negative, most_negative};
 use pdp_word::{Codes, Size};
 
-/// ROR and RORB: the bits of the value one place to the right through C, of a word those of the low byte where the size
-/// is a byte: C goes into the top bit, the lowest bit into C. N and Z are of the result, V is N exclusive or the new C
-/// (DEC PDP-11/40 Processor Handbook (1972), Instruction set, ROR).
+/// ROR and RORB: the bits of the value one place to the right through C, of a word those of the low
+/// byte where the size is a byte: C goes into the top bit, the lowest bit into C. N and Z are of
+/// the result, V is N exclusive or the new C (DEC PDP-11/40 Processor Handbook (1972), Instruction
+/// set, ROR).
 #[inline]
 #[tactic(auto, unfolding(crate::specs::Shifts::ror_effect))]
 pub fn ror(size: Size, value: u16, codes: Codes) -> Effect
@@ -18,9 +20,10 @@ pub fn ror(size: Size, value: u16, codes: Codes) -> Effect
     move_right(size, value, codes.c)
 }
 
-/// ROL and ROLB: the bits of the value one place to the left through C, of a word those of the low byte where the size
-/// is a byte: C goes into the lowest bit, the top bit into C. N and Z are of the result, V is N exclusive or the new C
-/// (DEC PDP-11/40 Processor Handbook (1972), Instruction set, ROL).
+/// ROL and ROLB: the bits of the value one place to the left through C, of a word those of the low
+/// byte where the size is a byte: C goes into the lowest bit, the top bit into C. N and Z are of
+/// the result, V is N exclusive or the new C (DEC PDP-11/40 Processor Handbook (1972), Instruction
+/// set, ROL).
 #[inline]
 #[tactic(auto, unfolding(crate::specs::Shifts::rol_effect))]
 pub fn rol(size: Size, value: u16, codes: Codes) -> Effect
@@ -30,9 +33,10 @@ pub fn rol(size: Size, value: u16, codes: Codes) -> Effect
     move_left(size, value, codes.c)
 }
 
-/// ASR and ASRB: the bits of the value one place to the right, of a word those of the low byte where the size is a
-/// byte: the top bit stays, the lowest bit goes into C. N and Z are of the result, V is N exclusive or the new C (DEC
-/// PDP-11/40 Processor Handbook (1972), Instruction set, ASR).
+/// ASR and ASRB: the bits of the value one place to the right, of a word those of the low byte
+/// where the size is a byte: the top bit stays, the lowest bit goes into C. N and Z are of the
+/// result, V is N exclusive or the new C (DEC PDP-11/40 Processor Handbook (1972), Instruction set,
+/// ASR).
 #[inline]
 #[tactic(auto, unfolding(crate::specs::Shifts::asr_effect))]
 pub fn asr(size: Size, value: u16) -> Effect
@@ -42,9 +46,9 @@ pub fn asr(size: Size, value: u16) -> Effect
     move_right(size, value, is_negative(size, cut(size, value)))
 }
 
-/// ASL and ASLB: the bits of the value one place to the left, of a word those of the low byte where the size is a byte:
-/// 0 goes into the lowest bit, the top bit into C. N and Z are of the result, V is N exclusive or the new C
-/// (DEC PDP-11/40 Processor Handbook (1972), Instruction set, ASL).
+/// ASL and ASLB: the bits of the value one place to the left, of a word those of the low byte where
+/// the size is a byte: 0 goes into the lowest bit, the top bit into C. N and Z are of the result, V
+/// is N exclusive or the new C (DEC PDP-11/40 Processor Handbook (1972), Instruction set, ASL).
 #[inline]
 #[tactic(auto, unfolding(crate::specs::Shifts::asl_effect))]
 pub fn asl(size: Size, value: u16) -> Effect
@@ -82,7 +86,7 @@ fn move_left(size: Size, value: u16, lowest: bool) -> Effect
 // The result of a shift and the bit that it moved out.
 #[inline]
 fn shifted(size: Size, moved: u16, out: bool) -> Effect
-    ensures effect { result ≡ shifted size moved out }
+    ensures effect { result ≡ shift_effect size moved out }
     ensures fits { result.value < span size }
 {
     let negative = is_negative(size, cut(size, moved));

@@ -1,8 +1,8 @@
 pub mod Steps
-pub mod Rungs
+pub mod Checkpoints
 pub mod Changed
-pub mod PatchedRungs
-pub mod DelayedRungs
+pub mod PatchedCheckpoints
+pub mod DelayedCheckpoints
 pub mod SharedPages
 pub mod PutPages
 pub mod PagesAlike

@@ -1,4 +1,4 @@
--- When kept states have a page alike.
+-- When checkpoints have a page alike.
 use Rattle.std.proofs.Common.{◌≡◌, ◌∙◌, ℕ, zero, suc, ◌+◌, ◌-◌, ◌*◌, ◌/◌, ◌<◌, List, [], ◌∷◌, Option, None}
 use Rattle.std.proofs.Common.{ap, arith, drop, get_or, length, min, nat_le, refl, subst, sym, take}
 use Rattle.std.specs.List.{filter}
@@ -8,12 +8,12 @@ use Rattle.std.proofs.lemmas.List.Elements.{All-filter}
 use Rattle.std.proofs.lemmas.List.{ext_get_or, get_or-drop, get_or-take, length-drop, length-take}
 use Rattle.pdp_store.specs.Parts.{SameWords}
 use Rattle.pdp_store.specs.Pieces.{piece}
-use Rattle.pdp_unibus.specs.BusContent.{BusContent}
+use Rattle.pdp_unibus.specs.SavedBusData.{SavedBusData}
 use Rattle.pdp_unibus.specs.PatchedPages.{HasPageOf, saved_lasts, saved_words}
-use Rattle.pdp_checkpoint.specs.Ladder.{AreRungs, LadderData}
+use Rattle.pdp_checkpoint.specs.Ladder.{AreCheckpoints, LadderData}
 use Rattle.pdp_checkpoint.specs.Patched.{HavePageAlike}
 use Rattle.pdp_checkpoint.specs.declared.checkpoint.Checkpoint.{Checkpoint}
-use Rattle.pdp_checkpoint.proofs.Rungs.{below_is_first}
+use Rattle.pdp_checkpoint.proofs.Checkpoints.{below_is_first}
 
 -- lists of one length with the same items in a page have the same page
 same_piece : {X : Type 0} (place : ℕ) (d : X) (xs ys : List X) → length xs ≡ length ys
@@ -30,9 +30,9 @@ same_piece place d xs ys size same =
     get_or-take 256 (drop from xs) i d small ∙ get_or-drop from xs i d ∙ same (from + i) (omega arith)
     ∙ sym (get_or-take 256 (drop from ys) i d small ∙ get_or-drop from ys i d))
 
--- a content of the same sizes, with the same words in the page and the same last stamps, has the
+-- a saved bus of the same sizes, with the same words in the page and the same last stamps, has the
 -- page of the other
-pub has_page : (drive : Option ℕ) (word : ℕ) (other c : BusContent)
+pub has_page : (drive : Option ℕ) (word : ℕ) (other c : SavedBusData)
     → length (saved_words drive c) ≡ length (saved_words drive other)
     → SameWords (word / 256) (saved_words drive c) (saved_words drive other)
     → length (saved_lasts drive c) ≡ length (saved_lasts drive other)
@@ -55,13 +55,13 @@ alone_alike drive word (c ∷ cs) some = record {
     by zero d below = record { words = refl; lasts = refl }
     by (suc k) d below = absurd (omega (arith, below))
 
-pub first_alone_alike : (drive : Option ℕ) (word : ℕ) (l : LadderData) → AreRungs l → HavePageAlike drive word (filter (λ c. nat_le c.turn 0) l.kept)
-first_alone_alike drive word l rungs =
+pub first_alone_alike : (drive : Option ℕ) (word : ℕ) (l : LadderData) → AreCheckpoints l → HavePageAlike drive word (filter (λ c. nat_le c.turn 0) l.kept)
+first_alone_alike drive word l checkpoints =
     let one : 0 / l.stride + 1 ≡ 1 = ap (λ n. n + 1) (zero-div l.stride) in
-    let is : take 1 l.kept ≡ filter (λ c. nat_le c.turn 0) l.kept = sym (below_is_first l 0 rungs ∙ ap (λ n. take n l.kept) one) in
-    subst (HavePageAlike drive word) is (alone_alike drive word l.kept rungs.some)
+    let is : take 1 l.kept ≡ filter (λ c. nat_le c.turn 0) l.kept = sym (below_is_first l 0 checkpoints ∙ ap (λ n. take n l.kept) one) in
+    subst (HavePageAlike drive word) is (alone_alike drive word l.kept checkpoints.some)
 
--- and so has a state that is kept alone
+-- and so has a checkpoint that is alone
 pub one_alike : (drive : Option ℕ) (word turn : ℕ) (c : Checkpoint) (kept : List Checkpoint) → kept ≡ c ∷ []
     → HavePageAlike drive word (filter (λ x. nat_le x.turn turn) kept)
 one_alike drive word turn c kept is = rw is (record {

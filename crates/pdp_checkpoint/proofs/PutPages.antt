@@ -1,11 +1,11 @@
--- New pages that are put into kept states, from the last state to the first.
+-- New pages that are put into checkpoints, from the last state to the first.
 use Rattle.std.proofs.Common.{◌≡◌, ◌∙◌, ℕ, zero, suc, ◌<◌, ◌≤◌, List, [], ◌∷◌, ◌++◌, add-one, ap, arith, drop, get_or, length, map, refl, slice_set, subst, sym, take}
 use Rattle.std.proofs.lemmas.List.{get_or_append_left, length-append}
-use Rattle.pdp_cpu.specs.Saved.{MachineContent, content_with_word}
+use Rattle.pdp_cpu.specs.Saved.{SavedMachineData, saved_machine_with_word}
 use Rattle.pdp_unibus.specs.PatchedPages.{AreNewPages}
 use Rattle.pdp_unibus.specs.declared.saved_bus.patched_page.NewPages.{NewPages}
 use Rattle.pdp_unibus.specs.declared.saved_bus.patched_page.PatchedPage.{PatchedPage}
-use Rattle.pdp_checkpoint.specs.Patched.{with_word}
+use Rattle.pdp_checkpoint.specs.Patched.{checkpoint_with_word}
 use Rattle.pdp_checkpoint.specs.declared.checkpoint.Checkpoint.{Checkpoint}
 
 -- a list that is changed from a place on
@@ -26,9 +26,10 @@ put_changed f (suc n) (x ∷ xs) c below is = ap (λ ys. x ∷ ys) (put_changed 
 
 -- a state with the word of the page
 abbrev patched_by : PatchedPage → Checkpoint → Checkpoint
-patched_by p c = with_word p.drive p.word p.value c
+patched_by p c = checkpoint_with_word p.drive p.word p.value c
 
--- the pages that are left are for the first states, and these are as they were; the others have the word
+-- the pages that are left are for the first states, and these are as they were; the others have the
+-- word
 pub record ArePut (p : PatchedPage) (first now : List Checkpoint) (left : List NewPages) : Type 0 where
   pub few : length left ≤ length first
   pub now_is : now ≡ changed_from (patched_by p) (length left) first
@@ -49,8 +50,8 @@ state_there p first now left rest new c put is there =
     there ∙ ap (λ xs. get_or xs (length rest) c) put.now_is
     ∙ at_changed (patched_by p) (length left) (length rest) first c (omega (arith, more))
 
-one_put : (p : PatchedPage) (first now : List Checkpoint) (left rest : List NewPages) (new : NewPages) (c : Checkpoint) (saved : MachineContent)
-    → ArePut p first now left → left ≡ rest ++ new ∷ [] → c ≡ get_or now (length rest) c → saved ≡ content_with_word p.drive p.word p.value c.saved
+one_put : (p : PatchedPage) (first now : List Checkpoint) (left rest : List NewPages) (new : NewPages) (c : Checkpoint) (saved : SavedMachineData)
+    → ArePut p first now left → left ≡ rest ++ new ∷ [] → c ≡ get_or now (length rest) c → saved ≡ saved_machine_with_word p.drive p.word p.value c.saved
     → ArePut p first (slice_set now (length rest) (record { turn = c.turn; saved = saved })) rest
 one_put p first now left rest new c saved put is there saved_is =
     let more = longer left rest new is in
@@ -60,7 +61,7 @@ one_put p first now left rest new c saved put is there saved_is =
     record {
       few = omega (arith, below);
       now_is =
-          ap (λ (s : MachineContent). slice_set now (length rest) (record { turn = c.turn; saved = s })) saved_is
+          ap (λ (s : SavedMachineData). slice_set now (length rest) (record { turn = c.turn; saved = s })) saved_is
           ∙ ap (λ xs. slice_set xs (length rest) (f c)) (put.now_is ∙ ap (λ n. changed_from f n first) more)
           ∙ put_changed f (length rest) first c below state;
       each = λ k d other small.
@@ -69,8 +70,8 @@ one_put p first now left rest new c saved put is there saved_is =
           (put.each k d other (omega (arith, small, more)));
     }
 
-pub put_at : (p : PatchedPage) (first now : List Checkpoint) (left rest : List NewPages) (new : NewPages) (n : ℕ) (c : Checkpoint) (saved : MachineContent)
-    → ArePut p first now left → left ≡ rest ++ new ∷ [] → n ≡ length rest → c ≡ get_or now n c → saved ≡ content_with_word p.drive p.word p.value c.saved
+pub put_at : (p : PatchedPage) (first now : List Checkpoint) (left rest : List NewPages) (new : NewPages) (n : ℕ) (c : Checkpoint) (saved : SavedMachineData)
+    → ArePut p first now left → left ≡ rest ++ new ∷ [] → n ≡ length rest → c ≡ get_or now n c → saved ≡ saved_machine_with_word p.drive p.word p.value c.saved
     → ArePut p first (slice_set now n (record { turn = c.turn; saved = saved })) rest
 put_at p first now left rest new n c saved put is place there saved_is =
     subst (λ m. ArePut p first (slice_set now m (record { turn = c.turn; saved = saved })) rest) (sym place)

@@ -1,16 +1,16 @@
 -- One patched page for states that have the page alike.
 use Rattle.std.proofs.Common.{◌≡◌, ◌∙◌, ℕ, ◌/◌, ◌%◌, ◌<◌, All, List, Option, ap, get_or, length, slice_set, subst, sym}
 use Rattle.pdp_store.specs.Pieces.{piece}
-use Rattle.pdp_unibus.specs.BusContent.{BusContent, HasWord}
+use Rattle.pdp_unibus.specs.SavedBusData.{SavedBusData, SavedBusHasWord}
 use Rattle.pdp_unibus.specs.PatchedPages.{HasPageOf, IsPatchIn, IsPatchOf, saved_lasts, saved_words}
 use Rattle.pdp_unibus.specs.declared.saved_bus.patched_page.PatchedPage.{PatchedPage}
 use Rattle.pdp_cpu.specs.Saved.{HasWord as SavedHasWord}
 use Rattle.pdp_checkpoint.specs.Patched.{HavePageAlike}
 use Rattle.pdp_checkpoint.specs.declared.checkpoint.Checkpoint.{Checkpoint}
 
--- a page that is patched in one content is so in each that has the page alike
-patch_alike : (drive : Option ℕ) (word value : ℕ) (other b c : BusContent) (p : PatchedPage) → IsPatchOf drive word value p → IsPatchIn b p
-    → HasPageOf drive word other b → HasPageOf drive word other c → HasWord drive word c → IsPatchIn c p
+-- a page that is patched in one saved bus is so in each that has the page alike
+patch_alike : (drive : Option ℕ) (word value : ℕ) (other b c : SavedBusData) (p : PatchedPage) → IsPatchOf drive word value p → IsPatchIn b p
+    → HasPageOf drive word other b → HasPageOf drive word other c → SavedBusHasWord drive word c → IsPatchIn c p
 patch_alike drive word value other b c p made here first alike there =
     let words : piece (p.word / 256) (saved_words p.drive b) ≡ piece (p.word / 256) (saved_words p.drive c) =
     rw (made.drive_is, made.word_is) (first.words ∙ sym alike.words) in

@@ -1,4 +1,5 @@
--- Lists of kept states whose turns are the multiples of a stride: what stands where, and what a filter leaves of them.
+-- Lists of checkpoints whose turns are the multiples of a stride: what stands where, and what a
+-- filter leaves of them.
 use Rattle.std.proofs.Common.{◌≡◌, ℕ, zero, suc, ◌+◌, ◌*◌, ◌/◌, ◌%◌, ◌<◌, ◌≤◌, ◌==◌, true, false, eqb, leb, nat_le, List, [], ◌∷◌, ◌++◌, length, map, take, get_or, refl, ap, ◌∙◌, arith}
 use Rattle.std.specs.List.{filter}
 use Rattle.std.proofs.Math.Nat.{mul-mod_left, mul-add-mod_self_right, mod-eq_of_lt}
@@ -65,7 +66,8 @@ steps_below s a t (suc j) (c ∷ cs) are above below =
     let yes : leb c.turn t ≡ true = le-leb c.turn t (omega arith) in
     rw yes (ap (λ (l : List Checkpoint). c ∷ l) (steps_below s (a + s) t j cs (tail_is s a c cs are) (omega arith) (omega arith)))
 
--- of steps from a multiple of twice the stride every other is such a multiple, the first of them too
+-- of steps from a multiple of twice the stride every other is such a multiple, the first of them
+-- too
 pub record AreHalved (s a : ℕ) (cs : List Checkpoint) : Type 0 where
   pub steps : AreSteps (s * 2) a (filter (λ c. c.turn % (s * 2) == 0) cs)
   pub count : length (filter (λ c. c.turn % (s * 2) == 0) cs) ≡ (length cs + 1) / 2

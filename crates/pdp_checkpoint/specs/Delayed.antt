@@ -1,15 +1,18 @@
--- The kept state of turn 0 with other delays of the devices (this project's profile).
+-- The checkpoint of turn 0 with other delays of the devices (this project's profile).
 use Rattle.std.specs.Prelude.{nat_le, map}
 use Rattle.std.specs.List.{filter}
 use Rattle.pdp_unibus.specs.declared.delays.Delays.{Delays}
-use Rattle.pdp_cpu.specs.Saved.{content_with_delays}
+use Rattle.pdp_cpu.specs.Saved.{saved_machine_with_delays}
 use Rattle.pdp_checkpoint.specs.declared.checkpoint.Checkpoint.{Checkpoint}
 use Rattle.pdp_checkpoint.specs.Ladder.{LadderData}
 
 -- a state with these delays
-abbrev pub with_delays : Delays → Checkpoint → Checkpoint
-with_delays delays c = record c { saved = content_with_delays delays c.saved }
+abbrev pub checkpoint_with_delays : Delays → Checkpoint → Checkpoint
+checkpoint_with_delays delays c = record c { saved = saved_machine_with_delays delays c.saved }
 
 -- the states of turn 0 alone, each with these delays
-abbrev pub delayed : Delays → LadderData → LadderData
-delayed delays l = record l { kept = map (with_delays delays) (filter (λ c. nat_le c.turn 0) l.kept) }
+abbrev pub ladder_with_delays : Delays → LadderData → LadderData
+ladder_with_delays delays l = record l {
+  kept = map (checkpoint_with_delays delays) (filter
+      (λ c. nat_le c.turn 0) l.kept);
+}

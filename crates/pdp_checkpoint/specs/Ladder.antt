@@ -1,9 +1,10 @@
--- The kept states of a machine, at the multiples of a stride of turns (this project's profile).
-use Rattle.std.specs.Prelude.{ℕ, zero, suc, ◌≡◌, ◌+◌, ◌*◌, ◌/◌, ◌%◌, ◌-◌, ◌<◌, ◌≤◌, ◌==◌, min, nat_lt, if◌then◌else◌, List, [], ◌∷◌, ◌++◌, length, map}
+-- The checkpoints of a machine, at the multiples of a stride of turns (this project's profile).
+use Rattle.std.specs.Prelude.{ℕ, zero, suc, ◌≡◌, ◌+◌, ◌*◌, ◌/◌, ◌%◌, ◌-◌, ◌<◌, ◌≤◌, ◌==◌, min}
+use Rattle.std.specs.Prelude.{nat_lt, if◌then◌else◌, List, [], ◌∷◌, ◌++◌, length, map}
 use Rattle.std.specs.List.{filter}
 use Rattle.pdp_unibus.specs.LastTurn.{last_turn}
 use Rattle.pdp_cpu.specs.Turns.MachineState.{MachineState}
-use Rattle.pdp_cpu.specs.Saved.{machine_content}
+use Rattle.pdp_cpu.specs.Saved.{saved_machine}
 use Rattle.pdp_checkpoint.specs.declared.checkpoint.Checkpoint.{Checkpoint}
 
 abbrev pub widest_stride : ℕ
@@ -12,14 +13,14 @@ widest_stride = 2000000000
 abbrev pub most_kept : ℕ
 most_kept = 256
 
--- the kept states, the earliest first, and how many turns lie between two of them
+-- the checkpoints, the earliest first, and how many turns lie between two of them
 pub record LadderData : Type 0 where
   pub kept : List Checkpoint
   pub stride : ℕ
 
 -- the state of a machine, with its turn
 abbrev pub checkpoint_of : MachineState → Checkpoint
-checkpoint_of m = record { turn = m.turn; saved = machine_content m }
+checkpoint_of m = record { turn = m.turn; saved = saved_machine m }
 
 -- so many numbers, this one first and each further one a step above the one before
 unfoldable pub steps_from : ℕ → ℕ → ℕ → List ℕ
@@ -30,12 +31,13 @@ steps_from step first (suc count) = first ∷ steps_from step (first + step) cou
 abbrev pub next_of : LadderData → ℕ
 next_of l = length l.kept * l.stride
 
--- which of the kept states is the last at or before a turn, counted from 0
+-- which of the checkpoints is the last at or before a turn, counted from 0
 abbrev pub best_of : LadderData → ℕ → ℕ
 best_of l turn = min (turn / l.stride) (length l.kept - 1)
 
--- the turns are 0, the stride, twice the stride and so on; there are some, at most 256, and none is too late
-pub record AreRungs (l : LadderData) : Type 0 where
+-- the turns are 0, the stride, twice the stride and so on; there are some, at most 256, and none is
+-- too late
+pub record AreCheckpoints (l : LadderData) : Type 0 where
   pub turns : map (λ c. c.turn) l.kept ≡ steps_from l.stride 0 (length l.kept)
   pub some : 0 < length l.kept
   pub few : length l.kept ≤ most_kept
@@ -52,9 +54,10 @@ abbrev pub with_last : LadderData → Checkpoint → LadderData
 with_last l c = record l { kept = l.kept ++ c ∷ [] }
 
 -- with twice the stride, and the states at its multiples
-abbrev pub doubled : LadderData → LadderData
-doubled l = record { kept = at_multiples (l.stride * 2) l.kept; stride = l.stride * 2 }
+abbrev pub ladder_doubled : LadderData → LadderData
+ladder_doubled l = record { kept = at_multiples (l.stride * 2) l.kept; stride = l.stride * 2 }
 
 -- with one more state; where that makes more than 256, at twice the stride
 unfoldable pub kept_with : LadderData → Checkpoint → LadderData
-kept_with l c = (if nat_lt (length l.kept) most_kept then with_last l c else doubled (with_last l c))
+kept_with l c = (if nat_lt (length l.kept) most_kept then with_last l c else ladder_doubled
+    (with_last l c))

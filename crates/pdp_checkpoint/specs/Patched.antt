@@ -1,29 +1,37 @@
--- Kept states with another value in a word (this project's profile).
+-- Checkpoints with another value in a word (this project's profile).
 use Rattle.std.specs.Prelude.{ℕ, ◌≡◌, ◌<◌, Option, List, nat_le, length, map, slice_index_or}
 use Rattle.std.specs.List.{All, filter}
-use Rattle.pdp_unibus.specs.BusContent.{BusContent}
+use Rattle.pdp_unibus.specs.SavedBusData.{SavedBusData}
 use Rattle.pdp_unibus.specs.PatchedPages.{AreNewPages, HasPageOf}
 use Rattle.pdp_unibus.specs.declared.saved_bus.patched_page.NewPages.{NewPages}
 use Rattle.pdp_unibus.specs.declared.saved_bus.patched_page.PatchedPage.{PatchedPage}
-use Rattle.pdp_cpu.specs.Saved.{content_with_word}
+use Rattle.pdp_cpu.specs.Saved.{saved_machine_with_word}
 use Rattle.pdp_checkpoint.specs.declared.checkpoint.Checkpoint.{Checkpoint}
 use Rattle.pdp_checkpoint.specs.Ladder.{LadderData}
 
 -- a state with this value in a word of core, or of a drive
-abbrev pub with_word : Option ℕ → ℕ → ℕ → Checkpoint → Checkpoint
-with_word drive word value c = record c { saved = content_with_word drive word value c.saved }
+abbrev pub checkpoint_with_word : Option ℕ → ℕ → ℕ → Checkpoint → Checkpoint
+checkpoint_with_word drive word value c = record c {
+  saved = saved_machine_with_word drive word
+      value c.saved;
+}
 
 -- the states of turns that are not above this one, each with this value in the word
 abbrev pub patched_to : ℕ → Option ℕ → ℕ → ℕ → LadderData → LadderData
-patched_to turn drive word value l = record l { kept = map (with_word drive word value) (filter (λ c. nat_le c.turn turn) l.kept) }
+patched_to turn drive word value l = record l {
+  kept = map (checkpoint_with_word drive word value)
+      (filter (λ c. nat_le c.turn turn) l.kept);
+}
 
--- these states have the page of this word alike: there each has the words of one content, and in
+-- these states have the page of this word alike: there each has the words of one saved bus, and in
 -- core its last stamps
 pub record HavePageAlike (drive : Option ℕ) (word : ℕ) (kept : List Checkpoint) : Type 0 where
-  pub content : BusContent
+  pub content : SavedBusData
   pub all : All (λ c. HasPageOf drive word content c.saved.bus) kept
 
 -- for each of these states, in their order, what takes the place of its page
-pub record AreNewPagesFor (p : PatchedPage) (kept : List Checkpoint) (pages : List NewPages) : Type 0 where
+pub record AreNewPagesFor (p : PatchedPage) (kept : List Checkpoint) (pages : List NewPages) : Type
+    0 where
   pub count : length pages ≡ length kept
-  pub each : (k : ℕ) (c : Checkpoint) (new : NewPages) → k < length kept → AreNewPages p (slice_index_or kept k c).saved.bus (slice_index_or pages k new)
+  pub each : (k : ℕ) (c : Checkpoint) (new : NewPages) → k < length kept → AreNewPages p
+      (slice_index_or kept k c).saved.bus (slice_index_or pages k new)

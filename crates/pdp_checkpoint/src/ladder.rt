@@ -1,10 +1,12 @@
-ghost use Rattle.std.specs.Prelude.{◌≡◌, ◌+◌, ◌*◌, ◌/◌, ◌<◌, ◌≤◌, min, nat_le, Some, [], ◌∷◌, length, slice_get, IfOk, OnOk, OnErr};
+ghost use Rattle.std.specs.Prelude.{◌≡◌, ◌+◌, ◌*◌, ◌/◌, ◌<◌, ◌≤◌, min, nat_le, Some, [], ◌∷◌};
+ghost use Rattle.std.specs.Prelude.{length, slice_get, IfOk, OnOk, OnErr};
 ghost use Rattle.std.specs.List.{All, filter};
 ghost use Rattle.pdp_unibus.specs.LastTurn.{last_turn};
-ghost use Rattle.pdp_checkpoint.specs.Delayed.{delayed};
+ghost use Rattle.pdp_checkpoint.specs.Delayed.{ladder_with_delays};
 ghost use Rattle.pdp_checkpoint.specs.Patched.{HavePageAlike, patched_to};
 ghost use Rattle.pdp_cpu.specs.Saved.{HasWord};
-ghost use Rattle.pdp_checkpoint.specs.Ladder.{widest_stride, checkpoint_of, next_of, best_of, kept_with, AreRungs};
+ghost use Rattle.pdp_checkpoint.specs.Ladder.{widest_stride, checkpoint_of, next_of, best_of};
+ghost use Rattle.pdp_checkpoint.specs.Ladder.{kept_with, AreCheckpoints};
 
 use crate::checkpoint::Checkpoint;
 use crate::patched::ReadyPatch;
@@ -21,8 +23,8 @@ pub const MOST_KEPT: usize = 256;
 /// The widest stride of a ladder, in turns (this project's profile).
 pub const WIDEST_STRIDE: u32 = 2_000_000_000;
 
-/// Kept states of a machine, at most 256, at the multiples of a stride from turn 0 on (this project's profile). A
-/// contract sees the list of them, the earliest first, and the stride.
+/// Checkpoints of a machine, at most 256, at the multiples of a stride from turn 0 on (this
+/// project's profile). A contract sees the list of them, the earliest first, and the stride.
 #[derive(Drop)]
 pub struct Ladder {
     kept: Vec<Checkpoint>,
@@ -34,16 +36,16 @@ impl Model for Ladder {
 
     ghost Value = { LadderData };
 
-    ghost use Rattle.pdp_checkpoint.specs.Ladder.{AreRungs};
+    ghost use Rattle.pdp_checkpoint.specs.Ladder.{AreCheckpoints};
 
     ghost view = { λ l. record { kept = l.kept.items; stride = l.stride } };
 
-    ghost invariant = { λ l. AreRungs (record { kept = l.kept.items; stride = l.stride }) };
+    ghost invariant = { λ l. AreCheckpoints (record { kept = l.kept.items; stride = l.stride }) };
 }
 
 impl Ladder {
-    /// A ladder that keeps the state of this machine, which is at turn 0, and then one every `stride` turns, 1 to
-    /// 2,000,000,000. The machine is left as it is.
+    /// A ladder that keeps the state of this machine, which is at turn 0, and then one every
+    /// `stride` turns, 1 to 2,000,000,000. The machine is left as it is.
     ///
     /// # Errors
     ///
@@ -55,7 +57,7 @@ impl Ladder {
         ensures machine { machine.new ≡ machine.old }
         ensures kept { IfOk result (λ ladder. ladder.kept ≡ checkpoint_of machine.old.state ∷ []) }
         ensures stride { IfOk result (λ ladder. ladder.stride ≡ stride) }
-        ensures rungs { IfOk result AreRungs }
+        ensures checkpoints { IfOk result AreCheckpoints }
     {
         let saved = machine.save(alloc)?;
         let mut kept = Vec::new(alloc);
@@ -63,39 +65,42 @@ impl Ladder {
         Ok(Ladder { kept, stride })
     }
 
-    /// How many turns lie between two kept states. It takes no memory.
+    /// How many turns lie between two checkpoints. It takes no memory.
     pub fn stride(&self) -> u32
         ensures stride { result ≡ self.now.stride }
-        ensures rungs { AreRungs self.now }
+        ensures checkpoints { AreCheckpoints self.now }
     {
         self.stride
     }
 
-    /// The turn of the state to keep next: the first multiple of the stride above the turns that are kept.
+    /// The turn of the state to keep next: the first multiple of the stride above the turns that
+    /// are kept.
     pub fn next(&self) -> u32
         ensures next { result ≡ next_of self.now }
-        ensures rungs { AreRungs self.now }
+        ensures checkpoints { AreCheckpoints self.now }
     {
         self.kept.len() as u32 * self.stride
     }
 
-    /// The kept state of the greatest turn that is not above `turn`.
+    /// The checkpoint of the greatest turn that is not above `turn`.
     pub fn best(&self, turn: u32) -> &Checkpoint
         ensures state { slice_get self.now.kept (best_of self.now turn) ≡ Some result.now }
         ensures turn { result.now.turn ≡ best_of self.now turn * self.now.stride }
         ensures below { result.now.turn ≤ turn }
         ensures near { turn < next_of self.now → turn < result.now.turn + self.now.stride }
-        ensures last { next_of self.now ≤ turn → result.now.turn + self.now.stride ≡ next_of self.now }
+        ensures last { next_of self.now ≤ turn
+            → result.now.turn + self.now.stride ≡ next_of self.now }
         ensures greatest { All (λ c. c.turn ≤ turn → c.turn ≤ result.now.turn) self.now.kept }
-        ensures rungs { AreRungs self.now }
+        ensures checkpoints { AreCheckpoints self.now }
     {
         let last = self.kept.len() - 1;
         let place = ((turn / self.stride) as usize).min(last);
         &self.kept[place]
     }
 
-    /// Keeps the state of this machine, which is at the turn of `next`. Where that is the 257th, the stride doubles
-    /// and the states at odd multiples of the old one go. The machine is left as it is.
+    /// Keeps the state of this machine, which is at the turn of `next`. Where that is the 257th,
+    /// the stride doubles and the states at odd multiples of the old one go. The machine is left as
+    /// it is.
     ///
     /// # Errors
     ///
@@ -104,10 +109,11 @@ impl Ladder {
         requires next { machine.old.state.turn ≡ next_of self.old }
         requires limit { machine.old.state.turn ≤ last_turn }
         ensures machine { machine.new ≡ machine.old }
-        ensures kept { OnOk result (self.new ≡ kept_with self.old (checkpoint_of machine.old.state)) }
+        ensures kept { OnOk result
+            (self.new ≡ kept_with self.old (checkpoint_of machine.old.state)) }
         ensures refused { OnErr result (self.new ≡ self.old) }
         ensures next { OnOk result (next_of self.new ≡ next_of self.old + self.new.stride) }
-        ensures rungs { AreRungs self.new }
+        ensures checkpoints { AreCheckpoints self.new }
     {
         let turn = self.next();
         let saved = machine.save(alloc)?;
@@ -123,27 +129,29 @@ impl Ladder {
     pub fn cut(&mut self, turn: u32)
         ensures kept { self.new.kept ≡ filter (λ c. nat_le c.turn turn) self.old.kept }
         ensures stride { self.new.stride ≡ self.old.stride }
-        ensures count { length self.new.kept ≡ min (length self.old.kept) (turn / self.old.stride + 1) }
-        ensures rungs { AreRungs self.new }
+        ensures count { length self.new.kept
+            ≡ min (length self.old.kept) (turn / self.old.stride + 1) }
+        ensures checkpoints { AreCheckpoints self.new }
     {
         self.kept.truncate((turn / self.stride) as usize + 1);
     }
 
-    /// Makes these the delays (turns) of the devices in the kept state of turn 0, and drops the states of later turns.
-    /// It takes no memory. (This project's profile.)
+    /// Makes these the delays (turns) of the devices in the checkpoint of turn 0, and drops the
+    /// states of later turns. It takes no memory. (This project's profile.)
     pub fn set_delays(&mut self, delays: Delays)
-        ensures kept { self.new ≡ delayed delays self.old }
+        ensures kept { self.new ≡ ladder_with_delays delays self.old }
         ensures count { length self.new.kept ≡ 1 }
-        ensures rungs { AreRungs self.new }
+        ensures checkpoints { AreCheckpoints self.new }
     {
         self.kept.truncate(1);
         self.kept[0].saved.set_delays(delays);
     }
 
-    /// Gives a word of core, or of this drive, this value in the kept states up to `turn`, and drops
-    /// those of turns above it. The states up to `turn` have the page of the word alike: they share
-    /// the one page that is made. All that is needed for the new states is there before the first is
-    /// changed. The machine numbers the new page, and is left as it is. (This project's profile.)
+    /// Gives a word of core, or of this drive, this value in the checkpoints up to `turn`, and
+    /// drops those of turns above it. The states up to `turn` have the page of the word alike: they
+    /// share the one page that is made. All that is needed for the new states is there before the
+    /// first is changed. The machine numbers the new page, and is left as it is. (This project's
+    /// profile.)
     ///
     /// # Errors
     ///
@@ -161,9 +169,10 @@ impl Ladder {
         requires alike { HavePageAlike drive word (filter (λ c. nat_le c.turn turn) self.old.kept) }
         ensures machine { machine.new ≡ machine.old }
         ensures kept { OnOk result (self.new ≡ patched_to turn drive word value self.old) }
-        ensures count { OnOk result (length self.new.kept ≡ min (length self.old.kept) (turn / self.old.stride + 1)) }
+        ensures count { OnOk result
+            (length self.new.kept ≡ min (length self.old.kept) (turn / self.old.stride + 1)) }
         ensures refused { OnErr result (self.new ≡ self.old) }
-        ensures rungs { AreRungs self.new }
+        ensures checkpoints { AreCheckpoints self.new }
     {
         let count = ((turn / self.stride) as usize + 1).min(self.kept.len());
         let patch = ReadyPatch::new(alloc, machine, &self.kept[..count], drive, word, value)?;

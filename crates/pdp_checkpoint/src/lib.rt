@@ -1,10 +1,10 @@
-//! Kept states of the machine: a ladder of at most 256 of them, at the multiples of a stride of
+//! Checkpoints of the machine: a ladder of at most 256 of them, at the multiples of a stride of
 //! turns. It stands on pdp_word, pdp_store, pdp_unibus and pdp_cpu.
 //!
 //! # What is proved
 //!
-//! - States are kept at turn 0 and at each further multiple of the stride. A 257th doubles the
-//!   stride, and those at odd multiples of the old one go (`Ladder::new`, `take`, `stride`,
+//! - Checkpoints are taken at turn 0 and at each further multiple of the stride. A 257th doubles
+//!   the stride, and those at odd multiples of the old one go (`Ladder::new`, `take`, `stride`,
 //!   `next`).
 //! - The best state for a turn is the last at or before it (`best`).
 //! - A cut drops those above a turn, and no other (`cut`).

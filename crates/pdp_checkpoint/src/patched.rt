@@ -2,7 +2,7 @@ ghost use Rattle.std.specs.Prelude.{◌≡◌, ◌<◌, length, map, IfOk};
 ghost use Rattle.std.specs.List.{All};
 ghost use Rattle.pdp_cpu.specs.Saved.{HasWord};
 ghost use Rattle.pdp_unibus.specs.PatchedPages.{IsPatchIn, IsPatchOf};
-ghost use Rattle.pdp_checkpoint.specs.Patched.{AreNewPagesFor, HavePageAlike, with_word};
+ghost use Rattle.pdp_checkpoint.specs.Patched.{AreNewPagesFor, HavePageAlike, checkpoint_with_word};
 
 use crate::checkpoint::Checkpoint;
 use pdp_cpu::PagedMachine;
@@ -10,8 +10,8 @@ use pdp_unibus::{NewPages, PatchedPage};
 use pdp_word::NoMemory;
 use std::alloc::Global;
 
-/// A patched page, and for each of some kept states what takes the place of its own page: all the memory that the
-/// patch of these states needs.
+/// A patched page, and for each of some checkpoints what takes the place of its own page: all the
+/// memory that the patch of these states needs.
 #[derive(Drop)]
 pub(crate) struct ReadyPatch {
     page: PatchedPage,
@@ -37,7 +37,8 @@ impl ReadyPatch {
         requires alike { HavePageAlike drive word kept.now }
         ensures machine { machine.new ≡ machine.old }
         ensures patch { IfOk result (λ patch. IsPatchOf drive word value patch.page) }
-        ensures pages { IfOk result (λ patch. AreNewPagesFor patch.page kept.now patch.pages.items) }
+        ensures pages { IfOk result
+            (λ patch. AreNewPagesFor patch.page kept.now patch.pages.items) }
     {
         let first = &kept[0];
         let page = first
@@ -50,7 +51,9 @@ impl ReadyPatch {
     /// Gives the word its value in each of the states that the patch is for. It takes no memory.
     pub(crate) fn put(self, kept: &mut [Checkpoint])
         requires { AreNewPagesFor self.page kept.old self.pages.items }
-        ensures { kept.new ≡ map (with_word self.page.drive self.page.word self.page.value) kept.old }
+        ensures { kept.new ≡ map (checkpoint_with_word self.page.drive self.page.word
+            self.page.value)
+            kept.old }
     {
         let ReadyPatch { page, mut pages } = self;
         while let Some(new) = pages.pop() {

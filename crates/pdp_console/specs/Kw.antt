@@ -1,26 +1,30 @@
--- The line clock: PDP-11 Peripherals Handbook, KW11-L (when its request appears and goes is this project's profile).
+-- The line clock: PDP-11 Peripherals Handbook, KW11-L (when its request appears and goes is this
+-- project's profile).
 use Rattle.std.specs.Prelude.{ℕ, ◌+◌, ◌*◌, true, false, ◌&&◌, ◌||◌}
-use Rattle.pdp_word.specs.Bits.{bit_of, has_bit}
+use Rattle.pdp_word.specs.Bits.{bit_of}
+use Rattle.pdp_word.specs.Mask.{is_set}
+use Rattle.pdp_console.specs.Bits.{lks_enable, lks_monitor}
 use Rattle.pdp_console.specs.declared.kw.Kw.{Kw}
 
 -- at power-up and after RESET
-abbrev pub quiet_kw : Kw
-quiet_kw = record { monitor = true; enable = false; request = false }
+abbrev pub init_kw : Kw
+init_kw = record { monitor = true; enable = false; request = false }
 
 -- 7 monitor, 6 enable
 abbrev pub kw_value : Kw → ℕ
-kw_value c = bit_of c.monitor * 0o200 + bit_of c.enable * 0o100
+kw_value c = bit_of c.monitor * lks_monitor + bit_of c.enable * lks_enable
 
 -- a tick sets monitor, and requests where enable is set
-abbrev pub ticked : Kw → Kw
-ticked c = record c { monitor = true; request = c.request || c.enable }
+abbrev pub kw_ticked : Kw → Kw
+kw_ticked c = record c { monitor = true; request = c.request || c.enable }
 
--- a write sets enable, clears monitor where bit 7 is clear, and drops a request where bit 6 is clear
+-- a write sets enable, clears monitor where bit 7 is clear, and drops a request where bit 6 is
+-- clear
 abbrev pub kw_written : ℕ → Kw → Kw
 kw_written word c = record {
-  monitor = c.monitor && has_bit 7 word;
-  enable = has_bit 6 word;
-  request = c.request && has_bit 6 word;
+  monitor = c.monitor && is_set lks_monitor word;
+  enable = is_set lks_enable word;
+  request = c.request && is_set lks_enable word;
 }
 
 -- the request is served

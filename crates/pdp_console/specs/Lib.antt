@@ -1,3 +1,4 @@
+pub mod Bits
 pub mod Keyboard
 pub mod Kl
 pub mod Kw

@@ -1,6 +1,6 @@
 ghost use Rattle.std.specs.Prelude.{◌≡◌};
 
-use pdp_device::Channel;
+use pdp_device::ReadyEnable;
 
 /// The keyboard of the console terminal.
 ///
@@ -8,31 +8,32 @@ use pdp_device::Channel;
 #[derive(Clone, Copy, Debug, PartialEq, Eq)]
 pub struct Keyboard {
     /// Ready is the handbook's done: a key has come since the buffer was last read.
-    pub channel: Channel,
+    pub ready_enable: ReadyEnable,
     /// The last key.
     pub key: u8,
 }
 
 impl Keyboard {
-    ghost use Rattle.pdp_console.specs.Keyboard.{key_struck, key_taken, keyboard_reset, quiet_keyboard};
+    ghost use Rattle.pdp_console.specs.Keyboard.{key_struck, key_taken, keyboard_reset};
+    ghost use Rattle.pdp_console.specs.Keyboard.{init_keyboard};
 
     /// A keyboard at power-up: not done, not enabled, with key 0 (this project's profile).
-    pub fn quiet() -> Keyboard
-        ensures { result ≡ quiet_keyboard }
+    pub fn init() -> Keyboard
+        ensures { result ≡ init_keyboard }
     {
         Keyboard {
-            channel: Channel::quiet(false),
+            ready_enable: ReadyEnable::init(false),
             key: 0,
         }
     }
 
-    /// A key is struck: it is kept, and done is set. One that comes while done is set replaces the last
-    /// (this project's profile).
+    /// A key is struck: it is kept, and done is set. One that comes while done is set replaces the
+    /// last (this project's profile).
     pub fn strike(&mut self, key: u8)
         ensures { self.new ≡ key_struck key self.old }
     {
         self.key = key;
-        self.channel.set_ready(true);
+        self.ready_enable.set_ready(true);
     }
 
     /// The last key is read: done is cleared.
@@ -40,14 +41,15 @@ impl Keyboard {
         ensures key { result ≡ self.old.key }
         ensures after { self.new ≡ key_taken self.old }
     {
-        self.channel.set_ready(false);
+        self.ready_enable.set_ready(false);
         self.key
     }
 
-    /// RESET: done and enable are cleared and a request is dropped; the key stays (this project's profile).
+    /// RESET: done and enable are cleared and a request is dropped; the key stays (this project's
+    /// profile).
     pub fn reset(&mut self)
         ensures { self.new ≡ keyboard_reset self.old }
     {
-        self.channel = Channel::quiet(false);
+        self.ready_enable = ReadyEnable::init(false);
     }
 }

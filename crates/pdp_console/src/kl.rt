@@ -1,7 +1,7 @@
 ghost use Rattle.std.specs.Prelude.{◌≡◌};
 
 use super::Keyboard;
-use pdp_device::{Outlet, OutletRegister};
+use pdp_device::{Transmitter, TransmitterRegister};
 
 /// A register of the console terminal.
 ///
@@ -14,7 +14,8 @@ pub enum KlRegister {
     KeyboardBuffer,
     /// TPS: bit 7 ready, bit 6 enable, which alone is written.
     PrinterStatus,
-    /// TPB: a write clears ready and begins to print its low byte. Reads 0 (this project's profile).
+    /// TPB: a write clears ready and begins to print its low byte. Reads 0 (this project's
+    /// profile).
     PrinterBuffer,
 }
 
@@ -43,27 +44,29 @@ pub struct Kl {
     /// What is typed.
     pub keyboard: Keyboard,
     /// What is printed.
-    pub printer: Outlet,
+    pub printer: Transmitter,
 }
 
 impl Kl {
-    ghost use Rattle.pdp_console.specs.Kl.{keyboard_served, kl_completed, kl_printed, kl_read, kl_reset, kl_value};
-    ghost use Rattle.pdp_console.specs.Kl.{kl_written, printer_served, quiet_kl, struck};
+    ghost use Rattle.pdp_console.specs.Kl.{keyboard_served, kl_completed, kl_printed, kl_read};
+    ghost use Rattle.pdp_console.specs.Kl.{kl_reset, kl_value};
+    ghost use Rattle.pdp_console.specs.Kl.{kl_written, printer_served, init_kl, kl_struck};
 
-    /// A console terminal at power-up: as after RESET, with both buffers 0 (this project's profile).
-    pub fn quiet() -> Kl
-        ensures { result ≡ quiet_kl }
+    /// A console terminal at power-up: as after RESET, with both buffers 0 (this project's
+    /// profile).
+    pub fn init() -> Kl
+        ensures { result ≡ init_kl }
     {
         Kl {
-            keyboard: Keyboard::quiet(),
-            printer: Outlet::quiet(),
+            keyboard: Keyboard::init(),
+            printer: Transmitter::init(),
         }
     }
 
-    /// A key is struck: its byte is in the buffer, and done is set. A key that comes while done is set replaces the
-    /// byte (this project's profile).
+    /// A key is struck: its byte is in the buffer, and done is set. A key that comes while done is
+    /// set replaces the byte (this project's profile).
     pub fn key(&mut self, key: u8)
-        ensures { self.new ≡ struck self.old key }
+        ensures { self.new ≡ kl_struck self.old key }
     {
         self.keyboard.strike(key);
     }
@@ -73,10 +76,10 @@ impl Kl {
         ensures { result ≡ kl_value register self.now }
     {
         match register {
-            KlRegister::KeyboardStatus => self.keyboard.channel.status(),
+            KlRegister::KeyboardStatus => self.keyboard.ready_enable.status(),
             KlRegister::KeyboardBuffer => u16::from(self.keyboard.key),
-            KlRegister::PrinterStatus => self.printer.value(OutletRegister::Status),
-            KlRegister::PrinterBuffer => self.printer.value(OutletRegister::Buffer),
+            KlRegister::PrinterStatus => self.printer.value(TransmitterRegister::Status),
+            KlRegister::PrinterBuffer => self.printer.value(TransmitterRegister::Buffer),
         }
     }
 
@@ -91,25 +94,25 @@ impl Kl {
         }
     }
 
-    /// A write of a word to the register in this turn; printing a byte takes so many turns, with 0 until its event
-    /// (this project's profile).
+    /// A write of a word to the register in this turn; printing a byte takes so many turns, with 0
+    /// until its event (this project's profile).
     pub fn write_reg(&mut self, register: KlRegister, word: u16, turn: u32, printer_delay: u32)
         ensures { self.new ≡ kl_written register word turn printer_delay self.old }
     {
         match register {
-            KlRegister::KeyboardStatus => self.keyboard.channel.write_enable(word),
+            KlRegister::KeyboardStatus => self.keyboard.ready_enable.write_enable(word),
             KlRegister::KeyboardBuffer => {}
             KlRegister::PrinterStatus => self
                 .printer
-                .write_reg(OutletRegister::Status, word, turn, printer_delay),
+                .write_reg(TransmitterRegister::Status, word, turn, printer_delay),
             KlRegister::PrinterBuffer => self
                 .printer
-                .write_reg(OutletRegister::Buffer, word, turn, printer_delay),
+                .write_reg(TransmitterRegister::Buffer, word, turn, printer_delay),
         }
     }
 
-    /// The byte that is being printed is out, and the printer is ready again. Gives the byte; where none is being
-    /// printed, nothing happens (this project's profile).
+    /// The byte that is being printed is out, and the printer is ready again. Gives the byte; where
+    /// none is being printed, nothing happens (this project's profile).
     pub fn complete(&mut self) -> Option<u8>
         ensures byte { result ≡ kl_printed self.old }
         ensures after { self.new ≡ kl_completed self.old }
@@ -117,24 +120,24 @@ impl Kl {
         self.printer.complete()
     }
 
-    /// The keyboard's request is served: it goes, and nothing else changes. The next one appears where done or enable
-    /// was cleared and both are set again (this project's profile).
+    /// The keyboard's request is served: it goes, and nothing else changes. The next one appears
+    /// where done or enable was cleared and both are set again (this project's profile).
     pub fn serve_keyboard(&mut self)
         ensures { self.new ≡ keyboard_served self.old }
     {
-        self.keyboard.channel.serve();
+        self.keyboard.ready_enable.serve();
     }
 
-    /// The printer's request is served: it goes, and nothing else changes. The next one appears where ready or enable
-    /// was cleared and both are set again (this project's profile).
+    /// The printer's request is served: it goes, and nothing else changes. The next one appears
+    /// where ready or enable was cleared and both are set again (this project's profile).
     pub fn serve_printer(&mut self)
         ensures { self.new ≡ printer_served self.old }
     {
         self.printer.serve();
     }
 
-    /// RESET: the keyboard is not done, the printer is ready, neither is enabled or requests, and a byte that is being
-    /// printed is dropped. The buffers stay (this project's profile).
+    /// RESET: the keyboard is not done, the printer is ready, neither is enabled or requests, and a
+    /// byte that is being printed is dropped. The buffers stay (this project's profile).
     pub fn reset(&mut self)
         ensures { self.new ≡ kl_reset self.old }
     {

@@ -1,6 +1,7 @@
 ghost use Rattle.std.specs.Prelude.{◌≡◌};
 
-use pdp_word::{bit_of, has_bit};
+use crate::bits::{LKS_ENABLE, LKS_MONITOR};
+use pdp_word::{bit_of, is_set};
 
 /// The line clock, with its one register LKS.
 ///
@@ -11,17 +12,18 @@ pub struct Kw {
     pub monitor: bool,
     /// Bit 6: ticks request an interrupt.
     pub enable: bool,
-    /// It requests an interrupt. A tick requests where enable is set; a request goes when it is served, by RESET, and
-    /// by a write with bit 6 clear (this project's profile).
+    /// It requests an interrupt. A tick requests where enable is set; a request goes when it is
+    /// served, by RESET, and by a write with bit 6 clear (this project's profile).
     pub request: bool,
 }
 
 impl Kw {
-    ghost use Rattle.pdp_console.specs.Kw.{kw_served, kw_value, kw_written, quiet_kw, ticked};
+    ghost use Rattle.pdp_console.specs.Kw.{kw_served, kw_value, kw_written, init_kw, kw_ticked};
 
-    /// A clock at power-up and after RESET: monitor is set, enable is clear, and there is no request.
-    pub fn quiet() -> Kw
-        ensures { result ≡ quiet_kw }
+    /// A clock at power-up and after RESET: monitor is set, enable is clear, and there is no
+    /// request.
+    pub fn init() -> Kw
+        ensures { result ≡ init_kw }
     {
         Kw {
             monitor: true,
@@ -34,17 +36,17 @@ impl Kw {
     pub fn value(&self) -> u16
         ensures { result ≡ kw_value self.now }
     {
-        bit_of(self.monitor) * 0o200 + bit_of(self.enable) * 0o100
+        bit_of(self.monitor) * LKS_MONITOR + bit_of(self.enable) * LKS_ENABLE
     }
 
-    /// A write of a word to LKS: bit 6 is enable, and a clear bit 7 clears monitor. With bit 6 clear a request is
-    /// dropped (this project's profile).
+    /// A write of a word to LKS: bit 6 is enable, and a clear bit 7 clears monitor. With bit 6
+    /// clear a request is dropped (this project's profile).
     pub fn write_reg(&mut self, word: u16)
         ensures { self.new ≡ kw_written word self.old }
     {
-        let enable = has_bit(6, word);
+        let enable = is_set(LKS_ENABLE, word);
         *self = Kw {
-            monitor: self.monitor && has_bit(7, word),
+            monitor: self.monitor && is_set(LKS_MONITOR, word),
             enable,
             request: self.request && enable,
         };
@@ -52,7 +54,7 @@ impl Kw {
 
     /// The clock ticks: monitor is set, and where enable is set it requests an interrupt.
     pub fn tick(&mut self)
-        ensures { self.new ≡ ticked self.old }
+        ensures { self.new ≡ kw_ticked self.old }
     {
         self.monitor = true;
         self.request = self.request || self.enable;
@@ -67,8 +69,8 @@ impl Kw {
 
     /// RESET: monitor is set, enable is cleared and a request is dropped.
     pub fn reset(&mut self)
-        ensures { self.new ≡ quiet_kw }
+        ensures { self.new ≡ init_kw }
     {
-        *self = Kw::quiet();
+        *self = Kw::init();
     }
 }

@@ -1,8 +1,11 @@
-ghost use Rattle.pdp_console.specs.Laws.{KeysWait, OtherUsesLeaveTheKey, ReadsClearDone, WritesSetEnable};
-ghost use Rattle.pdp_console.specs.Laws.{MonitorStaysUntilCleared, TicksRequest, TicksSetMonitor, WritesMakeNoRequest};
+ghost use Rattle.pdp_console.specs.Laws.{KeysWait, OtherUsesLeaveTheKey, ReadsClearDone};
+ghost use Rattle.pdp_console.specs.Laws.{WritesSetEnable};
+ghost use Rattle.pdp_console.specs.Laws.{MonitorStaysUntilCleared, TicksRequest, TicksSetMonitor};
+ghost use Rattle.pdp_console.specs.Laws.{WritesMakeNoRequest};
 
-/// A law and no code: a key sets done and is in the buffer, a read of the buffer clears done, and a write of the status
-/// register sets enable and leaves done and the key. Whatever else is done to a register leaves done and the key.
+/// A law and no code: a key sets done and is in the buffer, a read of the buffer clears done, and a
+/// write of the status register sets enable and leaves done and the key. Whatever else is done to a
+/// register leaves done and the key.
 ///
 /// Source: PDP-11 Peripherals Handbook, KL11.
 pub fn keys_set_done_and_reads_clear_it()
@@ -12,10 +15,12 @@ pub fn keys_set_done_and_reads_clear_it()
     ensures others { OtherUsesLeaveTheKey }
 {}
 
-/// A law and no code: a tick of the clock makes a request exactly where enable is set, and a write makes none; it keeps
-/// one exactly where its bit 6 is set. A tick sets monitor, which stays until a write has bit 7 clear.
+/// A law and no code: a tick of the clock makes a request exactly where enable is set, and a write
+/// makes none; it keeps one exactly where its bit 6 is set. A tick sets monitor, which stays until
+/// a write has bit 7 clear.
 ///
-/// Source: PDP-11 Peripherals Handbook, KW11-L; that a write makes no request and drops one, this project's profile.
+/// Source: PDP-11 Peripherals Handbook, KW11-L; that a write makes no request and drops one, this
+/// project's profile.
 pub fn ticks_request_where_enabled()
     ensures ticks { TicksRequest }
     ensures writes { WritesMakeNoRequest }

@@ -14,6 +14,7 @@
 //! ticks, and which request is served are left to pdp_unibus.
 #![tactic(auto)]
 
+mod bits;
 mod keyboard;
 mod kl;
 mod kw;

@@ -17,7 +17,7 @@ use Rattle.pdp_cpu.specs.Turns.Due.{act_of, course_of, due_now, due_of}
 use Rattle.pdp_cpu.specs.Turns.MachineState.{MachineState, after_turn, without_firsts}
 use Rattle.pdp_cpu.specs.Turns.MachineState.{world_with_firsts}
 use Rattle.pdp_cpu.specs.Turns.Turn.{act_end, beginning, clear_latch, course_at, one_turn}
-use Rattle.pdp_cpu.specs.Turns.Turn.{printed_in, processor_after_events, punched_in, started}
+use Rattle.pdp_cpu.specs.Turns.Turn.{printed_in, processor_after_events, punched_in, initial_state}
 use Rattle.pdp_cpu.specs.Turns.Turn.{turn_act, turn_trace}
 
 -- turn t in a world, and the same over other first touches
@@ -39,14 +39,14 @@ turn_carried t events w firsts =
     let begins : beginning t events (world_with_firsts w firsts)
     ≡ world_with_firsts v (firsts_after xs firsts)
     = ap (λ q. world (processor_after_events events w.processor) q.bus) first.is in
-    let course = carried_course (course_at (started v)) (started v) (firsts_after xs firsts) in
-    let acts = trace_of (course_at (started v)) (started v) in
+    let course = carried_course (course_at (initial_state v)) (initial_state v) (firsts_after xs firsts) in
+    let acts = trace_of (course_at (initial_state v)) (initial_state v) in
     record {
       world_is = ap act_end begins ∙ ap (λ s. s.world) course.is
           ∙ ap (world_with_firsts (act_end v)) (sym (firsts_after-append xs acts firsts));
       trace = ap₂ ◌++◌ first.trace
-          (ap (λ u. trace_of (course_at (started u)) (started u)) begins ∙ course.trace);
-      act = ap (λ u. act_of (due_of (inner_of (started u)))) begins;
+          (ap (λ u. trace_of (course_at (initial_state u)) (initial_state u)) begins ∙ course.trace);
+      act = ap (λ u. act_of (due_of (inner_of (initial_state u)))) begins;
       printed = ap (λ q. q.printed) first.is;
       punched = ap (λ q. q.punched) first.is;
     }
@@ -97,7 +97,7 @@ state_seen events m now firsts left none nothing is =
         λ i. record { turn = turn i; world = world i; text = text i; punched = punched i }
 
 -- what an act comes to, by what was due
-pub act_is : (p now : Processor) (b after : BusWorld) (due : Due) → due_now p b.board ≡ due
+pub act_is : (p now : Processor) (b after : BusWorld) (due : Due) → due_now p b.io_page ≡ due
     → (follow (course_of due) (state_of p b clear_latch)).world ≡ world now after
     → world now after ≡ act_end (world p b)
 act_is p now b after due is follows =

@@ -1,30 +1,29 @@
 -- No turn changes how large a drive is.
 use Rattle.std.proofs.Common.{◌≡◌, ◌∙◌, ℕ, List, length, map, refl}
-use Rattle.pdp_store.specs.Touch.{Touch}
-use Rattle.pdp_rk11.proofs.CompletionSizes.{completed_sizes}
-use Rattle.pdp_unibus.proofs.Kept.{Begins, along_begun}
-use Rattle.pdp_unibus.specs.BusWorld.{BusWorld, disk_world_of}
+use Rattle.pdp_store.specs.TracedAccess.{TracedAccess}
+use Rattle.pdp_unibus.proofs.Kept.{Begins, along_begun, disk_keeps_drives}
+use Rattle.pdp_unibus.specs.BusWorld.{BusWorld}
 use Rattle.pdp_unibus.specs.declared.event.Event.{Event}
 use Rattle.pdp_operand.proofs.Along.{Goes, along_course}
 use Rattle.pdp_operand.specs.Phases.World.{World}
 use Rattle.pdp_cpu.specs.Turns.Turn.{at_turn, course_at, one_turn}
 
 -- each drive keeps its length
-abbrev KeepsDrives : List Touch → BusWorld → BusWorld → Type 0
+abbrev KeepsDrives : List TracedAccess → BusWorld → BusWorld → Type 0
 KeepsDrives xs b c = map length c.drives ≡ map length b.drives
 
 begins : Begins KeepsDrives
 begins = record {
   stays = λ b. refl;
-  changes = λ xs b c board bytes_read so. so;
-  completes = λ b. (completed_sizes b.turn (disk_world_of b)).drives;
+  changes = λ xs b c io_page bytes_read so. so;
+  completes = disk_keeps_drives;
   joins = λ xs ys b c d so also. also ∙ so;
 }
 
 goes : Goes KeepsDrives
 goes = record {
   stays = λ b. refl;
-  changes = λ xs b c board so. so;
+  changes = λ xs b c io_page so. so;
   looks = λ b k within. refl;
   writes = λ b k word within. refl;
   joins = λ xs ys b c d so also. also ∙ so;

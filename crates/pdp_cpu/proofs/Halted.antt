@@ -1,7 +1,7 @@
 -- A halted machine stays.
 use Rattle.std.proofs.Common.{◌≡◌, ◌≢◌, ◌∙◌, ℕ, zero, suc, ◌+◌, false, List, [], ◌∷◌, ap, arith, refl}
-use Rattle.pdp_device.specs.Operation.{is_under_way}
-use Rattle.pdp_unibus.proofs.Beginnings.{begun_idles, begun_is_settled}
+use Rattle.pdp_unibus.proofs.Beginnings.{begun_idles, begun_is_settled, still_idle}
+use Rattle.pdp_unibus.specs.BusWorld.{is_disk_busy}
 use Rattle.pdp_unibus.specs.declared.event.Event.{Event}
 use Rattle.pdp_unibus.specs.declared.event.Event.TheVariants.{Key, Tick, PrinterDone, ReaderDone, PunchDone, DiskDone, Switches, Continue}
 use Rattle.pdp_operand.specs.Phases.Course.{follow}
@@ -38,8 +38,8 @@ turn_stays t events w is none =
     let same = idle (beginning t events w) (ap (λ p. p.run) begun ∙ is) in
     record {
       processor = ap (λ v. v.processor) same ∙ begun;
-      status = ap (λ v. v.bus.board.status) same ∙ kept.status;
-      mapping = ap (λ v. v.bus.board.mapping) same ∙ kept.mapping;
+      status = ap (λ v. v.bus.io_page.status) same ∙ kept.status;
+      mapping = ap (λ v. v.bus.io_page.mapping) same ∙ kept.mapping;
     }
 
 pub halted_stays : (events : ℕ → List Event) (t n : ℕ) (w : World) → w.processor.run ≡ Halted
@@ -55,26 +55,26 @@ halted_stays events t (suc n) w is none =
     }
 
 words_stay_in_turn : (t : ℕ) (events : List Event) (w : World) → w.processor.run ≡ Halted → NoneContinues events
-    → is_under_way w.bus.board.disk.operation ≡ false → WordsStay w (one_turn t events w)
+    → is_disk_busy w.bus.io_page ≡ false → WordsStay w (one_turn t events w)
 unfolding one_turn
 words_stay_in_turn t events w is none quiet =
     let idles = begun_idles t events w.bus quiet in
     let same = idle (beginning t events w) (ap (λ p. p.run) (events_stay events w.processor none) ∙ is) in
     record {
-      disk = ap (λ v. v.bus.board.disk) same ∙ idles.disk;
+      disk = ap (λ v. v.bus.io_page.disk) same ∙ idles.disk;
       core = ap (λ v. v.bus.core) same ∙ ap (λ bus. bus.core) idles.leaves;
       lasts = ap (λ v. v.bus.lasts) same ∙ ap (λ bus. bus.lasts) idles.leaves;
       drives = ap (λ v. v.bus.drives) same ∙ ap (λ bus. bus.drives) idles.leaves;
     }
 
 pub halted_words_stay : (events : ℕ → List Event) (t n : ℕ) (w : World) → w.processor.run ≡ Halted
-    → ((k : ℕ) → NoneContinues (events k)) → is_under_way w.bus.board.disk.operation ≡ false → WordsStay w (world_after events t n w)
+    → ((k : ℕ) → NoneContinues (events k)) → is_disk_busy w.bus.io_page ≡ false → WordsStay w (world_after events t n w)
 halted_words_stay events t zero w is none quiet = record { disk = refl; core = refl; lasts = refl; drives = refl }
 halted_words_stay events t (suc n) w is none quiet =
     let halted = halted_stays events t n w is none in
     let before = halted_words_stay events t n w is none quiet in
     let turn = words_stay_in_turn (t + n) (events (t + n)) (world_after events t n w) (ap (λ p. p.run) halted.processor ∙ is) (none (t + n))
-    (ap (λ disk. is_under_way disk.operation) before.disk ∙ quiet) in
+    (still_idle w.bus.io_page (world_after events t n w).bus.io_page before.disk quiet) in
     record {
       disk = turn.disk ∙ before.disk;
       core = turn.core ∙ before.core;

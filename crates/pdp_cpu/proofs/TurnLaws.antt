@@ -4,11 +4,11 @@ use Rattle.std.proofs.lemmas.List.Elements.{All-append}
 use Rattle.pdp_unibus.specs.BusWorld.{BusWorld}
 use Rattle.pdp_store.proofs.Traces.{Avoids-first, Avoids-second}
 use Rattle.pdp_store.specs.Parts.{AlikeWords}
-use Rattle.pdp_store.specs.Touch.{Avoids, Part, Touch, is_core, last_write}
+use Rattle.pdp_store.specs.TracedAccess.{Avoids, Part, TracedAccess, is_core, last_write}
 use Rattle.pdp_unibus.proofs.Kept.{KeepsStamps, begun_keeps_page, begun_keeps_stamps, begun_keeps_tape, begun_keeps_turn, keeps_stamps}
 use Rattle.pdp_unibus.proofs.Pairs.{begun_alike}
-use Rattle.pdp_unibus.specs.Beginning.{begun, in_turn}
-use Rattle.pdp_unibus.specs.Page.{AlikeOutside, SamePage, words_of, with_words}
+use Rattle.pdp_unibus.specs.Beginning.{after_beginning, in_turn}
+use Rattle.pdp_unibus.specs.Page.{AlikeOutside, SamePage, words_of_part, bus_with_words}
 use Rattle.pdp_unibus.specs.Touched.{IsOfTurn}
 use Rattle.pdp_unibus.specs.Trace.{begun_touches}
 use Rattle.pdp_unibus.specs.declared.event.Event.{Event}
@@ -21,15 +21,15 @@ use Rattle.pdp_operand.proofs.Bound.{AtMost, course_length_le}
 use Rattle.pdp_instruction.proofs.PlanSizes.{size_of_plan}
 use Rattle.pdp_operand.proofs.Kept.{course_touches, course_keeps_tape, course_keeps_turn, course_keeps_stamps}
 use Rattle.pdp_operand.proofs.Outside.{course_undisturbed}
-use Rattle.pdp_instruction.specs.Handbook.Instruction.{executed, instruction, noted}
-use Rattle.pdp_instruction.specs.Handbook.TrapSequence.{handled, origin_of, push_plan, red, red_plan, sequence, trap_plan}
+use Rattle.pdp_instruction.specs.Handbook.Instruction.{instruction_course, instruction, trace_note_course}
+use Rattle.pdp_instruction.specs.Handbook.TrapSequence.{trap_course, saved_context_of, push_plan, red, red_plan, sequence, trap_plan}
 use Rattle.pdp_cpu.specs.Turns.Due.{course_of, due_of, serve, serving, take_stack, take_trace}
 use Rattle.pdp_operand.specs.Phases.World.{World, world}
-use Rattle.pdp_cpu.specs.Turns.Turn.{beginning, clear_latch, course_at, started, act_end, at_turn, one_turn, printed_in, punched_in, turn_trace}
+use Rattle.pdp_cpu.specs.Turns.Turn.{beginning, clear_latch, course_at, initial_state, act_end, at_turn, one_turn, printed_in, punched_in, turn_trace}
 use Rattle.pdp_cpu.specs.Laws.TurnLaws.{turn_phases, Undisturbed}
 use Rattle.pdp_cpu.specs.declared.due.Due.{Due}
 use Rattle.pdp_cpu.specs.declared.due.Due.TheVariants as due
-use Rattle.pdp_instruction.specs.declared.origin.Origin.{Origin}
+use Rattle.pdp_instruction.specs.declared.saved_context.SavedContext.{SavedContext}
 use Rattle.pdp_decode.specs.declared.instruction.Instr.{Instr}
 use Rattle.pdp_operand.specs.Phases.Course.{Course, End, Go, ends, follow}
 use Rattle.pdp_operation.specs.declared.trap.Trap.TheVariants.{OddAddress, MappingAbort, BusTimeout, Reserved, JumpToRegister, StackLimit, Breakpoint, InputOutput, Emulator, TrapInstruction}
@@ -39,44 +39,44 @@ ends_at_most : (n : ℕ) → (i : Inner) → AtMost (ends i) n
 ends_at_most n i = tt
 
 -- the red sequence has six phases, and one more where it can't go on
-red_at_most : (origin : Origin) → AtMost (red origin) 7
+red_at_most : (context : SavedContext) → AtMost (red context) 7
 unfolding red red_plan
-red_at_most origin = (1, omega arith, ends_at_most 1, λ _ _. (0, omega arith, λ _. tt, λ _ _. tt))
+red_at_most context = (1, omega arith, ends_at_most 1, λ _ _. (0, omega arith, λ _. tt, λ _ _. tt))
 
 -- the sequence of a trap has seven
-sequence_at_most : (marks : Bool) (vector : ℕ) (origin : Origin) → AtMost (sequence marks vector origin) 14
+sequence_at_most : (marks : Bool) (vector : ℕ) (context : SavedContext) → AtMost (sequence marks vector context) 14
 unfolding sequence trap_plan push_plan
-sequence_at_most marks vector origin = (7, omega arith, ends_at_most 7, λ _ _. red_at_most origin)
+sequence_at_most marks vector context = (7, omega arith, ends_at_most 7, λ _ _. red_at_most context)
 
 more : (course : Course) (m n : ℕ) → m ≤ n → AtMost course m → AtMost course n
 more End m n room bound = tt
 more (Go plan next caught) m n room bound = (bound.0, omega (arith, room, bound.1), bound.2, bound.3)
 
-handled_at_most : (trap : Trap) (i : Inner) → AtMost (handled trap i) 14
-handled_at_most StackLimit i = more (red (origin_of i)) 7 14 (omega arith) (red_at_most (origin_of i))
-handled_at_most OddAddress i = sequence_at_most true _ (origin_of i)
-handled_at_most MappingAbort i = sequence_at_most true _ (origin_of i)
-handled_at_most BusTimeout i = sequence_at_most true _ (origin_of i)
-handled_at_most JumpToRegister i = sequence_at_most true _ (origin_of i)
-handled_at_most Reserved i = sequence_at_most true _ (origin_of i)
-handled_at_most Breakpoint i = sequence_at_most true _ (origin_of i)
-handled_at_most InputOutput i = sequence_at_most true _ (origin_of i)
-handled_at_most Emulator i = sequence_at_most true _ (origin_of i)
-handled_at_most TrapInstruction i = sequence_at_most true _ (origin_of i)
+handled_at_most : (trap : Trap) (i : Inner) → AtMost (trap_course trap i) 14
+handled_at_most StackLimit i = more (red (saved_context_of i)) 7 14 (omega arith) (red_at_most (saved_context_of i))
+handled_at_most OddAddress i = sequence_at_most true _ (saved_context_of i)
+handled_at_most MappingAbort i = sequence_at_most true _ (saved_context_of i)
+handled_at_most BusTimeout i = sequence_at_most true _ (saved_context_of i)
+handled_at_most JumpToRegister i = sequence_at_most true _ (saved_context_of i)
+handled_at_most Reserved i = sequence_at_most true _ (saved_context_of i)
+handled_at_most Breakpoint i = sequence_at_most true _ (saved_context_of i)
+handled_at_most InputOutput i = sequence_at_most true _ (saved_context_of i)
+handled_at_most Emulator i = sequence_at_most true _ (saved_context_of i)
+handled_at_most TrapInstruction i = sequence_at_most true _ (saved_context_of i)
 
-noted_at_most : (instr : Instr) (i : Inner) → AtMost (noted instr) 14
-unfolding noted
+noted_at_most : (instr : Instr) (i : Inner) → AtMost (trace_note_course instr) 14
+unfolding trace_note_course
 noted_at_most instr i = (0, omega arith, λ _. tt, λ _ _. tt)
 
 -- the plan of an instruction has at most twelve
-executed_at_most : (instr : Instr) → AtMost (executed instr) 26
-unfolding executed
+executed_at_most : (instr : Instr) → AtMost (instruction_course instr) 26
+unfolding instruction_course
 executed_at_most instr = (14, omega (arith, size_of_plan instr), noted_at_most instr, handled_at_most)
 
 serving_at_most : (taken : Phase) (marks : Bool) (vector : ℕ) → AtMost (serving taken marks vector) 32
 unfolding serving
 serving_at_most taken marks vector =
-    (14, omega arith, λ i. sequence_at_most marks vector (origin_of i), λ _ _. tt)
+    (14, omega arith, λ i. sequence_at_most marks vector (saved_context_of i), λ _ _. tt)
 
 course_at_most : (d : Due) → AtMost (course_of d) 32
 unfolding instruction
@@ -87,18 +87,18 @@ course_at_most (due.Interrupt source) = serving_at_most (serve source) true (vec
 course_at_most due.Instruction = (
   31,
   omega arith,
-  λ i. more (executed i.latch.instr) 26 31 (omega arith) (executed_at_most i.latch.instr),
-  λ trap i. more (handled trap i) 14 31 (omega arith) (handled_at_most trap i),
+  λ i. more (instruction_course i.latch.instr) 26 31 (omega arith) (executed_at_most i.latch.instr),
+  λ trap i. more (trap_course trap i) 14 31 (omega arith) (handled_at_most trap i),
 )
 
 pub turn_at_most_32 : (t : ℕ) (events : List Event) (w : World) → turn_phases t events w ≤ 32
 unfolding turn_phases
 turn_at_most_32 t events w = course_length_le (course_at (at_turn t events w)) 32 (at_turn t events w) (course_at_most (due_of (inner_of (at_turn t events w))))
 
-abbrev act_trace : ℕ → List Event → World → List Touch
+abbrev act_trace : ℕ → List Event → World → List TracedAccess
 act_trace t events w = trace_of (course_at (at_turn t events w)) (at_turn t events w)
 
-of_turn : (turn words : ℕ) (x : Touch) → IsByProcessor turn words x → IsOfTurn turn words x
+of_turn : (turn words : ℕ) (x : TracedAccess) → IsByProcessor turn words x → IsOfTurn turn words x
 of_turn turn words x so = record {
   turn_is = so.turn_is;
   in_core = λ _. so.in_core;
@@ -108,10 +108,10 @@ of_turn turn words x so = record {
 pub turn_touches : (t : ℕ) (events : List Event) (w : World) → All (IsOfTurn t (length w.bus.core)) (turn_trace t events w)
 unfolding turn_trace
 turn_touches t events w =
-    let begun = begun_keeps_turn t events w.bus in
+    let after_beginning = begun_keeps_turn t events w.bus in
     let course = course_touches (course_at (at_turn t events w)) (at_turn t events w) in
-    All-append (IsOfTurn t (length w.bus.core)) (begun_touches t events w.bus) (act_trace t events w) begun.touches
-    (λ k d below. of_turn t (length w.bus.core) _ (rw (begun.turn, begun.words) at (course k d below)))
+    All-append (IsOfTurn t (length w.bus.core)) (begun_touches t events w.bus) (act_trace t events w) after_beginning.touches
+    (λ k d below. of_turn t (length w.bus.core) _ (rw (after_beginning.turn, after_beginning.words) at (course k d below)))
 
 turn_keeps_stamps : (t : ℕ) (events : List Event) (w : World)
     → KeepsStamps (turn_trace t events w) (in_turn t w.bus) (one_turn t events w).bus
@@ -141,21 +141,21 @@ turn_keeps_lasts t events w = (turn_keeps_stamps t events w).size
 -- the act of a turn in world v, and a course on the same processor and bus c: they end in the same way, with the same
 -- trace, and leave each its own words of the page
 record UndisturbedAct (part : Part) (page : ℕ) (v w : World) (course : Course) : Type 0 where
-  processor : (act_end v).processor ≡ (follow course (started w)).world.processor
-  bus : AlikeOutside part page (act_end v).bus (follow course (started w)).world.bus
-  trace : trace_of (course_at (started v)) (started v) ≡ trace_of course (started w)
+  processor : (act_end v).processor ≡ (follow course (initial_state w)).world.processor
+  bus : AlikeOutside part page (act_end v).bus (follow course (initial_state w)).world.bus
+  trace : trace_of (course_at (initial_state v)) (initial_state v) ≡ trace_of course (initial_state w)
   page_of_one : SamePage part page v.bus (act_end v).bus
-  page_of_other : SamePage part page w.bus (follow course (started w)).world.bus
+  page_of_other : SamePage part page w.bus (follow course (initial_state w)).world.bus
 
-same_course : (v : World) (c : BusWorld) → v.bus.board ≡ c.board → course_at (started v) ≡ course_at (started (world v.processor c))
-same_course v c is = ap (λ board. course_of (due_of (record { processor = v.processor; board = board; latch = clear_latch }))) is
+same_course : (v : World) (c : BusWorld) → v.bus.io_page ≡ c.io_page → course_at (initial_state v) ≡ course_at (initial_state (world v.processor c))
+same_course v c is = ap (λ io_page. course_of (due_of (record { processor = v.processor; io_page = io_page; latch = clear_latch }))) is
 
 undisturbed_act : (part : Part) (page : ℕ) (v : World) (c : BusWorld) → AlikeOutside part page v.bus c
-    → Avoids part page (trace_of (course_at (started v)) (started v))
-    → UndisturbedAct part page v (world v.processor c) (course_at (started (world v.processor c)))
+    → Avoids part page (trace_of (course_at (initial_state v)) (initial_state v))
+    → UndisturbedAct part page v (world v.processor c) (course_at (initial_state (world v.processor c)))
 undisturbed_act part page v c alike avoids =
-    let so = course_undisturbed part page (course_at (started v)) (started v) c alike avoids in
-    subst (UndisturbedAct part page v (world v.processor c)) (same_course v c (ap (λ b. b.board) (sym alike.is))) (record {
+    let so = course_undisturbed part page (course_at (initial_state v)) (initial_state v) c alike avoids in
+    subst (UndisturbedAct part page v (world v.processor c)) (same_course v c (ap (λ b. b.io_page) (sym alike.is))) (record {
       processor = so.processor;
       bus = so.bus;
       trace = so.trace;
@@ -164,15 +164,15 @@ undisturbed_act part page v c alike avoids =
     })
 
 undisturbed_by : (part : Part) (page t : ℕ) (events : List Event) (p : Processor) (b : BusWorld) (words : List ℕ)
-    → AlikeWords page (words_of part b) words → Avoids part page (turn_trace t events (world p b))
-    → Undisturbed part page t events p b (with_words part words b)
+    → AlikeWords page (words_of_part part b) words → Avoids part page (turn_trace t events (world p b))
+    → Undisturbed part page t events p b (bus_with_words part words b)
 unfolding one_turn turn_trace printed_in punched_in
 undisturbed_by part page t events p b words alike avoids =
     let v = beginning t events (world p b) in
     let begun_avoids = Avoids-first part page (begun_touches t events b) _ avoids in
     let pair = begun_alike part page t events b words alike begun_avoids in
     let so =
-    undisturbed_act part page v (begun t events (with_words part words b)).bus
+    undisturbed_act part page v (after_beginning t events (bus_with_words part words b)).bus
     (record { words = pair.words; is = ap (λ q. q.bus) pair.is; alike = pair.alike })
     (Avoids-second part page (begun_touches t events b) _ avoids)
     in
@@ -184,7 +184,7 @@ undisturbed_by part page t events p b words alike avoids =
       punched = sym (ap (λ q. q.punched) pair.is);
       page_of_one = λ k inside. begun_keeps_page part page t events b begun_avoids k inside ∙ so.page_of_one k inside;
       page_of_other = λ k inside.
-          begun_keeps_page part page t events (with_words part words b) (rw pair.trace begun_avoids) k inside
+          begun_keeps_page part page t events (bus_with_words part words b) (rw pair.trace begun_avoids) k inside
           ∙ so.page_of_other k inside;
     }
 

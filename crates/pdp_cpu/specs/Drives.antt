@@ -7,7 +7,10 @@ use Rattle.pdp_cpu.specs.Turns.MachineState.{MachineState, MachineWithTexts}
 
 -- the state with drives of these words
 abbrev pub state_with_drives : List (List ℕ) → MachineState → MachineState
-state_with_drives drives m = record m { world = world m.world.processor (with_drives m.world.bus drives) }
+state_with_drives drives m = record m {
+  world = world m.world.processor
+      (with_drives m.world.bus drives);
+}
 
 -- the machine in that state, with these first touches of the pages of its drives
 abbrev pub machine_with_drives : List (List ℕ) → List (List ℕ) → MachineWithTexts

@@ -6,8 +6,8 @@ use Rattle.pdp_cpu.specs.declared.kept_text.KeptByte.{KeptByte}
 abbrev pub without_turns : List KeptByte → List ℕ
 without_turns bytes = map (λ b. b.byte) bytes
 
--- the bytes that are kept, those that came out of the machine as it is now, which are the first of them, and for how
--- many more bytes there is room
+-- the bytes that are kept, those that came out of the machine as it is now, which are the first of
+-- them, and for how many more bytes there is room
 pub record Kept : Type 0 where
   pub bytes : List KeptByte
   pub text : List ℕ
@@ -20,14 +20,16 @@ put_over place b bytes = take place bytes ++ b ∷ drop (place + 1) bytes
 -- bytes come out in a turn after so many: each is put in its place
 abbrev pub kept_over : ℕ → List ℕ → ℕ → List KeptByte → List KeptByte
 kept_over turn [] place bytes = bytes
-kept_over turn (byte ∷ out) place bytes = kept_over turn out (place + 1) (put_over place (record { byte = byte; turn = turn }) bytes)
+kept_over turn (byte ∷ out) place bytes = kept_over turn out (place + 1) (put_over place
+    (record { byte = byte; turn = turn }) bytes)
 
 -- a byte goes where it came out in this turn or later and none after it stays
 abbrev pub kept_first : ℕ → KeptByte → List KeptByte → List KeptByte
 kept_first turn b (c ∷ cs) = b ∷ c ∷ cs
 kept_first turn b [] = if nat_le turn b.turn then [] else b ∷ []
 
--- the bytes up to the last that came out before this turn: where they came out in the order of their turns, all of those
+-- the bytes up to the last that came out before this turn: where they came out in the order of
+-- their turns, all of those
 abbrev pub kept_before : ℕ → List KeptByte → List KeptByte
 kept_before turn [] = []
 kept_before turn (b ∷ bs) = kept_first turn b (kept_before turn bs)

@@ -40,7 +40,7 @@ impl Due {
     /// What is due now.
     #[inline(always)]
     pub fn of<S: Store, D: Store>(processor: &Processor, bus: &Bus<S, D>) -> Due
-        ensures { result ≡ due_now processor.now bus.now.board }
+        ensures { result ≡ due_now processor.now bus.now.io_page }
     {
         if processor.run == RunState::Halted {
             Due::Nothing
@@ -58,13 +58,13 @@ impl Due {
     }
 }
 
-/// Whether an instruction is due because the machine neither waits nor is halted, and nothing is pending or requested.
-/// Else one may be due all the same, where what is requested has no level above the priority. Each turn asks this, so
-/// its tests are joined without a jump for each.
+/// Whether an instruction is due because the machine neither waits nor is halted, and nothing is
+/// pending or requested. Else one may be due all the same, where what is requested has no level
+/// above the priority. Each turn asks this, so its tests are joined without a jump for each.
 #[inline(always)]
 #[tactic(auto, using(crate::proofs::Dues::instruction_is_due))]
 pub fn nothing_is_pending<S: Store, D: Store>(processor: &Processor, bus: &Bus<S, D>) -> bool
-    ensures { result ≡ true → due_now processor.now bus.now.board ≡ Instruction }
+    ensures { result ≡ true → due_now processor.now bus.now.io_page ≡ Instruction }
 {
     let pending = processor.trace_trap | processor.stack_trap | bus.may_request();
     !((processor.run != RunState::Run) | pending)

@@ -1,6 +1,7 @@
 //! Bytes that came out of the machine, kept with their turns while earlier states are looked at.
 
-ghost use Rattle.std.specs.Prelude.{◌≡◌, ◌+◌, ◌-◌, ◌≤◌, ◌<◌, ◌++◌, ◌∷◌, [], drop, length, take, min, nat_lt, option_to_list, true, false, OnOk};
+ghost use Rattle.std.specs.Prelude.{◌≡◌, ◌+◌, ◌-◌, ◌≤◌, ◌<◌, ◌++◌, ◌∷◌, [], drop, length, take};
+ghost use Rattle.std.specs.Prelude.{min, nat_lt, option_to_list, true, false, OnOk};
 ghost use Rattle.std.specs.Vec.{vec_capacity, vec_len};
 ghost use Rattle.pdp_cpu.specs.KeptTexts.{kept_before, kept_over, put_over, without_turns};
 
@@ -16,8 +17,8 @@ pub struct KeptByte {
     pub turn: u32,
 }
 
-/// The bytes that came out of the machine up to the latest turn that is kept, of which the first are those of the
-/// machine as it is now.
+/// The bytes that came out of the machine up to the latest turn that is kept, of which the first
+/// are those of the machine as it is now.
 #[derive(Drop)]
 pub struct KeptText {
     bytes: Vec<KeptByte>,
@@ -33,7 +34,12 @@ impl Model for KeptText {
 
     ghost Value = { Kept };
 
-    ghost view = { λ t. record { bytes = t.bytes.items; text = without_turns (take t.shown t.bytes.items); room = vec_capacity t.bytes - vec_len t.bytes } };
+    ghost view = { λ t. record {
+      bytes = t.bytes.items;
+      text = without_turns
+          (take t.shown t.bytes.items);
+      room = vec_capacity t.bytes - vec_len t.bytes;
+    } };
 
     ghost invariant = { λ t. t.shown ≤ length t.bytes.items };
 }
@@ -70,11 +76,13 @@ impl KeptText {
         Ok(())
     }
 
-    /// Keeps the byte that came out in this turn, if any: over the one that is kept in its place, where there is one.
+    /// Keeps the byte that came out in this turn, if any: over the one that is kept in its place,
+    /// where there is one.
     #[tactic(auto, using(crate::proofs::KeptTexts::kept_one, crate::proofs::KeptTexts::text_and_one))]
     pub fn keep(&mut self, turn: u32, byte: Option<u8>)
         requires { 0 < self.old.room }
-        ensures bytes { self.new.bytes ≡ kept_over turn (option_to_list byte) (length self.old.text) self.old.bytes }
+        ensures bytes { self.new.bytes ≡ kept_over turn (option_to_list byte)
+            (length self.old.text) self.old.bytes }
         ensures text { self.new.text ≡ self.old.text ++ option_to_list byte }
     {
         if let Some(byte) = byte {
@@ -137,7 +145,8 @@ fn put(bytes: &mut Vec<KeptByte>, place: usize, byte: KeptByte)
     }
 }
 
-/// How many of the bytes are left when those at the end that came out in this turn or later are dropped.
+/// How many of the bytes are left when those at the end that came out in this turn or later are
+/// dropped.
 fn kept_length(bytes: &[KeptByte], turn: u32) -> usize
     ensures kept { take result bytes.now ≡ kept_before turn bytes.now }
     ensures within { result ≤ length bytes.now }
@@ -154,8 +163,10 @@ fn kept_length(bytes: &[KeptByte], turn: u32) -> usize
 fn ends_late(bytes: &[KeptByte], count: usize, turn: u32) -> bool
     requires { count ≤ length bytes.now }
     ensures some { result ≡ true → 0 < count }
-    ensures late { result ≡ true → kept_before turn (take (count - 1) bytes.now) ≡ kept_before turn (take count bytes.now) }
-    ensures early { result ≡ false → take count bytes.now ≡ kept_before turn (take count bytes.now) }
+    ensures late { result ≡ true → kept_before turn (take (count - 1) bytes.now) ≡ kept_before turn
+        (take count bytes.now) }
+    ensures early { result ≡ false → take count bytes.now ≡ kept_before turn
+        (take count bytes.now) }
 {
     if count == 0 {
         return false;

@@ -1,15 +1,16 @@
 //! Laws of turns, for every turn, its events and every world.
 
-ghost use Rattle.std.specs.Prelude.{◌≡◌, ◌<◌, ◌≤◌, ℕ, All, List, None, false, length, map, slice_index_or};
-ghost use Rattle.pdp_unibus.specs.BusWorld.{BusWorld};
+ghost use Rattle.std.specs.Prelude.{◌≡◌, ◌<◌, ◌≤◌, ℕ, All, List, None, false, length, map};
+ghost use Rattle.std.specs.Prelude.{slice_index_or};
+ghost use Rattle.pdp_unibus.specs.BusWorld.{BusWorld, is_disk_busy};
 ghost use Rattle.pdp_unibus.specs.declared.event.Event.{Event};
-ghost use Rattle.pdp_device.specs.Operation.{is_under_way};
-ghost use Rattle.pdp_store.specs.Touch.{Avoids, Part, last_write};
+ghost use Rattle.pdp_store.specs.TracedAccess.{Avoids, Part, last_write};
 ghost use Rattle.pdp_unibus.specs.Page.{AlikeOutside};
 ghost use Rattle.pdp_unibus.specs.Touched.{IsOfTurn};
 ghost use Rattle.pdp_operand.specs.declared.processor.Processor.{Processor};
 ghost use Rattle.pdp_operand.specs.declared.processor.RunState.TheVariants.{Halted};
-ghost use Rattle.pdp_cpu.specs.Laws.TurnLaws.{NoneContinues, Stays, Undisturbed, WordsStay, turn_phases, world_after};
+ghost use Rattle.pdp_cpu.specs.Laws.TurnLaws.{NoneContinues, Stays, Undisturbed, WordsStay};
+ghost use Rattle.pdp_cpu.specs.Laws.TurnLaws.{turn_phases, world_after};
 ghost use Rattle.pdp_cpu.specs.Turns.Turn.{one_turn, turn_trace};
 ghost use Rattle.pdp_operand.specs.Phases.World.{World, world};
 
@@ -19,8 +20,8 @@ pub fn turns_end_within_32_phases()
     ensures { (t : ℕ) (events : List Event) (w : World) → turn_phases t events w ≤ 32 }
 {}
 
-/// A law of turns: after a turn, the last stamp of each word is that of its last write in the trace of the turn, or the
-/// one from before where the turn did not write it.
+/// A law of turns: after a turn, the last stamp of each word is that of its last write in the trace
+/// of the turn, or the one from before where the turn did not write it.
 #[tactic(auto, using(crate::proofs::TurnLaws::turn_lasts))]
 pub fn stamps_are_last_writes()
     ensures { (t : ℕ) (events : List Event) (w : World) (k : ℕ) → k < length w.bus.lasts →
@@ -28,8 +29,8 @@ pub fn stamps_are_last_writes()
         ≡ last_write (turn_trace t events w) k (slice_index_or w.bus.lasts k None) }
 {}
 
-/// A law of turns: every access in the trace of a turn is in that turn; one of core is of a word that core has, and one
-/// of a drive is by the disk.
+/// A law of turns: every access in the trace of a turn is in that turn; one of core is of a word
+/// that core has, and one of a drive is by the disk.
 #[tactic(auto, using(crate::proofs::TurnLaws::turn_touches))]
 pub fn touches_are_of_their_turn()
     ensures { (t : ℕ) (events : List Event) (w : World) →
@@ -59,21 +60,21 @@ pub fn turns_keep_the_tape()
         (one_turn t events w).bus.tape ≡ w.bus.tape }
 {}
 
-/// A law of turns: a turn whose trace avoids a page of 256 words, of core or of a drive, leaves the page as it was, and
-/// does the same in every other way whatever words the page holds.
+/// A law of turns: a turn whose trace avoids a page of 256 words, of core or of a drive, leaves the
+/// page as it was, and does the same in every other way whatever words the page holds.
 pub fn turns_leave_what_they_never_touch()
     ensures { (part : Part) (page t : ℕ) (events : List Event) (p : Processor) (b c : BusWorld) →
         AlikeOutside part page b c → Avoids part page (turn_trace t events (world p b)) →
         Undisturbed part page t events p b c }
 {}
 
-/// A law of turns: a halted machine stays. Without `Continue` its processor, the program status and the mapping
-/// registers are the same after any number of turns, whatever other events come; and where nothing is under way on the
-/// disk, so are core, its stamps and the drives.
+/// A law of turns: a halted machine stays. Without `Continue` its processor, the program status and
+/// the mapping registers are the same after any number of turns, whatever other events come; and
+/// where nothing is under way on the disk, so are core, its stamps and the drives.
 pub fn halted_machines_stay()
     ensures stays { (events : ℕ → List Event) (t n : ℕ) (w : World) → w.processor.run ≡ Halted →
         ((k : ℕ) → NoneContinues (events k)) → Stays w (world_after events t n w) }
     ensures words { (events : ℕ → List Event) (t n : ℕ) (w : World) → w.processor.run ≡ Halted →
-        ((k : ℕ) → NoneContinues (events k)) → is_under_way w.bus.board.disk.operation ≡ false →
+        ((k : ℕ) → NoneContinues (events k)) → is_disk_busy w.bus.io_page ≡ false →
         WordsStay w (world_after events t n w) }
 {}

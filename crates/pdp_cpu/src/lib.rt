@@ -4,9 +4,9 @@
 //! # What is proved
 //!
 //! - A turn takes the machine to the next state of its definition, for every store of core and of
-//!   the drives: its events, and then what is due (a trap, an interrupt, an instruction or nothing),
-//!   with the plans of pdp_instruction. It tells with which act it began, and the meter counts it
-//!   (`Machine::turn`, `ready`).
+//!   the drives: its events, and then what is due (a trap, an interrupt, an instruction or
+//!   nothing), with the plans of pdp_instruction. It tells with which act it began, and the meter
+//!   counts it (`Machine::turn`, `ready`).
 //! - A burst of n turns of a calm machine is n turns of the definition without events, and the
 //!   meter counts n (`Machine::run_calmly`).
 //! - A turn touches the page of every word that it reads, writes, moves or compares, in core and on
@@ -27,27 +27,24 @@
 //!   removed, and all else stays (`Machine::add_drives`, `keep_drives`).
 //! - What is read of a machine (`text`, `punched`, `devices`, `pages`).
 //!
-//! What an instruction and the sequence of a trap do is left to pdp_instruction, which events a turn
-//! has, and how many turns are run, to pdp_replay.
+//! What an instruction and the sequence of a trap do is left to pdp_instruction, which events a
+//! turn has, and how many turns are run, to pdp_replay.
 #![tactic(auto)]
 
 mod act;
 mod calm_turns;
-mod devices;
 mod drives;
 mod due;
 mod kept_text;
 mod laws;
 mod machine;
 mod meter;
-mod pages;
 mod regs;
 mod saved;
-mod serving;
+mod take_due;
 mod touched_pages;
 
 pub use act::Act;
-pub use devices::DeviceRegisters;
 pub use kept_text::KeptByte;
 pub use laws::{
     halted_machines_stay, stamps_are_last_writes, touches_are_of_their_turn,
@@ -56,9 +53,8 @@ pub use laws::{
 };
 pub use machine::Machine;
 pub use meter::Meter;
-pub use pages::PageRegisters;
 pub use pdp_operand::RunState;
 pub use pdp_quick::WordTable;
-pub use pdp_unibus::LAST_TURN;
+pub use pdp_unibus::{DeviceRegisters, LAST_TURN, PageRegisters};
 pub use regs::Regs;
 pub use saved::{PagedMachine, Saved};

@@ -1,47 +1,38 @@
 ghost use Rattle.std.specs.Prelude.{◌≡◌, ◌+◌, ◌-◌, ◌^◌, ◌<◌, ◌≤◌, length, map, min};
 ghost use Rattle.std.specs.Prelude.{slice_index, slice_index_or, take, [], None, Ok, OnOk};
 ghost use Rattle.pdp_store.specs.Firsts.{firsts_after, firsts_of, no_firsts};
-ghost use Rattle.pdp_unibus.specs.BusWorld.{powered};
+ghost use Rattle.pdp_unibus.specs.BusWorld.{bus_at_power_up};
 ghost use Rattle.pdp_operand.specs.Phases.Phase.{inner_of};
 ghost use Rattle.pdp_cpu.specs.KeptTexts.{without_turns};
-ghost use Rattle.pdp_cpu.specs.Turns.Devices.{devices_of};
 ghost use Rattle.pdp_cpu.specs.Turns.Due.{act_of, due_of};
 ghost use Rattle.pdp_cpu.specs.Turns.MachineState.{IsReady, powered_machine, after_turn};
 ghost use Rattle.pdp_cpu.specs.Turns.MachineState.{machine_world, printed_kept, punched_kept};
 ghost use Rattle.pdp_cpu.specs.Turns.MachineState.{touched_machine, with_begun};
-ghost use Rattle.pdp_cpu.specs.Turns.Pages.{of_each_page, page_registers_of};
-ghost use Rattle.pdp_kt11.specs.declared.register.KtRegister.TheVariants.{Address, Descriptor};
-ghost use Rattle.pdp_unibus.specs.Register.{value_in};
-ghost use Rattle.pdp_unibus.specs.declared.register.Register.TheVariants.{Mapping};
+ghost use Rattle.pdp_store.specs.Parts.{words_of_drive};
+ghost use Rattle.pdp_unibus.specs.Shown.{devices_of, page_registers_of};
 ghost use Rattle.pdp_cpu.specs.Turns.Regs.{regs_of};
-ghost use Rattle.pdp_cpu.specs.Turns.Turn.{act_end, started, turn_act, turn_trace};
+ghost use Rattle.pdp_cpu.specs.Turns.Turn.{act_end, initial_state, turn_act, turn_trace};
 
 use crate::act::Act;
-use crate::devices::DeviceRegisters;
 use crate::due::nothing_is_pending;
 use crate::kept_text::{KeptByte, KeptText};
 use crate::meter::Meter;
-use crate::pages::PageRegisters;
 use crate::regs::Regs;
-use crate::serving::take_what_is_due;
-use pdp_console::KlRegister;
+use crate::take_due::take_what_is_due;
 use pdp_icache::Lines;
 use pdp_instruction::instruct;
-use pdp_kt11::{KtRegister, PageNumber, Space};
-use pdp_operand::{Processor, RunState, Slot};
-use pdp_rk11::RkRegister;
+use pdp_operand::{Processor, RegisterId, RunState};
 use pdp_store::{Stamp, Store};
-use pdp_tape::PcRegister;
-use pdp_unibus::{Bus, Delays, Event, LAST_TURN, Register};
+use pdp_unibus::{Bus, Delays, DeviceRegisters, Event, LAST_TURN, PageRegisters};
 use pdp_word::NoMemory;
 use std::alloc::Global;
 use std::marker::Model;
 
 /// The machine: processor, bus, core and drives, for any stores of words.
 ///
-/// A contract sees it as a `MachineWithTexts`: the turns that it has run, its world, what was printed and punched,
-/// the bytes that it keeps of later turns too, for how many more of them there is room, and the first touches of
-/// the pages of core and of the drives.
+/// A contract sees it as a `MachineWithTexts`: the turns that it has run, its world, what was
+/// printed and punched, the bytes that it keeps of later turns too, for how many more of them there
+/// is room, and the first touches of the pages of core and of the drives.
 #[derive(Drop)]
 pub struct Machine<S: Store, D: Store> {
     pub(crate) processor: Processor,
@@ -73,10 +64,10 @@ impl<S: Store, D: Store> Model for Machine<S, D> {
 }
 
 impl<S: Store, D: Store> Machine<S, D> {
-    /// The machine as of power-up over this core and these drives, with this paper tape in the reader and these delays
-    /// (turns): PC is the start address (octal, bytes), every other register and the program status word 0, the devices
-    /// as after RESET, no drive locked (this project's profile). It has run no turn, and printed and punched nothing.
-    /// Takes no memory.
+    /// The machine as of power-up over this core and these drives, with this paper tape in the
+    /// reader and these delays (turns): PC is the start address (octal, bytes), every other
+    /// register and the program status word 0, the devices as after RESET, no drive locked (this
+    /// project's profile). It has run no turn, and printed and punched nothing. Takes no memory.
     pub fn power(
         alloc: Global,
         lines: Lines,
@@ -86,7 +77,8 @@ impl<S: Store, D: Store> Machine<S, D> {
         tape: Vec<u8>,
         delays: Delays,
     ) -> Self
-        ensures state { result.state ≡ powered_machine start (S.words words) (S.lasts words) (map D.words drives.items) tape.items delays }
+        ensures state { result.state ≡ powered_machine start (S.words words) (S.lasts words)
+            (map D.words drives.items) tape.items delays }
         ensures kept_text { result.kept_text ≡ [] }
         ensures kept_punched { result.kept_punched ≡ [] }
         ensures firsts { result.firsts ≡ firsts_of (S.firsts words) (map D.firsts drives.items) }
@@ -102,8 +94,8 @@ impl<S: Store, D: Store> Machine<S, D> {
 
     /// Makes the room that one turn may need: for one byte printed on the console and one punched.
     ///
-    /// Err(NoMemory) where a growth was refused, so never where there was room; all but the room is then as before too.
-    /// (This project's profile.)
+    /// Err(NoMemory) where a growth was refused, so never where there was room; all but the room is
+    /// then as before too. (This project's profile.)
     #[inline(always)]
     pub fn ready(&mut self) -> Result<(), NoMemory>
         ensures ready { OnOk result (IsReady self.new) }
@@ -134,16 +126,18 @@ impl<S: Store, D: Store> Machine<S, D> {
         Ok(())
     }
 
-    /// One whole turn, which the meter counts: the events of the turn in their order, a tick of the clock and the
-    /// completions that are due, and then one act, of which it tells how it began: the trace trap or the stack trap
-    /// that is pending, an interrupt, one instruction with its trap if it has one, or nothing where the machine waits
-    /// or is halted. `Continue` ends a halt, and the act of that turn is chosen after it; the turns of a halted
-    /// machine begin like others. The bytes that come out are kept, over those of later turns that are kept in their
-    /// places. Every access to a word of core or of a drive touches the page of the word. It asks for the room that
-    /// `ready` makes, and that fewer than 1,000,000,000 turns were run; then it always takes place.
+    /// One whole turn, which the meter counts: the events of the turn in their order, a tick of the
+    /// clock and the completions that are due, and then one act, of which it tells how it began:
+    /// the trace trap or the stack trap that is pending, an interrupt, one instruction with its
+    /// trap if it has one, or nothing where the machine waits or is halted. `Continue` ends a halt,
+    /// and the act of that turn is chosen after it; the turns of a halted machine begin like
+    /// others. The bytes that come out are kept, over those of later turns that are kept in their
+    /// places. Every access to a word of core or of a drive touches the page of the word. It asks
+    /// for the room that `ready` makes, and that fewer than 1,000,000,000 turns were run; then it
+    /// always takes place.
     ///
-    /// DEC PDP-11/40 Processor Handbook (1972), Processor traps and Interrupts; that a turn is one act, and their
-    /// order, are this project's profile.
+    /// DEC PDP-11/40 Processor Handbook (1972), Processor traps and Interrupts; that a turn is one
+    /// act, and their order, are this project's profile.
     #[inline(always)]
     pub fn turn(&mut self, meter: &mut Meter, events: &[Event]) -> Act
         requires ready { IsReady self.old }
@@ -171,7 +165,8 @@ impl<S: Store, D: Store> Machine<S, D> {
         ensures turn { (touched_machine self.new).state
             ≡ after_turn events.now (touched_machine self.old).state }
         ensures without_firsts { self.new.state.world.bus.firsts ≡ no_firsts }
-        ensures kept_text { self.new.kept_text ≡ printed_kept events.now (touched_machine self.old) }
+        ensures kept_text { self.new.kept_text ≡ printed_kept events.now
+            (touched_machine self.old) }
         ensures kept_punched { self.new.kept_punched
             ≡ punched_kept events.now (touched_machine self.old) }
         ensures counted { meter.new ≡ min (meter.old + 1) (2 ^ 64 - 1) }
@@ -191,19 +186,20 @@ impl<S: Store, D: Store> Machine<S, D> {
         requires ready { IsReady self.old }
         ensures state { (touched_machine self.new).state
             ≡ with_begun events.now (touched_machine self.old).state }
-        ensures kept_text { self.new.kept_text ≡ printed_kept events.now (touched_machine self.old) }
+        ensures kept_text { self.new.kept_text ≡ printed_kept events.now
+            (touched_machine self.old) }
         ensures kept_punched { self.new.kept_punched
             ≡ punched_kept events.now (touched_machine self.old) }
     {
         if !events.is_empty() || !self.bus.begin_quietly(self.turn) {
-            self.begin(events);
+            self.begin_turn(events);
         }
     }
 
     // The act of a turn that has begun.
     #[inline(always)]
     fn act(&mut self) -> Act
-        ensures act { result ≡ act_of (due_of (inner_of (started (machine_world self.old)))) }
+        ensures act { result ≡ act_of (due_of (inner_of (initial_state (machine_world self.old)))) }
         ensures world { machine_world self.new ≡ act_end (machine_world self.old) }
         ensures without_firsts { self.new.state.world.bus.firsts ≡ no_firsts }
         ensures turn { self.new.state.turn ≡ self.old.state.turn }
@@ -227,31 +223,32 @@ impl<S: Store, D: Store> Machine<S, D> {
         self.bus.clear_lines();
     }
 
-    /// How many turns it has run since power-up, which is the number of the turn that comes next (this project's
-    /// profile).
+    /// How many turns it has run since power-up, which is the number of the turn that comes next
+    /// (this project's profile).
     pub fn turns(&self) -> u32
         ensures { result ≡ self.now.state.turn }
     {
         self.turn
     }
 
-    /// The registers now (DEC PDP-11/40 Processor Handbook (1972), General registers and Processor status word).
+    /// The registers now (DEC PDP-11/40 Processor Handbook (1972), General registers and Processor
+    /// status word).
     pub fn regs(&self) -> Regs
         ensures { result ≡ regs_of self.now.state.world }
     {
         let p = &self.processor;
         Regs {
             r: [
-                p.register(Slot::R0),
-                p.register(Slot::R1),
-                p.register(Slot::R2),
-                p.register(Slot::R3),
-                p.register(Slot::R4),
-                p.register(Slot::R5),
+                p.register(RegisterId::R0),
+                p.register(RegisterId::R1),
+                p.register(RegisterId::R2),
+                p.register(RegisterId::R3),
+                p.register(RegisterId::R4),
+                p.register(RegisterId::R5),
             ],
-            ksp: p.register(Slot::KernelStack),
-            usp: p.register(Slot::UserStack),
-            pc: p.register(Slot::ProgramCounter),
+            ksp: p.register(RegisterId::KernelStack),
+            usp: p.register(RegisterId::UserStack),
+            pc: p.register(RegisterId::ProgramCounter),
             ps: self.bus.status().word(),
             state: p.run,
         }
@@ -265,8 +262,9 @@ impl<S: Store, D: Store> Machine<S, D> {
         self.bus.word(number)
     }
 
-    /// The turn and the agent of the last write to the core word of this number (half its byte address); None where
-    /// there was none since power-up. A byte write counts for its word (this project's profile).
+    /// The turn and the agent of the last write to the core word of this number (half its byte
+    /// address); None where there was none since power-up. A byte write counts for its word (this
+    /// project's profile).
     pub fn last(&self, number: usize) -> Option<Stamp>
         requires { number < length self.now.state.world.bus.core }
         ensures { result ≡ slice_index_or self.now.state.world.bus.lasts number None }
@@ -276,14 +274,14 @@ impl<S: Store, D: Store> Machine<S, D> {
 
     /// The word of this number on the drive of this number, both from 0 on, without a transfer.
     pub fn disk_word(&self, drive: usize, number: usize) -> u16
-        requires { number < length (slice_index_or self.now.state.world.bus.drives drive []) }
-        ensures { result ≡ slice_index (slice_index_or self.now.state.world.bus.drives drive []) number }
+        requires { number < length (words_of_drive self.now.state.world.bus.drives drive) }
+        ensures { result ≡ slice_index (words_of_drive self.now.state.world.bus.drives drive) number }
     {
         self.bus.disk_word(drive, number)
     }
 
-    /// The bytes that were printed on the console since power-up, in their order, each with its turn (PDP-11 Peripherals
-    /// Handbook, KL11).
+    /// The bytes that were printed on the console since power-up, in their order, each with its
+    /// turn (PDP-11 Peripherals Handbook, KL11).
     pub fn text(&self) -> &[KeptByte]
         ensures kept { result.now ≡ take (length self.now.state.text) self.now.kept_text }
         ensures bytes { without_turns result.now ≡ self.now.state.text }
@@ -291,8 +289,8 @@ impl<S: Store, D: Store> Machine<S, D> {
         self.text.shown()
     }
 
-    /// The bytes that were punched since power-up, in their order, each with its turn (PDP-11 Peripherals Handbook,
-    /// PC11).
+    /// The bytes that were punched since power-up, in their order, each with its turn (PDP-11
+    /// Peripherals Handbook, PC11).
     pub fn punched(&self) -> &[KeptByte]
         ensures kept { result.now ≡ take (length self.now.state.punched) self.now.kept_punched }
         ensures bytes { without_turns result.now ≡ self.now.state.punched }
@@ -300,106 +298,38 @@ impl<S: Store, D: Store> Machine<S, D> {
         self.punched.shown()
     }
 
-    /// The registers of the devices as reads would give them, without the effect of a read (PDP-11 Peripherals
-    /// Handbook, KL11, KW11-L, PC11 and RK11).
-    #[tactic(auto, unfolding(crate::specs::Turns::Devices::devices_of))]
+    /// The registers of the devices as reads would give them, without the effect of a read (PDP-11
+    /// Peripherals Handbook, KL11, KW11-L, PC11 and RK11).
+    #[tactic(auto, unfolding(pdp_unibus::specs::Shown::devices_of))]
     pub fn devices(&self) -> DeviceRegisters
-        ensures { result ≡ devices_of self.now.state.world }
+        ensures { result ≡ devices_of self.now.state.world.bus }
     {
-        DeviceRegisters {
-            keyboard_status: self
-                .bus
-                .value(Register::Console(KlRegister::KeyboardStatus)),
-            keyboard_buffer: self
-                .bus
-                .value(Register::Console(KlRegister::KeyboardBuffer)),
-            printer_status: self.bus.value(Register::Console(KlRegister::PrinterStatus)),
-            clock_status: self.bus.value(Register::Clock),
-            reader_status: self
-                .bus
-                .value(Register::PaperTape(PcRegister::ReaderStatus)),
-            reader_buffer: self
-                .bus
-                .value(Register::PaperTape(PcRegister::ReaderBuffer)),
-            punch_status: self.bus.value(Register::PaperTape(PcRegister::PunchStatus)),
-            drive_status: self.bus.value(Register::Disk(RkRegister::DriveStatus)),
-            disk_error: self.bus.value(Register::Disk(RkRegister::Error)),
-            disk_control: self.bus.value(Register::Disk(RkRegister::Control)),
-            disk_word_count: self.bus.value(Register::Disk(RkRegister::WordCount)),
-            disk_bus_address: self.bus.value(Register::Disk(RkRegister::BusAddress)),
-            disk_address: self.bus.value(Register::Disk(RkRegister::DiskAddress)),
-            switches: self.bus.value(Register::Switches),
-        }
+        self.bus.devices()
     }
 
-    /// The registers of memory management as reads would give them (DEC PDP-11/40 Processor Handbook (1972), Memory
-    /// management).
-    #[tactic(auto, unfolding(crate::specs::Turns::Pages::page_registers_of))]
+    /// The registers of memory management as reads would give them (DEC PDP-11/40 Processor
+    /// Handbook (1972), Memory management).
+    #[tactic(auto, unfolding(pdp_unibus::specs::Shown::page_registers_of))]
     pub fn pages(&self) -> PageRegisters
-        ensures { result ≡ page_registers_of self.now.state.world }
+        ensures { result ≡ page_registers_of self.now.state.world.bus }
     {
-        PageRegisters {
-            status0: self.mapping(KtRegister::Status0),
-            status2: self.mapping(KtRegister::Status2),
-            kernel_descriptors: self.descriptors(Space::Kernel),
-            kernel_addresses: self.addresses(Space::Kernel),
-            user_descriptors: self.descriptors(Space::User),
-            user_addresses: self.addresses(Space::User),
-        }
-    }
-
-    // What a read of a register of memory management would give.
-    fn mapping(&self, register: KtRegister) -> u16
-        ensures { result ≡ value_in (Mapping register) (length self.now.state.world.bus.drives) self.now.state.world.bus.board }
-    {
-        self.bus.value(Register::Mapping(register))
-    }
-
-    // The page descriptor registers of a space.
-    fn descriptors(&self, space: Space) -> [u16; 8]
-        ensures { result ≡ of_each_page (Descriptor space) (length self.now.state.world.bus.drives) self.now.state.world.bus.board }
-    {
-        [
-            self.mapping(KtRegister::Descriptor(space, PageNumber::P0)),
-            self.mapping(KtRegister::Descriptor(space, PageNumber::P1)),
-            self.mapping(KtRegister::Descriptor(space, PageNumber::P2)),
-            self.mapping(KtRegister::Descriptor(space, PageNumber::P3)),
-            self.mapping(KtRegister::Descriptor(space, PageNumber::P4)),
-            self.mapping(KtRegister::Descriptor(space, PageNumber::P5)),
-            self.mapping(KtRegister::Descriptor(space, PageNumber::P6)),
-            self.mapping(KtRegister::Descriptor(space, PageNumber::P7)),
-        ]
-    }
-
-    // The page address registers of a space.
-    fn addresses(&self, space: Space) -> [u16; 8]
-        ensures { result ≡ of_each_page (Address space) (length self.now.state.world.bus.drives) self.now.state.world.bus.board }
-    {
-        [
-            self.mapping(KtRegister::Address(space, PageNumber::P0)),
-            self.mapping(KtRegister::Address(space, PageNumber::P1)),
-            self.mapping(KtRegister::Address(space, PageNumber::P2)),
-            self.mapping(KtRegister::Address(space, PageNumber::P3)),
-            self.mapping(KtRegister::Address(space, PageNumber::P4)),
-            self.mapping(KtRegister::Address(space, PageNumber::P5)),
-            self.mapping(KtRegister::Address(space, PageNumber::P6)),
-            self.mapping(KtRegister::Address(space, PageNumber::P7)),
-        ]
+        self.bus.pages()
     }
 
     // A turn begins that has events, or in which something comes of the devices.
     #[cold]
     #[inline(never)]
     #[tactic(auto, unfolding(crate::specs::Turns::Turn::printed_in, crate::specs::Turns::Turn::punched_in))]
-    fn begin(&mut self, events: &[Event])
+    fn begin_turn(&mut self, events: &[Event])
         requires ready { IsReady self.old }
         ensures state { (touched_machine self.new).state
             ≡ with_begun events.now (touched_machine self.old).state }
-        ensures kept_text { self.new.kept_text ≡ printed_kept events.now (touched_machine self.old) }
+        ensures kept_text { self.new.kept_text ≡ printed_kept events.now
+            (touched_machine self.old) }
         ensures kept_punched { self.new.kept_punched
             ≡ punched_kept events.now (touched_machine self.old) }
     {
-        take_events(&mut self.processor, events);
+        take_processor_events(&mut self.processor, events);
         let output = self.bus.events(self.turn, events);
         self.text.keep(self.turn, output.printed);
         self.punched.keep(self.turn, output.punched);
@@ -410,16 +340,16 @@ ghost use Rattle.pdp_cpu.specs.Turns.Turn.{processor_after, processor_after_even
 
 /// What events do to the processor, in their order.
 #[tactic(auto, using(crate::proofs::Events::after_more_events))]
-fn take_events(processor: &mut Processor, events: &[Event])
+fn take_processor_events(processor: &mut Processor, events: &[Event])
     ensures { processor.new ≡ processor_after_events events.now processor.old }
 {
     for event in events {
-        take_event(processor, *event);
+        take_processor_event(processor, *event);
     }
 }
 
 /// What an event does to the processor: `Continue` ends a halt.
-fn take_event(processor: &mut Processor, event: Event)
+fn take_processor_event(processor: &mut Processor, event: Event)
     ensures { processor.new ≡ processor_after event processor.old }
 {
     match event {

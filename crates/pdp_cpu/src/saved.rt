@@ -2,7 +2,8 @@
 
 ghost use Rattle.std.specs.Prelude.{◌≡◌, ◌≤◌, length, IfOk};
 ghost use Rattle.pdp_cpu.specs.KeptTexts.{kept_before};
-ghost use Rattle.pdp_cpu.specs.Saved.{CanHold, content_with_delays, machine_content, state_cut, state_on};
+ghost use Rattle.pdp_cpu.specs.Saved.{CanHold, saved_machine_with_delays, saved_machine, state_cut};
+ghost use Rattle.pdp_cpu.specs.Saved.{state_on};
 ghost use Rattle.pdp_cpu.specs.Turns.MachineState.{state_with_tape};
 
 use crate::machine::Machine;
@@ -18,10 +19,10 @@ mod patched_page;
 /// The machine whose core and drives can be taken as shared pages.
 pub type PagedMachine = Machine<Paged, PagedDrive>;
 
-/// A machine as it was: all of it that turns change. Its words are pages that it shares with the machine, and of what
-/// was printed and punched it has the lengths: the bytes are the machine's.
+/// A machine as it was: all of it that turns change. Its words are pages that it shares with the
+/// machine, and of what was printed and punched it has the lengths: the bytes are the machine's.
 ///
-/// A contract sees it as a `MachineContent`. (This project's profile.)
+/// A contract sees it as a `SavedMachineData`. (This project's profile.)
 #[derive(Drop)]
 pub struct Saved {
     turn: u32,
@@ -34,9 +35,9 @@ pub struct Saved {
 }
 
 impl Model for Saved {
-    ghost use Rattle.pdp_cpu.specs.Saved.{MachineContent};
+    ghost use Rattle.pdp_cpu.specs.Saved.{SavedMachineData};
 
-    ghost Value = { MachineContent };
+    ghost Value = { SavedMachineData };
 
     ghost view = { λ s. record {
       turn = s.turn;
@@ -50,19 +51,21 @@ impl Model for Saved {
 impl Saved {
     /// Makes these the delays (turns) of its devices.
     pub fn set_delays(&mut self, delays: Delays)
-        ensures { self.new ≡ content_with_delays delays self.old }
+        ensures { self.new ≡ saved_machine_with_delays delays self.old }
     {
         self.bus.set_delays(delays);
     }
 }
 
 impl Machine<Paged, PagedDrive> {
-    /// The machine as it is now. Words that are shared already are shared again, and only others copied.
+    /// The machine as it is now. Words that are shared already are shared again, and only others
+    /// copied.
     ///
-    /// Err(NoMemory) where a growth was refused. The machine stays as it is in any case. (This project's profile.)
+    /// Err(NoMemory) where a growth was refused. The machine stays as it is in any case. (This
+    /// project's profile.)
     pub fn save(&mut self, alloc: Global) -> Result<Saved, NoMemory>
         ensures same { self.new ≡ self.old }
-        ensures saved { IfOk result (λ saved. saved ≡ machine_content self.old.state) }
+        ensures saved { IfOk result (λ saved. saved ≡ saved_machine self.old.state) }
     {
         let bus = self.bus.save(alloc)?;
         Ok(Saved {
@@ -74,9 +77,9 @@ impl Machine<Paged, PagedDrive> {
         })
     }
 
-    /// Makes the machine the one that was saved, on its own tape, its texts the first of the bytes that it keeps: none
-    /// of these goes, and first touches stay. It asks for a core and drives of the same sizes, and for as many kept
-    /// bytes. Takes no memory. (This project's profile.)
+    /// Makes the machine the one that was saved, on its own tape, its texts the first of the bytes
+    /// that it keeps: none of these goes, and first touches stay. It asks for a core and drives of
+    /// the same sizes, and for as many kept bytes. Takes no memory. (This project's profile.)
     pub fn load(&mut self, saved: &Saved)
         requires { CanHold self.old saved.now }
         ensures state { self.new.state ≡ state_on self.old saved.now }
@@ -91,20 +94,22 @@ impl Machine<Paged, PagedDrive> {
         self.punched.show(saved.punched_length);
     }
 
-    /// Drops the bytes at the end of the kept texts that were printed or punched in this turn or later, also of the
-    /// texts of the machine as it is now. Takes no memory. (This project's profile.)
+    /// Drops the bytes at the end of the kept texts that were printed or punched in this turn or
+    /// later, also of the texts of the machine as it is now. Takes no memory. (This project's
+    /// profile.)
     pub fn keep_text(&mut self, turn: u32)
         ensures kept_text { self.new.kept_text ≡ kept_before turn self.old.kept_text }
         ensures kept_punched { self.new.kept_punched ≡ kept_before turn self.old.kept_punched }
         ensures firsts { self.new.firsts ≡ self.old.firsts }
-        ensures state { self.new.state ≡ state_cut (length self.new.kept_text) (length self.new.kept_punched) self.old.state }
+        ensures state { self.new.state ≡ state_cut (length self.new.kept_text)
+            (length self.new.kept_punched) self.old.state }
     {
         self.text.keep_before(turn);
         self.punched.keep_before(turn);
     }
 
-    /// Puts another tape into the reader, of which as many bytes count as read. Takes no memory. (This project's
-    /// profile.)
+    /// Puts another tape into the reader, of which as many bytes count as read. Takes no memory.
+    /// (This project's profile.)
     pub fn set_tape(&mut self, tape: Vec<u8>)
         ensures state { self.new.state ≡ state_with_tape tape.items self.old.state }
         ensures kept_text { self.new.kept_text ≡ self.old.kept_text }

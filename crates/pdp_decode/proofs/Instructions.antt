@@ -2,7 +2,7 @@
 use Rattle.std.proofs.Common.{◌≡◌, ℕ, ◌<◌, refl, length, lit<}
 use Rattle.pdp_decode.specs.declared.instruction.Instr.{Instr}
 use Rattle.pdp_decode.specs.declared.instruction.Instr.TheVariants.{Halt, Wait, Rti, Bpt, Iot, Reset, Rtt, Jmp, Rts, Jsr, Mark, Sob, Emt, Trap, ClearCodes, SetCodes, Br, Bne, Beq, Bge, Blt, Bgt, Ble, Bpl, Bmi, Bhi, Blos, Bvc, Bvs, Bcc, Bcs, Mov, Movb, Cmp, Cmpb, Bit, Bitb, Bic, Bicb, Bis, Bisb, Add, Sub, Xor, Mul, Div, Ash, Ashc, Swab, Clr, Clrb, Com, Comb, Inc, Incb, Dec, Decb, Neg, Negb, Adc, Adcb, Sbc, Sbcb, Ror, Rorb, Rol, Rolb, Asr, Asrb, Asl, Aslb, Sxt, Tst, Tstb, Mfpi, Mtpi, Reserved}
-use Rattle.pdp_decode.specs.Table.{control, branches, single_operands, double_operands, register_operands, high_branches, traps, byte_single_operands, high_double_operands, decoded}
+use Rattle.pdp_decode.specs.Table.{control, branches, single_operands, double_operands, register_operands, high_branches, traps, byte_single_operands, high_double_operands, instr_of_word}
 use Rattle.pdp_decode.specs.Format.{IsEncodable, encode}
 use Rattle.pdp_decode.proofs.Rows.{row_at}
 use Rattle.pdp_decode.proofs.Standing.{Stands, row_stands}
@@ -35,11 +35,11 @@ in_byte_single_operands k l = row_stands 7 k (lit< tt) l
 in_high_double_operands : (k : ℕ) → k < length high_double_operands → Stands (row_at high_double_operands k)
 in_high_double_operands k l = row_stands 8 k (lit< tt) l
 
-reserved_back : decoded (encode Reserved) ≡ Reserved
-unfolding decoded
+reserved_back : instr_of_word (encode Reserved) ≡ Reserved
+unfolding instr_of_word
 reserved_back = refl
 
-pub decoded_encode : (instr : Instr) → IsEncodable instr → decoded (encode instr) ≡ instr
+pub decoded_encode : (instr : Instr) → IsEncodable instr → instr_of_word (encode instr) ≡ instr
 unfolding control branches single_operands double_operands register_operands high_branches traps byte_single_operands high_double_operands
 decoded_encode Halt h = plain_back 0o000000 Halt (in_control 0 (lit< tt))
 decoded_encode Wait h = plain_back 0o000001 Wait (in_control 1 (lit< tt))

@@ -6,7 +6,7 @@ use Rattle.pdp_decode.specs.declared.instruction.Instr.{Instr}
 use Rattle.pdp_decode.specs.declared.instruction.Instr.TheVariants.{Halt, Wait, Rti, Bpt, Iot, Reset, Rtt, Jmp, Jsr, Emt, Trap, ClearCodes, SetCodes, Br, Bne, Beq, Bge, Blt, Bgt, Ble, Bpl, Bmi, Bhi, Blos, Bvc, Bvs, Bcc, Bcs, Mov, Movb, Cmp, Cmpb, Bit, Bitb, Bic, Bicb, Bis, Bisb, Add, Sub, Xor, Mul, Div, Ash, Ashc, Swab, Clr, Clrb, Com, Comb, Inc, Incb, Dec, Decb, Neg, Negb, Adc, Adcb, Sbc, Sbcb, Ror, Rorb, Rol, Rolb, Asr, Asrb, Asl, Aslb, Sxt, Tst, Tstb, Mfpi, Mtpi}
 use Rattle.pdp_decode.specs.Fields.{source_in, operand_in, register_in, offset_in, codes_in}
 use Rattle.pdp_decode.specs.Format.{IsOfWord, encode, branch_word, single_operand_word, register_operand_word, double_operand_word, code_bits}
-use Rattle.pdp_decode.specs.Table.{row, table, plain, branch, single_operand, register_operand, double_operand, code_operator, coded_trap, rts, mark, sob, control, branches, single_operands, double_operands, register_operands, high_branches, traps, byte_single_operands, high_double_operands, decoded}
+use Rattle.pdp_decode.specs.Table.{row, table, plain, branch, single_operand, register_operand, double_operand, code_operator, coded_trap, rts, mark, sob, control, branches, single_operands, double_operands, register_operands, high_branches, traps, byte_single_operands, high_double_operands, instr_of_word}
 use Rattle.pdp_decode.proofs.Words.{HasWord, HaveWords, by_sections, ◌▹◌}
 use Rattle.pdp_decode.proofs.Formats.{single_of_fields, register_of_fields, double_of_fields, branch_of_fields, word_of_codes}
 
@@ -169,8 +169,8 @@ high_double_operands_have_words =
     ▹ double_has_word 0o16 Sub (λ s d. refl)
     ▹ tt
 
-pub decoded_has_word : (word : ℕ) → IsOfWord (decoded word) word
-unfolding decoded
+pub decoded_has_word : (word : ℕ) → IsOfWord (instr_of_word word) word
+unfolding instr_of_word
 decoded_has_word word = by_sections table
     (control_have_words
     ▹ branches_have_words

@@ -1,6 +1,6 @@
 -- The sections of the table ascend, each section's rows within it.
 use Rattle.std.proofs.Common.{◌≡◌, ℕ, refl, true}
-use Rattle.pdp_decode.specs.Table.{is_ascending, are_ascending, table, control, branches, single_operands, double_operands, register_operands, high_branches, traps, byte_single_operands, high_double_operands, decoded, decoded_by, rows_of}
+use Rattle.pdp_decode.specs.Table.{is_ascending, are_ascending, table, control, branches, single_operands, double_operands, register_operands, high_branches, traps, byte_single_operands, high_double_operands, instr_of_word, decoded_by, rows_of}
 use Rattle.pdp_decode.proofs.OneTable.{sections_are_rows}
 
 control_ascends : is_ascending 0o000000 0o000400 control ≡ true
@@ -52,6 +52,6 @@ table_ascends = simp (
   high_double_operands_ascend,
 )
 
-pub decoded_by_table : (word : ℕ) → decoded word ≡ decoded_by (rows_of table) word
-unfolding decoded
+pub decoded_by_table : (word : ℕ) → instr_of_word word ≡ decoded_by (rows_of table) word
+unfolding instr_of_word
 decoded_by_table word = sections_are_rows 0o000000 0o200000 table word table_ascends

@@ -1,11 +1,25 @@
--- What is said of an instruction: its mnemonic, and which fields it may have (DEC PDP-11/40 Processor Handbook (1972),
--- Instruction set).
+-- What is said of an instruction: its mnemonic, and which fields it may have (DEC PDP-11/40
+-- Processor Handbook (1972), Instruction set).
 use Rattle.std.specs.Prelude.{ℕ, List, codes, ◌<◌}
 use Rattle.pdp_decode.specs.Fields.{IsSpec}
 use Rattle.pdp_decode.specs.declared.instruction.Instr.{Instr}
-use Rattle.pdp_decode.specs.declared.instruction.Instr.TheVariants.{Halt, Wait, Rti, Bpt, Iot, Reset, Rtt, Jmp, Rts, Jsr, Mark, Sob, Emt, Trap, ClearCodes, SetCodes, Br, Bne, Beq, Bge, Blt, Bgt, Ble, Bpl, Bmi, Bhi, Blos, Bvc, Bvs, Bcc, Bcs, Mov, Movb, Cmp, Cmpb, Bit, Bitb, Bic, Bicb, Bis, Bisb, Add, Sub, Xor, Mul, Div, Ash, Ashc, Swab, Clr, Clrb, Com, Comb, Inc, Incb, Dec, Decb, Neg, Negb, Adc, Adcb, Sbc, Sbcb, Ror, Rorb, Rol, Rolb, Asr, Asrb, Asl, Aslb, Sxt, Tst, Tstb, Mfpi, Mtpi, Reserved}
+use Rattle.pdp_decode.specs.declared.instruction.Instr.TheVariants.{Halt, Wait, Rti, Bpt, Iot}
+use Rattle.pdp_decode.specs.declared.instruction.Instr.TheVariants.{Reset, Rtt, Jmp, Rts, Jsr, Mark}
+use Rattle.pdp_decode.specs.declared.instruction.Instr.TheVariants.{Sob, Emt, Trap, ClearCodes}
+use Rattle.pdp_decode.specs.declared.instruction.Instr.TheVariants.{SetCodes, Br, Bne, Beq, Bge}
+use Rattle.pdp_decode.specs.declared.instruction.Instr.TheVariants.{Blt, Bgt, Ble, Bpl, Bmi, Bhi}
+use Rattle.pdp_decode.specs.declared.instruction.Instr.TheVariants.{Blos, Bvc, Bvs, Bcc, Bcs, Mov}
+use Rattle.pdp_decode.specs.declared.instruction.Instr.TheVariants.{Movb, Cmp, Cmpb, Bit, Bitb, Bic}
+use Rattle.pdp_decode.specs.declared.instruction.Instr.TheVariants.{Bicb, Bis, Bisb, Add, Sub, Xor}
+use Rattle.pdp_decode.specs.declared.instruction.Instr.TheVariants.{Mul, Div, Ash, Ashc, Swab, Clr}
+use Rattle.pdp_decode.specs.declared.instruction.Instr.TheVariants.{Clrb, Com, Comb, Inc, Incb, Dec}
+use Rattle.pdp_decode.specs.declared.instruction.Instr.TheVariants.{Decb, Neg, Negb, Adc, Adcb, Sbc}
+use Rattle.pdp_decode.specs.declared.instruction.Instr.TheVariants.{Sbcb, Ror, Rorb, Rol, Rolb, Asr}
+use Rattle.pdp_decode.specs.declared.instruction.Instr.TheVariants.{Asrb, Asl, Aslb, Sxt, Tst, Tstb}
+use Rattle.pdp_decode.specs.declared.instruction.Instr.TheVariants.{Mfpi, Mtpi, Reserved}
 
--- the handbook's mnemonic; CLx and SEx for the condition code operators, which have one only for one code or all
+-- the handbook's mnemonic; CLx and SEx for the condition code operators, which have one only for
+-- one code or all
 abbrev pub mnemonic : Instr → List ℕ
 mnemonic Halt = codes "HALT"
 mnemonic Wait = codes "WAIT"
@@ -85,8 +99,8 @@ mnemonic (Mfpi _) = codes "MFPI"
 mnemonic (Mtpi _) = codes "MTPI"
 mnemonic Reserved = codes "Reserved"
 
--- the fields of an instruction fit their bits: modes and registers are below 8, and a count of words below 100; what
--- has no such field fits always
+-- the fields of an instruction fit their bits: modes and registers are below 8, and a count of
+-- words below 100; what has no such field fits always
 abbrev pub FieldsFit : Instr → Type 0
 FieldsFit (Jmp destination) = IsSpec destination
 FieldsFit (Rts register) = register < 8

@@ -1,7 +1,7 @@
 // Decoding, a function for each section of the opcode table.
 ghost use Rattle.std.specs.Prelude.{◌≡◌};
 ghost use Rattle.pdp_decode.specs.Instruction.{FieldsFit};
-ghost use Rattle.pdp_decode.specs.Table.{decoded};
+ghost use Rattle.pdp_decode.specs.Table.{instr_of_word};
 
 mod branches;
 mod control;
@@ -23,9 +23,9 @@ use single_operand::{byte_single_operand_instr, single_operand_instr};
 /// Source: DEC PDP-11/40 Processor Handbook (1972), Instruction set; what is reserved is this
 /// project's profile.
 #[inline(always)]
-#[tactic(auto, unfolding(crate::specs::Table::decoded))]
+#[tactic(auto, unfolding(crate::specs::Table::instr_of_word))]
 pub const fn decode(word: u16) -> Instr
-    ensures value { result ≡ decoded word }
+    ensures value { result ≡ instr_of_word word }
     ensures valid { FieldsFit result }
 {
     match word {

@@ -2,7 +2,7 @@
 ghost use Rattle.std.specs.Prelude.{◌≡◌, ℕ, IsTrue};
 ghost use Rattle.pdp_decode.specs.declared.instruction.Instr.{Instr};
 ghost use Rattle.pdp_decode.specs.Format.{IsEncodable, IsOfWord, encode};
-ghost use Rattle.pdp_decode.specs.Table.{are_ascending, decoded, decoded_by, rows_of, table};
+ghost use Rattle.pdp_decode.specs.Table.{are_ascending, instr_of_word, decoded_by, rows_of, table};
 
 /// A law and no code: a word that isn't reserved is the word of the instruction that it decodes
 /// to, so decoding loses nothing.
@@ -12,7 +12,7 @@ ghost use Rattle.pdp_decode.specs.Table.{are_ascending, decoded, decoded_by, row
 /// Source: DEC PDP-11/40 Processor Handbook (1972), Instruction set.
 #[tactic(auto, using(crate::proofs::Meanings::decoded_has_word))]
 pub fn decoded_instructions_have_their_word()
-    ensures { (word : ℕ) → IsOfWord (decoded word) word }
+    ensures { (word : ℕ) → IsOfWord (instr_of_word word) word }
 {}
 
 /// A law and no code: the word of each instruction whose fields fit decodes to that instruction.
@@ -20,7 +20,7 @@ pub fn decoded_instructions_have_their_word()
 /// Source: DEC PDP-11/40 Processor Handbook (1972), Instruction set.
 #[tactic(auto, using(crate::proofs::Instructions::decoded_encode))]
 pub fn encoded_instructions_decode_back()
-    ensures { (instr : Instr) → IsEncodable instr → decoded (encode instr) ≡ instr }
+    ensures { (instr : Instr) → IsEncodable instr → instr_of_word (encode instr) ≡ instr }
 {}
 
 /// A law and no code: the rows of the opcode table ascend over all words, so no word has two rows.
@@ -36,5 +36,5 @@ pub fn rows_never_meet()
 /// Source: DEC PDP-11/40 Processor Handbook (1972), Instruction set.
 #[tactic(auto, using(crate::proofs::Sections::decoded_by_table))]
 pub fn sections_are_one_table()
-    ensures { (word : ℕ) → decoded word ≡ decoded_by (rows_of table) word }
+    ensures { (word : ℕ) → instr_of_word word ≡ decoded_by (rows_of table) word }
 {}

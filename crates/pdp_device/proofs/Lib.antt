@@ -1,2 +1,2 @@
-pub mod OutletLaws
+pub mod TransmitterLaws
 pub mod RequestLaws

@@ -1,57 +1,66 @@
--- What the laws of channels, operations and outlets say: each name is the law's sentence (when requests appear and go,
--- when operations are due and which bytes come out are this project's profile).
+-- What the laws of ready/enable pairs, operations and transmitters say: each name is the law's
+-- sentence (when requests appear and go, when operations are due and which bytes come out are this
+-- project's profile).
 use Rattle.std.specs.Prelude.{◌≡◌, ◌<◌, ◌↔◌, ℕ, ◌+◌, Bool, true, false, Some, None, List, [], ◌∷◌}
 use Rattle.pdp_word.specs.Bits.{field}
 use Rattle.pdp_word.specs.Word.{low_byte}
-use Rattle.pdp_device.specs.Channel.{channel_served, channel_status, channel_with, enable_written, is_calling, with_ready}
+use Rattle.pdp_device.specs.ReadyEnable.{ready_enable_served, ready_enable_status}
+use Rattle.pdp_device.specs.ReadyEnable.{ready_enable_with, enable_written, wants_interrupt}
+use Rattle.pdp_device.specs.ReadyEnable.{with_ready}
 use Rattle.pdp_device.specs.Operation.{begun_operation, is_due, is_under_way}
-use Rattle.pdp_device.specs.Outlet.{byte_out, byte_written, outlet_completed, outlet_written}
-use Rattle.pdp_device.specs.declared.channel.Channel.{Channel}
+use Rattle.pdp_device.specs.Transmitter.{byte_out, byte_written, transmitter_completed}
+use Rattle.pdp_device.specs.Transmitter.{transmitter_written}
+use Rattle.pdp_device.specs.declared.ready_enable.ReadyEnable.{ReadyEnable}
 use Rattle.pdp_device.specs.declared.operation.Operation.TheVariants.{Idle}
-use Rattle.pdp_device.specs.declared.outlet.Outlet.{Outlet}
-use Rattle.pdp_device.specs.declared.outlet.OutletRegister.{OutletRegister}
-use Rattle.pdp_device.specs.declared.outlet.OutletRegister.TheVariants.{Status, Buffer}
+use Rattle.pdp_device.specs.declared.transmitter.Transmitter.{Transmitter}
+use Rattle.pdp_device.specs.declared.transmitter.TransmitterRegister.{TransmitterRegister}
+use Rattle.pdp_device.specs.declared.transmitter.TransmitterRegister.TheVariants.{Status, Buffer}
 
 -- the condition is what the status shows: bits 7 and 6
 abbrev pub ConditionIsShown : Type 0
-ConditionIsShown = (c : Channel)
-    → (is_calling c ≡ true) ↔ ((field 7 1 (channel_status c) ≡ 1) × (field 6 1 (channel_status c) ≡ 1))
+ConditionIsShown = (c : ReadyEnable)
+    → (wants_interrupt c ≡ true) ↔ ((field 7 1 (ready_enable_status c) ≡ 1) × (field 6 1
+    (ready_enable_status c) ≡ 1))
 
--- what happens to a channel: ready is set or cleared, a word is written to its status, or ready and enable both change
-pub data Change : Type 0 where
-  SetReady : Bool → Change
-  WriteEnable : ℕ → Change
-  SetBoth : Bool → Bool → Change
+-- what happens to a ready/enable pair: ready is set or cleared, a word is written to its status, or
+-- ready and enable both change
+pub data ReadyEnableUse : Type 0 where
+  SetReady : Bool → ReadyEnableUse
+  WriteEnable : ℕ → ReadyEnableUse
+  SetBoth : Bool → Bool → ReadyEnableUse
 
-abbrev pub after_change : Change → Channel → Channel
-after_change (SetReady ready) c = with_ready ready c
-after_change (WriteEnable word) c = enable_written word c
-after_change (SetBoth ready enable) c = channel_with ready enable c
+abbrev pub ready_enable_after_use : ReadyEnableUse → ReadyEnable → ReadyEnable
+ready_enable_after_use (SetReady ready) c = with_ready ready c
+ready_enable_after_use (WriteEnable word) c = enable_written word c
+ready_enable_after_use (SetBoth ready enable) c = ready_enable_with ready enable c
 
-abbrev pub after_changes : List Change → Channel → Channel
-after_changes [] c = c
-after_changes (change ∷ changes) c = after_changes changes (after_change change c)
+abbrev pub ready_enable_after_uses : List ReadyEnableUse → ReadyEnable → ReadyEnable
+ready_enable_after_uses [] c = c
+ready_enable_after_uses (use_of ∷ uses) c = ready_enable_after_uses uses
+    (ready_enable_after_use use_of c)
 
 -- where there is no request, a change makes one exactly where the condition goes from false to true
 abbrev pub RequestsAppearOnARise : Type 0
-RequestsAppearOnARise = (change : Change) (c : Channel) → c.request ≡ false
-    → ((after_change change c).request ≡ true)
-    ↔ ((is_calling c ≡ false) × (is_calling (after_change change c) ≡ true))
+RequestsAppearOnARise = (use_of : ReadyEnableUse) (c : ReadyEnable) → c.request ≡ false
+    → ((ready_enable_after_use use_of c).request ≡ true)
+    ↔ ((wants_interrupt c ≡ false) × (wants_interrupt (ready_enable_after_use use_of c) ≡ true))
 
 -- where there is one, a change leaves it exactly where the condition holds after it
 abbrev pub RequestsGoWithTheCondition : Type 0
-RequestsGoWithTheCondition = (change : Change) (c : Channel) → c.request ≡ true
-    → (after_change change c).request ≡ is_calling (after_change change c)
+RequestsGoWithTheCondition = (use_of : ReadyEnableUse) (c : ReadyEnable) → c.request ≡ true
+    → (ready_enable_after_use use_of c).request ≡ wants_interrupt (ready_enable_after_use use_of c)
 
 -- the condition holds, and still does after each of the changes
-abbrev pub HoldsThroughout : List Change → Channel → Type 0
-HoldsThroughout [] c = is_calling c ≡ true
-HoldsThroughout (change ∷ changes) c = (is_calling c ≡ true) × HoldsThroughout changes (after_change change c)
+abbrev pub HoldsThroughout : List ReadyEnableUse → ReadyEnable → Type 0
+HoldsThroughout [] c = wants_interrupt c ≡ true
+HoldsThroughout (use_of ∷ uses) c = (wants_interrupt c ≡ true) × HoldsThroughout uses
+    (ready_enable_after_use use_of c)
 
 -- a request that was served stays away while the condition holds
 abbrev pub ServedRequestsStayAway : Type 0
-ServedRequestsStayAway = (c : Channel) (changes : List Change) → HoldsThroughout changes (channel_served c)
-    → (after_changes changes (channel_served c)).request ≡ false
+ServedRequestsStayAway = (c : ReadyEnable) (uses : List ReadyEnableUse) → HoldsThroughout uses
+    (ready_enable_served c)
+    → (ready_enable_after_uses uses (ready_enable_served c)).request ≡ false
 
 abbrev pub OperationsBeginUnderWay : Type 0
 OperationsBeginUnderWay = (turn delay : ℕ) → is_under_way (begun_operation turn delay) ≡ true
@@ -68,19 +77,19 @@ EventsAloneCompleteWithoutDelay = (turn later : ℕ) → is_due later (begun_ope
 abbrev pub IdleIsNeverDue : Type 0
 IdleIsNeverDue = (turn : ℕ) → is_due turn Idle ≡ false
 
--- a word written to a register of an outlet, in a turn, with the delay of a byte then
+-- a word written to a register of a transmitter, in a turn, with the delay of a byte then
 pub record Write : Type 0 where
-  pub register : OutletRegister
+  pub register : TransmitterRegister
   pub word : ℕ
   pub turn : ℕ
   pub delay : ℕ
 
-abbrev pub after_writes : List Write → Outlet → Outlet
+abbrev pub after_writes : List Write → Transmitter → Transmitter
 after_writes [] o = o
-after_writes (w ∷ ws) o = after_writes ws (outlet_written w.register w.word w.turn w.delay o)
+after_writes (w ∷ ws) o = after_writes ws (transmitter_written w.register w.word w.turn w.delay o)
 
 -- the byte after a write, where this one was there before it
-abbrev pub byte_after : OutletRegister → ℕ → ℕ → ℕ
+abbrev pub byte_after : TransmitterRegister → ℕ → ℕ → ℕ
 byte_after Status word byte = byte
 byte_after Buffer word byte = low_byte word
 
@@ -89,14 +98,17 @@ abbrev pub last_byte : List Write → ℕ → ℕ
 last_byte [] byte = byte
 last_byte (w ∷ ws) byte = last_byte ws (byte_after w.register w.word byte)
 
--- what an outlet does with this byte, its operation being this one: it comes out, and nothing after it
-pub record ComesOutOnce (o : Outlet) (byte : ℕ) : Type 0 where
+-- what a transmitter does with this byte, its operation being this one: it comes out, and nothing
+-- after it
+pub record ComesOutOnce (o : Transmitter) (byte : ℕ) : Type 0 where
   pub byte_is_out : byte_out o ≡ Some byte
-  pub no_more : byte_out (outlet_completed o) ≡ None
-  pub unchanged : outlet_completed (outlet_completed o) ≡ outlet_completed o
+  pub no_more : byte_out (transmitter_completed o) ≡ None
+  pub unchanged : transmitter_completed (transmitter_completed o) ≡ transmitter_completed o
 
--- a byte is written where nothing is under way, and then whatever else: the last byte comes out, when the first was due
+-- a byte is written where nothing is under way, and then whatever else: the last byte comes out,
+-- when the first was due
 abbrev pub BytesComeOutOnce : Type 0
-BytesComeOutOnce = (o : Outlet) (byte turn delay : ℕ) (ws : List Write) → is_under_way o.operation ≡ false
+BytesComeOutOnce = (o : Transmitter) (byte turn delay : ℕ) (ws : List Write)
+    → is_under_way o.operation ≡ false
     → ((after_writes ws (byte_written byte turn delay o)).operation ≡ begun_operation turn delay)
     × ComesOutOnce (after_writes ws (byte_written byte turn delay o)) (last_byte ws byte)

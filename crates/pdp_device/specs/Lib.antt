@@ -1,4 +1,6 @@
-pub mod Channel
-pub mod Laws
+pub mod Bits
+pub mod Request
+pub mod ReadyEnable
 pub mod Operation
-pub mod Outlet
+pub mod Transmitter
+pub mod Laws

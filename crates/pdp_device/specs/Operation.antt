@@ -1,5 +1,6 @@
 -- What a device is doing, and when it is done (this project's profile).
-use Rattle.std.specs.Prelude.{ℕ, ◌+◌, ◌==◌, nat_lt, Bool, true, false, Option, Some, None, if◌then◌else◌}
+use Rattle.std.specs.Prelude.{ℕ, ◌+◌, ◌==◌, nat_lt, Bool, true, false, Option, Some, None}
+use Rattle.std.specs.Prelude.{if◌then◌else◌}
 use Rattle.pdp_device.specs.declared.operation.Operation.{Operation}
 use Rattle.pdp_device.specs.declared.operation.Operation.TheVariants.{Idle, ByEvent, At}
 

@@ -1,10 +1,12 @@
-ghost use Rattle.pdp_device.specs.Laws.{BytesComeOutOnce, ConditionIsShown, EventsAloneCompleteWithoutDelay, IdleIsNeverDue};
+ghost use Rattle.pdp_device.specs.Laws.{BytesComeOutOnce, ConditionIsShown};
+ghost use Rattle.pdp_device.specs.Laws.{EventsAloneCompleteWithoutDelay, IdleIsNeverDue};
 ghost use Rattle.pdp_device.specs.Laws.{OperationsAreDueOnce, OperationsBeginUnderWay};
-ghost use Rattle.pdp_device.specs.Laws.{RequestsAppearOnARise, RequestsGoWithTheCondition, ServedRequestsStayAway};
+ghost use Rattle.pdp_device.specs.Laws.{RequestsAppearOnARise, RequestsGoWithTheCondition};
+ghost use Rattle.pdp_device.specs.Laws.{ServedRequestsStayAway};
 
-/// A law and no code: whatever changes of a channel, a request appears exactly where its condition, ready and enable,
-/// goes from false to true, and one that is there goes exactly where the condition does. One that was served stays away
-/// while the condition holds.
+/// A law and no code: whatever changes of a ready/enable pair, a request appears exactly where its
+/// condition, ready and enable, goes from false to true, and one that is there goes exactly where
+/// the condition does. One that was served stays away while the condition holds.
 ///
 /// Source: this project's profile.
 pub fn requests_appear_on_a_rise()
@@ -14,8 +16,9 @@ pub fn requests_appear_on_a_rise()
     ensures served { ServedRequestsStayAway }
 {}
 
-/// A law and no code: an operation begun in a turn with a delay is under way, and is due that many turns later and in
-/// no other turn. With delay 0 it is due in no turn, and so is a device that does nothing.
+/// A law and no code: an operation begun in a turn with a delay is under way, and is due that many
+/// turns later and in no other turn. With delay 0 it is due in no turn, and so is a device that
+/// does nothing.
 ///
 /// Source: this project's profile.
 pub fn completions_come_in_their_turn()
@@ -25,8 +28,9 @@ pub fn completions_come_in_their_turn()
     ensures idle { IdleIsNeverDue }
 {}
 
-/// A law and no code: after a byte was written to an outlet with nothing under way, and whatever was written to its
-/// registers since, the last byte written comes out, when the first was due, and then nothing more does.
+/// A law and no code: after a byte was written to a transmitter with nothing under way, and
+/// whatever was written to its registers since, the last byte written comes out, when the first was
+/// due, and then nothing more does.
 ///
 /// Source: PDP-11 Peripherals Handbook, KL11 and PC11; what later bytes do, this project's profile.
 pub fn a_byte_comes_out_once()

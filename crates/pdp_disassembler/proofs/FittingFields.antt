@@ -4,9 +4,9 @@ use Rattle.std.specs.Int.{w8}
 use Rattle.std.specs.Int.RustNames.{FitsSigned}
 use Rattle.std.proofs.lemmas.Int.{ints}
 use Rattle.pdp_decode.specs.declared.instruction.Instr.{Instr}
-use Rattle.pdp_decode.specs.Fields.{IsSpec, source_in, operand_in, register_in, last_register_in, words_in, code_in, offset_in}
+use Rattle.pdp_decode.specs.Fields.{IsSpec, source_in, operand_in, register_in, last_register_in, word_count_in, code_in, offset_in}
 use Rattle.pdp_decode.specs.Format.{IsEncodable}
-use Rattle.pdp_decode.specs.Table.{Row, Section, table, control, branches, single_operands, double_operands, register_operands, high_branches, traps, byte_single_operands, high_double_operands, decoded, decoded_by, decoded_in}
+use Rattle.pdp_decode.specs.Table.{Row, Section, table, control, branches, single_operands, double_operands, register_operands, high_branches, traps, byte_single_operands, high_double_operands, instr_of_word, decoded_by, decoded_in}
 use Rattle.pdp_decode.proofs.Ascending.{choice}
 use Rattle.pdp_decode.proofs.Words.{◌▹◌}
 
@@ -52,10 +52,10 @@ both_operands_fit word = (record { mode = omega arith; reg = omega arith }, oper
 last_register_fits : (word : ℕ) → last_register_in word < 8
 last_register_fits word = omega arith
 
-words_fit : (word : ℕ) → words_in word < 0o100
+words_fit : (word : ℕ) → word_count_in word < 0o100
 words_fit word = omega arith
 
-loop_fits : (word : ℕ) → (register_in word < 8) × (words_in word < 0o100)
+loop_fits : (word : ℕ) → (register_in word < 8) × (word_count_in word < 0o100)
 loop_fits word = (omega arith, omega arith)
 
 code_fits : (word : ℕ) → code_in word < 0o400
@@ -185,8 +185,8 @@ high_double_operands_fit =
     ▹ both_operands_fit
     ▹ tt
 
-pub decoded_fits : (word : ℕ) → IsEncodable (decoded word)
-unfolding decoded
+pub decoded_fits : (word : ℕ) → IsEncodable (instr_of_word word)
+unfolding instr_of_word
 decoded_fits word = sections_fit table
     (control_fit
     ▹ branches_fit

@@ -4,7 +4,7 @@ use Rattle.std.specs.Prelude.{codes, if◌then◌else◌}
 use Rattle.std.proofs.lemmas.List.{append-nil}
 use Rattle.pdp_decode.specs.Fields.{IsSpec}
 use Rattle.pdp_decode.specs.Format.{IsEncodable, IsOfWord, digits_of, encode}
-use Rattle.pdp_decode.specs.Table.{decoded}
+use Rattle.pdp_decode.specs.Table.{instr_of_word}
 use Rattle.pdp_decode.proofs.Meanings.{decoded_has_word}
 use Rattle.pdp_disassembler.proofs.FittingFields.{decoded_fits}
 use Rattle.pdp_decode.specs.declared.instruction.Spec.{Spec}
@@ -240,8 +240,8 @@ three_read : (address word next last : ℕ) → AreThreeWords (word ∷ next ∷
 unfolding instruction_text
 three_read address word next last are =
     whole_reads address word next last (are.fit 0 0 (lit< tt)) (are.fit 1 0 (lit< tt)) (are.fit 2 0 (lit< tt))
-    (decoded word) (decoded_fits word) (decoded_has_word word)
-    ∙ sym (taken_words word next last (operands_of (decoded word)))
+    (instr_of_word word) (decoded_fits word) (decoded_has_word word)
+    ∙ sym (taken_words word next last (operands_of (instr_of_word word)))
 
 -- the text of an instruction is read back as the words that it takes
 pub instruction_reads : (address : ℕ) (words : List ℕ) → AreThreeWords words

@@ -1,6 +1,6 @@
 -- The text of an instruction says its words, and shows no others.
 use Rattle.std.proofs.Common.{◌≡◌, ℕ, List, [], ◌∷◌, ◌++◌, refl, sym, ap, subst, ◌∙◌, arith}
-use Rattle.pdp_decode.specs.Table.{decoded}
+use Rattle.pdp_decode.specs.Table.{instr_of_word}
 use Rattle.pdp_disassembler.specs.Operands.{operands_of}
 use Rattle.pdp_disassembler.specs.Text.{instruction_text, operator_text, words_taken}
 use Rattle.pdp_disassembler.specs.TextLaw.{AreThreeWords, TextsAreOfWords}
@@ -19,24 +19,24 @@ three word next last = word ∷ next ∷ last ∷ []
 
 -- with one instruction word
 same_following : (address word next last other another : ℕ)
-    → following next last (operands_of (decoded word)) ≡ following other another (operands_of (decoded word))
+    → following next last (operands_of (instr_of_word word)) ≡ following other another (operands_of (instr_of_word word))
     → instruction_text address (three word next last) ≡ instruction_text address (three word other another)
 unfolding instruction_text
 same_following address word next last other another same =
-    ap (λ text. operator_text (decoded word) ++ text)
-    (same_operands address word next last other another (operands_of (decoded word)) same)
+    ap (λ text. operator_text (instr_of_word word) ++ text)
+    (same_operands address word next last other another (operands_of (instr_of_word word)) same)
 
 same_three : (address word next last second other another : ℕ)
     → words_taken (three word next last) ≡ words_taken (three second other another)
     → instruction_text address (three word next last) ≡ instruction_text address (three second other another)
 same_three address word next last second other another same =
-    let before = taken_words word next last (operands_of (decoded word)) in
-    let after = taken_words second other another (operands_of (decoded second)) in
-    let whole : word ∷ following next last (operands_of (decoded word))
-    ≡ second ∷ following other another (operands_of (decoded second)) = sym before ∙ same ∙ after in
+    let before = taken_words word next last (operands_of (instr_of_word word)) in
+    let after = taken_words second other another (operands_of (instr_of_word second)) in
+    let whole : word ∷ following next last (operands_of (instr_of_word word))
+    ≡ second ∷ following other another (operands_of (instr_of_word second)) = sym before ∙ same ∙ after in
     let equal : word ≡ second = cc in
-    let rest : following next last (operands_of (decoded word)) ≡ following other another (operands_of (decoded second)) = cc in
-    let P : ℕ → Type 0 = λ w. following next last (operands_of (decoded word)) ≡ following other another (operands_of (decoded w))
+    let rest : following next last (operands_of (instr_of_word word)) ≡ following other another (operands_of (instr_of_word second)) = cc in
+    let P : ℕ → Type 0 = λ w. following next last (operands_of (instr_of_word word)) ≡ following other another (operands_of (instr_of_word w))
     → instruction_text address (three word next last) ≡ instruction_text address (three w other another) in
     subst P equal (same_following address word next last other another) rest
 

@@ -5,16 +5,33 @@ use Rattle.pdp_word.specs.declared.codes.Codes.{Codes}
 use Rattle.pdp_decode.specs.Fields.{IsSpec}
 use Rattle.pdp_decode.specs.declared.instruction.Spec.{Spec}
 use Rattle.pdp_decode.specs.declared.instruction.Instr.{Instr}
-use Rattle.pdp_decode.specs.declared.instruction.Instr.TheVariants.{Halt, Wait, Rti, Bpt, Iot, Reset, Rtt, Jmp, Rts, Jsr, Mark, Sob, Emt, Trap, ClearCodes, SetCodes, Br, Bne, Beq, Bge, Blt, Bgt, Ble, Bpl, Bmi, Bhi, Blos, Bvc, Bvs, Bcc, Bcs, Mov, Movb, Cmp, Cmpb, Bit, Bitb, Bic, Bicb, Bis, Bisb, Add, Sub, Xor, Mul, Div, Ash, Ashc, Swab, Clr, Clrb, Com, Comb, Inc, Incb, Dec, Decb, Neg, Negb, Adc, Adcb, Sbc, Sbcb, Ror, Rorb, Rol, Rolb, Asr, Asrb, Asl, Aslb, Sxt, Tst, Tstb, Mfpi, Mtpi, Reserved}
+use Rattle.pdp_decode.specs.declared.instruction.Instr.TheVariants.{Halt, Wait, Rti, Bpt, Iot}
+use Rattle.pdp_decode.specs.declared.instruction.Instr.TheVariants.{Reset, Rtt, Jmp, Rts, Jsr, Mark}
+use Rattle.pdp_decode.specs.declared.instruction.Instr.TheVariants.{Sob, Emt, Trap, ClearCodes}
+use Rattle.pdp_decode.specs.declared.instruction.Instr.TheVariants.{SetCodes, Br, Bne, Beq, Bge}
+use Rattle.pdp_decode.specs.declared.instruction.Instr.TheVariants.{Blt, Bgt, Ble, Bpl, Bmi, Bhi}
+use Rattle.pdp_decode.specs.declared.instruction.Instr.TheVariants.{Blos, Bvc, Bvs, Bcc, Bcs, Mov}
+use Rattle.pdp_decode.specs.declared.instruction.Instr.TheVariants.{Movb, Cmp, Cmpb, Bit, Bitb, Bic}
+use Rattle.pdp_decode.specs.declared.instruction.Instr.TheVariants.{Bicb, Bis, Bisb, Add, Sub, Xor}
+use Rattle.pdp_decode.specs.declared.instruction.Instr.TheVariants.{Mul, Div, Ash, Ashc, Swab, Clr}
+use Rattle.pdp_decode.specs.declared.instruction.Instr.TheVariants.{Clrb, Com, Comb, Inc, Incb, Dec}
+use Rattle.pdp_decode.specs.declared.instruction.Instr.TheVariants.{Decb, Neg, Negb, Adc, Adcb, Sbc}
+use Rattle.pdp_decode.specs.declared.instruction.Instr.TheVariants.{Sbcb, Ror, Rorb, Rol, Rolb, Asr}
+use Rattle.pdp_decode.specs.declared.instruction.Instr.TheVariants.{Asrb, Asl, Aslb, Sxt, Tst, Tstb}
+use Rattle.pdp_decode.specs.declared.instruction.Instr.TheVariants.{Mfpi, Mtpi, Reserved}
 use Rattle.pdp_disassembler.specs.declared.operands.Operands.{Operands}
-use Rattle.pdp_disassembler.specs.declared.operands.Operands.TheVariants.{Absent, Register, Number, Branch, Loop, Single, RegisterFirst, RegisterLast, Double, Word}
+use Rattle.pdp_disassembler.specs.declared.operands.Operands.TheVariants.{Absent, Register, Number}
+use Rattle.pdp_disassembler.specs.declared.operands.Operands.TheVariants.{Branch, Loop, Single}
+use Rattle.pdp_disassembler.specs.declared.operands.Operands.TheVariants.{RegisterFirst}
+use Rattle.pdp_disassembler.specs.declared.operands.Operands.TheVariants.{RegisterLast, Double}
+use Rattle.pdp_disassembler.specs.declared.operands.Operands.TheVariants.{Word}
 
 -- no condition code is named
 abbrev pub is_of_no_code : Codes → Bool
 is_of_no_code flags = not (flags.n || flags.z || flags.v || flags.c)
 
--- The operands of an instruction. SetCodes of no code is shown by its word, since NOP is the text of
--- ClearCodes of none.
+-- The operands of an instruction. SetCodes of no code is shown by its word, since NOP is the text
+-- of ClearCodes of none.
 abbrev pub operands_of : Instr → Operands
 operands_of Halt = Absent
 operands_of Wait = Absent

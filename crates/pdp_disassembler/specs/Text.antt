@@ -1,19 +1,25 @@
 -- The text of an instruction, in the syntax of MACRO-11 (DEC PDP-11/40 Processor Handbook (1972),
 -- Instruction set and Addressing modes; this project's profile). Numbers are octal, without leading
 -- zeros except after .WORD.
-use Rattle.std.specs.Prelude.{ℕ, ℤ, Bool, ◌+◌, ◌*◌, ◌%◌, ◌&&◌, ◌==◌, nat_lt, if◌then◌else◌, List, [], ◌∷◌, ◌++◌, codes, slice_index, take}
+use Rattle.std.specs.Prelude.{ℕ, ℤ, Bool, ◌+◌, ◌*◌, ◌%◌, ◌&&◌, ◌==◌, nat_lt, if◌then◌else◌, List}
+use Rattle.std.specs.Prelude.{[], ◌∷◌, ◌++◌, codes, slice_index, take}
 use Rattle.std.specs.Int.{w16, cast_unsigned}
 use Rattle.pdp_word.specs.Number.{octal_digits}
 use Rattle.pdp_word.specs.Word.{less}
 use Rattle.pdp_word.specs.declared.codes.Codes.{Codes}
 use Rattle.pdp_decode.specs.Instruction.{mnemonic}
-use Rattle.pdp_decode.specs.Table.{decoded}
+use Rattle.pdp_decode.specs.Table.{instr_of_word}
 use Rattle.pdp_decode.specs.declared.instruction.Spec.{Spec}
 use Rattle.pdp_decode.specs.declared.instruction.Instr.{Instr}
 use Rattle.pdp_decode.specs.declared.instruction.Instr.TheVariants.{ClearCodes, SetCodes, Reserved}
-use Rattle.pdp_disassembler.specs.Operands.{is_of_no_code, operands_of, takes_word, words_that_follow}
+use Rattle.pdp_disassembler.specs.Operands.{is_of_no_code, operands_of, takes_word}
+use Rattle.pdp_disassembler.specs.Operands.{words_that_follow}
 use Rattle.pdp_disassembler.specs.declared.operands.Operands.{Operands}
-use Rattle.pdp_disassembler.specs.declared.operands.Operands.TheVariants.{Absent, Register, Number, Branch, Loop, Single, RegisterFirst, RegisterLast, Double, Word}
+use Rattle.pdp_disassembler.specs.declared.operands.Operands.TheVariants.{Absent, Register, Number}
+use Rattle.pdp_disassembler.specs.declared.operands.Operands.TheVariants.{Branch, Loop, Single}
+use Rattle.pdp_disassembler.specs.declared.operands.Operands.TheVariants.{RegisterFirst}
+use Rattle.pdp_disassembler.specs.declared.operands.Operands.TheVariants.{RegisterLast, Double}
+use Rattle.pdp_disassembler.specs.declared.operands.Operands.TheVariants.{Word}
 
 -- how many octal digits show a word without leading zeros
 abbrev pub digit_count : ℕ → ℕ
@@ -103,17 +109,17 @@ operands_text address word next last (Double source destination) =
 operands_text address word next last Word = codes " " ++ octal_digits 6 word
 
 -- texts with a space between each two
-abbrev pub spaced : List (List ℕ) → List ℕ
-spaced [] = []
-spaced (text ∷ []) = text
-spaced (text ∷ next ∷ texts) = text ++ codes " " ++ spaced (next ∷ texts)
+abbrev pub with_spaces : List (List ℕ) → List ℕ
+with_spaces [] = []
+with_spaces (text ∷ []) = text
+with_spaces (text ∷ next ∷ texts) = text ++ codes " " ++ with_spaces (next ∷ texts)
 
 abbrev pub text_if : Bool → List ℕ → List (List ℕ)
 text_if holds text = if holds then text ∷ [] else []
 
 -- one operator for each code that is named: CLN CLZ CLV CLC, or with SE
 abbrev pub code_operators : List ℕ → Codes → List ℕ
-code_operators verb flags = spaced
+code_operators verb flags = with_spaces
     (text_if flags.n (verb ++ codes "N") ++ text_if flags.z (verb ++ codes "Z")
     ++ text_if flags.v (verb ++ codes "V") ++ text_if flags.c (verb ++ codes "C"))
 
@@ -145,13 +151,13 @@ operator_text instr = mnemonic instr
 -- the text of the instruction at an address, from its word and the two that follow
 unfoldable pub instruction_text : ℕ → List ℕ → List ℕ
 instruction_text address words =
-    operator_text (decoded (slice_index words 0))
+    operator_text (instr_of_word (slice_index words 0))
     ++ operands_text address (slice_index words 0) (slice_index words 1) (slice_index words 2)
-    (operands_of (decoded (slice_index words 0)))
+    (operands_of (instr_of_word (slice_index words 0)))
 
 -- how many of these words the instruction takes: its own, and those that its operands' modes need
 abbrev pub word_count : List ℕ → ℕ
-word_count words = 1 + words_that_follow (operands_of (decoded (slice_index words 0)))
+word_count words = 1 + words_that_follow (operands_of (instr_of_word (slice_index words 0)))
 
 -- the words of the instruction, the first of these three
 abbrev pub words_taken : List ℕ → List ℕ

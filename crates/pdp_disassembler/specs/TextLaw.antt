@@ -9,7 +9,8 @@ pub record AreThreeWords (words : List ℕ) : Type 0 where
   pub fit : All (λ word. word < 0o200000) words
 
 -- Two instructions at one address have one text exactly if they have the same words, as many as
--- each takes. So the text can be assembled back, and shows no word that the instruction doesn't take.
+-- each takes. So the text can be assembled back, and shows no word that the instruction doesn't
+-- take.
 abbrev pub TextsAreOfWords : Type 0
 TextsAreOfWords =
     (address : ℕ) (words others : List ℕ) → AreThreeWords words → AreThreeWords others

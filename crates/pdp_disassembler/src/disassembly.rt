@@ -2,7 +2,8 @@
 ghost use Rattle.std.specs.Prelude.{◌≡◌, ◌+◌, ◌≤◌, ◌++◌, length, slice_index};
 ghost use Rattle.pdp_decode.specs.Fields.{IsSpec};
 ghost use Rattle.pdp_disassembler.specs.Operands.{OperandsFit};
-ghost use Rattle.pdp_disassembler.specs.Text.{branch_target, instruction_text, loop_target, operands_text, second_text, word_count};
+ghost use Rattle.pdp_disassembler.specs.Text.{branch_target, instruction_text, loop_target};
+ghost use Rattle.pdp_disassembler.specs.Text.{operands_text, second_text, word_count};
 
 use crate::operands::{Operands, operands_of, takes_word};
 use crate::operators::operator_of;

@@ -1,7 +1,8 @@
 // What stands after the mnemonic of an instruction.
 ghost use Rattle.std.specs.Prelude.{◌≡◌};
 ghost use Rattle.pdp_decode.specs.Instruction.{FieldsFit};
-ghost use Rattle.pdp_disassembler.specs.Operands.{OperandsFit, is_immediate, operands_of, takes_word, words_of_operand, words_that_follow};
+ghost use Rattle.pdp_disassembler.specs.Operands.{OperandsFit, is_immediate, operands_of};
+ghost use Rattle.pdp_disassembler.specs.Operands.{takes_word, words_of_operand, words_that_follow};
 
 use pdp_decode::{Instr, Spec};
 use pdp_word::Codes;

@@ -1,7 +1,8 @@
 // The pieces of a text.
 ghost use Rattle.std.specs.Prelude.{◌≡◌, ◌+◌, ◌≤◌, ◌<◌, ◌++◌, length};
 ghost use Rattle.pdp_decode.specs.Fields.{IsSpec};
-ghost use Rattle.pdp_disassembler.specs.Text.{moded_text, octal_text, operand_text, register_name, relative_target};
+ghost use Rattle.pdp_disassembler.specs.Text.{moded_text, octal_text, operand_text, register_name};
+ghost use Rattle.pdp_disassembler.specs.Text.{relative_target};
 
 use arrayvec::ArrayVec;
 use pdp_decode::Spec;
@@ -18,6 +19,7 @@ pub fn add(text: &mut InstructionText, bytes: &[u8])
     requires { length text.old.items + length bytes.now ≤ LONGEST_TEXT }
     ensures { text.new.items ≡ text.old.items ++ bytes.now }
 {
+    // it never fails: there is room, as the contract requires
     let _ = text.try_extend_from_slice(bytes);
 }
 

@@ -92,7 +92,7 @@ safe_tst size destination =
     (steady_safe _ _ (steady_read _) (steady_safe _ _ (phase_steady _ (λ i. tt) (λ i value. refl)) (phase_safe _)))
 
 jump_reads : (place : Place) → ReadsAtMost (jump_request place)
-jump_reads (Reg slot) = tt
+jump_reads (Reg id) = tt
 jump_reads (Mem cell) = tt
 
 steady_aim : Steady (one aim)
@@ -208,14 +208,14 @@ safe_action (action.Divide register source) = safe_div register source
 safe_action (action.Shift register source) = safe_ash register source
 safe_action (action.ShiftPair register source) = safe_ashc register source
 
-where_stopped : (status : Status) (r : Result State Stop) (stop : Stop) → r ≡ Err stop → Stops status r → stop.world.bus.board.status ≡ status
+where_stopped : (status : Status) (r : Result State Stop) (stop : Stop) → r ≡ Err stop → Stops status r → stop.world.bus.io_page.status ≡ status
 where_stopped status r stop is stops = rw is at stops
 
 pub stopped_plan_keeps_status : (instr : Instr) (s : State) (stop : Stop) → run_plan (plan_of instr) s ≡ Err stop
-    → stop.world.bus.board.status ≡ s.world.bus.board.status
+    → stop.world.bus.io_page.status ≡ s.world.bus.io_page.status
 stopped_plan_keeps_status instr s stop is =
-    where_stopped s.world.bus.board.status (run_plan (plan_of instr) s) stop is ((safe_action (action_of instr)).at s)
+    where_stopped s.world.bus.io_page.status (run_plan (plan_of instr) s) stop is ((safe_action (action_of instr)).at s)
 
 pub stopped_fetch_keeps_status : (s : State) (stop : Stop) → run_plan (one fetch_instruction) s ≡ Err stop
-    → stop.world.bus.board.status ≡ s.world.bus.board.status
-stopped_fetch_keeps_status s stop is = where_stopped s.world.bus.board.status (run_plan (one fetch_instruction) s) stop is ((phase_safe fetch_instruction).at s)
+    → stop.world.bus.io_page.status ≡ s.world.bus.io_page.status
+stopped_fetch_keeps_status s stop is = where_stopped s.world.bus.io_page.status (run_plan (one fetch_instruction) s) stop is ((phase_safe fetch_instruction).at s)

@@ -1,10 +1,12 @@
 -- An instruction that can't go on leaves the program status word.
 use Rattle.std.proofs.Common.{◌≡◌, ℕ, Bool, true, false, [], refl, ◌∙◌, subst, Ok, Err, Result, length, if◌then◌else◌}
 use Rattle.pdp_kt11.specs.declared.place.Access.TheVariants.{Read}
+use Rattle.pdp_unibus.proofs.Frame.{use_leaves}
 use Rattle.pdp_unibus.specs.BusWorld.{BusWorld, with_mapping}
 use Rattle.pdp_unibus.specs.Cycle.{Slave, Core, Device, Nobody, slave_at}
+use Rattle.pdp_unibus.specs.Laws.{Reading}
 use Rattle.pdp_unibus.specs.Register.{after_read}
-use Rattle.pdp_unibus.specs.declared.board.Board.{Board}
+use Rattle.pdp_unibus.specs.declared.io_page.IoPage.{IoPage}
 use Rattle.pdp_unibus.specs.declared.register.Register.{Register}
 use Rattle.pdp_unibus.specs.declared.register.Register.TheVariants as register
 use Rattle.pdp_unibus.specs.declared.status.Status.{Status}
@@ -22,16 +24,16 @@ use Rattle.pdp_operation.specs.declared.trap.Trap.{Trap}
 use Rattle.pdp_operand.proofs.Shape.{reply_by, shape_if, shape_of, shape_at, shape_by, perform_is}
 
 abbrev pub status_in : State → Status
-status_in s = s.world.bus.board.status
+status_in s = s.world.bus.io_page.status
 
 -- the program status word is this one where the run stopped; it is, wherever the run ended; the run did not stop
 abbrev pub Stops : Status → Result State Stop → Type 0
 Stops status (Ok t) = Unit {0}
-Stops status (Err stop) = stop.world.bus.board.status ≡ status
+Stops status (Err stop) = stop.world.bus.io_page.status ≡ status
 
 abbrev pub Ends : Status → Result State Stop → Type 0
 Ends status (Ok t) = status_in t ≡ status
-Ends status (Err stop) = stop.world.bus.board.status ≡ status
+Ends status (Err stop) = stop.world.bus.io_page.status ≡ status
 
 abbrev pub Goes : Result State Stop → Type 0
 Goes (Ok t) = Unit {0}
@@ -83,79 +85,74 @@ pub steady_if : (c : Bool) (a b : Plan) → Steady a → Steady b → Steady (if
 steady_if true a b first second = first
 steady_if false a b first second = second
 
--- a reference that is not answered leaves the board, and one that reads leaves the program status word
-abbrev Unanswered : Board → Result ℕ Trap → Board → Type 0
-Unanswered board (Ok value) after = Unit {0}
-Unanswered board (Err trap) after = after.status ≡ board.status
+-- a reference that is not answered leaves the I/O page, and one that reads leaves the program status word
+abbrev Unanswered : IoPage → Result ℕ Trap → IoPage → Type 0
+Unanswered io_page (Ok value) after = Unit {0}
+Unanswered io_page (Err trap) after = after.status ≡ io_page.status
 
-unanswered_at : (kind : Kind) (physical : ℕ) (b : BusWorld) (board : Board) (slave : Slave) → board.status ≡ b.board.status
-    → Unanswered b.board (reply_by (shape_at kind physical b.turn (length b.drives) board slave) b).value (reply_by (shape_at kind physical b.turn (length b.drives) board slave) b).after.board
-unanswered_at ReadWord physical b board (Core k) same = tt
-unanswered_at ReadByte physical b board (Core k) same = tt
-unanswered_at (WriteWord word) physical b board (Core k) same = tt
-unanswered_at (WriteByte byte) physical b board (Core k) same = tt
-unanswered_at ReadWord physical b board (Device r) same = tt
-unanswered_at ReadByte physical b board (Device r) same = tt
-unanswered_at (WriteWord word) physical b board (Device r) same = tt
-unanswered_at (WriteByte byte) physical b board (Device r) same = tt
-unanswered_at ReadWord physical b board Nobody same = same
-unanswered_at ReadByte physical b board Nobody same = same
-unanswered_at (WriteWord word) physical b board Nobody same = same
-unanswered_at (WriteByte byte) physical b board Nobody same = same
+unanswered_at : (kind : Kind) (physical : ℕ) (b : BusWorld) (io_page : IoPage) (slave : Slave) → io_page.status ≡ b.io_page.status
+    → Unanswered b.io_page (reply_by (shape_at kind physical b.turn (length b.drives) io_page slave) b).value (reply_by (shape_at kind physical b.turn (length b.drives) io_page slave) b).after.io_page
+unanswered_at ReadWord physical b io_page (Core k) same = tt
+unanswered_at ReadByte physical b io_page (Core k) same = tt
+unanswered_at (WriteWord word) physical b io_page (Core k) same = tt
+unanswered_at (WriteByte byte) physical b io_page (Core k) same = tt
+unanswered_at ReadWord physical b io_page (Device r) same = tt
+unanswered_at ReadByte physical b io_page (Device r) same = tt
+unanswered_at (WriteWord word) physical b io_page (Device r) same = tt
+unanswered_at (WriteByte byte) physical b io_page (Device r) same = tt
+unanswered_at ReadWord physical b io_page Nobody same = same
+unanswered_at ReadByte physical b io_page Nobody same = same
+unanswered_at (WriteWord word) physical b io_page Nobody same = same
+unanswered_at (WriteByte byte) physical b io_page Nobody same = same
 
-unanswered_by : (kind : Kind) (b : BusWorld) (board : Board) (place : Result ℕ Abort) → board.status ≡ b.board.status
-    → Unanswered b.board (reply_by (shape_by kind (length b.core) b.turn (length b.drives) board place) b).value (reply_by (shape_by kind (length b.core) b.turn (length b.drives) board place) b).after.board
-unanswered_by kind b board (Ok physical) same = unanswered_at kind physical b board (slave_at (length b.core) physical) same
-unanswered_by kind b board (Err abort) same = same
+unanswered_by : (kind : Kind) (b : BusWorld) (io_page : IoPage) (place : Result ℕ Abort) → io_page.status ≡ b.io_page.status
+    → Unanswered b.io_page (reply_by (shape_by kind (length b.core) b.turn (length b.drives) io_page place) b).value (reply_by (shape_by kind (length b.core) b.turn (length b.drives) io_page place) b).after.io_page
+unanswered_by kind b io_page (Ok physical) same = unanswered_at kind physical b io_page (slave_at (length b.core) physical) same
+unanswered_by kind b io_page (Err abort) same = same
 
 unanswered_if : (odd : Bool) (r : Reference) (b : BusWorld)
-    → Unanswered b.board (reply_by (shape_if odd r b) b).value (reply_by (shape_if odd r b) b).after.board
+    → Unanswered b.io_page (reply_by (shape_if odd r b) b).value (reply_by (shape_if odd r b) b).after.io_page
 unanswered_if true r b = refl
 unanswered_if false r b =
-    unanswered_by r.kind b (with_mapping b (translation r b).after).board (translation r b).address refl
+    unanswered_by r.kind b (with_mapping b (translation r b).after).io_page (translation r b).address refl
 
-unanswered : (r : Reference) (b : BusWorld) → Unanswered b.board (perform r b).value (perform r b).after.board
+unanswered : (r : Reference) (b : BusWorld) → Unanswered b.io_page (perform r b).value (perform r b).after.io_page
 unfolding shape_of
 unanswered r b = rw (perform_is r b) (unanswered_if (is_odd r.kind r.address) r b)
 
-read_leaves : (r : Register) (board : Board) → (after_read r board).status ≡ board.status
+read_leaves : (r : Register) (io_page : IoPage) → (after_read r io_page).status ≡ io_page.status
 unfolding after_read
-read_leaves (register.Console r) board = refl
-read_leaves register.Clock board = refl
-read_leaves (register.PaperTape r) board = refl
-read_leaves (register.Disk r) board = refl
-read_leaves register.Switches board = refl
-read_leaves (register.Mapping r) board = refl
-read_leaves register.ProgramStatus board = refl
+read_leaves register.ProgramStatus io_page = refl
+read_leaves r io_page = (use_leaves (Reading r) io_page).status (λ is. cc is)
 
-read_at : (kind : Kind) (physical : ℕ) (b : BusWorld) (board : Board) (slave : Slave) → access_of kind ≡ Read
-    → (reply_by (shape_at kind physical b.turn (length b.drives) board slave) b).after.board.status ≡ board.status
-read_at ReadWord physical b board (Core k) reads = refl
-read_at ReadByte physical b board (Core k) reads = refl
-read_at ReadWord physical b board (Device r) reads = read_leaves r board
-read_at ReadByte physical b board (Device r) reads = read_leaves r board
-read_at ReadWord physical b board Nobody reads = refl
-read_at ReadByte physical b board Nobody reads = refl
-read_at (WriteWord word) physical b board slave reads = absurd (cc reads)
-read_at (WriteByte byte) physical b board slave reads = absurd (cc reads)
+read_at : (kind : Kind) (physical : ℕ) (b : BusWorld) (io_page : IoPage) (slave : Slave) → access_of kind ≡ Read
+    → (reply_by (shape_at kind physical b.turn (length b.drives) io_page slave) b).after.io_page.status ≡ io_page.status
+read_at ReadWord physical b io_page (Core k) reads = refl
+read_at ReadByte physical b io_page (Core k) reads = refl
+read_at ReadWord physical b io_page (Device r) reads = read_leaves r io_page
+read_at ReadByte physical b io_page (Device r) reads = read_leaves r io_page
+read_at ReadWord physical b io_page Nobody reads = refl
+read_at ReadByte physical b io_page Nobody reads = refl
+read_at (WriteWord word) physical b io_page slave reads = absurd (cc reads)
+read_at (WriteByte byte) physical b io_page slave reads = absurd (cc reads)
 
-read_by : (kind : Kind) (b : BusWorld) (board : Board) (place : Result ℕ Abort) → access_of kind ≡ Read
-    → (reply_by (shape_by kind (length b.core) b.turn (length b.drives) board place) b).after.board.status ≡ board.status
-read_by kind b board (Ok physical) reads = read_at kind physical b board (slave_at (length b.core) physical) reads
-read_by kind b board (Err abort) reads = refl
+read_by : (kind : Kind) (b : BusWorld) (io_page : IoPage) (place : Result ℕ Abort) → access_of kind ≡ Read
+    → (reply_by (shape_by kind (length b.core) b.turn (length b.drives) io_page place) b).after.io_page.status ≡ io_page.status
+read_by kind b io_page (Ok physical) reads = read_at kind physical b io_page (slave_at (length b.core) physical) reads
+read_by kind b io_page (Err abort) reads = refl
 
 read_if : (odd : Bool) (r : Reference) (b : BusWorld) → access_of r.kind ≡ Read
-    → (reply_by (shape_if odd r b) b).after.board.status ≡ b.board.status
+    → (reply_by (shape_if odd r b) b).after.io_page.status ≡ b.io_page.status
 read_if true r b reads = refl
-read_if false r b reads = read_by r.kind b (with_mapping b (translation r b).after).board (translation r b).address reads
+read_if false r b reads = read_by r.kind b (with_mapping b (translation r b).after).io_page (translation r b).address reads
 
-read_keeps : (r : Reference) (b : BusWorld) → access_of r.kind ≡ Read → (perform r b).after.board.status ≡ b.board.status
+read_keeps : (r : Reference) (b : BusWorld) → access_of r.kind ≡ Read → (perform r b).after.io_page.status ≡ b.io_page.status
 unfolding shape_of
 read_keeps r b reads = rw (perform_is r b) (read_if (is_odd r.kind r.address) r b reads)
 
 -- one phase: each is safe; it is steady where it reads at most and leaves the word itself; it is sure where it asks for
 -- nothing
-replied_stops : (p : Phase) (s : State) (value : Result ℕ Trap) (after : BusWorld) → Unanswered s.world.bus.board value after.board
+replied_stops : (p : Phase) (s : State) (value : Result ℕ Trap) (after : BusWorld) → Unanswered s.world.bus.io_page value after.io_page
     → Stops (status_in s) (and_then (after_reply p s (record { value = value; after = after })) (λ t. run [] t))
 unfolding run
 replied_stops p s (Ok value) after so = tt
@@ -177,9 +174,9 @@ ReadsAtMost (Ask r) = access_of r.kind ≡ Read
 ReadsAtMost (Raise trap) = Unit {0}
 
 abbrev LeavesStatus : Phase → Type 0
-LeavesStatus p = (i : Inner) (value : ℕ) → (p.resume i value).board.status ≡ i.board.status
+LeavesStatus p = (i : Inner) (value : ℕ) → (p.resume i value).io_page.status ≡ i.io_page.status
 
-replied_ends : (p : Phase) (s : State) (value : Result ℕ Trap) (after : BusWorld) → LeavesStatus p → after.board.status ≡ status_in s
+replied_ends : (p : Phase) (s : State) (value : Result ℕ Trap) (after : BusWorld) → LeavesStatus p → after.io_page.status ≡ status_in s
     → Ends (status_in s) (and_then (after_reply p s (record { value = value; after = after })) (λ t. run [] t))
 unfolding run
 replied_ends p s (Ok value) after leaves so = leaves _ value ∙ so
@@ -208,9 +205,9 @@ phase_sure p asks = record { at = λ s. requested_goes p s (p.request (inner_of 
 
 -- finding and reading an operand
 reads_place : (size : Size) (place : Place) → ReadsAtMost (reference_at (reading size) place)
-reads_place Word (Reg slot) = tt
+reads_place Word (Reg id) = tt
 reads_place Word (Mem cell) = refl
-reads_place Byte (Reg slot) = tt
+reads_place Byte (Reg id) = tt
 reads_place Byte (Mem cell) = refl
 
 limit_reads : (c : Bool) (trap : Trap) → ReadsAtMost (if c then Raise trap else Nothing)

@@ -1,8 +1,9 @@
 ghost use Rattle.std.specs.Prelude.{◌≡◌, Ok};
 ghost use Rattle.pdp_operand.specs.Contract.{Runs};
-ghost use Rattle.pdp_instruction.specs.Handbook.Branch.{branch_plan, branched, sob_plan, fallen};
+ghost use Rattle.pdp_instruction.specs.Handbook.Branch.{branch_plan, branch_taken, sob_plan};
+ghost use Rattle.pdp_instruction.specs.Handbook.Branch.{looped_back};
 
-use pdp_operand::{Processor, Slot};
+use pdp_operand::{Processor, RegisterId};
 use pdp_operation::Condition;
 use pdp_store::Store;
 use pdp_unibus::Bus;
@@ -16,7 +17,8 @@ pub fn branch<S: Store, D: Store>(
     condition: Condition,
     offset: i8,
 )
-    ensures runs { Runs (branch_plan condition offset) processor.old bus.now (Ok tt) processor.new bus.now }
+    ensures runs { Runs (branch_plan condition offset) processor.old bus.now
+        (Ok tt) processor.new bus.now }
 {
     if condition.is_taken(bus.status().codes) {
         go_to(processor, offset);
@@ -26,10 +28,10 @@ pub fn branch<S: Store, D: Store>(
 /// Moves PC by twice the offset.
 #[inline(always)]
 fn go_to(processor: &mut Processor, offset: i8)
-    ensures { processor.new ≡ branched offset processor.old }
+    ensures { processor.new ≡ branch_taken offset processor.old }
 {
     let twice = i16::from(offset).cast_unsigned().wrapping_mul(2);
-    processor.advance(Slot::ProgramCounter, twice);
+    processor.advance(RegisterId::ProgramCounter, twice);
 }
 
 /// SOB.
@@ -41,19 +43,20 @@ pub fn subtract_one<S: Store, D: Store>(
     register: u8,
     words: u8,
 )
-    ensures runs { Runs (sob_plan register words) processor.old bus.now (Ok tt) processor.new bus.now }
+    ensures runs { Runs (sob_plan register words) processor.old bus.now
+        (Ok tt) processor.new bus.now }
 {
-    let slot = Slot::of(bus.status().mode, register);
-    processor.retreat(slot, 1);
-    fall(processor, slot, words);
+    let id = RegisterId::of(bus.status().mode, register);
+    processor.retreat(id, 1);
+    fall(processor, id, words);
 }
 
 /// Lets PC fall by twice the words, where the register isn't 0.
 #[inline(always)]
-fn fall(processor: &mut Processor, slot: Slot, words: u8)
-    ensures { processor.new ≡ fallen slot words processor.old }
+fn fall(processor: &mut Processor, id: RegisterId, words: u8)
+    ensures { processor.new ≡ looped_back id words processor.old }
 {
-    if processor.register(slot) != 0 {
-        processor.retreat(Slot::ProgramCounter, u16::from(words) * 2);
+    if processor.register(id) != 0 {
+        processor.retreat(RegisterId::ProgramCounter, u16::from(words) * 2);
     }
 }

@@ -1,12 +1,13 @@
 //! MUL, DIV, ASH and ASHC.
 ghost use Rattle.std.specs.Prelude.{◌≡◌, ◌<◌};
 ghost use Rattle.pdp_operand.specs.Contract.{Runs};
-ghost use Rattle.pdp_instruction.specs.Handbook.Extended.{ash_plan, ashc_plan, codes_of, div_plan, mul_plan, with_quotient};
+ghost use Rattle.pdp_instruction.specs.Handbook.Extended.{ash_plan, ashc_plan, codes_of, div_plan};
+ghost use Rattle.pdp_instruction.specs.Handbook.Extended.{mul_plan, with_quotient};
 
 use crate::pair::Pair;
 use pdp_alu::{Div, ash, ashc, div, mul};
 use pdp_decode::Spec;
-use pdp_operand::{Processor, Slot, Trap, address, fetch};
+use pdp_operand::{Processor, RegisterId, Trap, address, fetch};
 use pdp_store::Store;
 use pdp_unibus::Bus;
 use pdp_word::{Codes, Size};
@@ -20,7 +21,8 @@ pub fn multiply<S: Store, D: Store>(
     register: u8,
     source: Spec,
 ) -> Result<(), Trap>
-    ensures runs { Runs (mul_plan register source) processor.old bus.old result processor.new bus.new }
+    ensures runs { Runs (mul_plan register source) processor.old bus.old result processor.new
+        bus.new }
 {
     let place = address(processor, bus, source, Size::Word)?;
     let multiplier = fetch(processor, bus, place, Size::Word)?;
@@ -40,7 +42,8 @@ pub fn divide<S: Store, D: Store>(
     register: u8,
     source: Spec,
 ) -> Result<(), Trap>
-    ensures runs { Runs (div_plan register source) processor.old bus.old result processor.new bus.new }
+    ensures runs { Runs (div_plan register source) processor.old bus.old result processor.new
+        bus.new }
 {
     let place = address(processor, bus, source, Size::Word)?;
     let divisor = fetch(processor, bus, place, Size::Word)?;
@@ -74,13 +77,14 @@ pub fn shift<S: Store, D: Store>(
     register: u8,
     source: Spec,
 ) -> Result<(), Trap>
-    ensures runs { Runs (ash_plan register source) processor.old bus.old result processor.new bus.new }
+    ensures runs { Runs (ash_plan register source) processor.old bus.old result processor.new
+        bus.new }
 {
     let place = address(processor, bus, source, Size::Word)?;
     let count = fetch(processor, bus, place, Size::Word)?;
-    let slot = Slot::of(bus.status().mode, register);
-    let effect = ash(processor.register(slot), count);
-    processor.set_register(slot, effect.value);
+    let id = RegisterId::of(bus.status().mode, register);
+    let effect = ash(processor.register(id), count);
+    processor.set_register(id, effect.value);
     bus.set_codes(effect.codes);
     Ok(())
 }
@@ -94,7 +98,8 @@ pub fn shift_pair<S: Store, D: Store>(
     register: u8,
     source: Spec,
 ) -> Result<(), Trap>
-    ensures runs { Runs (ashc_plan register source) processor.old bus.old result processor.new bus.new }
+    ensures runs { Runs (ashc_plan register source) processor.old bus.old result processor.new
+        bus.new }
 {
     let place = address(processor, bus, source, Size::Word)?;
     let count = fetch(processor, bus, place, Size::Word)?;

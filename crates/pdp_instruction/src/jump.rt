@@ -2,10 +2,13 @@ ghost use Rattle.std.specs.Prelude.{◌≡◌};
 ghost use Rattle.pdp_unibus.specs.BusWorld.{BusWorld};
 ghost use Rattle.pdp_operand.specs.Contract.{GivesWhere, IsAt, in_value, Runs};
 ghost use Rattle.pdp_operand.specs.Phases.Plan.{one};
-ghost use Rattle.pdp_instruction.specs.Handbook.Jump.{aim as aim_phase, jmp_plan, jsr_plan, rts_plan, mark_plan, pop_register as pop_plan, linked, after_mark};
+ghost use Rattle.pdp_instruction.specs.Handbook.Jump.{aim as aim_phase, jmp_plan, jsr_plan};
+ghost use Rattle.pdp_instruction.specs.Handbook.Jump.{rts_plan, mark_plan};
+ghost use Rattle.pdp_instruction.specs.Handbook.Jump.{pop_register as pop_plan, processor_linked};
+ghost use Rattle.pdp_instruction.specs.Handbook.Jump.{after_mark};
 
 use pdp_decode::Spec;
-use pdp_operand::{Fill, Place, Processor, Slot, Trap, address, fetch, store};
+use pdp_operand::{Fill, Place, Processor, RegisterId, Trap, address, fetch, store};
 use pdp_store::Store;
 use pdp_unibus::Bus;
 use pdp_word::Size;
@@ -16,8 +19,8 @@ pub const PUSH: Spec = Spec { mode: 4, reg: 6 };
 // Where a word is popped: (SP)+.
 pub const POP: Spec = Spec { mode: 2, reg: 6 };
 
-/// The address that a jump goes to, which is that of its operand. Near the end of the kernel's stack it leaves a stack
-/// trap pending.
+/// The address that a jump goes to, which is that of its operand. In the yellow zone of the
+/// kernel's stack it leaves a stack trap pending.
 ///
 /// Err(JumpToRegister) where the operand is a register.
 #[inline(always)]
@@ -29,7 +32,7 @@ fn aim(processor: &mut Processor, place: Place) -> Result<u16, Trap>
     match place {
         Place::Reg(_) => Err(Trap::JumpToRegister),
         Place::Mem(cell) => {
-            processor.mark(cell.near);
+            processor.mark(cell.yellow);
             Ok(cell.address)
         }
     }
@@ -47,7 +50,7 @@ pub fn jump<S: Store, D: Store>(
 {
     let place = address(processor, bus, destination, Size::Word)?;
     let target = aim(processor, place)?;
-    processor.set_register(Slot::ProgramCounter, target);
+    processor.set_register(RegisterId::ProgramCounter, target);
     Ok(())
 }
 
@@ -60,25 +63,30 @@ pub fn jump_to_subroutine<S: Store, D: Store>(
     register: u8,
     destination: Spec,
 ) -> Result<(), Trap>
-    ensures runs { Runs (jsr_plan register destination) processor.old bus.old result processor.new bus.new }
+    ensures runs { Runs (jsr_plan register destination) processor.old bus.old result processor.new
+        bus.new }
 {
     let place = address(processor, bus, destination, Size::Word)?;
     let target = aim(processor, place)?;
     let top = address(processor, bus, PUSH, Size::Word)?;
-    let word = processor.register(Slot::of(bus.status().mode, register));
+    let word = processor.register(RegisterId::of(bus.status().mode, register));
     store(processor, bus, top, Fill::Whole, word)?;
-    link(processor, Slot::of(bus.status().mode, register), target);
+    link(
+        processor,
+        RegisterId::of(bus.status().mode, register),
+        target,
+    );
     Ok(())
 }
 
 /// The register becomes PC, and PC this address.
 #[inline(always)]
-fn link(processor: &mut Processor, slot: Slot, address: u16)
-    ensures { processor.new ≡ linked slot address processor.old }
+fn link(processor: &mut Processor, id: RegisterId, address: u16)
+    ensures { processor.new ≡ processor_linked id address processor.old }
 {
-    let back = processor.register(Slot::ProgramCounter);
-    processor.set_register(slot, back);
-    processor.set_register(Slot::ProgramCounter, address);
+    let back = processor.register(RegisterId::ProgramCounter);
+    processor.set_register(id, back);
+    processor.set_register(RegisterId::ProgramCounter, address);
 }
 
 /// Pops the register.
@@ -93,7 +101,7 @@ fn pop_register<S: Store, D: Store>(
 {
     let place = address(processor, bus, POP, Size::Word)?;
     let word = fetch(processor, bus, place, Size::Word)?;
-    processor.set_register(Slot::of(bus.status().mode, register), word);
+    processor.set_register(RegisterId::of(bus.status().mode, register), word);
     Ok(())
 }
 
@@ -107,8 +115,8 @@ pub fn return_from_subroutine<S: Store, D: Store>(
 ) -> Result<(), Trap>
     ensures runs { Runs (rts_plan register) processor.old bus.old result processor.new bus.new }
 {
-    let target = processor.register(Slot::of(bus.status().mode, register));
-    processor.set_register(Slot::ProgramCounter, target);
+    let target = processor.register(RegisterId::of(bus.status().mode, register));
+    processor.set_register(RegisterId::ProgramCounter, target);
     pop_register(processor, bus, register)
 }
 
@@ -122,17 +130,17 @@ pub fn mark<S: Store, D: Store>(
 ) -> Result<(), Trap>
     ensures runs { Runs (mark_plan words) processor.old bus.old result processor.new bus.new }
 {
-    take_mark(processor, Slot::of(bus.status().mode, 6), words);
+    take_mark(processor, RegisterId::of(bus.status().mode, 6), words);
     pop_register(processor, bus, 5)
 }
 
 /// This stack pointer becomes PC plus twice the words, and PC becomes R5.
 #[inline(always)]
-fn take_mark(processor: &mut Processor, stack: Slot, words: u8)
+fn take_mark(processor: &mut Processor, stack: RegisterId, words: u8)
     ensures { processor.new ≡ after_mark stack words processor.old }
 {
-    let counter = processor.register(Slot::ProgramCounter);
-    let frame = processor.register(Slot::R5);
+    let counter = processor.register(RegisterId::ProgramCounter);
+    let frame = processor.register(RegisterId::R5);
     processor.set_register(stack, counter.wrapping_add(u16::from(words) * 2));
-    processor.set_register(Slot::ProgramCounter, frame);
+    processor.set_register(RegisterId::ProgramCounter, frame);
 }

@@ -19,7 +19,8 @@ pub fn mov_word<S: Store, D: Store>(
     source: Spec,
     destination: Spec,
 ) -> Result<(), Trap>
-    ensures runs { Runs (mov_plan source destination) processor.old bus.old result processor.new bus.new }
+    ensures runs { Runs (mov_plan source destination) processor.old bus.old result processor.new
+        bus.new }
 {
     let (value, place) = operands(processor, bus, source, destination, Size::Word)?;
     let effect = mov(Size::Word, value, bus.status().codes);
@@ -35,7 +36,8 @@ pub fn mov_byte<S: Store, D: Store>(
     source: Spec,
     destination: Spec,
 ) -> Result<(), Trap>
-    ensures runs { Runs (movb_plan source destination) processor.old bus.old result processor.new bus.new }
+    ensures runs { Runs (movb_plan source destination) processor.old bus.old result processor.new
+        bus.new }
 {
     let (value, place) = operands(processor, bus, source, destination, Size::Byte)?;
     let effect = mov(Size::Byte, value, bus.status().codes);

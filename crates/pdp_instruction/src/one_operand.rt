@@ -20,7 +20,8 @@ pub fn test<S: Store, D: Store>(
     destination: Spec,
     size: Size,
 ) -> Result<(), Trap>
-    ensures runs { Runs (tst_plan size destination) processor.old bus.old result processor.new bus.new }
+    ensures runs { Runs (tst_plan size destination) processor.old bus.old result processor.new
+        bus.new }
 {
     let place = address(processor, bus, destination, size)?;
     let value = fetch(processor, bus, place, size)?;
@@ -37,7 +38,8 @@ pub fn modify<S: Store, D: Store>(
     modification: Modification,
     destination: Spec,
 ) -> Result<(), Trap>
-    ensures runs { Runs (modify_plan modification destination) processor.old bus.old result processor.new bus.new }
+    ensures runs { Runs (modify_plan modification destination) processor.old bus.old result
+        processor.new bus.new }
 {
     let size = modification.size();
     let place = address(processor, bus, destination, size)?;
@@ -55,7 +57,8 @@ pub fn replace<S: Store, D: Store>(
     replacement: Replacement,
     destination: Spec,
 ) -> Result<(), Trap>
-    ensures runs { Runs (replace_plan replacement destination) processor.old bus.old result processor.new bus.new }
+    ensures runs { Runs (replace_plan replacement destination) processor.old bus.old result
+        processor.new bus.new }
 {
     let size = replacement.size();
     let place = address(processor, bus, destination, size)?;

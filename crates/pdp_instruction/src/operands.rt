@@ -6,13 +6,13 @@ ghost use Rattle.pdp_instruction.specs.KeptAnswers.{in_operands};
 
 use pdp_alu::cut;
 use pdp_decode::Spec;
-use pdp_operand::{Place, Processor, Slot, Trap, address, fetch};
+use pdp_operand::{Place, Processor, RegisterId, Trap, address, fetch};
 use pdp_store::Store;
 use pdp_unibus::Bus;
 use pdp_word::Size;
 
-/// The source's value and the destination's place. A source in a register is read after the address of a destination in
-/// memory was formed, any other source before.
+/// The source's value and the destination's place. A source in a register is read after the address
+/// of a destination in memory was formed, any other source before.
 #[inline(always)]
 #[tactic(auto, unfolding(crate::specs::Handbook::Operands::operands_plan))]
 pub fn operands<S: Store, D: Store>(
@@ -49,8 +49,8 @@ fn read_registers<S: Store, D: Store>(
     ensures gives { Gives in_operands (source_first size source destination)
         processor.now bus.now (Ok result) processor.now bus.now }
 {
-    let from = Slot::of(bus.status().mode, source.reg);
-    let to = Slot::of(bus.status().mode, destination.reg);
+    let from = RegisterId::of(bus.status().mode, source.reg);
+    let to = RegisterId::of(bus.status().mode, destination.reg);
     (cut(size, processor.register(from)), Place::Reg(to))
 }
 
@@ -85,7 +85,7 @@ fn read_late<S: Store, D: Store>(
         processor.old bus.old result processor.new bus.new }
 {
     let place = address(processor, bus, destination, size)?;
-    let slot = Slot::of(bus.status().mode, source.reg);
-    let value = cut(size, processor.register(slot));
+    let id = RegisterId::of(bus.status().mode, source.reg);
+    let value = cut(size, processor.register(id));
     Ok((value, place))
 }

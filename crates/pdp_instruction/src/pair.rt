@@ -1,16 +1,17 @@
 ghost use Rattle.std.specs.Prelude.{◌≡◌};
 ghost use Rattle.pdp_operand.specs.declared.processor.Processor.{Processor};
-ghost use Rattle.pdp_instruction.specs.Handbook.Extended.{long_in, pair_of, with_long, with_words};
+ghost use Rattle.pdp_instruction.specs.Handbook.Extended.{long_in, pair_of, with_long};
+ghost use Rattle.pdp_instruction.specs.Handbook.Extended.{pair_with_words};
 
 use pdp_alu::{high_word, join_words, low_word};
 use pdp_kt11::Mode;
-use pdp_operand::{Processor, Slot};
+use pdp_operand::{Processor, RegisterId};
 
 /// The two registers of a number of 32 bits: R, and R or 1. Of an odd R both are R.
 #[derive(Clone, Copy, Debug, PartialEq, Eq)]
 pub struct Pair {
-    pub high: Slot,
-    pub low: Slot,
+    pub high: RegisterId,
+    pub low: RegisterId,
 }
 
 impl Pair {
@@ -20,8 +21,8 @@ impl Pair {
         ensures { result ≡ pair_of mode register }
     {
         Pair {
-            high: Slot::of(mode, register),
-            low: Slot::of(mode, register - register % 2 + 1),
+            high: RegisterId::of(mode, register),
+            low: RegisterId::of(mode, register - register % 2 + 1),
         }
     }
 
@@ -36,7 +37,7 @@ impl Pair {
     /// Writes a word into R, and then one into R or 1.
     #[inline(always)]
     pub fn set_words(self, processor: &mut Processor, first: u16, second: u16)
-        ensures { processor.new ≡ with_words processor.old self first second }
+        ensures { processor.new ≡ pair_with_words processor.old self first second }
     {
         processor.set_register(self.high, first);
         processor.set_register(self.low, second);

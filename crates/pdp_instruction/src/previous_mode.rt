@@ -1,22 +1,23 @@
 ghost use Rattle.std.specs.Prelude.{◌≡◌};
 ghost use Rattle.pdp_operand.specs.Contract.{Runs};
-ghost use Rattle.pdp_instruction.specs.Handbook.PreviousMode.{mfpi_plan, mtpi_plan, place_in, slot_in};
+ghost use Rattle.pdp_instruction.specs.Handbook.PreviousMode.{mfpi_plan, mtpi_plan, place_in};
+ghost use Rattle.pdp_instruction.specs.Handbook.PreviousMode.{register_id_in};
 
 use crate::finish::finish;
 use crate::jump::{POP, PUSH};
 use pdp_alu::mov;
 use pdp_decode::Spec;
 use pdp_kt11::Mode;
-use pdp_operand::{Cell, Fill, Place, Processor, Slot, Trap, address, fetch};
+use pdp_operand::{Cell, Fill, Place, Processor, RegisterId, Trap, address, fetch};
 use pdp_store::Store;
 use pdp_unibus::Bus;
 use pdp_word::Size;
 
-/// MFPI: the operand's address is formed in the current mode, the operand is read in the previous mode, and it is pushed
-/// on the stack of the current mode. Codes of the word, V 0, C kept.
+/// MFPI: the operand's address is formed in the current mode, the operand is read in the previous
+/// mode, and it is pushed on the stack of the current mode. Codes of the word, V 0, C kept.
 ///
-/// DEC PDP-11/40 Processor Handbook (1972), Memory management; that the limit of the kernel's stack goes by the current
-/// mode is this project's profile.
+/// DEC PDP-11/40 Processor Handbook (1972), Memory management; that the limit of the kernel's stack
+/// goes by the current mode is this project's profile.
 ///
 /// Err where the operand can't be found or read, or the push can't be made; the codes then stay.
 #[inline(never)]
@@ -36,13 +37,15 @@ pub fn move_from_previous<S: Store, D: Store>(
     finish(processor, bus, top, Fill::Whole, effect)
 }
 
-/// MTPI: a word is popped from the stack of the current mode, then the destination's address is formed in the current
-/// mode, and then the word is written in the previous mode. Codes of the word, V 0, C kept.
+/// MTPI: a word is popped from the stack of the current mode, then the destination's address is
+/// formed in the current mode, and then the word is written in the previous mode. Codes of the
+/// word, V 0, C kept.
 ///
-/// DEC PDP-11/40 Processor Handbook (1972), Memory management; the order, and that the limit of the kernel's stack goes
-/// by the current mode, are this project's profile.
+/// DEC PDP-11/40 Processor Handbook (1972), Memory management; the order, and that the limit of the
+/// kernel's stack goes by the current mode, are this project's profile.
 ///
-/// Err where the word can't be popped, or the destination can't be found or written; the codes then stay.
+/// Err where the word can't be popped, or the destination can't be found or written; the codes then
+/// stay.
 #[inline(never)]
 #[tactic(auto, using(crate::proofs::Steps::run_cross, crate::proofs::Steps::run_keep_source, crate::proofs::Steps::run_execute_mov), unfolding(crate::specs::Handbook::PreviousMode::mtpi_plan))]
 pub fn move_to_previous<S: Store, D: Store>(
@@ -60,26 +63,26 @@ pub fn move_to_previous<S: Store, D: Store>(
     finish(processor, bus, target, Fill::Whole, effect)
 }
 
-/// The place of the same register or virtual address in this mode: its own stack pointer, its own space. Whether the
-/// place is near the end of the kernel's stack stays.
+/// The place of the same register or virtual address in this mode: its own stack pointer, its own
+/// space. Whether the place is in the yellow zone of the kernel's stack stays.
 #[inline(always)]
 fn place_in(mode: Mode, place: Place) -> Place
     ensures { result ≡ place_in mode place }
 {
     match place {
-        Place::Reg(slot) => Place::Reg(slot_in(mode, slot)),
+        Place::Reg(id) => Place::Reg(register_id_in(mode, id)),
         Place::Mem(cell) => Place::Mem(Cell { mode, ..cell }),
     }
 }
 
 /// The stack pointer of this mode in place of either; every other register is itself.
 #[inline(always)]
-#[tactic(auto, unfolding(pdp_operand::specs::Handbook::Slot::slot_of))]
-fn slot_in(mode: Mode, slot: Slot) -> Slot
-    ensures { result ≡ slot_in mode slot }
+#[tactic(auto, unfolding(pdp_operand::specs::Handbook::RegisterId::register_id_of))]
+fn register_id_in(mode: Mode, id: RegisterId) -> RegisterId
+    ensures { result ≡ register_id_in mode id }
 {
-    match slot {
-        Slot::KernelStack | Slot::UserStack => Slot::of(mode, 6),
-        _ => slot,
+    match id {
+        RegisterId::KernelStack | RegisterId::UserStack => RegisterId::of(mode, 6),
+        _ => id,
     }
 }

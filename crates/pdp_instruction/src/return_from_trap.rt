@@ -1,11 +1,13 @@
 ghost use Rattle.std.specs.Prelude.{◌≡◌};
 ghost use Rattle.pdp_kt11.specs.Mode.{mode_bits};
 ghost use Rattle.pdp_operand.specs.Contract.{Runs};
-ghost use Rattle.pdp_instruction.specs.Handbook.ReturnFromTrap.{either_mode, returned as returned_status, return_plan};
+ghost use Rattle.pdp_instruction.specs.Handbook.ReturnFromTrap.{either_mode};
+ghost use Rattle.pdp_instruction.specs.Handbook.ReturnFromTrap.{returned_status as returned_status};
+ghost use Rattle.pdp_instruction.specs.Handbook.ReturnFromTrap.{return_plan};
 
 use crate::jump::POP;
 use pdp_kt11::Mode;
-use pdp_operand::{Processor, Slot, Trap, address, fetch};
+use pdp_operand::{Processor, RegisterId, Trap, address, fetch};
 use pdp_store::Store;
 use pdp_unibus::{Bus, Status};
 use pdp_word::Size;
@@ -23,10 +25,10 @@ fn either(one: Mode, other: Mode) -> Mode
     }
 }
 
-/// The program status that RTI and RTT leave with this word. In user mode modes stay or are set, and the priority stays
-/// (this project's profile).
-#[tactic(auto, unfolding(crate::specs::Handbook::ReturnFromTrap::returned))]
-fn returned(old: Status, word: u16) -> Status
+/// The program status that RTI and RTT leave with this word. In user mode modes stay or are set,
+/// and the priority stays (this project's profile).
+#[tactic(auto, unfolding(crate::specs::Handbook::ReturnFromTrap::returned_status))]
+pub fn returned(old: Status, word: u16) -> Status
     ensures { result ≡ returned_status word old }
 {
     let popped = Status::of_word(word);
@@ -54,7 +56,7 @@ pub fn return_from_trap<S: Store, D: Store>(
     let counter = fetch(processor, bus, place, Size::Word)?;
     let place = address(processor, bus, POP, Size::Word)?;
     let word = fetch(processor, bus, place, Size::Word)?;
-    processor.set_register(Slot::ProgramCounter, counter);
+    processor.set_register(RegisterId::ProgramCounter, counter);
     let status = returned(bus.status(), word);
     bus.set_status(status);
     Ok(())

@@ -2,15 +2,22 @@
 
 ghost use Rattle.std.specs.Prelude.{◌≡◌, ◌<◌, Ok};
 ghost use Rattle.pdp_unibus.specs.BusWorld.{BusWorld};
-ghost use Rattle.pdp_operand.specs.Contract.{Follows, Gives, GivesWhere, Runs, RunsWhere, in_cell, nowhere};
+ghost use Rattle.pdp_operand.specs.Contract.{Follows, Gives, GivesWhere, Runs, RunsWhere, in_cell};
+ghost use Rattle.pdp_operand.specs.Contract.{nowhere};
 ghost use Rattle.pdp_operand.specs.Phases.Plan.{one};
 ghost use Rattle.pdp_operand.specs.declared.processor.Processor.{Processor};
-ghost use Rattle.pdp_instruction.specs.Handbook.TrapSequence.{after_trap, enter as enter_phase, enter_red as enter_red_phase, give_up as give_up_phase, origin, push_plan, red as red_course, red_plan, save as save_phase, sequence, trap_plan, vector_counter, trap_vector, vector_status};
+ghost use Rattle.pdp_instruction.specs.Handbook.TrapSequence.{after_trap, enter as enter_phase};
+ghost use Rattle.pdp_instruction.specs.Handbook.TrapSequence.{enter_red as enter_red_phase};
+ghost use Rattle.pdp_instruction.specs.Handbook.TrapSequence.{give_up as give_up_phase, context};
+ghost use Rattle.pdp_instruction.specs.Handbook.TrapSequence.{push_plan, red as red_course};
+ghost use Rattle.pdp_instruction.specs.Handbook.TrapSequence.{red_plan, save as save_phase};
+ghost use Rattle.pdp_instruction.specs.Handbook.TrapSequence.{sequence, trap_plan, vector_counter};
+ghost use Rattle.pdp_instruction.specs.Handbook.TrapSequence.{trap_vector, vector_status};
 ghost use Rattle.pdp_instruction.specs.KeptAnswers.{HasVector, IsNewMode, in_counter, in_status};
 
-use crate::origin::Origin;
+use crate::saved_context::SavedContext;
 use pdp_kt11::Mode;
-use pdp_operand::{Cell, Processor, RunState, Slot, Trap, lower, read_word, write_word};
+use pdp_operand::{Cell, Processor, RegisterId, RunState, Trap, lower, read_word, write_word};
 use pdp_store::Store;
 use pdp_unibus::{Bus, Status};
 
@@ -18,7 +25,8 @@ use pdp_unibus::{Bus, Status};
 #[inline(always)]
 #[tactic(auto, unfolding(crate::specs::Handbook::TrapSequence::vector_counter, pdp_operand::specs::Phases::Phase::run))]
 fn read_counter<S: Store, D: Store>(bus: &mut Bus<S, D>, vector: u16) -> Result<u16, Trap>
-    ensures gives { (p : Processor) → Gives in_counter (one (vector_counter vector)) p bus.old result p bus.new }
+    ensures gives { (p : Processor) → Gives in_counter (one (vector_counter vector)) p bus.old
+        result p bus.new }
 {
     read_word(bus, Mode::Kernel, vector)
 }
@@ -28,14 +36,15 @@ fn read_counter<S: Store, D: Store>(bus: &mut Bus<S, D>, vector: u16) -> Result<
 #[tactic(auto, unfolding(crate::specs::Handbook::TrapSequence::vector_status, pdp_operand::specs::Phases::Phase::run))]
 fn read_status<S: Store, D: Store>(bus: &mut Bus<S, D>, vector: u16) -> Result<u16, Trap>
     requires { vector < 0o1000 }
-    ensures gives { (p : Processor) → Gives in_status (one (vector_status vector)) p bus.old result p bus.new }
+    ensures gives { (p : Processor) → Gives in_status (one (vector_status vector)) p bus.old result
+        p bus.new }
 {
     read_word(bus, Mode::Kernel, vector + 2)
 }
 
 /// Pushes a word on the stack of the new mode, and answers the cell that it went to.
 #[inline(always)]
-#[tactic(auto, unfolding(crate::specs::Handbook::TrapSequence::push_plan, crate::specs::Handbook::TrapSequence::put, pdp_operand::specs::Handbook::Operand::lower, pdp_operand::specs::Phases::Phase::run))]
+#[tactic(auto, unfolding(crate::specs::Handbook::TrapSequence::push_plan, crate::specs::Handbook::TrapSequence::put_word, pdp_operand::specs::Handbook::Operand::lower, pdp_operand::specs::Phases::Phase::run))]
 fn push<S: Store, D: Store>(
     processor: &mut Processor,
     bus: &mut Bus<S, D>,
@@ -49,7 +58,7 @@ fn push<S: Store, D: Store>(
     let cell = lower(processor, mode, 6, 2)?;
     write_word(bus, cell.mode, cell.address, word)?;
     if marks {
-        processor.mark(cell.near);
+        processor.mark(cell.yellow);
     }
     Ok(cell)
 }
@@ -60,23 +69,25 @@ fn push<S: Store, D: Store>(
 fn enter<S: Store, D: Store>(
     processor: &mut Processor,
     bus: &mut Bus<S, D>,
-    origin: Origin,
+    context: SavedContext,
     counter: u16,
     word: u16,
 )
-    ensures runs { RunsWhere (HasVector counter word) (one (enter_phase origin))
+    ensures runs { RunsWhere (HasVector counter word) (one (enter_phase context))
         processor.old bus.old (Ok tt) processor.new bus.new }
 {
-    processor.set_register(Slot::ProgramCounter, counter);
+    processor.set_register(RegisterId::ProgramCounter, counter);
     bus.set_status(Status {
-        previous: origin.status.mode,
+        previous: context.status.mode,
         ..Status::of_word(word)
     });
 }
 
-/// The sequence of the trap with this vector (octal). `marks` says whether its pushes may leave a stack trap pending.
+/// The sequence of the trap with this vector (octal). `marks` says whether its pushes may leave a
+/// stack trap pending.
 ///
-/// Err where it can't go on; PC is then as before, and so is the program status, but where a push wrote over it.
+/// Err where it can't go on; PC is then as before, and so is the program status, but where a push
+/// wrote over it.
 #[inline(never)]
 #[tactic(auto, unfolding(crate::specs::Handbook::TrapSequence::trap_plan))]
 fn trap<S: Store, D: Store>(
@@ -84,17 +95,18 @@ fn trap<S: Store, D: Store>(
     bus: &mut Bus<S, D>,
     marks: bool,
     vector: u16,
-    origin: Origin,
+    context: SavedContext,
 ) -> Result<(), Trap>
     requires { vector < 0o1000 }
-    ensures runs { Runs (trap_plan marks vector origin) processor.old bus.old result processor.new bus.new }
+    ensures runs { Runs (trap_plan marks vector context) processor.old bus.old result processor.new
+        bus.new }
 {
     let counter = read_counter(bus, vector)?;
     let word = read_status(bus, vector)?;
     let mode = Status::of_word(word).mode;
-    push(processor, bus, marks, mode, origin.status.word())?;
-    push(processor, bus, marks, mode, origin.counter)?;
-    enter(processor, bus, origin, counter, word);
+    push(processor, bus, marks, mode, context.status.word())?;
+    push(processor, bus, marks, mode, context.counter)?;
+    enter(processor, bus, context, counter, word);
     Ok(())
 }
 
@@ -102,7 +114,8 @@ fn trap<S: Store, D: Store>(
 #[inline(always)]
 #[tactic(auto, unfolding(crate::specs::Handbook::TrapSequence::save, pdp_operand::specs::Phases::Phase::run))]
 fn save<S: Store, D: Store>(bus: &mut Bus<S, D>, address: u16, word: u16) -> Result<(), Trap>
-    ensures gives { (p : Processor) → Gives nowhere (one (save_phase address word)) p bus.old result p bus.new }
+    ensures gives { (p : Processor) → Gives nowhere (one (save_phase address word)) p bus.old result
+        p bus.new }
 {
     write_word(bus, Mode::Kernel, address, word)?;
     Ok(())
@@ -114,19 +127,19 @@ fn save<S: Store, D: Store>(bus: &mut Bus<S, D>, address: u16, word: u16) -> Res
 fn enter_red<S: Store, D: Store>(
     processor: &mut Processor,
     bus: &mut Bus<S, D>,
-    origin: Origin,
+    context: SavedContext,
     counter: u16,
     word: u16,
 )
-    ensures runs { RunsWhere (HasVector counter word) (one (enter_red_phase origin))
+    ensures runs { RunsWhere (HasVector counter word) (one (enter_red_phase context))
         processor.old bus.old (Ok tt) processor.new bus.new }
 {
-    processor.set_register(Slot::ProgramCounter, counter);
-    processor.set_register(Slot::KernelStack, 0);
+    processor.set_register(RegisterId::ProgramCounter, counter);
+    processor.set_register(RegisterId::KernelStack, 0);
     processor.set_stack_trap(false);
     processor.set_trace_trap(false);
     bus.set_status(Status {
-        previous: origin.status.mode,
+        previous: context.status.mode,
         ..Status::of_word(word)
     });
 }
@@ -139,45 +152,50 @@ fn enter_red<S: Store, D: Store>(
 fn red_trap<S: Store, D: Store>(
     processor: &mut Processor,
     bus: &mut Bus<S, D>,
-    origin: Origin,
+    context: SavedContext,
 ) -> Result<(), Trap>
-    ensures runs { Runs (red_plan origin) processor.old bus.old result processor.new bus.new }
+    ensures runs { Runs (red_plan context) processor.old bus.old result processor.new bus.new }
 {
-    processor.set_register(Slot::KernelStack, 4);
+    processor.set_register(RegisterId::KernelStack, 4);
     let counter = read_counter(bus, 4)?;
     let word = read_status(bus, 4)?;
-    save(bus, 2, origin.status.word())?;
-    save(bus, 0, origin.counter)?;
-    enter_red(processor, bus, origin, counter, word);
+    save(bus, 2, context.status.word())?;
+    save(bus, 0, context.counter)?;
+    enter_red(processor, bus, context, counter, word);
     Ok(())
 }
 
 /// The processor halts, with the old PC and the old program status.
 #[inline(always)]
 #[tactic(auto, using(crate::proofs::Steps::run_give_up))]
-fn give_up<S: Store, D: Store>(processor: &mut Processor, bus: &mut Bus<S, D>, origin: Origin)
-    ensures runs { Runs (one (give_up_phase origin)) processor.old bus.old (Ok tt) processor.new bus.new }
+fn give_up<S: Store, D: Store>(
+    processor: &mut Processor,
+    bus: &mut Bus<S, D>,
+    context: SavedContext,
+)
+    ensures runs { Runs (one (give_up_phase context)) processor.old bus.old
+        (Ok tt) processor.new bus.new }
 {
-    processor.set_register(Slot::ProgramCounter, origin.counter);
+    processor.set_register(RegisterId::ProgramCounter, context.counter);
     processor.set_run(RunState::Halted);
-    bus.set_status(origin.status);
+    bus.set_status(context.status);
 }
 
 /// The red sequence; where it can't go on the processor halts.
 #[inline(never)]
 #[tactic(auto, using(crate::proofs::Endings::after_done, crate::proofs::Endings::after_caught), unfolding(crate::specs::Handbook::TrapSequence::red, pdp_operand::specs::Phases::Course::follow))]
-fn red<S: Store, D: Store>(processor: &mut Processor, bus: &mut Bus<S, D>, origin: Origin)
-    ensures follows { Follows (red_course origin) processor.old bus.old processor.new bus.new }
+fn red<S: Store, D: Store>(processor: &mut Processor, bus: &mut Bus<S, D>, context: SavedContext)
+    ensures follows { Follows (red_course context) processor.old bus.old processor.new bus.new }
 {
-    match red_trap(processor, bus, origin) {
+    match red_trap(processor, bus, context) {
         Ok(()) => {}
-        Err(_trap) => give_up(processor, bus, origin),
+        Err(_trap) => give_up(processor, bus, context),
     }
 }
 
-/// The sequence of the trap or interrupt with this vector (octal, bytes). `origin` is what it saves:
-/// PC and the program status of when it begins. `marks` says whether its pushes may leave a stack
-/// trap pending.
+/// The sequence of the trap or interrupt with this vector (octal, bytes). `context` is what it
+/// saves: PC and the program status of when it begins. `marks` says whether its pushes may leave a
+/// stack trap pending.
 ///
 /// If it can't go on, it becomes the red sequence, which saves the same. If that can't go on, the
 /// processor halts. DEC PDP-11/40 Processor Handbook (1972), Processor traps and Stack limit
@@ -190,19 +208,20 @@ pub fn begin_sequence<S: Store, D: Store>(
     bus: &mut Bus<S, D>,
     marks: bool,
     vector: u16,
-    origin: Origin,
+    context: SavedContext,
 )
     requires { vector < 0o1000 }
-    ensures follows { Follows (sequence marks vector origin) processor.old bus.old processor.new bus.new }
+    ensures follows { Follows (sequence marks vector context) processor.old bus.old processor.new
+        bus.new }
 {
-    match trap(processor, bus, marks, vector, origin) {
+    match trap(processor, bus, marks, vector, context) {
         Ok(()) => {}
-        Err(_trap) => red(processor, bus, origin),
+        Err(_trap) => red(processor, bus, context),
     }
 }
 
 /// Where the new PC and the new program status word of a trap are.
-fn vector(trap: Trap) -> u16
+pub fn vector(trap: Trap) -> u16
     ensures vector { result ≡ trap_vector trap }
     ensures below { result < 0o1000 }
 {
@@ -221,12 +240,13 @@ fn vector(trap: Trap) -> u16
 #[cold]
 #[inline(never)]
 pub fn handle<S: Store, D: Store>(processor: &mut Processor, bus: &mut Bus<S, D>, trap: Trap)
-    ensures follows { Follows (after_trap trap (origin processor.old bus.old.board)) processor.old bus.old processor.new bus.new }
+    ensures follows { Follows (after_trap trap (context processor.old bus.old.io_page))
+        processor.old bus.old processor.new bus.new }
 {
-    let origin = Origin::of(processor, bus);
+    let context = SavedContext::of(processor, bus);
     if trap == Trap::StackLimit {
-        red(processor, bus, origin);
+        red(processor, bus, context);
     } else {
-        begin_sequence(processor, bus, true, vector(trap), origin);
+        begin_sequence(processor, bus, true, vector(trap), context);
     }
 }

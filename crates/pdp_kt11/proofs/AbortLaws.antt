@@ -4,16 +4,16 @@ use Rattle.std.proofs.lemmas.Bool.{or_parts}
 use Rattle.pdp_kt11.specs.Kt.{kt_fetched, page_at, with_page}
 use Rattle.pdp_kt11.specs.Laws.{AbortsInStatusAlone, AbortsLeaveThePages, FetchesAreFollowedUntilAnAbort, LaterAbortsAreNotTold, MappingOffIsTheOldRule, PassesLeaveStatus, ReadOnlyPagesAreNeverWritten, TheFirstAbortIsTold, abort_flag, page_through, place_of}
 use Rattle.pdp_kt11.specs.Mode.{mode_bits}
-use Rattle.pdp_kt11.specs.Page.{numbered_page, page_number, space_of}
-use Rattle.pdp_kt11.specs.Status.{abort_told, flagged, mapping_status_word, tells_abort}
-use Rattle.pdp_kt11.specs.Translation.{Translation, aborted, abort_in, block_of, checked, is_within, mapped, mapped_in, page_of, passed, translate}
+use Rattle.pdp_kt11.specs.Apr.{numbered_page, page_number, space_of}
+use Rattle.pdp_kt11.specs.Status.{abort_told, with_abort_flag, mapping_status_word, tells_abort}
+use Rattle.pdp_kt11.specs.Translation.{Translation, aborted_translation, abort_in, block_of, checked_translation, is_within_length, mapped_translation, mapped_in, page_of, with_w_bit, translate}
 use Rattle.pdp_kt11.specs.declared.registers.MappingRegisters.{MappingRegisters}
 use Rattle.pdp_kt11.specs.declared.mode.Mode.{Mode}
-use Rattle.pdp_kt11.specs.declared.page.AccessControl.TheVariants as control
-use Rattle.pdp_kt11.specs.declared.page.Page.{Page}
-use Rattle.pdp_kt11.specs.declared.page.PageNumber.{PageNumber}
-use Rattle.pdp_kt11.specs.declared.page.Space.{Space}
-use Rattle.pdp_kt11.specs.declared.page.Space.TheVariants as space
+use Rattle.pdp_kt11.specs.declared.apr.AccessControl.TheVariants as control
+use Rattle.pdp_kt11.specs.declared.apr.Apr.{Apr}
+use Rattle.pdp_kt11.specs.declared.apr.PageNumber.{PageNumber}
+use Rattle.pdp_kt11.specs.declared.apr.Space.{Space}
+use Rattle.pdp_kt11.specs.declared.apr.Space.TheVariants as space
 use Rattle.pdp_kt11.specs.declared.place.Abort.{Abort}
 use Rattle.pdp_kt11.specs.declared.place.Abort.TheVariants.{Resident, Length, ReadOnly}
 use Rattle.pdp_kt11.specs.declared.place.Access.{Access}
@@ -27,28 +27,28 @@ mapping_off mode address access kt off = (rw off refl, rw off refl)
 -- an access while mapping is on
 pub while_on : (mode : Mode) (address : ℕ) (access : Access) (kt : MappingRegisters) → kt.status.enabled ≡ true
     → translate mode address access kt ≡ mapped_in (space_of mode) mode address access kt
-unfolding translate mapped
+unfolding translate mapped_translation
 while_on mode address access kt on = rw on refl
 
 -- a write to a read-only page fails one of the tests
-refused : (page : Page) (block : ℕ) → page.access ≡ control.ReadOnly → (abort : Abort) × (abort_in page Write block ≡ Some abort)
-refused page block locked = by_length (is_within page.expansion page.length block) refl where
-  by_length : (within : Bool) → is_within page.expansion page.length block ≡ within
+refused : (page : Apr) (block : ℕ) → page.access ≡ control.ReadOnly → (abort : Abort) × (abort_in page Write block ≡ Some abort)
+refused page block locked = by_length (is_within_length page.expansion page.length block) refl where
+  by_length : (within : Bool) → is_within_length page.expansion page.length block ≡ within
       → (abort : Abort) × (abort_in page Write block ≡ Some abort)
   by_length true is = (ReadOnly, rw (locked, is) refl)
   by_length false is = (Length, rw (locked, is) refl)
 
-refused_in : (space : Option Space) (mode : Mode) (address : ℕ) (kt : MappingRegisters) (page : Page) → page_through space address kt ≡ Some page
-    → page.access ≡ control.ReadOnly → (abort : Abort) × (mapped_in space mode address Write kt ≡ aborted abort mode address kt)
+refused_in : (space : Option Space) (mode : Mode) (address : ℕ) (kt : MappingRegisters) (page : Apr) → page_through space address kt ≡ Some page
+    → page.access ≡ control.ReadOnly → (abort : Abort) × (mapped_in space mode address Write kt ≡ aborted_translation abort mode address kt)
 refused_in None mode address kt page used locked = cc
 refused_in (Some space) mode address kt page used locked =
     let same : page_at space (page_of address) kt ≡ page = cc in
-    let why = refused (page_at space (page_of address) kt) (block_of address) (ap (λ (p : Page). p.access) same ∙ locked) in
+    let why = refused (page_at space (page_of address) kt) (block_of address) (ap (λ (p : Apr). p.access) same ∙ locked) in
     (why.0, rw why.1 refl)
 
 -- an abort changes SR0 alone
 aborts_in_status : (mode : Mode) (address : ℕ) (access : Access) (kt : MappingRegisters) (abort : Abort)
-    → translate mode address access kt ≡ aborted abort mode address kt → AbortsInStatusAlone mode address access kt
+    → translate mode address access kt ≡ aborted_translation abort mode address kt → AbortsInStatusAlone mode address access kt
 aborts_in_status mode address access kt abort is = record {
   aborts = (abort, ap (λ (t : Translation). t.address) is);
   leaves = ap (λ (t : Translation). t.after) is ∙ sym (ap (λ (t : Translation). record kt { status = t.after.status }) is);
@@ -61,26 +61,26 @@ read_only mode address kt page on used locked =
 
 -- what isn't an abort has a place
 checked_to : (outcome : Option Abort) (space : Space) (mode : Mode) (address : ℕ) (access : Access) (kt : MappingRegisters) (abort : Abort)
-    → (checked outcome space mode address access kt).address ≡ Err abort
-    → checked outcome space mode address access kt ≡ aborted abort mode address kt
+    → (checked_translation outcome space mode address access kt).address ≡ Err abort
+    → checked_translation outcome space mode address access kt ≡ aborted_translation abort mode address kt
 checked_to (Some why) space mode address access kt abort is =
-    let same : why ≡ abort = cc in ap (λ a. aborted a mode address kt) same
+    let same : why ≡ abort = cc in ap (λ a. aborted_translation a mode address kt) same
 checked_to None space mode address access kt abort is = cc
 
 mapped_to : (space : Option Space) (mode : Mode) (address : ℕ) (access : Access) (kt : MappingRegisters) (abort : Abort)
     → (mapped_in space mode address access kt).address ≡ Err abort
-    → mapped_in space mode address access kt ≡ aborted abort mode address kt
+    → mapped_in space mode address access kt ≡ aborted_translation abort mode address kt
 mapped_to (Some space) mode address access kt abort is =
     checked_to (abort_in (page_at space (page_of address) kt) access (block_of address)) space mode address access kt abort is
 mapped_to None mode address access kt abort is =
-    let same : Resident ≡ abort = cc in ap (λ a. aborted a mode address kt) same
+    let same : Resident ≡ abort = cc in ap (λ a. aborted_translation a mode address kt) same
 
 -- an access that aborts does so while mapping is on
 aborted_is : (mode : Mode) (address : ℕ) (access : Access) (kt : MappingRegisters) (abort : Abort) → (translate mode address access kt).address ≡ Err abort
-    → (kt.status.enabled ≡ true) × (translate mode address access kt ≡ aborted abort mode address kt)
+    → (kt.status.enabled ≡ true) × (translate mode address access kt ≡ aborted_translation abort mode address kt)
 aborted_is mode address access kt abort is = by_enable kt.status.enabled refl where
   by_enable : (on : Bool) → kt.status.enabled ≡ on
-      → (kt.status.enabled ≡ true) × (translate mode address access kt ≡ aborted abort mode address kt)
+      → (kt.status.enabled ≡ true) × (translate mode address access kt ≡ aborted_translation abort mode address kt)
   by_enable true enabled =
       let way = while_on mode address access kt enabled in
       (enabled, way ∙ mapped_to (space_of mode) mode address access kt abort (rw way at is))
@@ -114,7 +114,7 @@ told_word abort mode page s clear on = rw clear (by_flag abort) where
   lower : (s.resident_abort ≡ false) × (s.length_abort ≡ false)
   lower = or_parts s.resident_abort s.length_abort upper.0
 
-  by_flag : (abort : Abort) → mapping_status_word (flagged abort (record s { mode = mode; page = page }))
+  by_flag : (abort : Abort) → mapping_status_word (with_abort_flag abort (record s { mode = mode; page = page }))
       ≡ abort_flag abort + mode_bits mode * 0o40 + page_number page * 2 + 1
   by_flag Resident = rw (lower.1, upper.1, on) (omega arith)
   by_flag Length = rw (lower.0, upper.1, on) (omega arith)
@@ -129,7 +129,7 @@ first_is_told mode address access kt abort fits clear is =
     ∙ ap (λ number. abort_flag abort + mode_bits mode * 0o40 + number * 2 + 1) page
 
 -- a page changes, and no status
-status_passed : (access : Access) (space : Space) (page : PageNumber) (kt : MappingRegisters) → (passed access space page kt).status ≡ kt.status
+status_passed : (access : Access) (space : Space) (page : PageNumber) (kt : MappingRegisters) → (with_w_bit access space page kt).status ≡ kt.status
 unfolding with_page
 status_passed Read space page kt = refl
 status_passed Write space.Kernel page kt = refl
@@ -141,7 +141,7 @@ unfolding abort_told
 told_already abort mode page s told = rw told refl
 
 status_checked : (outcome : Option Abort) (space : Space) (mode : Mode) (address : ℕ) (access : Access) (kt : MappingRegisters)
-    → tells_abort kt.status ≡ true → (checked outcome space mode address access kt).after.status ≡ kt.status
+    → tells_abort kt.status ≡ true → (checked_translation outcome space mode address access kt).after.status ≡ kt.status
 status_checked (Some abort) space mode address access kt told = told_already abort mode (page_of address) kt.status told
 status_checked None space mode address access kt told = status_passed access space (page_of address) kt
 
@@ -159,8 +159,8 @@ later_is_not_told mode address access kt told = by_enable kt.status.enabled refl
 
 -- what passes changes a page at most
 status_unchecked : (outcome : Option Abort) (space : Space) (mode : Mode) (address : ℕ) (access : Access) (kt : MappingRegisters) (p : ℕ)
-    → (checked outcome space mode address access kt).address ≡ Ok p
-    → (checked outcome space mode address access kt).after.status ≡ kt.status
+    → (checked_translation outcome space mode address access kt).address ≡ Ok p
+    → (checked_translation outcome space mode address access kt).after.status ≡ kt.status
 status_unchecked (Some abort) space mode address access kt p is = cc
 status_unchecked None space mode address access kt p is = status_passed access space (page_of address) kt
 

@@ -4,23 +4,23 @@ use Rattle.std.proofs.lemmas.Bool.{leb-true}
 use Rattle.pdp_kt11.proofs.AbortLaws.{while_on}
 use Rattle.pdp_kt11.specs.Kt.{page_at}
 use Rattle.pdp_kt11.specs.Laws.{AreDisjoint, DisjointPagesNeverMeet, FitsIn18Bits, first_block, first_grown, last_block, last_grown, page_through, place_of}
-use Rattle.pdp_kt11.specs.Page.{space_of}
-use Rattle.pdp_kt11.specs.Translation.{abort_in, block_of, checked, is_resident, is_within, mapped_address, mapped_in, page_of}
+use Rattle.pdp_kt11.specs.Apr.{space_of}
+use Rattle.pdp_kt11.specs.Translation.{abort_in, block_of, checked_translation, is_resident, is_within_length, mapped_address, mapped_in, page_of}
 use Rattle.pdp_kt11.specs.declared.registers.MappingRegisters.{MappingRegisters}
 use Rattle.pdp_kt11.specs.declared.mode.Mode.{Mode}
-use Rattle.pdp_kt11.specs.declared.page.Expansion.{Expansion}
-use Rattle.pdp_kt11.specs.declared.page.Expansion.TheVariants.{Upward, Downward}
-use Rattle.pdp_kt11.specs.declared.page.Page.{Page}
-use Rattle.pdp_kt11.specs.declared.page.Space.{Space}
+use Rattle.pdp_kt11.specs.declared.apr.Expansion.{Expansion}
+use Rattle.pdp_kt11.specs.declared.apr.Expansion.TheVariants.{Upward, Downward}
+use Rattle.pdp_kt11.specs.declared.apr.Apr.{Apr}
+use Rattle.pdp_kt11.specs.declared.apr.Space.{Space}
 use Rattle.pdp_kt11.specs.declared.place.Abort.{Abort}
 use Rattle.pdp_kt11.specs.declared.place.Access.{Access}
 
 -- a place of a page: in its first block, its last one, or between them
-record IsInPage (page : Page) (p : ℕ) : Type 0 where
+record IsInPage (page : Apr) (p : ℕ) : Type 0 where
   least : first_block page * 0o100 ≤ p
   most : p < (last_block page + 1) * 0o100
 
-in_blocks : (expansion : Expansion) (page : Page) (block byte : ℕ) → is_within expansion page.length block ≡ true → block < 0o200 → byte < 0o100
+in_blocks : (expansion : Expansion) (page : Apr) (block byte : ℕ) → is_within_length expansion page.length block ≡ true → block < 0o200 → byte < 0o100
     → last_grown expansion page < 0o10000
     → (first_grown expansion page * 0o100 ≤ ((page.frame + block) * 0o100 + byte) % 0o1000000)
     × (((page.frame + block) * 0o100 + byte) % 0o1000000 < (last_grown expansion page + 1) * 0o100)
@@ -30,16 +30,16 @@ in_blocks Downward page block byte within small low fits =
     let above : page.length ≤ block = leb-true page.length block within in (omega arith, omega arith)
 
 -- what goes through a page goes to one of its blocks
-unaborted : (page : Page) (access : Access) (block : ℕ) → abort_in page access block ≡ None → is_within page.expansion page.length block ≡ true
-unaborted page access block passes = by_length (is_within page.expansion page.length block) refl where
-  by_length : (within : Bool) → is_within page.expansion page.length block ≡ within → is_within page.expansion page.length block ≡ true
+unaborted : (page : Apr) (access : Access) (block : ℕ) → abort_in page access block ≡ None → is_within_length page.expansion page.length block ≡ true
+unaborted page access block passes = by_length (is_within_length page.expansion page.length block) refl where
+  by_length : (within : Bool) → is_within_length page.expansion page.length block ≡ within → is_within_length page.expansion page.length block ≡ true
   by_length true is = is
   by_length false is = absurd (by_residence (is_resident page.access) refl) where
     by_residence : (resident : Bool) → is_resident page.access ≡ resident → ⊥
     by_residence true resides = let why = rw (resides, is) at passes in cc
     by_residence false resides = let why = rw resides at passes in cc
 
-in_page : (page : Page) (address : ℕ) (access : Access) → abort_in page access (block_of address) ≡ None → FitsIn18Bits page
+in_page : (page : Apr) (address : ℕ) (access : Access) → abort_in page access (block_of address) ≡ None → FitsIn18Bits page
     → IsInPage page (mapped_address page address)
 in_page page address access passes fits =
     let here =
@@ -48,12 +48,12 @@ in_page page address access passes fits =
     record { least = here.0; most = here.1 }
 
 place_checked : (outcome : Option Abort) (space : Space) (mode : Mode) (address : ℕ) (access : Access) (kt : MappingRegisters) (p : ℕ)
-    → (checked outcome space mode address access kt).address ≡ Ok p
+    → (checked_translation outcome space mode address access kt).address ≡ Ok p
     → (outcome ≡ None) × (p ≡ mapped_address (page_at space (page_of address) kt) address)
 place_checked (Some abort) space mode address access kt p is = cc
 place_checked None space mode address access kt p is = (refl, cc)
 
-place_in : (space : Option Space) (mode : Mode) (address : ℕ) (access : Access) (kt : MappingRegisters) (page : Page) (p : ℕ)
+place_in : (space : Option Space) (mode : Mode) (address : ℕ) (access : Access) (kt : MappingRegisters) (page : Apr) (p : ℕ)
     → page_through space address kt ≡ Some page → (mapped_in space mode address access kt).address ≡ Ok p
     → FitsIn18Bits page → IsInPage page p
 place_in None mode address access kt page p used is fits = cc
@@ -64,7 +64,7 @@ place_in (Some space) mode address access kt page p used is fits =
     let place : p ≡ mapped_address page address = rw same at there.1 in
     rw place (in_page page address access passes fits)
 
-apart : (page other : Page) (p q : ℕ) → IsInPage page p → IsInPage other q → AreDisjoint page other → p / 2 ≢ q / 2
+apart : (page other : Apr) (p q : ℕ) → IsInPage page p → IsInPage other q → AreDisjoint page other → p / 2 ≢ q / 2
 apart page other p q here there (inl ends) same = omega arith
 apart page other p q here there (inr ends) same = omega arith
 

@@ -3,24 +3,24 @@ use Rattle.std.proofs.Common.{◌≡◌, ℕ, zero, suc, ◌+◌, ◌*◌, ◌/�
 use Rattle.pdp_kt11.proofs.AbortLaws.{mapping_off, while_on}
 use Rattle.pdp_kt11.proofs.WrittenLaws.{fetch_apart, number_below, page_changed, powered_page, status_apart, use_keeps_pages}
 use Rattle.pdp_kt11.specs.Kt.{kt_fetched, kt_value, kt_written, page_at, with_page}
-use Rattle.pdp_kt11.specs.Laws.{HasBitsInRange, HasEightPages, OtherBitsReadZero, PagesAreInRange, PowerGivesPagesInRange, Use, UsesKeepPagesInRange, WrittenAddressReadsBack, WrittenDescriptorReadsBack, WrittenStatusReadsBack, after_use, is_same_page}
-use Rattle.pdp_kt11.specs.Laws.Use.{Accessing, Writing, Fetching, Resetting}
+use Rattle.pdp_kt11.specs.Laws.{HasBitsInRange, HasEightPages, OtherBitsReadZero, PagesAreInRange, PowerGivesPagesInRange, KtUse, UsesKeepPagesInRange, WrittenAddressReadsBack, WrittenDescriptorReadsBack, WrittenStatus0ReadsBack, kt_after_use, is_same_page}
+use Rattle.pdp_kt11.specs.Laws.KtUse.{Accessing, Writing, Fetching, Resetting}
 use Rattle.pdp_kt11.specs.Mode.{mode_bits}
-use Rattle.pdp_kt11.specs.Page.{access_bits, access_control_of, address_written, descriptor_word, descriptor_written, empty_page, expansion_bit, expansion_of, page_number, space_of}
+use Rattle.pdp_kt11.specs.Apr.{access_bits, access_control_of, address_written, descriptor_word, descriptor_written, empty_page, expansion_bit, expansion_of, page_number, space_of}
 use Rattle.pdp_kt11.specs.Status.{mapping_status_word, mapping_status_written}
-use Rattle.pdp_kt11.specs.Translation.{abort_in, block_of, checked, mapped_in, page_of, passed, translate}
+use Rattle.pdp_kt11.specs.Translation.{abort_in, block_of, checked_translation, mapped_in, page_of, with_w_bit, translate}
 use Rattle.pdp_kt11.specs.declared.registers.MappingRegisters.{MappingRegisters}
 use Rattle.pdp_kt11.specs.declared.mode.Mode.{Mode}
 use Rattle.pdp_kt11.specs.declared.mode.Mode.TheVariants as mode
-use Rattle.pdp_kt11.specs.declared.page.AccessControl.{AccessControl}
-use Rattle.pdp_kt11.specs.declared.page.AccessControl.TheVariants as control
-use Rattle.pdp_kt11.specs.declared.page.Expansion.{Expansion}
-use Rattle.pdp_kt11.specs.declared.page.Expansion.TheVariants.{Upward, Downward}
-use Rattle.pdp_kt11.specs.declared.page.Page.{Page}
-use Rattle.pdp_kt11.specs.declared.page.PageNumber.{PageNumber}
-use Rattle.pdp_kt11.specs.declared.page.PageNumber.TheVariants.{P0, P1, P2, P3, P4, P5, P6, P7}
-use Rattle.pdp_kt11.specs.declared.page.Space.{Space}
-use Rattle.pdp_kt11.specs.declared.page.Space.TheVariants as space
+use Rattle.pdp_kt11.specs.declared.apr.AccessControl.{AccessControl}
+use Rattle.pdp_kt11.specs.declared.apr.AccessControl.TheVariants as control
+use Rattle.pdp_kt11.specs.declared.apr.Expansion.{Expansion}
+use Rattle.pdp_kt11.specs.declared.apr.Expansion.TheVariants.{Upward, Downward}
+use Rattle.pdp_kt11.specs.declared.apr.Apr.{Apr}
+use Rattle.pdp_kt11.specs.declared.apr.PageNumber.{PageNumber}
+use Rattle.pdp_kt11.specs.declared.apr.PageNumber.TheVariants.{P0, P1, P2, P3, P4, P5, P6, P7}
+use Rattle.pdp_kt11.specs.declared.apr.Space.{Space}
+use Rattle.pdp_kt11.specs.declared.apr.Space.TheVariants as space
 use Rattle.pdp_kt11.specs.declared.place.Abort.{Abort}
 use Rattle.pdp_kt11.specs.declared.place.Access.{Access}
 use Rattle.pdp_kt11.specs.declared.place.Access.TheVariants.{Read, Write}
@@ -112,7 +112,7 @@ descriptor_of_word : (word expansion access : ℕ) → expansion ≡ word / 8 % 
     ≡ word / 0o400 % 0o200 * 0o400 + word % 0o20 / 2 * 2
 descriptor_of_word word expansion access expansion_is access_is = omega arith
 
-written_descriptor : (word : ℕ) (page : Page)
+written_descriptor : (word : ℕ) (page : Apr)
     → descriptor_word (descriptor_written word page) ≡ word / 0o400 % 0o200 * 0o400 + word % 0o20 / 2 * 2
 unfolding descriptor_written
 written_descriptor word page =
@@ -137,7 +137,7 @@ same_page space.User P5 = refl
 same_page space.User P6 = refl
 same_page space.User P7 = refl
 
-changed_is : (space : Space) (number : PageNumber) (page : Page) (kt : MappingRegisters) → HasEightPages kt
+changed_is : (space : Space) (number : PageNumber) (page : Apr) (kt : MappingRegisters) → HasEightPages kt
     → page_at space number (with_page space number page kt) ≡ page
 changed_is space number page kt eight = page_changed space space number number page kt eight ∙ rw (same_page space number) refl
 
@@ -150,7 +150,7 @@ descriptor_back space number word kt eight =
 pub address_back : WrittenAddressReadsBack
 unfolding kt_value kt_written address_written
 address_back space number word kt eight =
-    ap (λ (p : Page). p.frame) (changed_is space number (address_written word (page_at space number kt)) kt eight) ∙ omega arith
+    ap (λ (p : Apr). p.frame) (changed_is space number (address_written word (page_at space number kt)) kt eight) ∙ omega arith
 
 status_of_word : (word resident length read_only mode page enabled middle low old : ℕ)
     → resident ≡ word / 0o100000 % 2 → length ≡ word / 0o40000 % 2 → read_only ≡ word / 0o20000 % 2 → enabled ≡ word / 1 % 2
@@ -160,7 +160,7 @@ status_of_word : (word resident length read_only mode page enabled middle low ol
 status_of_word word resident length read_only mode page enabled middle low old resident_is length_is read_only_is enabled_is middle_is low_is old_fits =
     omega arith
 
-pub status_back : WrittenStatusReadsBack
+pub status_back : WrittenStatus0ReadsBack
 unfolding kt_value kt_written mapping_status_written
 status_back word kt =
     let part = status_of_parts kt.status in
@@ -173,11 +173,11 @@ pub power_in_range : PowerGivesPagesInRange
 unfolding empty_page
 power_in_range space number = rw (powered_page space number) (record { frame = omega arith; length = omega arith })
 
-either : (same : Bool) (page old : Page) → HasBitsInRange page → HasBitsInRange old → HasBitsInRange (if same then page else old)
+either : (same : Bool) (page old : Apr) → HasBitsInRange page → HasBitsInRange old → HasBitsInRange (if same then page else old)
 either true page old new before = new
 either false page old new before = before
 
-changed_in_range : (space : Space) (number : PageNumber) (page : Page) (kt : MappingRegisters) → HasEightPages kt → PagesAreInRange kt → HasBitsInRange page
+changed_in_range : (space : Space) (number : PageNumber) (page : Apr) (kt : MappingRegisters) → HasEightPages kt → PagesAreInRange kt → HasBitsInRange page
     → PagesAreInRange (with_page space number page kt)
 changed_in_range space number page kt eight ranged new other another =
     rw (page_changed other space another number page kt eight)
@@ -190,14 +190,14 @@ fetch_in_range : (frozen : Bool) (address : ℕ) (kt : MappingRegisters) → Pag
 fetch_in_range frozen address kt ranged space number = rw (fetch_apart frozen space number address kt) (ranged space number)
 
 passed_in_range : (access : Access) (space : Space) (number : PageNumber) (kt : MappingRegisters) → HasEightPages kt → PagesAreInRange kt
-    → PagesAreInRange (passed access space number kt)
+    → PagesAreInRange (with_w_bit access space number kt)
 passed_in_range Read space number kt eight ranged = ranged
 passed_in_range Write space number kt eight ranged =
     let here = ranged space number in
     changed_in_range space number (record (page_at space number kt) { written = true }) kt eight ranged (record { frame = here.frame; length = here.length })
 
 checked_in_range : (outcome : Option Abort) (space : Space) (mode : Mode) (address : ℕ) (access : Access) (kt : MappingRegisters) → HasEightPages kt
-    → PagesAreInRange kt → PagesAreInRange (checked outcome space mode address access kt).after
+    → PagesAreInRange kt → PagesAreInRange (checked_translation outcome space mode address access kt).after
 checked_in_range (Some abort) space mode address access kt eight ranged = status_in_range _ kt ranged
 checked_in_range None space mode address access kt eight ranged = passed_in_range access space (page_of address) kt eight ranged
 
@@ -213,7 +213,7 @@ access_in_range mode address access kt false enabled eight ranged = rw ((mapping
 access_in_range mode address access kt true enabled eight ranged =
     rw (while_on mode address access kt enabled) (mapped_in_range (space_of mode) mode address access kt eight ranged)
 
-use_in_range : (use_of : Use) (kt : MappingRegisters) → HasEightPages kt → PagesAreInRange kt → PagesAreInRange (after_use use_of kt)
+use_in_range : (use_of : KtUse) (kt : MappingRegisters) → HasEightPages kt → PagesAreInRange kt → PagesAreInRange (kt_after_use use_of kt)
 unfolding kt_written kt_fetched descriptor_written address_written
 use_in_range (Accessing mode address access) kt eight ranged = access_in_range mode address access kt kt.status.enabled refl eight ranged
 use_in_range (Writing Status0 word) kt eight ranged = status_in_range _ kt ranged
@@ -231,4 +231,4 @@ use_in_range Resetting kt eight ranged = status_in_range _ kt ranged
 pub uses_keep_range : UsesKeepPagesInRange
 uses_keep_range [] kt eight ranged = ranged
 uses_keep_range (use_of ∷ uses) kt eight ranged =
-    uses_keep_range uses (after_use use_of kt) (use_keeps_pages use_of kt eight) (use_in_range use_of kt eight ranged)
+    uses_keep_range uses (kt_after_use use_of kt) (use_keeps_pages use_of kt eight) (use_in_range use_of kt eight ranged)

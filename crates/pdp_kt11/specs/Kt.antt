@@ -1,39 +1,47 @@
--- The KT11-D: its registers, and where they are. DEC PDP-11/40 Processor Handbook (1972), Memory management. The registers
--- as of power-up, that SR2 follows fetches without mapping too, and once the word was read, that 777574 reads 0, that it
--- and SR2 can't be written, and what RESET leaves, are this project's profile.
-use Rattle.std.specs.Prelude.{ℕ, ◌+◌, ◌-◌, ◌/◌, ◌%◌, ◌==◌, ◌&&◌, nat_le, Bool, List, [], ◌∷◌, Option, Some, None, slice_index_or, slice_set, if◌then◌else◌}
-use Rattle.pdp_kt11.specs.Page.{address_written, descriptor_word, descriptor_written, empty_page, numbered_page, page_number}
-use Rattle.pdp_kt11.specs.Status.{clear_status, mapping_status_word, mapping_status_written, tells_abort}
+-- The KT11-D: its registers, and where they are. DEC PDP-11/40 Processor Handbook (1972), Memory
+-- management. The registers as of power-up, that SR2 follows fetches without mapping too, and once
+-- the word was read, that 777574 reads 0, that it and SR2 can't be written, and what RESET leaves,
+-- are this project's profile.
+use Rattle.std.specs.Prelude.{ℕ, ◌+◌, ◌-◌, ◌/◌, ◌%◌, ◌==◌, ◌&&◌, nat_le, Bool, List, [], ◌∷◌}
+use Rattle.std.specs.Prelude.{Option, Some, None, slice_index_or, slice_set, if◌then◌else◌}
+use Rattle.pdp_kt11.specs.Apr.{address_written, descriptor_word, descriptor_written, empty_page}
+use Rattle.pdp_kt11.specs.Apr.{numbered_page, page_number}
+use Rattle.pdp_kt11.specs.Status.{clear_status, mapping_status_word, mapping_status_written}
+use Rattle.pdp_kt11.specs.Status.{tells_abort}
 use Rattle.pdp_kt11.specs.declared.registers.MappingRegisters.{MappingRegisters}
-use Rattle.pdp_kt11.specs.declared.page.Page.{Page}
-use Rattle.pdp_kt11.specs.declared.page.PageNumber.{PageNumber}
-use Rattle.pdp_kt11.specs.declared.page.Space.{Space}
-use Rattle.pdp_kt11.specs.declared.page.Space.TheVariants.{Kernel, User}
+use Rattle.pdp_kt11.specs.declared.apr.Apr.{Apr}
+use Rattle.pdp_kt11.specs.declared.apr.PageNumber.{PageNumber}
+use Rattle.pdp_kt11.specs.declared.apr.Space.{Space}
+use Rattle.pdp_kt11.specs.declared.apr.Space.TheVariants.{Kernel, User}
 use Rattle.pdp_kt11.specs.declared.register.KtRegister.{KtRegister}
-use Rattle.pdp_kt11.specs.declared.register.KtRegister.TheVariants.{Status0, Status1, Status2, Descriptor, Address}
+use Rattle.pdp_kt11.specs.declared.register.KtRegister.TheVariants.{Status0, Status1, Status2}
+use Rattle.pdp_kt11.specs.declared.register.KtRegister.TheVariants.{Descriptor, Address}
 
 -- the pages of a space
-abbrev pub pages_of : Space → MappingRegisters → List Page
+abbrev pub pages_of : Space → MappingRegisters → List Apr
 pages_of Kernel kt = kt.kernel
 pages_of User kt = kt.user
 
-unfoldable pub page_at : Space → PageNumber → MappingRegisters → Page
+unfoldable pub page_at : Space → PageNumber → MappingRegisters → Apr
 page_at space number kt = slice_index_or (pages_of space kt) (page_number number) empty_page
 
-abbrev pub with_pages : Space → List Page → MappingRegisters → MappingRegisters
+abbrev pub with_pages : Space → List Apr → MappingRegisters → MappingRegisters
 with_pages Kernel pages kt = record kt { kernel = pages }
 with_pages User pages kt = record kt { user = pages }
 
-unfoldable pub with_page : Space → PageNumber → Page → MappingRegisters → MappingRegisters
-with_page space number page kt = with_pages space (slice_set (pages_of space kt) (page_number number) page) kt
+unfoldable pub with_page : Space → PageNumber → Apr → MappingRegisters → MappingRegisters
+with_page space number page kt = with_pages space (slice_set (pages_of space kt)
+    (page_number number) page) kt
 
 -- as of power-up: every bit of every register is 0
 unfoldable pub powered_kt : MappingRegisters
 powered_kt = record {
   status = clear_status;
   last_fetch = 0;
-  kernel = empty_page ∷ empty_page ∷ empty_page ∷ empty_page ∷ empty_page ∷ empty_page ∷ empty_page ∷ empty_page ∷ [];
-  user = empty_page ∷ empty_page ∷ empty_page ∷ empty_page ∷ empty_page ∷ empty_page ∷ empty_page ∷ empty_page ∷ [];
+  kernel = empty_page ∷ empty_page ∷ empty_page ∷ empty_page ∷ empty_page ∷ empty_page ∷ empty_page
+      ∷ empty_page ∷ [];
+  user = empty_page ∷ empty_page ∷ empty_page ∷ empty_page ∷ empty_page ∷ empty_page ∷ empty_page ∷
+      empty_page ∷ [];
 }
 
 -- RESET clears SR0; the pages and SR2 stay
@@ -78,4 +86,5 @@ kt_written Status1 word kt = kt
 kt_written Status2 word kt = kt
 kt_written (Descriptor space number) word kt =
     with_page space number (descriptor_written word (page_at space number kt)) kt
-kt_written (Address space number) word kt = with_page space number (address_written word (page_at space number kt)) kt
+kt_written (Address space number) word kt = with_page space number (address_written word
+    (page_at space number kt)) kt

@@ -1,8 +1,9 @@
+pub mod Bits
 pub mod KeptTranslation
 pub mod Kt
 pub mod Laws
 pub mod Mode
-pub mod Page
+pub mod Apr
 pub mod Place
 pub mod Status
 pub mod Translation

@@ -1,42 +1,49 @@
-ghost use Rattle.pdp_kt11.specs.Laws.{DisjointPagesNeverMeet, MappingOffIsTheOldRule, ReadOnlyPagesAreNeverWritten};
+ghost use Rattle.pdp_kt11.specs.Laws.{DisjointPagesNeverMeet, MappingOffIsTheOldRule};
+ghost use Rattle.pdp_kt11.specs.Laws.{ReadOnlyPagesAreNeverWritten};
 ghost use Rattle.pdp_kt11.specs.Laws.{AbortsLeaveThePages, FetchesAreFollowedUntilAnAbort};
-ghost use Rattle.pdp_kt11.specs.Laws.{LaterAbortsAreNotTold, PassesLeaveStatus, TheFirstAbortIsTold};
-ghost use Rattle.pdp_kt11.specs.Laws.{OtherBitsReadZero, PowerGivesPagesInRange, UsesKeepPagesInRange};
-ghost use Rattle.pdp_kt11.specs.Laws.{WrittenAddressReadsBack, WrittenDescriptorReadsBack, WrittenStatusReadsBack};
-ghost use Rattle.pdp_kt11.specs.Laws.{PowerClearsWrittenBits, PowerGivesEightPages, UsesKeepEightPages, WrittenBitsTellTheTruth};
+ghost use Rattle.pdp_kt11.specs.Laws.{LaterAbortsAreNotTold, PassesLeaveStatus};
+ghost use Rattle.pdp_kt11.specs.Laws.{TheFirstAbortIsTold};
+ghost use Rattle.pdp_kt11.specs.Laws.{OtherBitsReadZero, PowerGivesPagesInRange};
+ghost use Rattle.pdp_kt11.specs.Laws.{UsesKeepPagesInRange};
+ghost use Rattle.pdp_kt11.specs.Laws.{WrittenAddressReadsBack, WrittenDescriptorReadsBack};
+ghost use Rattle.pdp_kt11.specs.Laws.{WrittenStatus0ReadsBack};
+ghost use Rattle.pdp_kt11.specs.Laws.{PowerClearsWrittenBits, PowerGivesEightPages};
+ghost use Rattle.pdp_kt11.specs.Laws.{UsesKeepEightPages, WrittenBitsTellTheTruth};
 
-/// A law of mapping: while it is off every access goes where it goes without memory management, by any mode, and no
-/// register changes.
+/// A law of mapping: while it is off every access goes where it goes without memory management, by
+/// any mode, and no register changes.
 ///
 /// DEC PDP-11/40 Processor Handbook (1972), Memory management.
 pub fn mapping_off_is_the_old_rule()
     ensures { MappingOffIsTheOldRule }
 {}
 
-/// A law of isolation: two pages whose physical addresses don't pass 18 bits, and of which one ends before the other
-/// begins, never share a word. While mapping is on, whatever accesses in whichever modes go through them, no address
-/// through the one and no address through the other reach the same word. So where no page passes 18 bits and no two pages
-/// of kernel and user meet, no page of the one space reaches a word of a page of the other.
+/// A law of isolation: two pages whose physical addresses don't pass 18 bits, and of which one ends
+/// before the other begins, never share a word. While mapping is on, whatever accesses in whichever
+/// modes go through them, no address through the one and no address through the other reach the
+/// same word. So where no page passes 18 bits and no two pages of kernel and user meet, no page of
+/// the one space reaches a word of a page of the other.
 ///
 /// DEC PDP-11/40 Processor Handbook (1972), Memory management.
 pub fn disjoint_pages_never_meet()
     ensures { DisjointPagesNeverMeet }
 {}
 
-/// A law of protection: while mapping is on, a write through a read-only page is aborted, whatever its address, and
-/// changes no register but SR0. So nothing is ever written through such a page.
+/// A law of protection: while mapping is on, a write through a read-only page is aborted, whatever
+/// its address, and changes no register but SR0. So nothing is ever written through such a page.
 ///
 /// DEC PDP-11/40 Processor Handbook (1972), Memory management.
 pub fn read_only_pages_are_never_written()
     ensures { ReadOnlyPagesAreNeverWritten }
 {}
 
-/// A law of W: whatever accesses are made, registers written, instructions fetched, and with RESET in between, W of a page
-/// is set exactly where a write went through the page since one of its two registers was written last, or where it was
-/// set in the beginning and none was written. As of power-up each W is clear. Each space has its eight pages all along.
+/// A law of W: whatever accesses are made, registers written, instructions fetched, and with RESET
+/// in between, W of a page is set exactly where a write went through the page since one of its two
+/// registers was written last, or where it was set in the beginning and none was written. As of
+/// power-up each W is clear. Each space has its eight pages all along.
 ///
-/// DEC PDP-11/40 Processor Handbook (1972), Memory management; that power-up clears W, and that RESET leaves it, are this
-/// project's profile.
+/// DEC PDP-11/40 Processor Handbook (1972), Memory management; that power-up clears W, and that
+/// RESET leaves it, are this project's profile.
 pub fn written_bits_tell_the_truth()
     ensures bits { WrittenBitsTellTheTruth }
     ensures pages { UsesKeepEightPages }
@@ -51,12 +58,13 @@ pub fn aborts_leave_the_pages()
     ensures { AbortsLeaveThePages }
 {}
 
-/// A law of SR0: the first abort is told, by its flag alone, its mode and its page. While one is told, or bits 15-13 of
-/// SR0 were written, no access changes SR0, and no fetch changes SR2; until then SR2 follows the fetches. An access that
-/// passes leaves SR0.
+/// A law of SR0: the first abort is told, by its flag alone, its mode and its page. While one is
+/// told, or bits 15-13 of SR0 were written, no access changes SR0, and no fetch changes SR2; until
+/// then SR2 follows the fetches. An access that passes leaves SR0.
 ///
-/// DEC PDP-11/40 Processor Handbook (1972), Memory management; that later aborts aren't told, and that bits 15-13 which
-/// were written hold SR0 and SR2 as an abort does, are this project's profile.
+/// DEC PDP-11/40 Processor Handbook (1972), Memory management; that later aborts aren't told, and
+/// that bits 15-13 which were written hold SR0 and SR2 as an abort does, are this project's
+/// profile.
 pub fn the_first_abort_is_told()
     ensures first { TheFirstAbortIsTold }
     ensures later { LaterAbortsAreNotTold }
@@ -64,18 +72,19 @@ pub fn the_first_abort_is_told()
     ensures fetches { FetchesAreFollowedUntilAnAbort }
 {}
 
-/// A law of the registers: where no page has bits beyond those of its registers, which is so at power-up and after whatever
-/// uses of them, a read gives the bits that a rule names, and 0 in all others. A word that is written to a descriptor
-/// reads back bits 14-8 and 3-1, with W clear; one written to a page address register bits 11-0; one written to SR0 bits
-/// 15-13 and 0, with 6-5 and 3-1 as they were.
+/// A law of the registers: where no page has bits beyond those of its registers, which is so at
+/// power-up and after whatever uses of them, a read gives the bits that a rule names, and 0 in all
+/// others. A word that is written to a descriptor reads back bits 14-8 and 3-1, with W clear; one
+/// written to a page address register bits 11-0; one written to SR0 bits 15-13 and 0, with 6-5 and
+/// 3-1 as they were.
 ///
-/// DEC PDP-11/40 Processor Handbook (1972), Memory management; that the other bits are 0, and what SR0 takes of a word,
-/// are this project's profile.
+/// DEC PDP-11/40 Processor Handbook (1972), Memory management; that the other bits are 0, and what
+/// SR0 takes of a word, are this project's profile.
 pub fn registers_read_back()
     ensures others { OtherBitsReadZero }
     ensures powered { PowerGivesPagesInRange }
     ensures kept { UsesKeepPagesInRange }
     ensures descriptor { WrittenDescriptorReadsBack }
     ensures address { WrittenAddressReadsBack }
-    ensures status { WrittenStatusReadsBack }
+    ensures status { WrittenStatus0ReadsBack }
 {}

@@ -29,16 +29,18 @@
 //! pdp_unibus.
 #![tactic(auto)]
 
+mod apr;
+mod bits;
 mod kept_translation;
 mod kt;
 mod laws;
 mod mode;
-mod page;
 mod place;
 mod register;
 mod registers;
 mod status;
 
+pub use apr::{AccessControl, Apr, Expansion, PageNumber, Space};
 pub use kt::Kt;
 pub use laws::{
     aborts_leave_the_pages, disjoint_pages_never_meet, mapping_off_is_the_old_rule,
@@ -46,7 +48,6 @@ pub use laws::{
     written_bits_tell_the_truth,
 };
 pub use mode::Mode;
-pub use page::{AccessControl, Expansion, Page, PageNumber, Space};
 pub use place::{Abort, Access, unmapped};
 pub use register::KtRegister;
 pub use registers::MappingRegisters;

@@ -1,9 +1,10 @@
 ghost use Rattle.std.specs.Prelude.{◌≡◌, ◌<◌};
 
-/// A processor mode, as bits 15-14 (current) and 13-12 (previous) of the program status word give it.
+/// A processor mode, as bits 15-14 (current) and 13-12 (previous) of the program status word give
+/// it.
 ///
-/// DEC PDP-11/40 Processor Handbook (1972), Memory management. The bit patterns 01 and 10 name no mode of the
-/// handbook: they use the user's stack pointer (this project's profile).
+/// DEC PDP-11/40 Processor Handbook (1972), Memory management. The bit patterns 01 and 10 name no
+/// mode of the handbook: they use the user's stack pointer (this project's profile).
 #[derive(Clone, Copy, Debug, PartialEq, Eq, Default)]
 pub enum Mode {
     /// 00

@@ -1,6 +1,8 @@
 ghost use Rattle.std.specs.Prelude.{◌≡◌, ◌<◌, ◌^◌};
 ghost use Rattle.pdp_kt11.specs.Place.{unmapped_address};
 
+use crate::bits::{IO_PAGE, IO_PAGE_HIGHER};
+
 /// What an access does with the word that it reaches.
 #[derive(Clone, Copy, Debug, PartialEq, Eq)]
 pub enum Access {
@@ -21,8 +23,9 @@ pub enum Abort {
     ReadOnly,
 }
 
-/// The physical byte address (18 bits) of a virtual byte address (16 bits) while mapping is off: the top 4K words
-/// 160000-177777 (octal) are the I/O page 760000-777777, and every other address is itself.
+/// The physical byte address (18 bits) of a virtual byte address (16 bits) while mapping is off:
+/// the top 4K words 160000-177777 (octal) are the I/O page 760000-777777, and every other address
+/// is itself.
 ///
 /// DEC PDP-11/40 Processor Handbook (1972), Memory management.
 #[inline(always)]
@@ -32,9 +35,9 @@ pub fn unmapped(address: u16) -> u32
     ensures fits { result < 2 ^ 18 }
 {
     let address = u32::from(address);
-    if address < 0o160000 {
+    if address < IO_PAGE {
         address
     } else {
-        address + 0o600000
+        address + IO_PAGE_HIGHER
     }
 }

@@ -1,7 +1,7 @@
 ghost use Rattle.std.specs.Prelude.{◌≡◌, ◌≤◌};
 ghost use Rattle.pdp_kt11.specs.Kt.{kt_register_at, page_from};
 
-use crate::page::{PageNumber, Space};
+use crate::apr::{PageNumber, Space};
 
 /// A register of memory management.
 ///
@@ -12,9 +12,11 @@ pub enum KtRegister {
     Status0,
     /// 777574, which reads 0; a write does nothing (this project's profile).
     Status1,
-    /// SR2, 777576: the virtual address of the last instruction; a write does nothing (this project's profile).
+    /// SR2, 777576: the virtual address of the last instruction; a write does nothing (this
+    /// project's profile).
     Status2,
-    /// A page descriptor register: of kernel space 772300 to 772316, of user space 777600 to 777616.
+    /// A page descriptor register: of kernel space 772300 to 772316, of user space 777600 to
+    /// 777616.
     Descriptor(Space, PageNumber),
     /// A page address register: of kernel space 772340 to 772356, of user space 777640 to 777656.
     Address(Space, PageNumber),

@@ -1,10 +1,12 @@
 ghost use Rattle.std.specs.Prelude.{◌≡◌};
-ghost use Rattle.pdp_kt11.specs.Status.{abort_told, clear_status, mapping_status_word, mapping_status_written, tells_abort};
+ghost use Rattle.pdp_kt11.specs.Status.{abort_told, clear_status, mapping_status_word};
+ghost use Rattle.pdp_kt11.specs.Status.{mapping_status_written, tells_abort};
 
+use crate::apr::PageNumber;
+use crate::bits::{SR0_ENABLE, SR0_LENGTH, SR0_MODE, SR0_NON_RESIDENT, SR0_PAGE, SR0_READ_ONLY};
 use crate::mode::Mode;
-use crate::page::PageNumber;
 use crate::place::Abort;
-use pdp_word::{bit_of, has_bit};
+use pdp_word::{bit_of, is_set};
 
 /// SR0 of memory management.
 ///
@@ -41,11 +43,12 @@ impl MappingStatus {
         }
     }
 
-    /// Whether one of bits 15-13 is set: then SR0 tells of an abort, or of what was written there, and neither it nor
-    /// SR2 follows what comes.
+    /// Whether one of bits 15-13 is set: then SR0 tells of an abort, or of what was written there,
+    /// and neither it nor SR2 follows what comes.
     ///
-    /// DEC PDP-11/40 Processor Handbook (1972), Memory management, which has it that an abort stops SR2; that it stops SR0,
-    /// and that bits which were written stop both, is this project's profile.
+    /// DEC PDP-11/40 Processor Handbook (1972), Memory management, which has it that an abort stops
+    /// SR2; that it stops SR0, and that bits which were written stop both, is this project's
+    /// profile.
     #[inline(always)]
     pub fn tells_abort(self) -> bool
         ensures { result ≡ tells_abort self }
@@ -53,15 +56,16 @@ impl MappingStatus {
         self.resident_abort | self.length_abort | self.read_only_abort
     }
 
-    /// The word of SR0: 15 non-resident, 14 length, 13 read only, 6-5 mode, 3-1 page, 0 enable. The others are 0
-    /// (this project's profile).
+    /// The word of SR0: 15 non-resident, 14 length, 13 read only, 6-5 mode, 3-1 page, 0 enable. The
+    /// others are 0 (this project's profile).
     pub fn word(self) -> u16
         ensures { result ≡ mapping_status_word self }
     {
-        let aborts = bit_of(self.resident_abort) * 0o100000
-            + bit_of(self.length_abort) * 0o40000
-            + bit_of(self.read_only_abort) * 0o20000;
-        aborts + self.mode.bits() * 32 + self.page.number() * 2 + bit_of(self.enabled)
+        let aborts = bit_of(self.resident_abort) * SR0_NON_RESIDENT
+            + bit_of(self.length_abort) * SR0_LENGTH
+            + bit_of(self.read_only_abort) * SR0_READ_ONLY;
+        let place = self.mode.bits() * SR0_MODE + self.page.number() * SR0_PAGE;
+        aborts + place + bit_of(self.enabled)
     }
 
     /// SR0 after a word was written to it: bits 15-13 and 0 are the word's, mode and page stay
@@ -71,16 +75,16 @@ impl MappingStatus {
         ensures { result ≡ mapping_status_written word self }
     {
         MappingStatus {
-            resident_abort: has_bit(15, word),
-            length_abort: has_bit(14, word),
-            read_only_abort: has_bit(13, word),
-            enabled: has_bit(0, word),
+            resident_abort: is_set(SR0_NON_RESIDENT, word),
+            length_abort: is_set(SR0_LENGTH, word),
+            read_only_abort: is_set(SR0_READ_ONLY, word),
+            enabled: is_set(SR0_ENABLE, word),
             ..self
         }
     }
 
-    /// SR0 after an abort at this page of the mode: its flag, the mode and the page, where it tells of none yet. Else it
-    /// stays (this project's profile).
+    /// SR0 after an abort at this page of the mode: its flag, the mode and the page, where it tells
+    /// of none yet. Else it stays (this project's profile).
     #[tactic(auto, unfolding(crate::specs::Status::abort_told))]
     pub fn with_abort(self, abort: Abort, mode: Mode, page: PageNumber) -> MappingStatus
         ensures { result ≡ abort_told abort mode page self }

@@ -1,15 +1,15 @@
--- What holds of each reference and of each change of the board holds along a whole course.
+-- What holds of each reference and of each change of the I/O page holds along a whole course.
 use Rattle.std.proofs.Common.{ℕ, ◌<◌, true, false, List, [], ◌∷◌, ◌++◌, Ok, Err, Result, length, append-nil}
-use Rattle.pdp_store.specs.Touch.{Touch}
-use Rattle.pdp_unibus.specs.BusWorld.{BusWorld, with_board}
-use Rattle.pdp_unibus.specs.declared.board.Board.{Board}
+use Rattle.pdp_store.specs.TracedAccess.{TracedAccess}
+use Rattle.pdp_unibus.specs.BusWorld.{BusWorld, with_io_page}
+use Rattle.pdp_unibus.specs.declared.io_page.IoPage.{IoPage}
 use Rattle.pdp_unibus.specs.Cycle.{core_read, core_written}
 use Rattle.pdp_unibus.specs.Trace.{processor_touch}
 use Rattle.pdp_operand.specs.Handbook.Reference.{Reference, perform}
-use Rattle.pdp_operand.specs.Phases.Phase.{Phase, Inner, State, Stop, Request, Nothing, Ask, Raise, Latch, run, step, and_then, by_request, settled, inner_of, state_of}
+use Rattle.pdp_operand.specs.Phases.Phase.{Phase, Inner, State, Stop, Request, Nothing, Ask, Raise, Latch, run, step, and_then, by_request, after_answer, inner_of, state_of}
 use Rattle.pdp_operand.specs.Phases.Plan.{Plan, phases_of, run_plan}
 use Rattle.pdp_operand.specs.Phases.Course.{Course, End, Go, follow, go_on, caught_in}
-use Rattle.pdp_operand.specs.Laws.Trace.{touches, requested, trace, traced_next, trace_of, traced_on}
+use Rattle.pdp_operand.specs.Laws.Trace.{touches, request_touches, trace, traced_next, trace_of, traced_on}
 use Rattle.pdp_operation.specs.declared.trap.Trap.{Trap}
 use Rattle.pdp_operand.proofs.Flattening.{run_phases_of}
 use Rattle.pdp_operand.proofs.Shape.{Shape, reply_by, touches_by, InCore, shape_of, perform_is, touches_is, shape_in_core}
@@ -21,35 +21,35 @@ bus_after (Ok t) = t.world.bus
 bus_after (Err stop) = stop.world.bus
 
 -- a relation of a trace, the bus before it and the bus after it, that goes along
-pub record Goes (K : List Touch → BusWorld → BusWorld → Type 0) : Type 0 where
+pub record Goes (K : List TracedAccess → BusWorld → BusWorld → Type 0) : Type 0 where
   pub stays : (b : BusWorld) → K [] b b
-  pub changes : (xs : List Touch) (b c : BusWorld) (board : Board) → K xs b c → K xs b (with_board c board)
+  pub changes : (xs : List TracedAccess) (b c : BusWorld) (io_page : IoPage) → K xs b c → K xs b (with_io_page c io_page)
   pub looks : (b : BusWorld) (k : ℕ) → k < length b.core → K (processor_touch false b k ∷ []) b (core_read b k)
   pub writes : (b : BusWorld) (k word : ℕ) → k < length b.core → K (processor_touch true b k ∷ []) b (core_written b k word)
-  pub joins : (xs ys : List Touch) (b c d : BusWorld) → K xs b c → K ys c d → K (xs ++ ys) b d
+  pub joins : (xs ys : List TracedAccess) (b c d : BusWorld) → K xs b c → K ys c d → K (xs ++ ys) b d
 
-module _ (K : List Touch → BusWorld → BusWorld → Type 0) (goes : Goes K) where
+module _ (K : List TracedAccess → BusWorld → BusWorld → Type 0) (goes : Goes K) where
   by_shape : (shape : Shape) (b : BusWorld) → InCore (length b.core) shape → K (touches_by shape b) b (reply_by shape b).after
-  by_shape (Apart board value) b within = goes.changes [] b b board (goes.stays b)
-  by_shape (Looked board f k) b within = goes.changes _ b (core_read b k) board (goes.looks b k within)
-  by_shape (Wrote board told f k) b within = goes.changes _ b _ board (goes.writes b k _ within)
+  by_shape (Apart io_page value) b within = goes.changes [] b b io_page (goes.stays b)
+  by_shape (Looked io_page f k) b within = goes.changes _ b (core_read b k) io_page (goes.looks b k within)
+  by_shape (Wrote io_page told f k) b within = goes.changes _ b _ io_page (goes.writes b k _ within)
 
   along_reference : (r : Reference) (b : BusWorld) → K (touches r b) b (perform r b).after
   along_reference r b = rw (perform_is r b, touches_is r b) (by_shape (shape_of r b) b (shape_in_core r b))
 
-  along_settled : (p : Phase) (s : State) (value : Result ℕ Trap) (xs : List Touch) (b : BusWorld) → K xs b s.world.bus
-      → K xs b (bus_after (settled p s value))
+  along_settled : (p : Phase) (s : State) (value : Result ℕ Trap) (xs : List TracedAccess) (b : BusWorld) → K xs b s.world.bus
+      → K xs b (bus_after (after_answer p s value))
   along_settled p s (Ok value) xs b so = goes.changes xs b s.world.bus _ so
   along_settled p s (Err trap) xs b so = so
 
-  along_request : (p : Phase) (s : State) (request : Request) → K (requested request s.world.bus) s.world.bus (bus_after (by_request p s request))
+  along_request : (p : Phase) (s : State) (request : Request) → K (request_touches request s.world.bus) s.world.bus (bus_after (by_request p s request))
   along_request p s Nothing = goes.changes [] s.world.bus s.world.bus _ (goes.stays s.world.bus)
   along_request p s (Raise trap) = goes.stays s.world.bus
   along_request p s (Ask r) =
       along_settled p (state_of s.world.processor (perform r s.world.bus).after s.latch) (perform r s.world.bus).value (touches r s.world.bus) s.world.bus
       (along_reference r s.world.bus)
 
-  along_rest : (ps : List Phase) (xs : List Touch) (b : BusWorld) (r : Result State Stop)
+  along_rest : (ps : List Phase) (xs : List TracedAccess) (b : BusWorld) (r : Result State Stop)
       → ((t : State) → K (trace ps t) t.world.bus (bus_after (run ps t))) → K xs b (bus_after r)
       → K (xs ++ traced_next (λ t. trace ps t) r) b (bus_after (and_then r (λ t. run ps t)))
   along_rest ps xs b (Ok t) rest so = goes.joins xs (trace ps t) b t.world.bus (bus_after (run ps t)) so (rest t)
@@ -65,7 +65,7 @@ module _ (K : List Touch → BusWorld → BusWorld → Type 0) (goes : Goes K) w
   along_plan plan s = rw (← run_phases_of plan s) (along_run (phases_of plan) s)
 
   along_next : (next : Inner → Course) (caught : Trap → Inner → Course) (latch : Latch)
-      (xs : List Touch) (b : BusWorld) (r : Result State Stop)
+      (xs : List TracedAccess) (b : BusWorld) (r : Result State Stop)
       → ((t : State) → K (trace_of (next (inner_of t)) t) t.world.bus (follow (next (inner_of t)) t).world.bus)
       → ((trap : Trap) (t : State) → K (trace_of (caught trap (inner_of t)) t) t.world.bus (follow (caught trap (inner_of t)) t).world.bus)
       → K xs b (bus_after r)

@@ -2,17 +2,17 @@
 use Rattle.std.proofs.Common.{◌≡◌, ℕ, Bool, true, false, List, [], ◌∷◌, ◌++◌, Ok, Err, Result}
 use Rattle.std.proofs.Common.{refl, sym, ap, ap₂, ◌∙◌, append-nil}
 use Rattle.pdp_store.specs.Firsts.{Firsts, firsts_after}
-use Rattle.pdp_store.specs.Touch.{Touch}
+use Rattle.pdp_store.specs.TracedAccess.{TracedAccess}
 use Rattle.pdp_store.proofs.FirstTouches.{firsts_after-append}
 use Rattle.pdp_unibus.specs.BusWorld.{BusWorld, with_firsts}
 use Rattle.pdp_operand.specs.Handbook.Reference.{Reference, Reply, is_odd, perform}
 use Rattle.pdp_operand.specs.Phases.Phase.{Phase, Inner, State, Stop, Request, Nothing, Ask, Raise}
 use Rattle.pdp_operand.specs.Phases.Phase.{Latch, run, step, and_then, by_request, after_reply}
-use Rattle.pdp_operand.specs.Phases.Phase.{inner_of, state_of, stopped}
+use Rattle.pdp_operand.specs.Phases.Phase.{inner_of, state_of, stop_at}
 use Rattle.pdp_operand.specs.Phases.World.{World, world}
 use Rattle.pdp_operand.specs.Phases.Plan.{Plan, phases_of, run_plan}
 use Rattle.pdp_operand.specs.Phases.Course.{Course, End, Go, follow, go_on, caught_in}
-use Rattle.pdp_operand.specs.Laws.Trace.{touches, requested, trace, traced_next, trace_of}
+use Rattle.pdp_operand.specs.Laws.Trace.{touches, request_touches, trace, traced_next, trace_of}
 use Rattle.pdp_operand.specs.Laws.Trace.{traced_on}
 use Rattle.pdp_operation.specs.declared.trap.Trap.{Trap}
 use Rattle.pdp_operand.proofs.Flattening.{run_phases_of}
@@ -29,7 +29,7 @@ holding s firsts = state_of s.world.processor (with_firsts s.world.bus firsts) s
 
 abbrev outcome_holding : Result State Stop → Firsts → Result State Stop
 outcome_holding (Ok s) firsts = Ok (holding s firsts)
-outcome_holding (Err stop) firsts = Err (stopped stop.trap (world_holding stop.world firsts))
+outcome_holding (Err stop) firsts = Err (stop_at stop.trap (world_holding stop.world firsts))
 
 abbrev reply_holding : Reply → Firsts → Reply
 reply_holding reply firsts = record { value = reply.value; after = with_firsts reply.after firsts }
@@ -39,15 +39,15 @@ by_shape : (shape : Shape) (b : BusWorld) (firsts : Firsts)
     → reply_by shape (with_firsts b firsts)
     ≡ reply_holding (reply_by shape b) (firsts_after (touches_by shape b) firsts)
 unfolding firsts_after
-by_shape (Apart board value) b firsts = refl
-by_shape (Looked board f k) b firsts = refl
-by_shape (Wrote board told f k) b firsts = refl
+by_shape (Apart io_page value) b firsts = refl
+by_shape (Looked io_page f k) b firsts = refl
+by_shape (Wrote io_page told f k) b firsts = refl
 
 touches_by_shape : (shape : Shape) (b : BusWorld) (firsts : Firsts)
     → touches_by shape (with_firsts b firsts) ≡ touches_by shape b
-touches_by_shape (Apart board value) b firsts = refl
-touches_by_shape (Looked board f k) b firsts = refl
-touches_by_shape (Wrote board told f k) b firsts = refl
+touches_by_shape (Apart io_page value) b firsts = refl
+touches_by_shape (Looked io_page f k) b firsts = refl
+touches_by_shape (Wrote io_page told f k) b firsts = refl
 
 same_if : (odd : Bool) (r : Reference) (b : BusWorld) (firsts : Firsts)
     → shape_if odd r (with_firsts b firsts) ≡ shape_if odd r b
@@ -73,7 +73,7 @@ carried_reply r b firsts =
     (by_shape (shape_of r b) b firsts)
 
 -- phases, and the same over other first touches: the trace changes these, and nothing else
-record Carried (outcome other : Result State Stop) (xs ys : List Touch) (firsts : Firsts)
+record Carried (outcome other : Result State Stop) (xs ys : List TracedAccess) (firsts : Firsts)
     : Type 0 where
   is : other ≡ outcome_holding outcome (firsts_after xs firsts)
   trace : ys ≡ xs
@@ -87,7 +87,7 @@ settled_holding p s (Err trap) after firsts kept = refl
 
 carried_request : (p : Phase) (s : State) (request : Request) (firsts : Firsts)
     → Carried (by_request p s request) (by_request p (holding s firsts) request)
-    (requested request s.world.bus) (requested request (with_firsts s.world.bus firsts)) firsts
+    (request_touches request s.world.bus) (request_touches request (with_firsts s.world.bus firsts)) firsts
 unfolding firsts_after
 carried_request p s Nothing firsts = record { is = refl; trace = refl }
 carried_request p s (Raise trap) firsts = record { is = refl; trace = refl }
@@ -101,7 +101,7 @@ carried_request p s (Ask r) firsts =
       trace = same_touches r b firsts;
     }
 
-carried_rest : (ps : List Phase) (r other : Result State Stop) (xs ys : List Touch)
+carried_rest : (ps : List Phase) (r other : Result State Stop) (xs ys : List TracedAccess)
     (firsts : Firsts)
     → Carried r other xs ys firsts
     → ((t : State) (kept : Firsts)
@@ -142,7 +142,7 @@ carried_plan plan s firsts =
     (carried_run (phases_of plan) s firsts)
 
 -- a course
-pub record CarriedCourse (t other : State) (xs ys : List Touch) (firsts : Firsts) : Type 0 where
+pub record CarriedCourse (t other : State) (xs ys : List TracedAccess) (firsts : Firsts) : Type 0 where
   pub is : other ≡ holding t (firsts_after xs firsts)
   pub trace : ys ≡ xs
 
@@ -158,13 +158,13 @@ followed next caught latch r =
     (λ trap t. follow (caught trap (inner_of t)) t) latch r
 
 abbrev traced : (Inner → Course) → (Trap → Inner → Course) → Latch → Result State Stop
-    → List Touch
+    → List TracedAccess
 traced next caught latch r =
     traced_on (λ t. trace_of (next (inner_of t)) t)
     (λ trap t. trace_of (caught trap (inner_of t)) t) latch r
 
 carried_next : (next : Inner → Course) (caught : Trap → Inner → Course) (latch : Latch)
-    (r other : Result State Stop) (xs ys : List Touch) (firsts : Firsts)
+    (r other : Result State Stop) (xs ys : List TracedAccess) (firsts : Firsts)
     → Carried r other xs ys firsts
     → ((t : State) (kept : Firsts) → CarriedFrom (next (inner_of t)) t kept)
     → ((trap : Trap) (t : State) (kept : Firsts) → CarriedFrom (caught trap (inner_of t)) t kept)

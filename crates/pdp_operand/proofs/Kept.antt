@@ -2,8 +2,8 @@
 use Rattle.std.proofs.Common.{◌≡◌, ℕ, ◌<◌, ◌==◌, Bool, true, false, List, [], ◌∷◌, Option, None, refl, sym, ◌∙◌, All, length, slice_index_or, slice_set, if◌then◌else◌, length-set, get_or-set_same, get_or-set_other}
 use Rattle.std.proofs.lemmas.Bool.{eqb-true, eqb-false}
 use Rattle.std.proofs.lemmas.List.Elements.{All-nil, All-cons, All-append}
-use Rattle.pdp_store.specs.Touch.{Avoids, Part, Touch, last_write}
-use Rattle.pdp_store.specs.Touch.{Part as parts}
+use Rattle.pdp_store.specs.TracedAccess.{Avoids, Part, TracedAccess, last_write}
+use Rattle.pdp_store.specs.TracedAccess.{Part as parts}
 use Rattle.pdp_store.specs.declared.Stamp.{Stamp}
 use Rattle.pdp_unibus.proofs.Kept.{KeepsPage, KeepsStamps, keeps_page, keeps_stamps}
 use Rattle.pdp_unibus.specs.BusWorld.{BusWorld}
@@ -17,7 +17,7 @@ use Rattle.pdp_operand.specs.Laws.Touched.{IsByProcessor}
 use Rattle.pdp_operand.proofs.Along.{Goes, along_course}
 
 -- the turn and the number of words stay, and every touch is by the processor, of that turn and of those words
-pub record KeepsTurn (xs : List Touch) (b c : BusWorld) : Type 0 where
+pub record KeepsTurn (xs : List TracedAccess) (b c : BusWorld) : Type 0 where
   pub turn : c.turn ≡ b.turn
   pub words : length c.core ≡ length b.core
   pub touches : All (IsByProcessor b.turn (length b.core)) xs
@@ -32,7 +32,7 @@ touch_of_turn writes b k within =
 goes_turn : Goes KeepsTurn
 goes_turn = record {
   stays = λ b. record { turn = refl; words = refl; touches = All-nil (IsByProcessor b.turn (length b.core)) };
-  changes = λ xs b c board so. record { turn = so.turn; words = so.words; touches = so.touches };
+  changes = λ xs b c io_page so. record { turn = so.turn; words = so.words; touches = so.touches };
   looks = λ b k within. record { turn = refl; words = refl; touches = touch_of_turn false b k within };
   writes = λ b k word within. record { turn = refl; words = length-set _ _ _; touches = touch_of_turn true b k within };
   joins = λ xs ys b c d so also. record {
@@ -50,7 +50,7 @@ stamped lasts j k stamp false is within = get_or-set_other lasts j k stamp None 
 goes_stamps : Goes KeepsStamps
 goes_stamps = record {
   stays = keeps_stamps.stays;
-  changes = λ xs b c board so. keeps_stamps.changes xs b c board c.bytes_read so;
+  changes = λ xs b c io_page so. keeps_stamps.changes xs b c io_page c.bytes_read so;
   looks = λ b k within. record { size = refl; lasts = λ j below. refl };
   writes = λ b k word within. record { size = length-set _ _ _; lasts = λ j below. stamped b.lasts k j _ (k == j) refl below };
   joins = keeps_stamps.joins;
@@ -60,7 +60,7 @@ goes_stamps = record {
 goes_tape : Goes (λ xs b c. c.tape ≡ b.tape)
 goes_tape = record {
   stays = λ b. refl;
-  changes = λ xs b c board so. so;
+  changes = λ xs b c io_page so. so;
   looks = λ b k within. refl;
   writes = λ b k word within. refl;
   joins = λ xs ys b c d so also. also ∙ so;
@@ -76,7 +76,7 @@ written_elsewhere (parts.Drive number) page b k word avoids j inside = refl
 goes_page : (part : Part) (page : ℕ) → Goes (KeepsPage part page)
 goes_page part page = record {
   stays = (keeps_page part page).stays;
-  changes = λ xs b c board so. (keeps_page part page).changes xs b c board c.bytes_read so;
+  changes = λ xs b c io_page so. (keeps_page part page).changes xs b c io_page c.bytes_read so;
   looks = λ b k within avoids j inside. refl;
   writes = λ b k word within avoids. written_elsewhere part page b k word avoids;
   joins = (keeps_page part page).joins;

@@ -1,5 +1,6 @@
 pub mod Steps
-pub mod Slots
+pub mod RegisterIds
+pub mod Stacks
 pub mod Found
 pub mod CoreReferences
 pub mod Flattening

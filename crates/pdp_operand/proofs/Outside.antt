@@ -1,9 +1,9 @@
 -- A course leaves a page that it never touches, and is the same whatever the page holds.
 use Rattle.std.proofs.Common.{ℕ, List, sym, ap, subst}
 use Rattle.pdp_store.specs.Parts.{AlikeWords}
-use Rattle.pdp_store.specs.Touch.{Avoids, Part}
+use Rattle.pdp_store.specs.TracedAccess.{Avoids, Part}
 use Rattle.pdp_unibus.specs.BusWorld.{BusWorld}
-use Rattle.pdp_unibus.specs.Page.{AlikeOutside, words_of, with_words}
+use Rattle.pdp_unibus.specs.Page.{AlikeOutside, words_of_part, bus_with_words}
 use Rattle.pdp_operand.specs.Phases.Phase.{State}
 use Rattle.pdp_operand.specs.Phases.Course.{Course}
 use Rattle.pdp_operand.specs.Laws.Trace.{trace_of}
@@ -11,8 +11,8 @@ use Rattle.pdp_operand.specs.Laws.Page.{UndisturbedCourse}
 use Rattle.pdp_operand.proofs.Kept.{course_keeps_page}
 use Rattle.pdp_operand.proofs.Pairs.{over, paired_course}
 
-undisturbed_by : (part : Part) (page : ℕ) (course : Course) (s : State) (words : List ℕ) → AlikeWords page (words_of part s.world.bus) words
-    → Avoids part page (trace_of course s) → UndisturbedCourse part page course s (with_words part words s.world.bus)
+undisturbed_by : (part : Part) (page : ℕ) (course : Course) (s : State) (words : List ℕ) → AlikeWords page (words_of_part part s.world.bus) words
+    → Avoids part page (trace_of course s) → UndisturbedCourse part page course s (bus_with_words part words s.world.bus)
 undisturbed_by part page course s words alike avoids =
     let pair = paired_course part page course s words alike avoids in
     record {

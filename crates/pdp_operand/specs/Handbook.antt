@@ -1,5 +1,5 @@
 -- What the handbook says: registers, references, addressing modes.
-pub mod Slot
+pub mod RegisterId
 pub mod Processor
 pub mod Reference
 pub mod Operand

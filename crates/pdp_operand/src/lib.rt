@@ -12,7 +12,8 @@
 //!   `store`, `read_word` to `write_byte`).
 //! - A reference is translated in the space of its mode, and then makes one bus cycle, or traps.
 //! - An operand in core is found, read and written as its phases do, by accesses that change no
-//!   mapping register, or nothing changes (`find_core`, `fetch_core`, `store_core`, `give_back`).
+//!   mapping register, or nothing changes (`find_core`, `fetch_core`, `store_core`, `give_back`,
+//!   `pushed`).
 //! - A reference that memory management aborts changes no word of core, and neither does a write
 //!   through a read-only page (`aborts_change_no_core_word`).
 //! - A plan is the run of its phases (`plan_is_its_phases`).
@@ -28,7 +29,10 @@ mod place;
 mod processor;
 mod reference;
 
-pub use core_operand::{MemoryOperand, fetch_core, find_core, give_back, read_core, store_core};
+pub use core_operand::{
+    MemoryOperand, fetch_core, find_core, give_back, is_far_from_limit, pushed, read_core,
+    store_core,
+};
 pub use laws::{
     aborts_change_no_core_word, courses_leave_what_they_never_touch, plan_is_its_phases,
     stamps_of_courses_are_last_writes, touches_of_courses_are_of_their_turn,
@@ -36,5 +40,5 @@ pub use laws::{
 pub use operand::{address, fetch, fetch_before_store, is_status, lower, store};
 pub use pdp_operation::Trap;
 pub use place::{Cell, Fill, Place};
-pub use processor::{GeneralRegister, Processor, RunState, Slot};
+pub use processor::{GeneralRegister, Processor, RegisterId, RunState};
 pub use reference::{read_byte, read_decoded, read_word, write_byte, write_word};

@@ -1,14 +1,19 @@
 ghost use Rattle.std.specs.Prelude.{◌≡◌, ◌<◌, ◌%◌, Ok, IfOk};
 ghost use Rattle.pdp_word.specs.Size.{span};
-ghost use Rattle.pdp_operand.specs.Handbook.Operand.{cell_in, find, grow, index, indirect, is_status, lower as lower_phase, lowered, after_lowering, mode_now, point, read_before_write, read_operand, size_of_fill, step_of, write_operand};
-ghost use Rattle.pdp_operand.specs.Contract.{Gives, GivesWhere, IsAt, IsToWrite, in_cell, in_codes, in_place, in_value};
+ghost use Rattle.pdp_operand.specs.Handbook.Operand.{cell_in, find, grow, index, indirect};
+ghost use Rattle.pdp_operand.specs.Handbook.Operand.{is_status, lower as lower_phase};
+ghost use Rattle.pdp_operand.specs.Handbook.Operand.{lowering_result, after_lowering, mode_now};
+ghost use Rattle.pdp_operand.specs.Handbook.Operand.{point, read_before_write, read_operand};
+ghost use Rattle.pdp_operand.specs.Handbook.Operand.{size_of_fill, step_of, write_operand};
+ghost use Rattle.pdp_operand.specs.Contract.{Gives, GivesWhere, IsAt, IsToWrite, in_cell, in_codes};
+ghost use Rattle.pdp_operand.specs.Contract.{in_place, in_value};
 ghost use Rattle.pdp_operand.specs.Phases.Plan.{one};
 ghost use Rattle.pdp_operand.specs.Handbook.Processor.{register_of};
-ghost use Rattle.pdp_operand.specs.Handbook.Slot.{slot_of};
+ghost use Rattle.pdp_operand.specs.Handbook.RegisterId.{register_id_of};
 ghost use Rattle.pdp_operand.specs.declared.place.Place.TheVariants.{Mem};
 
 use crate::place::{Cell, Fill, Place};
-use crate::processor::{Processor, Slot};
+use crate::processor::{Processor, RegisterId};
 use crate::reference::{read_byte, read_word, write_byte, write_word};
 use pdp_decode::Spec;
 use pdp_kt11::Mode;
@@ -25,25 +30,29 @@ fn cell_at(mode: Mode, address: u16) -> Cell
     Cell {
         mode,
         address,
-        near: false,
+        yellow: false,
     }
 }
 
 /// The register that a number names in the mode of now.
 #[inline(always)]
-fn slot<S: Store, D: Store>(bus: &Bus<S, D>, register: u8) -> Slot
-    ensures { result ≡ slot_of bus.now.board.status.mode register }
+fn register_id<S: Store, D: Store>(bus: &Bus<S, D>, register: u8) -> RegisterId
+    ensures { result ≡ register_id_of bus.now.io_page.status.mode register }
 {
-    Slot::of(bus.status().mode, register)
+    RegisterId::of(bus.status().mode, register)
 }
 
 /// (R)
 #[inline(always)]
 #[tactic(auto, unfolding(crate::specs::Phases::Phase::run, crate::specs::Handbook::Operand::point))]
 fn pointed<S: Store, D: Store>(processor: &Processor, bus: &Bus<S, D>, register: u8) -> Cell
-    ensures gives { Gives in_cell (one (point register)) processor.now bus.now (Ok result) processor.now bus.now }
+    ensures gives { Gives in_cell (one (point register)) processor.now bus.now
+        (Ok result) processor.now bus.now }
 {
-    cell_at(bus.status().mode, processor.register(slot(bus, register)))
+    cell_at(
+        bus.status().mode,
+        processor.register(register_id(bus, register)),
+    )
 }
 
 /// (R)+
@@ -55,39 +64,40 @@ fn grown<S: Store, D: Store>(
     register: u8,
     step: u16,
 ) -> Cell
-    ensures gives { Gives in_cell (one (grow register step)) processor.old bus.now (Ok result) processor.new bus.now }
+    ensures gives { Gives in_cell (one (grow register step)) processor.old bus.now
+        (Ok result) processor.new bus.now }
 {
-    let slot = slot(bus, register);
-    let cell = cell_at(bus.status().mode, processor.register(slot));
-    processor.advance(slot, step);
+    let id = register_id(bus, register);
+    let cell = cell_at(bus.status().mode, processor.register(id));
+    processor.advance(id, step);
     cell
 }
 
-/// Lowers the register by the step (bytes), and answers the cell at the address in it then, in the space of the
-/// mode: -(R), and a push, which goes to R6 of the mode whose stack it is. Where that is the kernel's stack pointer,
-/// below 400 (octal) the cell is near the end of its stack.
+/// Lowers the register by the step (bytes), and answers the cell at the address in it then, in the
+/// space of the mode: -(R), and a push, which goes to R6 of the mode whose stack it is. Where that
+/// is the kernel's stack pointer, below 400 (octal) the cell is in the yellow zone of its stack.
 ///
-/// DEC PDP-11/40 Processor Handbook (1972), Addressing modes and Stack limit; 340 and 400 (octal) are this project's
-/// profile.
+/// DEC PDP-11/40 Processor Handbook (1972), Addressing modes and Stack limit; 340 and 400 (octal)
+/// are this project's profile.
 ///
-/// Err(StackLimit) where the register is the kernel's stack pointer and the address is below 340 (octal); the
-/// processor is then as before.
+/// Err(StackLimit) where the register is the kernel's stack pointer and the address is below 340
+/// (octal); the processor is then as before.
 #[inline(always)]
 pub fn lower(processor: &mut Processor, mode: Mode, register: u8, step: u16) -> Result<Cell, Trap>
-    ensures cell { result ≡ lowered mode register step processor.old }
+    ensures cell { result ≡ lowering_result mode register step processor.old }
     ensures after { processor.new ≡ after_lowering mode register step processor.old }
 {
-    let slot = Slot::of(mode, register);
-    let address = processor.register(slot).wrapping_sub(step);
-    let near = slot == Slot::KernelStack && address < 0o400;
-    if near && address < 0o340 {
+    let id = RegisterId::of(mode, register);
+    let address = processor.register(id).wrapping_sub(step);
+    let yellow = id == RegisterId::KernelStack && address < 0o400;
+    if yellow && address < 0o340 {
         return Err(Trap::StackLimit);
     }
-    processor.set_register(slot, address);
+    processor.set_register(id, address);
     Ok(Cell {
         mode,
         address,
-        near,
+        yellow,
     })
 }
 
@@ -114,12 +124,13 @@ fn indexed<S: Store, D: Store>(
     bus: &mut Bus<S, D>,
     register: u8,
 ) -> Result<Cell, Trap>
-    ensures gives { Gives in_cell (one (index register)) processor.old bus.old result processor.new bus.new }
+    ensures gives { Gives in_cell (one (index register)) processor.old bus.old result processor.new
+        bus.new }
 {
     let mode = bus.status().mode;
-    let word = read_word(bus, mode, processor.register(Slot::ProgramCounter))?;
-    processor.advance(Slot::ProgramCounter, 2);
-    let base = processor.register(slot(bus, register));
+    let word = read_word(bus, mode, processor.register(RegisterId::ProgramCounter))?;
+    processor.advance(RegisterId::ProgramCounter, 2);
+    let base = processor.register(register_id(bus, register));
     Ok(cell_at(bus.status().mode, base.wrapping_add(word)))
 }
 
@@ -135,7 +146,7 @@ fn deferred<S: Store, D: Store>(
         processor.old bus.old result processor.new bus.new }
 {
     let address = read_word(bus, cell.mode, cell.address)?;
-    processor.mark(cell.near);
+    processor.mark(cell.yellow);
     Ok(cell_at(bus.status().mode, address))
 }
 
@@ -150,14 +161,15 @@ fn step(size: Size, register: u8) -> u16
     }
 }
 
-/// Finds the operand that a specifier names, with the changes of registers and the references that this makes.
+/// Finds the operand that a specifier names, with the changes of registers and the references that
+/// this makes.
 ///
-/// DEC PDP-11/40 Processor Handbook (1972), Addressing modes: a register changes before the access that it serves, and
-/// keeps its change where the access faults (this project's profile). Once the pointer of @-(SP) was read near the end
-/// of the kernel's stack, a stack trap is pending.
+/// DEC PDP-11/40 Processor Handbook (1972), Addressing modes: a register changes before the access
+/// that it serves, and keeps its change where the access faults (this project's profile). Once the
+/// pointer of @-(SP) was read in the yellow zone of the kernel's stack, a stack trap is pending.
 ///
-/// Err where a reference to memory faults, or where -(SP) or @-(SP) is past the limit of the kernel's stack, as
-/// [`lower`] has it.
+/// Err where a reference to memory faults, or where -(SP) or @-(SP) is past the limit of the
+/// kernel's stack, as [`lower`] has it.
 #[inline(always)]
 #[tactic(auto, unfolding(crate::specs::Handbook::Operand::find), using(crate::proofs::Steps::run_name_register))]
 pub fn address<S: Store, D: Store>(
@@ -166,11 +178,12 @@ pub fn address<S: Store, D: Store>(
     operand: Spec,
     size: Size,
 ) -> Result<Place, Trap>
-    ensures gives { Gives in_place (find size operand) processor.old bus.old result processor.new bus.new }
+    ensures gives { Gives in_place (find size operand) processor.old bus.old result processor.new
+        bus.new }
 {
     let register = operand.reg;
     let cell = match operand.mode {
-        0 => return Ok(Place::Reg(slot(bus, register))),
+        0 => return Ok(Place::Reg(register_id(bus, register))),
         1 => return Ok(Place::Mem(pointed(processor, bus, register))),
         2 => return Ok(Place::Mem(grown(processor, bus, register, step(size, register)))),
         3 => grown(processor, bus, register, 2),
@@ -190,21 +203,22 @@ pub fn address<S: Store, D: Store>(
 
 /// An operand in a register: its word, or its low byte.
 #[inline(always)]
-fn register_operand(processor: &Processor, slot: Slot, size: Size) -> u16
-    ensures { result ≡ register_of processor.now slot % span size }
+fn register_operand(processor: &Processor, id: RegisterId, size: Size) -> u16
+    ensures { result ≡ register_of processor.now id % span size }
 {
-    let word = processor.register(slot);
+    let word = processor.register(id);
     match size {
         Size::Word => word,
         Size::Byte => word % 256,
     }
 }
 
-/// Reads the operand at a place that isn't written afterwards: a word, or a byte as a number below 400 (octal). Where
-/// the place is near the end of the kernel's stack, a stack trap is then pending.
+/// Reads the operand at a place that isn't written afterwards: a word, or a byte as a number below
+/// 400 (octal). Where the place is in the yellow zone of the kernel's stack, a stack trap is then
+/// pending.
 ///
-/// DEC PDP-11/40 Processor Handbook (1972), Addressing modes and Stack limit; a byte read reads its whole word on the
-/// bus (this project's profile).
+/// DEC PDP-11/40 Processor Handbook (1972), Addressing modes and Stack limit; a byte read reads its
+/// whole word on the bus (this project's profile).
 ///
 /// Err where the reference to memory faults; no stack trap is pending by it then.
 #[inline(always)]
@@ -220,24 +234,25 @@ pub fn fetch<S: Store, D: Store>(
     ensures fits { IfOk result (λ value. value < span size) }
 {
     match (place, size) {
-        (Place::Reg(slot), _) => Ok(register_operand(processor, slot, size)),
+        (Place::Reg(id), _) => Ok(register_operand(processor, id, size)),
         (Place::Mem(cell), Size::Word) => {
             let word = read_word(bus, cell.mode, cell.address)?;
-            processor.mark(cell.near);
+            processor.mark(cell.yellow);
             Ok(word)
         }
         (Place::Mem(cell), Size::Byte) => {
             let byte = read_byte(bus, cell.mode, cell.address)?;
-            processor.mark(cell.near);
+            processor.mark(cell.yellow);
             Ok(u16::from(byte))
         }
     }
 }
 
-/// Reads the operand at a place that is written afterwards: a word, or a byte as a number below 400 (octal).
+/// Reads the operand at a place that is written afterwards: a word, or a byte as a number below 400
+/// (octal).
 ///
-/// DEC PDP-11/40 Processor Handbook (1972), Addressing modes; a byte read reads its whole word on the bus, and a stack
-/// trap is pending only once the write was made (this project's profile).
+/// DEC PDP-11/40 Processor Handbook (1972), Addressing modes; a byte read reads its whole word on
+/// the bus, and a stack trap is pending only once the write was made (this project's profile).
 ///
 /// Err where the reference to memory faults.
 #[inline(always)]
@@ -253,20 +268,22 @@ pub fn fetch_before_store<S: Store, D: Store>(
     ensures fits { IfOk result (λ value. value < span size) }
 {
     match (place, size) {
-        (Place::Reg(slot), _) => Ok(register_operand(processor, slot, size)),
+        (Place::Reg(id), _) => Ok(register_operand(processor, id, size)),
         (Place::Mem(cell), Size::Word) => Ok(read_word(bus, cell.mode, cell.address)?),
         (Place::Mem(cell), Size::Byte) => Ok(u16::from(read_byte(bus, cell.mode, cell.address)?)),
     }
 }
 
-/// Writes a word, or a byte as a number below 400 (octal), to a place, and answers whether that was the program status
-/// word, which then wins over the codes of the instruction. `fill` says how a register is filled. Where the place is
-/// near the end of the kernel's stack, a stack trap is then pending.
+/// Writes a word, or a byte as a number below 400 (octal), to a place, and answers whether that was
+/// the program status word, which then wins over the codes of the instruction. `fill` says how a
+/// register is filled. Where the place is in the yellow zone of the kernel's stack, a stack trap is
+/// then pending.
 ///
-/// DEC PDP-11/40 Processor Handbook (1972), Addressing modes, MOV and Stack limit; that a written status wins is this
-/// project's profile.
+/// DEC PDP-11/40 Processor Handbook (1972), Addressing modes, MOV and Stack limit; that a written
+/// status wins is this project's profile.
 ///
-/// Err where the reference to memory faults; nothing is written then, and no stack trap is pending by it.
+/// Err where the reference to memory faults; nothing is written then, and no stack trap is pending
+/// by it.
 #[inline(always)]
 #[tactic(auto, unfolding(crate::specs::Phases::Phase::run, crate::specs::Handbook::Operand::write_operand))]
 pub fn store<S: Store, D: Store>(
@@ -281,27 +298,27 @@ pub fn store<S: Store, D: Store>(
         processor.old bus.old result processor.new bus.new }
 {
     match (place, fill) {
-        (Place::Reg(slot), Fill::Whole) => {
-            processor.set_register(slot, value);
+        (Place::Reg(id), Fill::Whole) => {
+            processor.set_register(id, value);
             Ok(false)
         }
-        (Place::Reg(slot), Fill::LowByte) => {
-            let old = processor.register(slot);
-            processor.set_register(slot, old - old % 256 + value);
+        (Place::Reg(id), Fill::LowByte) => {
+            let old = processor.register(id);
+            processor.set_register(id, old - old % 256 + value);
             Ok(false)
         }
-        (Place::Reg(slot), Fill::Extended) => {
-            processor.set_register(slot, sign_extend(value as u8));
+        (Place::Reg(id), Fill::Extended) => {
+            processor.set_register(id, sign_extend(value as u8));
             Ok(false)
         }
         (Place::Mem(cell), Fill::Whole) => {
             let physical = write_word(bus, cell.mode, cell.address, value)?;
-            processor.mark(cell.near);
+            processor.mark(cell.yellow);
             Ok(is_status(physical))
         }
         (Place::Mem(cell), Fill::LowByte | Fill::Extended) => {
             let physical = write_byte(bus, cell.mode, cell.address, value as u8)?;
-            processor.mark(cell.near);
+            processor.mark(cell.yellow);
             Ok(is_status(physical))
         }
     }

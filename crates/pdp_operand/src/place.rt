@@ -1,7 +1,7 @@
 ghost use Rattle.std.specs.Prelude.{◌≡◌};
 ghost use Rattle.pdp_operand.specs.Handbook.Operand.{fill_of, size_of_fill};
 
-use crate::processor::Slot;
+use crate::processor::RegisterId;
 use pdp_kt11::Mode;
 use pdp_word::Size;
 
@@ -12,14 +12,15 @@ pub struct Cell {
     pub mode: Mode,
     /// The virtual byte address.
     pub address: u16,
-    /// Whether a reference to it makes a stack trap pending: the kernel's stack pointer shrank to it, below 400 octal.
-    pub near: bool,
+    /// Whether a reference to it makes a stack trap pending: the kernel's stack pointer shrank to
+    /// it, below 400 octal.
+    pub yellow: bool,
 }
 
 /// Where an operand is.
 #[derive(Clone, Copy, Debug, PartialEq, Eq)]
 pub enum Place {
-    Reg(Slot),
+    Reg(RegisterId),
     Mem(Cell),
 }
 

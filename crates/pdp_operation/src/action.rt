@@ -1,7 +1,8 @@
 //! Instructions by the phases that they have.
 ghost use Rattle.std.specs.Prelude.{◌≡◌};
 ghost use Rattle.pdp_operation.specs.Action.{action_of, trap_of};
-ghost use Rattle.pdp_operation.specs.declared.action.Action.TheVariants.{Branch, Compare, Combine, Modify, Replace};
+ghost use Rattle.pdp_operation.specs.declared.action.Action.TheVariants.{Branch, Compare, Combine};
+ghost use Rattle.pdp_operation.specs.declared.action.Action.TheVariants.{Modify, Replace};
 
 use crate::condition::Condition;
 use crate::operation::{Combination, Comparison, Modification, Replacement};

@@ -1,6 +1,9 @@
 ghost use Rattle.std.specs.Prelude.{◌≡◌, ◌<◌};
 ghost use Rattle.pdp_word.specs.Size.{span};
-ghost use Rattle.pdp_operation.specs.Operation.{size_of_comparison, compared, size_of_combination, combined, size_of_modification, modified, size_of_replacement, replaced};
+ghost use Rattle.pdp_operation.specs.Operation.{size_of_comparison, comparison_effect};
+ghost use Rattle.pdp_operation.specs.Operation.{size_of_combination, combination_effect};
+ghost use Rattle.pdp_operation.specs.Operation.{size_of_modification, modification_effect};
+ghost use Rattle.pdp_operation.specs.Operation.{size_of_replacement, replacement_effect};
 
 use pdp_alu::{
     Effect, adc, add, asl, asr, bic, bis, bit, clr, cmp, com, dec, inc, neg, rol, ror, sbc, sub,
@@ -29,7 +32,7 @@ impl Comparison {
     /// Its effect on these operands, with these codes from before.
     #[inline(always)]
     pub fn effect(self, source: u16, destination: u16, codes: Codes) -> Effect
-        ensures { result ≡ compared self source destination codes }
+        ensures { result ≡ comparison_effect self source destination codes }
     {
         match self {
             Comparison::Cmp(size) => cmp(size, source, destination),
@@ -63,7 +66,7 @@ impl Combination {
     /// Its effect on these operands, with these codes from before.
     #[inline(always)]
     pub fn effect(self, source: u16, destination: u16, codes: Codes) -> Effect
-        ensures effect { result ≡ combined self source destination codes }
+        ensures effect { result ≡ combination_effect self source destination codes }
         ensures fits { result.value < span (size_of_combination self) }
     {
         match self {
@@ -116,7 +119,7 @@ impl Modification {
     /// Its effect on this operand, with these codes from before.
     #[inline(always)]
     pub fn effect(self, operand: u16, codes: Codes) -> Effect
-        ensures effect { result ≡ modified self operand codes }
+        ensures effect { result ≡ modification_effect self operand codes }
         ensures fits { result.value < span (size_of_modification self) }
     {
         match self {
@@ -157,7 +160,7 @@ impl Replacement {
     /// Its effect, with these codes from before.
     #[inline(always)]
     pub fn effect(self, codes: Codes) -> Effect
-        ensures effect { result ≡ replaced self codes }
+        ensures effect { result ≡ replacement_effect self codes }
         ensures fits { result.value < span (size_of_replacement self) }
     {
         match self {

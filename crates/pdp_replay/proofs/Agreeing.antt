@@ -1,14 +1,15 @@
--- Two pasts with the same setup, and the same events in all turns before one, have the same run up to there.
+-- Two pasts with the same setup, and the same events in all turns before one, have the same run up
+-- to there.
 use Rattle.std.proofs.Common.{◌≡◌, ◌∙◌, ℕ, zero, suc, ◌<◌, ◌≤◌, List, ◌++◌, ap, ap₂, refl, arith}
 use Rattle.pdp_operand.specs.Phases.World.{World}
 use Rattle.pdp_cpu.specs.Turns.MachineState.{MachineState}
 use Rattle.pdp_cpu.specs.Turns.Turn.{one_turn, printed_in, punched_in, turn_trace}
 use Rattle.pdp_script.specs.Entries.{events_at}
 use Rattle.pdp_store.specs.Firsts.{firsts_after}
-use Rattle.pdp_replay.specs.FirstTouches.{firsts_at, untouched_all}
-use Rattle.pdp_replay.specs.KeptStates.{with_turn, text_kept_at, punched_kept_at}
+use Rattle.pdp_replay.specs.Run.FirstTouches.{firsts_at, untouched_all}
+use Rattle.pdp_replay.specs.Run.Checkpoints.{with_turn, text_kept_at, punched_kept_at}
 use Rattle.pdp_replay.specs.Past.{Past}
-use Rattle.pdp_replay.specs.States.{at, power, state_at, text_at, punched_at, trace_at}
+use Rattle.pdp_replay.specs.Run.States.{at, power, state_at, text_at, punched_at, trace_at}
 
 -- the two have the same setup, and the same events in each turn before this one
 pub record Agree (p q : Past) (n : ℕ) : Type 0 where

@@ -1,18 +1,19 @@
--- Up to the first touch of a page each state of a run has in it the words of power-up and, in core, no stamp.
+-- Up to the first touch of a page each state of a run has in it the words of power-up and, in core,
+-- no stamp.
 use Rattle.std.proofs.Common.{◌≡◌, ◌≢◌, ◌∙◌, ℕ, zero, suc, ◌/◌, ◌≤◌, ◌==◌, ◌&&◌, if◌then◌else◌, Bool, true, false, List, [], ◌∷◌, Option, Some, None, ap, refl, arith, length, nat_lt, slice_index_or, ltb-true, ltb-false}
 use Rattle.std.proofs.lemmas.Bool.{eqb-true}
 use Rattle.pdp_store.proofs.Traces.{Avoids-first, Avoids-second}
-use Rattle.pdp_store.specs.Touch.{Avoids, Part, Touch, is_core, last_write, stamp_of}
-use Rattle.pdp_store.specs.Touch.{Part as parts}
+use Rattle.pdp_store.specs.TracedAccess.{Avoids, Part, TracedAccess, is_core, last_write, stamp_of}
+use Rattle.pdp_store.specs.TracedAccess.{Part as parts}
 use Rattle.pdp_store.specs.declared.Stamp.{Stamp}
-use Rattle.pdp_unibus.specs.Page.{SamePage, words_of, with_words}
+use Rattle.pdp_unibus.specs.Page.{SamePage, words_of_part, bus_with_words}
 use Rattle.pdp_cpu.proofs.TurnLaws.{turn_undisturbed}
 use Rattle.pdp_cpu.specs.Turns.Turn.{turn_trace}
 use Rattle.pdp_script.specs.Entries.{events_at}
-use Rattle.pdp_replay.specs.FirstTouches.{IsAsAtPowerUp, UntouchedPagesAreAlike}
+use Rattle.pdp_replay.specs.Run.FirstTouches.{IsAsAtPowerUp, UntouchedPagesAreAlike}
 use Rattle.pdp_replay.specs.Past.{Past}
-use Rattle.pdp_replay.specs.Setup.{core_size}
-use Rattle.pdp_replay.specs.States.{power, state_at, trace_at}
+use Rattle.pdp_replay.specs.Past.Setup.{core_size}
+use Rattle.pdp_replay.specs.Run.States.{power, state_at, trace_at}
 use Rattle.pdp_replay.proofs.LastWrites.{lasts_are, lasts_keep_size}
 use Rattle.pdp_replay.proofs.Untouched.{untouched_until}
 
@@ -25,8 +26,8 @@ words_stay p part page (suc n) avoids =
     let events = events_at p.script.entries n in
     let w = state_at p n in
     let before = Avoids-first part page (trace_at p n) (turn_trace n events w) avoids in
-    let turn = turn_undisturbed part page n events w.processor w.bus (with_words part (words_of part w.bus) w.bus)
-    (record { words = words_of part w.bus; is = refl; alike = record { size = refl; words = λ k outside. refl } })
+    let turn = turn_undisturbed part page n events w.processor w.bus (bus_with_words part (words_of_part part w.bus) w.bus)
+    (record { words = words_of_part part w.bus; is = refl; alike = record { size = refl; words = λ k outside. refl } })
     (Avoids-second part page (trace_at p n) (turn_trace n events w) avoids) in
     λ k inside. words_stay p part page n before k inside ∙ turn.page_of_one k inside
 
@@ -35,7 +36,7 @@ core_is : (part : Part) → is_core part ≡ true → part ≡ parts.Core
 core_is parts.Core is = refl
 core_is (parts.Drive number) is = absurd (cc)
 
-leaves_stamp : (page k : ℕ) (x : Touch) (before : Option Stamp) → (x.part ≡ parts.Core → x.word / 256 ≢ page) → k / 256 ≡ page
+leaves_stamp : (page k : ℕ) (x : TracedAccess) (before : Option Stamp) → (x.part ≡ parts.Core → x.word / 256 ≢ page) → k / 256 ≡ page
     → (if x.writes && is_core x.part && x.word == k then Some (stamp_of x) else before) ≡ before
 leaves_stamp page k x before avoids inside = by x.writes (is_core x.part) (x.word == k) refl refl where
   by : (writes core same : Bool) → is_core x.part ≡ core → (x.word == k) ≡ same
@@ -45,7 +46,7 @@ leaves_stamp page k x before avoids inside = by x.writes (is_core x.part) (x.wor
   by true false same is also = refl
   by false core same is also = refl
 
-never_written : (page k : ℕ) (xs : List Touch) (before : Option Stamp) → Avoids parts.Core page xs → k / 256 ≡ page
+never_written : (page k : ℕ) (xs : List TracedAccess) (before : Option Stamp) → Avoids parts.Core page xs → k / 256 ≡ page
     → last_write xs k before ≡ before
 never_written page k [] before avoids inside = refl
 never_written page k (x ∷ xs) before avoids inside =

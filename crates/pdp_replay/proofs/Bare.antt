@@ -9,7 +9,7 @@ use Rattle.pdp_cpu.specs.Turns.MachineState.{world_with_firsts}
 use Rattle.pdp_cpu.specs.Turns.Turn.{one_turn, turn_trace}
 use Rattle.pdp_script.specs.Entries.{events_at}
 use Rattle.pdp_replay.specs.Past.{Past}
-use Rattle.pdp_replay.specs.States.{power, state_at}
+use Rattle.pdp_replay.specs.Run.States.{power, state_at}
 
 turn_is_bare : (t : ℕ) (events : List Event) (w : World) → w.bus.firsts ≡ no_firsts → (one_turn t events w).bus.firsts ≡ no_firsts
 turn_is_bare t events w none =

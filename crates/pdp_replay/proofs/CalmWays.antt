@@ -2,7 +2,7 @@
 use Rattle.std.proofs.Common.{◌≡◌, ℕ, ◌+◌, ◌<◌, ◌≤◌, zero, suc, refl, subst, sym, arith, []}
 use Rattle.pdp_cpu.specs.Turns.CalmTurns.{after_calm_turn, after_calm_turns}
 use Rattle.pdp_cpu.specs.Turns.MachineState.{MachineWithTexts}
-use Rattle.pdp_replay.specs.KeptRuns.{IsUnderWay, IsWithoutEvents}
+use Rattle.pdp_replay.specs.Run.KeptRuns.{IsUnderWay, IsWithoutEvents}
 use Rattle.pdp_replay.specs.Past.{Past}
 use Rattle.pdp_replay.proofs.UnderWay.{way_on}
 

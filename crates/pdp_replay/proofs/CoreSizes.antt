@@ -3,8 +3,8 @@ use Rattle.std.proofs.Common.{◌≡◌, ℕ, zero, suc, length, ◌∙◌}
 use Rattle.pdp_cpu.proofs.TurnLaws.{turn_keeps_words}
 use Rattle.pdp_script.specs.Entries.{events_at}
 use Rattle.pdp_replay.specs.Past.{Past}
-use Rattle.pdp_replay.specs.Setup.{core_size}
-use Rattle.pdp_replay.specs.States.{power, state_at}
+use Rattle.pdp_replay.specs.Past.Setup.{core_size}
+use Rattle.pdp_replay.specs.Run.States.{power, state_at}
 use Rattle.pdp_replay.proofs.FirstWords.{core_has_size}
 
 pub core_keeps_size : (p : Past) (n : ℕ) → length (state_at p n).bus.core ≡ core_size p.setup

@@ -2,10 +2,10 @@
 use Rattle.std.proofs.Common.{◌≡◌, ◌∙◌, ℕ, zero, suc, ◌<◌, List, [], ◌∷◌, ap, arith, length, map, refl, replicate, slice_index_or, sym}
 use Rattle.pdp_cpu.proofs.DriveSizes.{turn_keeps_drives}
 use Rattle.pdp_script.specs.Entries.{events_at}
-use Rattle.pdp_replay.specs.Answer.{AreDrives}
+use Rattle.pdp_replay.specs.Ask.Answer.{AreDrives}
 use Rattle.pdp_replay.specs.Past.{Past}
-use Rattle.pdp_replay.specs.Setup.{drive_words}
-use Rattle.pdp_replay.specs.States.{disk_of, power, state_at}
+use Rattle.pdp_replay.specs.Past.Setup.{drive_words}
+use Rattle.pdp_replay.specs.Run.States.{disk_of, power, state_at}
 use Rattle.pdp_replay.proofs.FirstWords.{drives_have_sizes}
 
 -- each drive has its size in each state

@@ -1,23 +1,23 @@
 -- An engine after an edit of the delays or of the tape.
 use Rattle.std.proofs.Common.{◌≡◌, ◌∙◌, ℕ, List, [], ◌∷◌, ap, arith, map, refl, subst, sym}
-use Rattle.pdp_checkpoint.specs.Delayed.{delayed, with_delays}
+use Rattle.pdp_checkpoint.specs.Delayed.{ladder_with_delays, checkpoint_with_delays}
 use Rattle.pdp_checkpoint.specs.Ladder.{LadderData, checkpoint_of}
 use Rattle.pdp_checkpoint.specs.declared.checkpoint.Checkpoint.{Checkpoint}
-use Rattle.pdp_cpu.specs.Saved.{MachineContent, content_with_delays, machine_content}
+use Rattle.pdp_cpu.specs.Saved.{SavedMachineData, saved_machine_with_delays, saved_machine}
 use Rattle.pdp_operand.specs.Phases.World.{world}
-use Rattle.pdp_unibus.specs.BusContent.{with_tape}
+use Rattle.pdp_unibus.specs.SavedBusData.{bus_with_tape}
 use Rattle.pdp_unibus.specs.declared.delays.Delays.{Delays}
-use Rattle.pdp_replay.specs.FirstWords.{AllThere}
-use Rattle.pdp_replay.specs.KeptRuns.{IsForgotten, IsKeptRun, cut_to_first}
-use Rattle.pdp_replay.specs.KeptStates.{AreKept, IsBuiltFrom}
+use Rattle.pdp_replay.specs.Past.FirstWords.{AllThere}
+use Rattle.pdp_replay.specs.Run.KeptRuns.{IsForgotten, IsKeptRun, cut_to_first}
+use Rattle.pdp_replay.specs.Run.Checkpoints.{AreKept, IsBuiltFrom}
 use Rattle.pdp_replay.specs.Past.{Past}
-use Rattle.pdp_replay.specs.Setup.{IsGood, SetupData, core_size}
-use Rattle.pdp_replay.specs.States.{at}
+use Rattle.pdp_replay.specs.Past.Setup.{IsGood, SetupData, core_size}
+use Rattle.pdp_replay.specs.Run.States.{at}
 use Rattle.pdp_replay.specs.Timeline.{IsEngine}
-use Rattle.pdp_replay.specs.declared.kept_run.KeptRun.{KeptRun}
-use Rattle.pdp_replay.proofs.Forgotten.{first_kept, kept_anew, rungs_anew}
+use Rattle.pdp_replay.specs.declared.run.kept_run.KeptRun.{KeptRun}
+use Rattle.pdp_replay.proofs.Forgotten.{first_kept, kept_anew, checkpoints_anew}
 use Rattle.pdp_replay.proofs.RunFirsts.{untouched_alike}
-use Rattle.pdp_replay.proofs.PoweredContents.{first_content, first_is, first_of_delays, first_of_tape}
+use Rattle.pdp_replay.proofs.PoweredSaves.{first_saved_machine, first_is, first_of_delays, first_of_tape}
 
 -- the machine is said to be in no state of the run
 kept_forgotten : (q : Past) (before after : KeptRun) → IsForgotten before after → AreKept q after.known after.machine after.ladder → IsKeptRun q after
@@ -46,28 +46,28 @@ with_those_delays delays s = record s { delays = delays }
 abbrev with_that_tape : List ℕ → SetupData → SetupData
 with_that_tape tape s = record s { tape = tape }
 
-abbrev saved_first : MachineContent → Checkpoint
+abbrev saved_first : SavedMachineData → Checkpoint
 saved_first saved = record { turn = 0; saved = saved }
 
 -- the delays in the state of turn 0 are all that an edit of them changes
 delays_kept : (p q : Past) (delays : Delays) (before after : KeptRun) → AreKept p before.known before.machine before.ladder
-    → q.setup ≡ with_those_delays delays p.setup → IsForgotten before after → after.ladder ≡ delayed delays before.ladder
+    → q.setup ≡ with_those_delays delays p.setup → IsForgotten before after → after.ladder ≡ ladder_with_delays delays before.ladder
     → after.machine.state.world ≡ before.machine.state.world → AreKept q after.known after.machine after.ladder
 delays_kept p q delays before after kept setup forgotten ladder same =
-    let content : machine_content (at q 0) ≡ content_with_delays delays (machine_content (at p 0)) =
-    first_is q ∙ ap first_content setup ∙ first_of_delays p.setup delays ∙ ap (content_with_delays delays) (sym (first_is p)) in
+    let content : saved_machine (at q 0) ≡ saved_machine_with_delays delays (saved_machine (at p 0)) =
+    first_is q ∙ ap first_saved_machine setup ∙ first_of_delays p.setup delays ∙ ap (saved_machine_with_delays delays) (sym (first_is p)) in
     let first : after.ladder.kept ≡ checkpoint_of (at q 0) ∷ [] =
     ap (λ (l : LadderData). l.kept) ladder
-    ∙ ap (map (with_delays delays)) (first_kept p before.known before.ladder kept.states)
+    ∙ ap (map (checkpoint_with_delays delays)) (first_kept p before.known before.ladder kept.states)
     ∙ ap (λ s. saved_first s ∷ []) (sym content) in
     let built = kept.built in
     let now : IsBuiltFrom (with_those_delays delays p.setup) after.machine =
     record { tape = rw same built.tape; core = rw same built.core; lasts = rw same built.lasts; drives = rw same built.drives } in
-    kept_anew p q before after (untouched_alike q.setup p.setup (ap core_size setup) (ap (λ (s : SetupData). s.drives) setup)) kept forgotten first (rungs_anew q before.ladder after.ladder kept.states.rungs first (ap (λ (l : LadderData). l.stride) ladder))
+    kept_anew p q before after (untouched_alike q.setup p.setup (ap core_size setup) (ap (λ (s : SetupData). s.drives) setup)) kept forgotten first (checkpoints_anew q before.ladder after.ladder kept.states.checkpoints first (ap (λ (l : LadderData). l.stride) ladder))
     (subst (λ s. IsBuiltFrom s after.machine) (sym setup) now)
 
 pub engine_delayed : (p q : Past) (delays : Delays) (highest : ℕ) (before after : KeptRun) → IsEngine p highest before
-    → q.setup ≡ with_those_delays delays p.setup → IsForgotten before after → after.ladder ≡ delayed delays before.ladder
+    → q.setup ≡ with_those_delays delays p.setup → IsForgotten before after → after.ladder ≡ ladder_with_delays delays before.ladder
     → after.machine.state.world ≡ before.machine.state.world → IsEngine q highest after
 engine_delayed p q delays highest before after engine setup forgotten ladder same =
     let good : IsGood (with_those_delays delays p.setup) =
@@ -78,11 +78,11 @@ engine_delayed p q delays highest before after engine setup forgotten ladder sam
 -- another tape changes no state that is saved
 tape_kept : (p q : Past) (tape : List ℕ) (before after : KeptRun) → AreKept p before.known before.machine before.ladder
     → q.setup ≡ with_that_tape tape p.setup → IsForgotten before after → after.ladder ≡ cut_to_first before.ladder
-    → after.machine.state.world ≡ world before.machine.state.world.processor (with_tape before.machine.state.world.bus tape)
+    → after.machine.state.world ≡ world before.machine.state.world.processor (bus_with_tape before.machine.state.world.bus tape)
     → AreKept q after.known after.machine after.ladder
 tape_kept p q tape before after kept setup forgotten ladder changed =
-    let content : machine_content (at q 0) ≡ machine_content (at p 0) =
-    first_is q ∙ ap first_content setup ∙ first_of_tape p.setup tape ∙ sym (first_is p) in
+    let content : saved_machine (at q 0) ≡ saved_machine (at p 0) =
+    first_is q ∙ ap first_saved_machine setup ∙ first_of_tape p.setup tape ∙ sym (first_is p) in
     let first : after.ladder.kept ≡ checkpoint_of (at q 0) ∷ [] =
     ap (λ (l : LadderData). l.kept) ladder
     ∙ first_kept p before.known before.ladder kept.states
@@ -90,12 +90,12 @@ tape_kept p q tape before after kept setup forgotten ladder changed =
     let built = kept.built in
     let now : IsBuiltFrom (with_that_tape tape p.setup) after.machine =
     record { tape = rw changed refl; core = rw changed built.core; lasts = rw changed built.lasts; drives = rw changed built.drives } in
-    kept_anew p q before after (untouched_alike q.setup p.setup (ap core_size setup) (ap (λ (s : SetupData). s.drives) setup)) kept forgotten first (rungs_anew q before.ladder after.ladder kept.states.rungs first (ap (λ (l : LadderData). l.stride) ladder))
+    kept_anew p q before after (untouched_alike q.setup p.setup (ap core_size setup) (ap (λ (s : SetupData). s.drives) setup)) kept forgotten first (checkpoints_anew q before.ladder after.ladder kept.states.checkpoints first (ap (λ (l : LadderData). l.stride) ladder))
     (subst (λ s. IsBuiltFrom s after.machine) (sym setup) now)
 
 pub engine_with_tape : (p q : Past) (tape : List ℕ) (highest : ℕ) (before after : KeptRun) → IsEngine p highest before
     → q.setup ≡ with_that_tape tape p.setup → IsForgotten before after → after.ladder ≡ cut_to_first before.ladder
-    → after.machine.state.world ≡ world before.machine.state.world.processor (with_tape before.machine.state.world.bus tape)
+    → after.machine.state.world ≡ world before.machine.state.world.processor (bus_with_tape before.machine.state.world.bus tape)
     → IsEngine q highest after
 engine_with_tape p q tape highest before after engine setup forgotten ladder changed =
     let good : IsGood (with_that_tape tape p.setup) =

@@ -1,13 +1,13 @@
 -- An engine after an edit of the script.
 use Rattle.std.proofs.Common.{◌≡◌, ◌∙◌, ℕ, arith, min, subst}
-use Rattle.pdp_replay.specs.FirstWords.{AllThere}
-use Rattle.pdp_replay.specs.KeptRuns.{IsKeptRun}
-use Rattle.pdp_replay.specs.KeptStates.{IsInRun}
+use Rattle.pdp_replay.specs.Past.FirstWords.{AllThere}
+use Rattle.pdp_replay.specs.Run.KeptRuns.{IsKeptRun}
+use Rattle.pdp_replay.specs.Run.Checkpoints.{IsInRun}
 use Rattle.pdp_replay.specs.Past.{Past}
-use Rattle.pdp_replay.specs.Setup.{IsGood, SetupData}
-use Rattle.pdp_replay.specs.Strides.{IsStride}
+use Rattle.pdp_replay.specs.Past.Setup.{IsGood, SetupData}
+use Rattle.pdp_replay.specs.Run.Strides.{IsStride}
 use Rattle.pdp_replay.specs.Timeline.{IsEngine}
-use Rattle.pdp_replay.specs.declared.kept_run.KeptRun.{KeptRun}
+use Rattle.pdp_replay.specs.declared.run.kept_run.KeptRun.{KeptRun}
 use Rattle.pdp_replay.proofs.Agreeing.{Agree, agree_before, same_at}
 use Rattle.pdp_replay.proofs.EditedStates.{SameBefore, kept_agree}
 

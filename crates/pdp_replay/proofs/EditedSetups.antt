@@ -5,27 +5,27 @@ use Rattle.std.specs.List.{All, filter}
 use Rattle.std.proofs.lemmas.List.{length-replicate}
 use Rattle.pdp_checkpoint.specs.Ladder.{LadderData}
 use Rattle.pdp_checkpoint.specs.Patched.{HavePageAlike}
-use Rattle.pdp_cpu.specs.Saved.{HasWord, machine_content}
+use Rattle.pdp_cpu.specs.Saved.{HasWord, saved_machine}
 use Rattle.pdp_cpu.specs.Turns.MachineState.{powered_world}
 use Rattle.pdp_operand.specs.Phases.World.{World}
 use Rattle.pdp_script.specs.Script.{ScriptData}
 use Rattle.pdp_script.specs.declared.faults.Fault.{Fault}
 use Rattle.pdp_store.specs.Firsts.{firsts_in, never}
 use Rattle.pdp_unibus.specs.Page.{part_of}
-use Rattle.pdp_store.specs.Stored.{untouched}
-use Rattle.pdp_replay.specs.Edit.{core_edit, core_word_at, disk_edit, disk_word_at, revert_edit}
-use Rattle.pdp_replay.specs.FirstTouches.{first_of, first_touch, untouched_all}
-use Rattle.pdp_replay.specs.FirstWords.{AllThere, IsThere, drives_words}
-use Rattle.pdp_replay.specs.KeptRuns.{IsPatchedRun, drive_of, number_of, page_of, reached_by}
-use Rattle.pdp_replay.specs.KeptStates.{AreKept, AreStatesOf}
+use Rattle.pdp_store.specs.Stored.{no_touch_in}
+use Rattle.pdp_replay.specs.Past.Edit.{core_edit, core_word_at, disk_edit, disk_word_at, revert_edit}
+use Rattle.pdp_replay.specs.Run.FirstTouches.{first_touch_of, first_touch, untouched_all}
+use Rattle.pdp_replay.specs.Past.FirstWords.{AllThere, IsThere, drives_words}
+use Rattle.pdp_replay.specs.Run.KeptRuns.{IsPatchedRun, patch_drive, patch_number, patch_page, reached_by}
+use Rattle.pdp_replay.specs.Run.Checkpoints.{AreKept, AreStatesOf}
 use Rattle.pdp_replay.specs.Past.{Past, with_setup}
-use Rattle.pdp_replay.specs.PatchedWords.{Patches, core_key, disk_key, is_same_word, patch_of}
-use Rattle.pdp_replay.specs.Setup.{SetupData, core_size, drive_words}
-use Rattle.pdp_replay.specs.States.{at, power}
-use Rattle.pdp_replay.specs.Timeline.{IsEngine, Timeline, after_setup_edit}
-use Rattle.pdp_replay.specs.declared.kept_run.KeptRun.{KeptRun}
-use Rattle.pdp_replay.specs.declared.patch.PatchKey.{PatchKey}
-use Rattle.pdp_replay.specs.declared.patch.PatchKey.TheVariants as key
+use Rattle.pdp_replay.specs.Past.PatchedWords.{Patches, core_key, disk_key, is_same_word, patch_of}
+use Rattle.pdp_replay.specs.Past.Setup.{SetupData, core_size, drive_words}
+use Rattle.pdp_replay.specs.Run.States.{at, power}
+use Rattle.pdp_replay.specs.Timeline.{IsEngine, Timeline, after_setup_edit, core_edited, disk_edited, word_patched}
+use Rattle.pdp_replay.specs.declared.run.kept_run.KeptRun.{KeptRun}
+use Rattle.pdp_replay.specs.declared.past.patch.PatchKey.{PatchKey}
+use Rattle.pdp_replay.specs.declared.past.patch.PatchKey.TheVariants as key
 use Rattle.pdp_replay.proofs.CoreSizes.{core_keeps_size}
 use Rattle.pdp_replay.proofs.DriveSizes.{drive_keeps_size, drives_counted}
 use Rattle.pdp_replay.proofs.FirstWords.{core_has_size, drive_by_number, drive_has_size}
@@ -40,26 +40,26 @@ abbrev past_of : SetupData → ScriptData → Past
 past_of setup script = record { setup = setup; script = script }
 
 -- a word that is there is in each saved state of a run
-core_saved : (p : Past) (n i : ℕ) → i < core_size p.setup → HasWord None i (machine_content (at p n))
-unfolding HasWord Rattle.pdp_unibus.specs.BusContent.HasWord
+core_saved : (p : Past) (n i : ℕ) → i < core_size p.setup → HasWord None i (saved_machine (at p n))
+unfolding HasWord Rattle.pdp_unibus.specs.SavedBusData.SavedBusHasWord
 core_saved p n i inside = rw (core_keeps_size p n) inside
 
-disk_saved : (p : Past) (n drive i : ℕ) → drive < p.setup.drives → i < drive_words → HasWord (Some drive) i (machine_content (at p n))
-unfolding HasWord Rattle.pdp_unibus.specs.BusContent.HasWord
+disk_saved : (p : Past) (n drive i : ℕ) → drive < p.setup.drives → i < drive_words → HasWord (Some drive) i (saved_machine (at p n))
+unfolding HasWord Rattle.pdp_unibus.specs.SavedBusData.SavedBusHasWord
 disk_saved p n drive i there inside = rw (drive_keeps_size p n drive there) inside
 
-word_saved : (p : Past) (n : ℕ) (k : PatchKey) → IsThere p.setup k → HasWord (drive_of k) (number_of k) (machine_content (at p n))
+word_saved : (p : Past) (n : ℕ) (k : PatchKey) → IsThere p.setup k → HasWord (patch_drive k) (patch_number k) (saved_machine (at p n))
 word_saved p n (key.Core i) inside = core_saved p n i inside
 word_saved p n (key.Disk drive i) inside = disk_saved p n drive i inside.0 inside.1
 
 -- and so in each that is kept
 pub word_kept : (p : Past) (known : ℕ) (l : LadderData) (k : PatchKey) → AreStatesOf p known l → IsThere p.setup k
-    → All (λ c. HasWord (drive_of k) (number_of k) c.saved) l.kept
+    → All (λ c. HasWord (patch_drive k) (patch_number k) c.saved) l.kept
 word_kept p known l k are inside = λ i d below. rw (are.states i d below) (word_saved p _ k inside)
 
 -- and its drive is one of the machine's
 pub drive_there : (p : Past) (r : KeptRun) (k : PatchKey) → AreKept p r.known r.machine r.ladder → IsThere p.setup k
-    → (number : ℕ) → drive_of k ≡ Some number → number < length r.machine.state.world.bus.drives
+    → (number : ℕ) → patch_drive k ≡ Some number → number < length r.machine.state.world.bus.drives
 drive_there p r (key.Core i) kept inside number is = absurd cc
 drive_there p r (key.Disk drive i) kept inside number is =
     let count = drives_counted r.machine.state.world.bus.drives p.setup.drives drive_words kept.built.drives in
@@ -92,7 +92,7 @@ powers_with_disk s drive i word there inside = record {
   there = rw (length_at s drive there) inside;
 }
 
-powers_of : (s : SetupData) (k : PatchKey) (word : ℕ) → IsThere s k → PowersWith (drive_of k) (number_of k) word s (patched s k word)
+powers_of : (s : SetupData) (k : PatchKey) (word : ℕ) → IsThere s k → PowersWith (patch_drive k) (patch_number k) word s (patched s k word)
 powers_of s (key.Core i) word inside = powers_with_core s i word inside
 powers_of s (key.Disk drive i) word inside = powers_with_disk s drive i word inside.0 inside.1
 
@@ -110,34 +110,34 @@ each_alike zero k x blank below = absurd (omega arith)
 each_alike (suc count) zero x blank below = refl
 each_alike (suc count) (suc k) x blank below = each_alike count k x blank (omega arith)
 
-page_within : (s : SetupData) (k : PatchKey) → IsThere s k → page_of k < length (firsts_in (part_of (drive_of k)) (untouched_all s))
+page_within : (s : SetupData) (k : PatchKey) → IsThere s k → patch_page k < length (firsts_in (part_of (patch_drive k)) (untouched_all s))
 unfolding untouched_all
 page_within s (key.Core i) inside = rw (length-replicate ((core_size s + 255) / 256) never) (omega (arith, inside))
 page_within s (key.Disk drive i) inside =
     let below = inside.1 in
-    rw (each_alike s.drives drive (untouched drive_words) [] inside.0, length-replicate ((drive_words + 255) / 256) never)
+    rw (each_alike s.drives drive (no_touch_in drive_words) [] inside.0, length-replicate ((drive_words + 255) / 256) never)
     (omega (arith, below))
 
 -- how far a patch reaches is told by the first touches that are kept
 reached_first : (p : Past) (k : PatchKey) (r : KeptRun) → AreKept p r.known r.machine r.ladder → IsThere p.setup k → r.known ≤ never
-    → reached_by k r ≡ first_touch p (part_of (drive_of k)) (page_of k) r.known
+    → reached_by k r ≡ first_touch p (part_of (patch_drive k)) (patch_page k) r.known
 reached_first p k r kept inside small =
-    let part = part_of (drive_of k) in
-    reached_is (first_touch p part (page_of k) r.known) r.known (first_of part (page_of k) r.machine.firsts) (first_touch_le p part (page_of k) r.known) small
-    (ap (first_of part (page_of k)) kept.texts.firsts ∙ firsts_tell p part (page_of k) r.known small (page_within p.setup k inside))
+    let part = part_of (patch_drive k) in
+    reached_is (first_touch p part (patch_page k) r.known) r.known (first_touch_of part (patch_page k) r.machine.firsts) (first_touch_le p part (patch_page k) r.known) small
+    (ap (first_touch_of part (patch_page k)) kept.texts.firsts ∙ firsts_tell p part (patch_page k) r.known small (page_within p.setup k inside))
 
--- so the states that are kept up to there have the page of the word alike
+-- so the checkpoints up to there have the page of the word alike
 pub pages_kept : (p : Past) (k : PatchKey) (highest : ℕ) (r : KeptRun) → IsEngine p highest r → IsThere p.setup k
-    → HavePageAlike (drive_of k) (number_of k) (filter (λ c. nat_le c.turn (reached_by k r)) r.ladder.kept)
+    → HavePageAlike (patch_drive k) (patch_number k) (filter (λ c. nat_le c.turn (reached_by k r)) r.ladder.kept)
 pages_kept p k highest r engine inside =
     let small : r.known ≤ never = omega (arith, engine.reached, engine.limit) in
     let first = reached_first p k r engine.run.kept inside small in
-    kept_have_page (drive_of k) (number_of k) p r.known (reached_by k r) r.ladder engine.run.kept.states (omega (arith, first))
+    kept_have_page (patch_drive k) (patch_number k) p r.known (reached_by k r) r.ladder engine.run.kept.states (omega (arith, first))
 
 -- with other patches, which change one word as of power-up
 engine_repatched : (p : Past) (patches : Patches) (k : PatchKey) (word highest : ℕ) (before after : KeptRun)
     → IsEngine p highest before → AllThere p.setup patches → IsThere p.setup k
-    → PowersWith (drive_of k) (number_of k) word p.setup (with_those_patches patches p.setup)
+    → PowersWith (patch_drive k) (patch_number k) word p.setup (with_those_patches patches p.setup)
     → IsPatchedRun k word before after
     → IsEngine (with_setup p (with_those_patches patches p.setup)) highest after
 engine_repatched p patches k word highest before after engine there inside powers done =
@@ -145,9 +145,9 @@ engine_repatched p patches k word highest before after engine there inside power
     let kept = engine.run.kept in
     let small : before.known ≤ never = omega (arith, engine.reached, engine.limit) in
     let first = reached_first p k before kept inside small in
-    let known : after.known ≡ first_touch p (part_of (drive_of k)) (page_of k) before.known = done.known ∙ first in
-    let le : after.known ≤ before.known = omega (arith, known, first_touch_le p (part_of (drive_of k)) (page_of k) before.known) in
-    let low : after.known ≤ first_touch p (part_of (drive_of k)) (page_of k) before.known = omega (arith, known) in
+    let known : after.known ≡ first_touch p (part_of (patch_drive k)) (patch_page k) before.known = done.known ∙ first in
+    let le : after.known ≤ before.known = omega (arith, known, first_touch_le p (part_of (patch_drive k)) (patch_page k) before.known) in
+    let low : after.known ≤ first_touch p (part_of (patch_drive k)) (patch_page k) before.known = omega (arith, known) in
     let reached = engine.reached in
     let built = kept.built in
     let same = done.world in
@@ -159,8 +159,8 @@ engine_repatched p patches k word highest before after engine there inside power
       stride = rw (ap (λ (l : LadderData). l.stride) done.ladder) engine.stride;
       run = record {
         kept = record {
-          states = states_patched (drive_of k) (number_of k) word p s before.known after.known before.ladder after.ladder powers kept.states le low done.ladder done.count done.rungs;
-          texts = texts_patched (drive_of k) (number_of k) word p s before.known after.known before.machine after.machine powers kept.texts (untouched_alike s p.setup refl refl) le done.small low done.text done.punched done.firsts;
+          states = states_patched (patch_drive k) (patch_number k) word p s before.known after.known before.ladder after.ladder powers kept.states le low done.ladder done.count done.checkpoints;
+          texts = texts_patched (patch_drive k) (patch_number k) word p s before.known after.known before.machine after.machine powers kept.texts (untouched_alike s p.setup refl refl) le done.small low done.text done.punched done.firsts;
           built = record { tape = rw same built.tape; core = rw same built.core; lasts = rw same built.lasts; drives = rw same built.drives };
         };
         current = λ yes. let no = done.current in absurd cc;
@@ -189,11 +189,11 @@ engine_reverted p q i highest before after engine setup script inside none done 
 -- the known turn that is left, as an engine tells it
 pub known_patched : (p : Past) (k : PatchKey) (word highest : ℕ) (before after : KeptRun) → IsEngine p highest before
     → IsThere p.setup k → IsPatchedRun k word before after
-    → after.known ≡ min before.known (first_touch p (part_of (drive_of k)) (page_of k) before.known)
+    → after.known ≡ min before.known (first_touch p (part_of (patch_drive k)) (patch_page k) before.known)
 known_patched p k word highest before after engine inside done =
     let small : before.known ≤ never = omega (arith, engine.reached, engine.limit) in
     let first = reached_first p k before engine.run.kept inside small in
-    let low = first_touch_le p (part_of (drive_of k)) (page_of k) before.known in
+    let low = first_touch_le p (part_of (patch_drive k)) (patch_page k) before.known in
     omega (arith, done.known, first, low)
 
 -- an engine with this past and this run, as it is told
@@ -216,15 +216,16 @@ told_patched p q due k word highest reached before after is known done =
     let stride : after.ladder.stride ≡ before.ladder.stride = ap (λ (l : LadderData). l.stride) done.ladder in
     rw (is, known, stride, done.meter, done.turn, done.current) refl
 
-pub core_patch_is : (p q : Past) (address word number : ℕ) → core_word_at address p.setup ≡ Ok number
-    → q.setup ≡ patched p.setup (core_key number) word → q.script ≡ p.script → core_edit address word p ≡ Ok q
+-- an edit of a word of core, or of a drive, is the patch of that word
+pub core_edit_is : (t : Timeline) (address word number : ℕ) → core_word_at address t.past.setup ≡ Ok number → number ≡ address / 2
+    → word_patched (core_key number) word false t ≡ core_edited address word false t
 unfolding core_edit
-core_patch_is p q address word number found setup script = rw found (ap Ok (sym (ap₂ past_of setup script)))
+core_edit_is t address word number found half = rw (found, ← half) refl
 
-pub disk_patch_is : (p q : Past) (drive number word i : ℕ) → disk_word_at drive number p.setup ≡ Ok i
-    → q.setup ≡ patched p.setup (disk_key drive i) word → q.script ≡ p.script → disk_edit drive number word p ≡ Ok q
+pub disk_edit_is : (t : Timeline) (drive number word i : ℕ) → disk_word_at drive number t.past.setup ≡ Ok i → i ≡ number
+    → word_patched (disk_key drive i) word false t ≡ disk_edited drive number word false t
 unfolding disk_edit
-disk_patch_is p q drive number word i found setup script = rw found (ap Ok (sym (ap₂ past_of setup script)))
+disk_edit_is t drive number word i found same = rw (found, same) refl
 
 pub revert_is : (p q : Past) (address number : ℕ) → core_word_at address p.setup ≡ Ok number
     → is_some (patch_of p.setup.patches (core_key number)) ≡ true

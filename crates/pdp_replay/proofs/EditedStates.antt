@@ -1,20 +1,21 @@
--- An edit of the script leaves the events before the turn that it reaches back to, and so what is kept up to there.
+-- An edit of the script leaves the events before the turn that it reaches back to, and so what is
+-- kept up to there.
 use Rattle.std.proofs.Common.{◌≡◌, ℕ, ◌<◌, ◌||◌, Bool, true, false, cond, eqb, Option, Some, None, Ok, Err, arith, length, min, nat_le, nat_lt, refl, subst, sym}
 use Rattle.std.specs.Option.{option_map}
 use Rattle.std.specs.Prelude.{unwrap_or}
 use Rattle.pdp_checkpoint.specs.Ladder.{LadderData}
 use Rattle.pdp_cpu.specs.Turns.MachineState.{MachineWithTexts}
-use Rattle.pdp_script.specs.Entries.{Entry, altered, entry_of, events_at, without}
+use Rattle.pdp_script.specs.Entries.{Entry, altered_entries, entry_of, events_at, without}
 use Rattle.pdp_script.specs.Refusal.{past_left}
 use Rattle.pdp_script.specs.Script.{ScriptData, alter_edit, drop_edit, insert_edit, most_events, most_numbers, of_entry, with_event}
 use Rattle.pdp_script.specs.declared.faults.Fault.TheVariants.{ScriptFull, TurnTooLarge}
 use Rattle.pdp_script.proofs.Events.{events_at-altered, events_at-dropped, events_at-inserted}
 use Rattle.pdp_unibus.specs.LastTurn.{last_turn}
 use Rattle.pdp_unibus.specs.declared.event.Event.{Event}
-use Rattle.pdp_replay.specs.KeptStates.{AreKept, IsBuiltFrom}
+use Rattle.pdp_replay.specs.Run.Checkpoints.{AreKept, IsBuiltFrom}
 use Rattle.pdp_replay.specs.Past.{Past}
 use Rattle.pdp_replay.proofs.Agreeing.{Agree}
-use Rattle.pdp_replay.proofs.KeptStates.{states_agree}
+use Rattle.pdp_replay.proofs.Checkpoints.{states_agree}
 use Rattle.pdp_replay.proofs.Lowered.{texts_agree}
 
 -- the script has the same events as another in each turn before this one
@@ -40,7 +41,7 @@ turn_or turn found = unwrap_or (option_map (λ e. e.turn) found) turn
 
 altered_if : (late : Bool) (found : Option Entry) (number turn : ℕ) (event : Event) (s : ScriptData) → entry_of s.entries number ≡ found
     → SameBefore (min (turn_or turn found) turn) s
-    (past_left (cond late (Err TurnTooLarge) (of_entry found (λ old. altered s.entries old (record { number = number; turn = turn; event = event })) s)) false s)
+    (past_left (cond late (Err TurnTooLarge) (of_entry found (λ old. altered_entries s.entries old (record { number = number; turn = turn; event = event })) s)) false s)
 altered_if true found number turn event s is = λ t below. refl
 altered_if false None number turn event s is = λ t below. refl
 altered_if false (Some old) number turn event s is = λ t below.

@@ -6,10 +6,10 @@ use Rattle.std.proofs.lemmas.List.Elements.{All-tail}
 use Rattle.std.proofs.lemmas.Grind.{common_steps}
 use Rattle.std.proofs.lemmas.List.{drop-replicate, length-replicate}
 use Rattle.std.proofs.lemmas.List.FromFn.{fill_by_all, get_or-map-range_with_len, length-map-range_with_len}
-use Rattle.pdp_replay.specs.Setup.{SetupData, core_size, drive_words, image_of}
-use Rattle.pdp_replay.specs.FirstWords.{words_by_number, core_words, first_core_word, disk_words, drives_words, first_disk_word}
-use Rattle.pdp_replay.specs.PatchedWords.{disk_key, patch_of}
-use Rattle.pdp_replay.specs.Image.{padded}
+use Rattle.pdp_replay.specs.Past.Setup.{SetupData, core_size, drive_words, image_of}
+use Rattle.pdp_replay.specs.Past.FirstWords.{words_by_number, core_words, first_core_word, disk_words, drives_words, first_disk_word}
+use Rattle.pdp_replay.specs.Past.PatchedWords.{disk_key, patch_of}
+use Rattle.pdp_replay.specs.Past.Image.{padded_image}
 
 pub length_by_number : (value : ℕ → ℕ) (size : ℕ) → length (words_by_number value size) ≡ size
 unfolding words_by_number
@@ -71,34 +71,39 @@ image_fits [] drive fit = omega arith
 image_fits (image ∷ disks) zero fit = fit 0 image (omega arith)
 image_fits (image ∷ disks) (suc drive) fit = image_fits disks drive (All-tail (λ image. length image ≤ drive_words) image disks fit)
 
-pub length_padded : (n : ℕ) (image : List ℕ) → length image ≤ n → length (padded n image) ≡ n
+pub length_padded : (n : ℕ) (image : List ℕ) → length image ≤ n → length (padded_image n image) ≡ n
 length_padded n image within = rw (length-append, length-replicate) (omega arith)
 
 -- an image fits a list of zeros, and goes over it
 pub fits_blank : (n : ℕ) (image words : List ℕ) → words ≡ replicate n 0 → length image ≤ n → length image ≤ length words
 fits_blank n image words blank within = rw (blank, length-replicate) within
 
-pub padded_over : (n : ℕ) (image words : List ℕ) → words ≡ replicate n 0 → image ++ drop (length image) words ≡ padded n image
+pub padded_over : (n : ℕ) (image words : List ℕ) → words ≡ replicate n 0 → image ++ drop (length image) words ≡ padded_image n image
 padded_over n image words blank = rw blank (ap (λ xs. image ++ xs) (drop-replicate (length image) n 0))
 
 padded_at : (n : ℕ) (image : List ℕ) (number : ℕ) → length image ≤ n → number < n
-    → slice_index (padded n image) number ≡ slice_index image number
+    → slice_index (padded_image n image) number ≡ slice_index image number
 padded_at n image number within below = grind (arith, common_steps)
 
 -- a padded image is the words as of power-up where no word has a patch
-filled : (image : List ℕ) (size : ℕ) → length image ≤ size → padded size image ≡ words_by_number (λ number. slice_index image number) size
+filled : (image : List ℕ) (size : ℕ) → length image ≤ size → padded_image size image ≡ words_by_number (λ number. slice_index image number) size
 filled image size within =
-    filled_by_number _ (padded size image) size (length_padded size image within) (λ number below. padded_at size image number within below)
+    filled_by_number _ (padded_image size image) size (length_padded size image within) (λ number below. padded_at size image number within below)
 
-pub core_is_padded : (s : SetupData) → length s.core ≤ core_size s → s.patches ≡ [] → padded (core_size s) s.core ≡ core_words s
+pub core_is_padded : (s : SetupData) → length s.core ≤ core_size s → s.patches ≡ [] → padded_image (core_size s) s.core ≡ core_words s
 unfolding core_words
 core_is_padded s within none = filled s.core (core_size s) within ∙ rw none refl
 
 -- and so of a drive of which no word has one
 pub drive_is_padded : (s : SetupData) (drive : ℕ) → length (image_of s.disks drive) ≤ drive_words
-    → ((number : ℕ) → patch_of s.patches (disk_key drive number) ≡ None) → padded drive_words (image_of s.disks drive) ≡ disk_words s drive
+    → ((number : ℕ) → patch_of s.patches (disk_key drive number) ≡ None) → padded_image drive_words (image_of s.disks drive) ≡ disk_words s drive
 unfolding disk_words
 drive_is_padded s drive within none =
-    filled_by_number (first_disk_word s drive) (padded drive_words (image_of s.disks drive)) drive_words (length_padded drive_words (image_of s.disks drive) within)
+    filled_by_number (first_disk_word s drive) (padded_image drive_words (image_of s.disks drive)) drive_words (length_padded drive_words (image_of s.disks drive) within)
     (λ number below. padded_at drive_words (image_of s.disks drive) number within below
     ∙ sym (ap (λ found. unwrap_or found (slice_index (image_of s.disks drive) number)) (none number)))
+
+-- what the laws of setups cite
+pub ruleset words_of_core = (core_word_is, core_has_size)
+
+pub ruleset words_of_drives = (disk_word_is, drive_has_size, drive_by_number, drives_so_many)

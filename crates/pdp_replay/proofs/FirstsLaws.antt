@@ -1,7 +1,8 @@
--- First touches, as a trace leaves them: in any order, once or twice; and what is left of them when late ones are dropped.
+-- First touches, as a trace leaves them: in any order, once or twice; and what is left of them when
+-- late ones are dropped.
 use Rattle.std.proofs.Common.{◌≡◌, ◌∙◌, ℕ, zero, suc, ◌/◌, ◌<◌, ◌≤◌, Bool, true, false, List, [], ◌∷◌, ◌++◌, ap, refl, sym, map, min, nat_lt, ltb-true, ltb-false, slice_index_or, slice_set, if◌then◌else◌, arith}
-use Rattle.pdp_store.specs.Touch.{Part, Touch}
-use Rattle.pdp_store.specs.Touch.{Part as parts}
+use Rattle.pdp_store.specs.TracedAccess.{Part, TracedAccess}
+use Rattle.pdp_store.specs.TracedAccess.{Part as parts}
 use Rattle.pdp_store.proofs.FirstTouches.{firsts_after-append}
 use Rattle.pdp_store.specs.Firsts.{Firsts, all_firsts_before, first_before, firsts_after, firsts_before, never, touch_page, word_touched}
 
@@ -45,18 +46,18 @@ touch_again : (part : Part) (w t : ℕ) (f : Firsts) → word_touched part w t (
 touch_again parts.Core w t f = ap (λ xs. record f { core = xs }) (page_again f.core (w / 256) t)
 touch_again (parts.Drive d) w t f = ap (λ xs. record f { drives = xs }) (drive_again f.drives d (w / 256) t)
 
-past_one : (part : Part) (w t : ℕ) (xs : List Touch) (f : Firsts) → firsts_after xs (word_touched part w t f) ≡ word_touched part w t (firsts_after xs f)
+past_one : (part : Part) (w t : ℕ) (xs : List TracedAccess) (f : Firsts) → firsts_after xs (word_touched part w t f) ≡ word_touched part w t (firsts_after xs f)
 unfolding firsts_after
 past_one part w t [] f = refl
 past_one part w t (x ∷ xs) f =
     ap (firsts_after xs) (touch_commutes part x.part w t x.word x.turn f) ∙ past_one part w t xs (word_touched x.part x.word x.turn f)
 
-past_all : (xs ys : List Touch) (f : Firsts) → firsts_after xs (firsts_after ys f) ≡ firsts_after ys (firsts_after xs f)
+past_all : (xs ys : List TracedAccess) (f : Firsts) → firsts_after xs (firsts_after ys f) ≡ firsts_after ys (firsts_after xs f)
 unfolding firsts_after
 past_all xs [] f = refl
 past_all xs (y ∷ ys) f = past_all xs ys (word_touched y.part y.word y.turn f) ∙ ap (firsts_after ys) (past_one y.part y.word y.turn xs f)
 
-all_again : (xs : List Touch) (f : Firsts) → firsts_after xs (firsts_after xs f) ≡ firsts_after xs f
+all_again : (xs : List TracedAccess) (f : Firsts) → firsts_after xs (firsts_after xs f) ≡ firsts_after xs f
 unfolding firsts_after
 all_again [] f = refl
 all_again (x ∷ xs) f =
@@ -65,7 +66,7 @@ all_again (x ∷ xs) f =
     ∙ all_again xs (word_touched x.part x.word x.turn f)
 
 -- a trace that stands in another adds nothing to what the other left
-pub absorbed : (xs ys zs : List Touch) (f : Firsts) → firsts_after ys (firsts_after ((xs ++ ys) ++ zs) f) ≡ firsts_after ((xs ++ ys) ++ zs) f
+pub absorbed : (xs ys zs : List TracedAccess) (f : Firsts) → firsts_after ys (firsts_after ((xs ++ ys) ++ zs) f) ≡ firsts_after ((xs ++ ys) ++ zs) f
 absorbed xs ys zs f =
     let g = firsts_after xs f in
     let whole : firsts_after ((xs ++ ys) ++ zs) f ≡ firsts_after zs (firsts_after ys g)
@@ -118,18 +119,18 @@ touch_early k parts.Core w t f early small = ap (λ xs. record { core = xs; driv
 touch_early k (parts.Drive d) w t f early small = ap (λ xs. record { core = firsts_before k f.core; drives = xs }) (drive_early k t f.drives d (w / 256) early small)
 
 -- all touches of a trace are in this turn
-abbrev pub AllIn : ℕ → List Touch → Type 0
+abbrev pub AllIn : ℕ → List TracedAccess → Type 0
 AllIn t [] = Unit {0}
 AllIn t (x ∷ xs) = (x.turn ≡ t) × AllIn t xs
 
-pub late_dropped : (k t : ℕ) (xs : List Touch) (f : Firsts) → k ≤ t → AllIn t xs → all_firsts_before k (firsts_after xs f) ≡ all_firsts_before k f
+pub late_dropped : (k t : ℕ) (xs : List TracedAccess) (f : Firsts) → k ≤ t → AllIn t xs → all_firsts_before k (firsts_after xs f) ≡ all_firsts_before k f
 unfolding firsts_after
 late_dropped k t [] f late all = refl
 late_dropped k t (x ∷ xs) f late all =
     late_dropped k t xs (word_touched x.part x.word x.turn f) late all.1
     ∙ touch_late k x.part x.word x.turn f (omega (arith, late, all.0))
 
-pub early_kept : (k t : ℕ) (xs : List Touch) (f : Firsts) → t < k → t ≤ never → AllIn t xs → all_firsts_before k (firsts_after xs f) ≡ firsts_after xs (all_firsts_before k f)
+pub early_kept : (k t : ℕ) (xs : List TracedAccess) (f : Firsts) → t < k → t ≤ never → AllIn t xs → all_firsts_before k (firsts_after xs f) ≡ firsts_after xs (all_firsts_before k f)
 unfolding firsts_after
 early_kept k t [] f early small all = refl
 early_kept k t (x ∷ xs) f early small all =

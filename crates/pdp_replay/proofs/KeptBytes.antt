@@ -1,11 +1,12 @@
--- Bytes that come out turn by turn and are kept with their turns: what begins them, and what a turn writes over them.
+-- Bytes that come out turn by turn and are kept with their turns: what begins them, and what a turn
+-- writes over them.
 use Rattle.std.proofs.Common.{◌≡◌, ℕ, zero, suc, ◌+◌, ◌-◌, ◌<◌, ◌≤◌, List, [], ◌∷◌, ◌++◌, true, false, leb, length, length-append, take, drop, max, refl, sym, subst, ◌∙◌, ap, ap₂, append_assoc, append-nil, arith}
 use Rattle.std.specs.List.{AllByRecursion}
 use Rattle.std.proofs.Math.Seq.{take-append_seam}
 use Rattle.std.proofs.lemmas.Bool.{le-leb, lt-leb}
 use Rattle.pdp_cpu.specs.KeptTexts.{kept_before, kept_first, kept_over, put_over, without_turns}
 use Rattle.pdp_cpu.specs.declared.kept_text.KeptByte.{KeptByte}
-use Rattle.pdp_replay.specs.KeptStates.{with_turn}
+use Rattle.pdp_replay.specs.Run.Checkpoints.{with_turn}
 
 -- bytes that are kept, of a text that grows by what comes out in each turn
 pub record KeepsAll (kept : ℕ → List KeptByte) (text out : ℕ → List ℕ) : Type 0 where

@@ -4,9 +4,9 @@ use Rattle.pdp_cpu.specs.KeptTexts.{kept_before, kept_over, without_turns}
 use Rattle.pdp_cpu.specs.Turns.MachineState.{MachineWithTexts}
 use Rattle.pdp_cpu.specs.Turns.Turn.{printed_in, punched_in}
 use Rattle.pdp_script.specs.Entries.{events_at}
-use Rattle.pdp_replay.specs.KeptStates.{KeepsTexts, ShowsTexts, text_kept_at, punched_kept_at}
+use Rattle.pdp_replay.specs.Run.Checkpoints.{KeepsTexts, ShowsTexts, text_kept_at, punched_kept_at}
 use Rattle.pdp_replay.specs.Past.{Past}
-use Rattle.pdp_replay.specs.States.{state_at, text_at, punched_at}
+use Rattle.pdp_replay.specs.Run.States.{state_at, text_at, punched_at}
 use Rattle.pdp_replay.proofs.KeptBytes.{KeepsAll, text_is, first_is, before_is, length_reaches, over_is}
 
 -- what is printed in a turn of a run, and what is punched

@@ -2,16 +2,16 @@
 use Rattle.std.proofs.Common.{◌≡◌, ◌∙◌, ℕ, zero, suc, ◌<◌, None, refl, ap, get_or, length, slice_index, slice_index_or, replicate}
 use Rattle.std.proofs.lemmas.List.{length-replicate}
 use Rattle.pdp_store.proofs.Traces.{last_write-append}
-use Rattle.pdp_store.specs.Touch.{last_write}
+use Rattle.pdp_store.specs.TracedAccess.{last_write}
 use Rattle.pdp_cpu.proofs.TurnLaws.{turn_keeps_lasts, turn_lasts}
 use Rattle.pdp_cpu.specs.Turns.MachineState.{MachineState}
 use Rattle.pdp_cpu.specs.Turns.Turn.{turn_trace}
 use Rattle.pdp_script.specs.Entries.{events_at}
-use Rattle.pdp_cpu.specs.Saved.{MachineContent, machine_content}
-use Rattle.pdp_replay.specs.LastWrites.{AreLastWrites, StampsOfKeptStatesAreLastWrites, StampsOfStatesAreLastWrites, written, last_write_at}
+use Rattle.pdp_cpu.specs.Saved.{SavedMachineData, saved_machine}
+use Rattle.pdp_replay.specs.Ask.LastWrites.{AreLastWrites, StampsOfCheckpointsAreLastWrites, StampsOfStatesAreLastWrites, last_write_of, last_write_at}
 use Rattle.pdp_replay.specs.Past.{Past}
-use Rattle.pdp_replay.specs.Setup.{core_size}
-use Rattle.pdp_replay.specs.States.{at, power, state_at, trace_at}
+use Rattle.pdp_replay.specs.Past.Setup.{core_size}
+use Rattle.pdp_replay.specs.Run.States.{at, power, state_at, trace_at}
 use Rattle.pdp_replay.proofs.CoreSizes.{core_keeps_size}
 
 pub lasts_keep_size : (p : Past) (n : ℕ) → length (state_at p n).bus.lasts ≡ core_size p.setup
@@ -36,7 +36,7 @@ lasts_are p (suc n) k below =
 
 -- what a machine tells of a word's last write
 pub last_is : (p : Past) (n k : ℕ) (machine : MachineState) → machine ≡ at p n → k < length machine.world.bus.core
-    → written (slice_index_or machine.world.bus.lasts k None) (slice_index machine.world.bus.core k) ≡ last_write_at p n k
+    → last_write_of (slice_index_or machine.world.bus.lasts k None) (slice_index machine.world.bus.core k) ≡ last_write_at p n k
 last_is p n k machine here below =
     let within : k < core_size p.setup = rw (here, core_keeps_size p n) at below in
     rw (here, lasts_are p n k within) refl
@@ -44,9 +44,9 @@ last_is p n k machine here below =
 pub stamps_of_states : StampsOfStatesAreLastWrites
 stamps_of_states p n = record { size = lasts_keep_size p n; stamps = λ k below. lasts_are p n k below }
 
-stamps_of_saved : (p : Past) (n : ℕ) (saved : MachineContent) → saved ≡ machine_content (at p n) → AreLastWrites p n saved.bus.lasts
+stamps_of_saved : (p : Past) (n : ℕ) (saved : SavedMachineData) → saved ≡ saved_machine (at p n) → AreLastWrites p n saved.bus.lasts
 stamps_of_saved p n saved is = rw is (stamps_of_states p n)
 
-pub stamps_of_kept_states : StampsOfKeptStatesAreLastWrites
-stamps_of_kept_states p known l are i d below =
+pub stamps_of_checkpoints : StampsOfCheckpointsAreLastWrites
+stamps_of_checkpoints p known l are i d below =
     let c = get_or l.kept i d in stamps_of_saved p c.turn c.saved (are.states i d below)

@@ -1,20 +1,20 @@
 -- The first touch of a page is the least turn that touches it.
 use Rattle.std.proofs.Common.{◌≡◌, ℕ, zero, suc, ◌/◌, ◌<◌, ◌==◌, ◌&&◌, ◌||◌, if◌then◌else◌, Bool, true, false, List, [], ◌∷◌, arith, nat_lt, ltb-true, ltb-false, refl, subst}
 use Rattle.std.proofs.lemmas.Bool.{eqb-true}
-use Rattle.pdp_store.specs.Touch.{Avoids, Part, Touch}
-use Rattle.pdp_replay.specs.FirstTouches.{FirstTouchesAreFirst, IsFirstTouch, earlier_touch, first_touch, is_same_part, meets, trace_of_turn}
+use Rattle.pdp_store.specs.TracedAccess.{Avoids, Part, TracedAccess}
+use Rattle.pdp_replay.specs.Run.FirstTouches.{FirstTouchesAreFirst, IsFirstTouch, earlier_touch, first_touch, is_same_part, meets, trace_of_turn}
 use Rattle.pdp_replay.specs.Past.{Past}
 use Rattle.pdp_replay.proofs.RunFirsts.{is_part}
 use Rattle.pdp_replay.proofs.Untouched.{avoids_unmet}
 
 -- a page that a trace meets isn't avoided
-met_here : (part : Part) (page : ℕ) (x : Touch) (same inside rest : Bool) → is_same_part x.part part ≡ same → (x.word / 256 == page) ≡ inside
+met_here : (part : Part) (page : ℕ) (x : TracedAccess) (same inside rest : Bool) → is_same_part x.part part ≡ same → (x.word / 256 == page) ≡ inside
     → ((same && inside) || rest) ≡ true → (x.part ≡ part → x.word / 256 ≡ page → ⊥) → (rest ≡ true → ⊥) → ⊥
 met_here part page x true true rest is at met here later = here (is_part part x.part is) (eqb-true (x.word / 256) page at)
 met_here part page x true false rest is at met here later = later met
 met_here part page x false inside rest is at met here later = later met
 
-met_not_avoided : (part : Part) (page : ℕ) (xs : List Touch) → meets part page xs ≡ true → Avoids part page xs → ⊥
+met_not_avoided : (part : Part) (page : ℕ) (xs : List TracedAccess) → meets part page xs ≡ true → Avoids part page xs → ⊥
 met_not_avoided part page [] met avoids = absurd (cc)
 met_not_avoided part page (x ∷ xs) met avoids =
     met_here part page x (is_same_part x.part part) (x.word / 256 == page) (meets part page xs) refl refl met avoids.0

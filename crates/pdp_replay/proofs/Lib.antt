@@ -22,10 +22,10 @@ pub mod StateSizes
 pub mod Agreeing
 pub mod Bare
 pub mod Resumed
-pub mod KeptStates
+pub mod Checkpoints
 pub mod Lowered
 pub mod PoweredWords
-pub mod PoweredContents
+pub mod PoweredSaves
 pub mod Strides
 pub mod UnderWay
 pub mod Ways

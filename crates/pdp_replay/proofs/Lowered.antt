@@ -1,4 +1,5 @@
--- What a turn, a cut, a load and an edit leave of the texts that a machine keeps, and of what no turn changes.
+-- What a turn, a cut, a load and an edit leave of the texts that a machine keeps, and of what no
+-- turn changes.
 use Rattle.std.proofs.Common.{◌≡◌, ◌∙◌, ℕ, ◌+◌, ◌≤◌, ◌&&◌, Bool, List, ap, ap₂, arith, false, length, max, nat_le, refl, subst, sym, true}
 use Rattle.std.proofs.lemmas.Bool.{leb-true}
 use Rattle.std.proofs.lemmas.List.{take_all}
@@ -9,10 +10,10 @@ use Rattle.pdp_cpu.specs.Turns.Turn.{printed_in, punched_in, turn_trace}
 use Rattle.pdp_operand.specs.Phases.World.{World}
 use Rattle.pdp_store.specs.Firsts.{all_firsts_before, firsts_after, never}
 use Rattle.pdp_script.specs.Entries.{events_at}
-use Rattle.pdp_replay.specs.KeptStates.{IsBuiltFrom, IsInRun, KeepsTexts}
+use Rattle.pdp_replay.specs.Run.Checkpoints.{IsBuiltFrom, IsInRun, KeepsTexts}
 use Rattle.pdp_replay.specs.Past.{Past}
-use Rattle.pdp_replay.specs.Setup.{SetupData}
-use Rattle.pdp_replay.specs.States.{at, punched_at, state_at, text_at}
+use Rattle.pdp_replay.specs.Past.Setup.{SetupData}
+use Rattle.pdp_replay.specs.Run.States.{at, punched_at, state_at, text_at}
 use Rattle.pdp_replay.proofs.Agreeing.{Agree, same_firsts, same_kept_text, same_kept_punched}
 use Rattle.pdp_replay.proofs.KeptTexts.{text_kept_over, punched_kept_over, text_kept_before, punched_kept_before, text_kept_reaches, punched_kept_reaches}
 use Rattle.pdp_replay.proofs.RunFirsts.{firsts_cut, firsts_turned}
@@ -76,7 +77,8 @@ pub cut_after : (p : Past) (n printed punched : ℕ) → length (text_at p n) �
 cut_after p n printed punched long also =
     ap₂ (state_of n (state_at p n)) (take_all printed (text_at p n) long) (take_all punched (punched_at p n) also)
 
--- a machine in a state of the run is still in it where the texts are those of a lesser known turn, but not of one before it
+-- a machine in a state of the run is still in it where the texts are those of a lesser known turn,
+-- but not of one before it
 pub in_run_cut : (p : Past) (known k : ℕ) (m now : MachineWithTexts) → IsInRun p known m → KeepsTexts p k now → m.state.turn ≤ k
     → now.state ≡ state_cut (length now.kept_text) (length now.kept_punched) m.state → IsInRun p k now
 in_run_cut p known k m now there texts le state =

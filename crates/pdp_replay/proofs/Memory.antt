@@ -1,16 +1,16 @@
 -- Edits that are never refused as out of memory.
 use Rattle.std.proofs.Common.{◌≡◌, ℕ, Bool, true, false, cond, refl, ◌∙◌, Option, None, Some, Result, Ok, Err, List, length, nat_le, nat_lt}
-use Rattle.pdp_script.specs.Entries.{Entry, entry_of, altered, without}
+use Rattle.pdp_script.specs.Entries.{Entry, entry_of, altered_entries, without}
 use Rattle.pdp_script.specs.Refusal.{for_memory, result_map}
 use Rattle.pdp_script.specs.Script.{ScriptData, of_entry}
 use Rattle.pdp_unibus.specs.LastTurn.{last_turn}
 use Rattle.pdp_script.specs.declared.faults.Fault.{Fault}
 use Rattle.pdp_script.specs.declared.faults.Fault.TheVariants.{NoMemory, OutsideCore, OddAddress, OutsideDisk, NoSuchEvent, ScriptFull, TurnTooLarge, CountOutOfRange, NoSuchPatch, BadLine, LineTooLong, Input, Output, BadImage, BadSetup, NoSuchDrive}
 use Rattle.pdp_unibus.specs.declared.event.Event.{Event}
-use Rattle.pdp_unibus.specs.declared.delays.Line.{Line}
-use Rattle.pdp_replay.specs.Edit.{event_alteration, event_drop, tape_edit, delay_edit}
+use Rattle.pdp_unibus.specs.declared.delays.DelayedDevice.{DelayedDevice}
+use Rattle.pdp_replay.specs.Past.Edit.{event_alteration, event_drop, tape_edit, delay_edit}
 use Rattle.pdp_replay.specs.Past.{Past}
-use Rattle.pdp_replay.specs.Setup.{SetupData, tape_bytes}
+use Rattle.pdp_replay.specs.Past.Setup.{SetupData, tape_bytes}
 
 mapped : {X Y : Type 0} (f : X → Y) (r : Result X Fault) → for_memory (result_map f r) ≡ for_memory r
 mapped f (Ok x) = refl
@@ -44,7 +44,7 @@ pub alteration_needs_none : (number turn : ℕ) (event : Event) (p : Past) → f
 unfolding event_alteration
 alteration_needs_none number turn event p =
     mapped _ _ ∙ late_or_entry (nat_lt last_turn turn) (entry_of p.script.entries number)
-    (λ old. altered p.script.entries old (record { number = number; turn = turn; event = event })) p.script
+    (λ old. altered_entries p.script.entries old (record { number = number; turn = turn; event = event })) p.script
 
 pub drop_needs_none : (number : ℕ) (p : Past) → for_memory (event_drop number p) ≡ false
 unfolding event_drop
@@ -62,6 +62,9 @@ early_or_large : (early : Bool) (s : SetupData) → for_memory (cond early (Ok s
 early_or_large true s = refl
 early_or_large false s = refl
 
-pub delay_needs_none : (line : Line) (delay : ℕ) (p : Past) → for_memory (delay_edit line delay p) ≡ false
+pub delay_needs_none : (device : DelayedDevice) (delay : ℕ) (p : Past) → for_memory (delay_edit device delay p) ≡ false
 unfolding delay_edit
-delay_needs_none line delay p = mapped _ _ ∙ early_or_large (nat_le delay last_turn) _
+delay_needs_none device delay p = mapped _ _ ∙ early_or_large (nat_le delay last_turn) _
+
+-- what the law of edits cites
+pub ruleset needs_no_memory = (alteration_needs_none, drop_needs_none, tape_needs_none, delay_needs_none)

@@ -11,26 +11,26 @@ use Rattle.pdp_cpu.specs.KeptTexts.{kept_before}
 use Rattle.pdp_cpu.specs.Saved.{state_cut}
 use Rattle.pdp_cpu.specs.Turns.MachineState.{MachineState, MachineWithTexts, powered_machine}
 use Rattle.pdp_store.specs.Firsts.{Firsts, all_firsts_before, firsts_after, firsts_before, firsts_of, word_touched}
-use Rattle.pdp_store.specs.Touch.{Part, Touch}
-use Rattle.pdp_store.specs.Touch.{Part as parts}
-use Rattle.pdp_store.specs.Stored.{untouched}
-use Rattle.pdp_replay.specs.Edit.{with_eight_drives}
-use Rattle.pdp_replay.specs.FirstTouches.{firsts_at, untouched_all}
-use Rattle.pdp_replay.specs.FirstWords.{AllThere, IsThere, core_words, disk_words, drives_words}
-use Rattle.pdp_replay.specs.Image.{more_drives, padded_drive}
-use Rattle.pdp_replay.specs.KeptRuns.{BeginsAnew, IsKeptRun, IsOnWay, with_more_drives, with_more_firsts}
-use Rattle.pdp_replay.specs.KeptStates.{AreKept, KeepsTexts, punched_kept_at, text_kept_at}
+use Rattle.pdp_store.specs.TracedAccess.{Part, TracedAccess}
+use Rattle.pdp_store.specs.TracedAccess.{Part as parts}
+use Rattle.pdp_store.specs.Stored.{no_touch_in}
+use Rattle.pdp_replay.specs.Past.Edit.{with_eight_drives}
+use Rattle.pdp_replay.specs.Run.FirstTouches.{firsts_at, untouched_all}
+use Rattle.pdp_replay.specs.Past.FirstWords.{AllThere, IsThere, core_words, disk_words, drives_words}
+use Rattle.pdp_replay.specs.Past.Image.{more_drives, padded_drive}
+use Rattle.pdp_replay.specs.Run.KeptRuns.{BeginsAnew, IsKeptRun, IsOnWay, with_more_drives, with_more_firsts}
+use Rattle.pdp_replay.specs.Run.Checkpoints.{AreKept, KeepsTexts, punched_kept_at, text_kept_at}
 use Rattle.pdp_replay.specs.Past.{Past}
-use Rattle.pdp_replay.specs.PatchedWords.{Patches, disk_key, is_same_word, patch_of}
-use Rattle.pdp_replay.specs.Setup.{IsGood, SetupData, core_size, drive_words}
-use Rattle.pdp_replay.specs.States.{at, power, powered_up, punched_at, text_at, trace_at}
-use Rattle.pdp_replay.specs.Strides.{IsStride}
+use Rattle.pdp_replay.specs.Past.PatchedWords.{Patches, disk_key, is_same_word, patch_of}
+use Rattle.pdp_replay.specs.Past.Setup.{IsGood, SetupData, core_size, drive_words}
+use Rattle.pdp_replay.specs.Run.States.{at, power, powered_up, punched_at, text_at, trace_at}
+use Rattle.pdp_replay.specs.Run.Strides.{IsStride}
 use Rattle.pdp_replay.specs.Timeline.{IsEngine}
-use Rattle.pdp_replay.specs.declared.kept_run.KeptRun.{KeptRun}
-use Rattle.pdp_replay.specs.declared.patch.PatchKey.{PatchKey}
-use Rattle.pdp_replay.specs.declared.patch.PatchKey.TheVariants as key
+use Rattle.pdp_replay.specs.declared.run.kept_run.KeptRun.{KeptRun}
+use Rattle.pdp_replay.specs.declared.past.patch.PatchKey.{PatchKey}
+use Rattle.pdp_replay.specs.declared.past.patch.PatchKey.TheVariants as key
 use Rattle.pdp_replay.proofs.FirstWords.{drive_is_padded, image_fits, one_drive}
-use Rattle.pdp_replay.proofs.KeptStates.{states_first}
+use Rattle.pdp_replay.proofs.Checkpoints.{states_first}
 use Rattle.pdp_replay.proofs.KeptTexts.{text_kept_before, punched_kept_before}
 use Rattle.pdp_replay.proofs.Lowered.{cut_after}
 use Rattle.pdp_replay.proofs.RunFirsts.{blank_stays, drives_stay, firsts_cut}
@@ -106,7 +106,7 @@ none_cut q printed punched = cut_after q 0 printed punched (omega arith) (omega 
 
 -- the pages of seven drives, of which none is touched
 abbrev seven_untouched : List (List ℕ)
-seven_untouched = replicate 7 (untouched drive_words)
+seven_untouched = replicate 7 (no_touch_in drive_words)
 
 -- before turn 0 no page is touched, and none of those drives
 untouched_with : (p q : Past) (known : ℕ) → p.setup.drives ≡ 1 → q.setup ≡ with_eight_drives p.setup
@@ -115,11 +115,11 @@ unfolding trace_at firsts_after untouched_all
 untouched_with p q known one setup =
     let f : Firsts = firsts_at p known in
     let cut : all_firsts_before 0 f ≡ firsts_at p 0 = firsts_cut p 0 known (omega arith) (omega arith) in
-    let blank : firsts_before 0 (untouched drive_words) ≡ untouched drive_words = blank_stays 0 ((drive_words + 255) / 256) in
+    let blank : firsts_before 0 (no_touch_in drive_words) ≡ no_touch_in drive_words = blank_stays 0 ((drive_words + 255) / 256) in
     ap (firsts_of (firsts_before 0 f.core)) (map-append (firsts_before 0) f.drives seven_untouched)
-    ∙ ap (λ drives. firsts_of (firsts_before 0 f.core) (map (firsts_before 0) f.drives ++ drives)) (drives_stay 0 (untouched drive_words) 7 blank)
+    ∙ ap (λ drives. firsts_of (firsts_before 0 f.core) (map (firsts_before 0) f.drives ++ drives)) (drives_stay 0 (no_touch_in drive_words) 7 blank)
     ∙ ap (with_more_firsts seven_untouched) cut
-    ∙ ap (λ count. firsts_of (untouched (core_size p.setup)) (replicate count (untouched drive_words) ++ seven_untouched)) one
+    ∙ ap (λ count. firsts_of (no_touch_in (core_size p.setup)) (replicate count (no_touch_in drive_words) ++ seven_untouched)) one
     ∙ ap untouched_all (sym setup)
 
 -- so it is for a machine that keeps what was printed, punched and touched of a run
@@ -134,7 +134,7 @@ texts_begun p q known m now keeps one setup text punched firsts = record {
 }
 
 -- the first touches of a run are of as many drives as there are
-drives_after : (xs : List Touch) (f : Firsts) → length (firsts_after xs f).drives ≡ length f.drives
+drives_after : (xs : List TracedAccess) (f : Firsts) → length (firsts_after xs f).drives ≡ length f.drives
 unfolding firsts_after
 drives_after [] f = refl
 drives_after (x ∷ xs) f = drives_after xs (word_touched x.part x.word x.turn f) ∙ one_touched x.part x.word x.turn f where
@@ -147,7 +147,7 @@ unfolding untouched_all
 firsts_counted p known m keeps =
     ap (λ (f : Firsts). length f.drives) keeps.firsts
     ∙ drives_after (trace_at p known) (untouched_all p.setup)
-    ∙ length-replicate p.setup.drives (untouched drive_words)
+    ∙ length-replicate p.setup.drives (no_touch_in drive_words)
 
 -- which is kept, and nothing else
 kept_begun : (p q : Past) (drives : List (List ℕ)) (before after : KeptRun) → AreKept p before.known before.machine before.ladder
@@ -162,7 +162,7 @@ kept_begun p q drives before after kept one setup first anew =
     let turn : after.machine.state.turn ≡ 0 = ap (λ (s : MachineState). s.turn) here in
     record {
       kept = rw known (record {
-        states = states_first q after.ladder (anew.kept ∙ ap (λ m. checkpoint_of m ∷ []) first) anew.rungs;
+        states = states_first q after.ladder (anew.kept ∙ ap (λ m. checkpoint_of m ∷ []) first) anew.checkpoints;
         texts = texts_begun p q before.known before.machine after.machine kept.texts one setup anew.text anew.punched anew.firsts;
         built = at_is_built q 0 after.machine here;
       });

@@ -1,4 +1,4 @@
--- A run on its way, after a part of it, a turn, and the load of a state that is kept.
+-- A run on its way, after a part of it, a turn, and the load of a checkpoint.
 use Rattle.std.proofs.Common.{◌≡◌, ◌∙◌, ℕ, ◌+◌, ◌*◌, ◌/◌, ◌<◌, ◌≤◌, List, Some, ap, arith, max, slice_get, sym}
 use Rattle.std.proofs.Math.Nat.{lt-div-mul-add}
 use Rattle.pdp_checkpoint.specs.Ladder.{LadderData, next_of}
@@ -10,12 +10,12 @@ use Rattle.pdp_script.specs.Script.{ScriptData}
 use Rattle.pdp_unibus.specs.declared.event.Event.{Event}
 use Rattle.pdp_store.specs.Firsts.{firsts_after}
 use Rattle.pdp_cpu.specs.Turns.Turn.{turn_trace}
-use Rattle.pdp_replay.specs.KeptRuns.{IsOnWay, IsUnderWay}
-use Rattle.pdp_replay.specs.KeptStates.{AreKept, AreStatesOf}
+use Rattle.pdp_replay.specs.Run.KeptRuns.{IsOnWay, IsUnderWay}
+use Rattle.pdp_replay.specs.Run.Checkpoints.{AreKept, AreStatesOf}
 use Rattle.pdp_replay.specs.Past.{Past}
-use Rattle.pdp_replay.specs.States.{at}
-use Rattle.pdp_replay.specs.declared.kept_run.KeptRun.{KeptRun}
-use Rattle.pdp_replay.proofs.KeptStates.{found_resumes}
+use Rattle.pdp_replay.specs.Run.States.{at}
+use Rattle.pdp_replay.specs.declared.run.kept_run.KeptRun.{KeptRun}
+use Rattle.pdp_replay.proofs.Checkpoints.{found_resumes}
 use Rattle.pdp_replay.proofs.Lowered.{texts_stay}
 use Rattle.pdp_replay.proofs.StateSizes.{at_is_built}
 use Rattle.pdp_replay.proofs.UnderWay.{way_of_run}
@@ -44,17 +44,17 @@ way_stepped p script r ready now turn events same on state text punched firsts i
 -- the state that is to be kept next is of a turn above the known one
 pub known_below_next : (p : Past) (known : ℕ) (l : LadderData) → AreStatesOf p known l → known < next_of l
 known_below_next p known l are =
-    let high : known < known / l.stride * l.stride + l.stride = lt-div-mul-add are.rungs.positive in
+    let high : known < known / l.stride * l.stride + l.stride = lt-div-mul-add are.checkpoints.positive in
     let next : next_of l ≡ (known / l.stride + 1) * l.stride = ap (λ n. n * l.stride) are.count in
     omega (arith, next, high)
 
--- a machine that was made one of the kept states is at the turn of that
+-- a machine that was made one of the checkpoints is at the turn of that
 pub turn_loaded : (p : Past) (r : KeptRun) (now : MachineWithTexts) (i : ℕ) (c : Checkpoint) → AreKept p r.known r.machine r.ladder
     → slice_get r.ladder.kept i ≡ Some c → now.state ≡ state_on r.machine c.saved → now.state.turn ≡ c.turn
 turn_loaded p r now i c kept found state =
     ap (λ (s : MachineState). s.turn) (state ∙ found_resumes p r.known r.machine r.ladder i c kept found)
 
--- a run whose machine was made one of the kept states
+-- a run whose machine was made one of the checkpoints
 pub on_way_loaded : (p : Past) (r : KeptRun) (now : KeptRun) (i : ℕ) (c : Checkpoint) → AreKept p r.known r.machine r.ladder
     → slice_get r.ladder.kept i ≡ Some c → c.turn ≤ r.known → now.known ≡ r.known → now.ladder ≡ r.ladder
     → now.machine.state ≡ state_on r.machine c.saved → now.machine.kept_text ≡ r.machine.kept_text → now.machine.kept_punched ≡ r.machine.kept_punched

@@ -1,41 +1,41 @@
--- What is kept of a run up to the first touch of a page is that of the run with a word of the page patched, once the word
--- is changed in each kept state.
+-- What is kept of a run up to the first touch of a page is that of the run with a word of the page
+-- patched, once the word is changed in each checkpoint.
 use Rattle.std.proofs.Common.{◌≡◌, ◌∙◌, ℕ, suc, ◌+◌, ◌*◌, ◌/◌, ◌<◌, ◌≤◌, Bool, true, false, List, [], ◌∷◌, Option, Some, None, ap, ap₂, arith, length, map, min, nat_le, refl, subst, sym, if◌then◌else◌}
 use Rattle.std.specs.List.{All, filter}
 use Rattle.std.proofs.lemmas.Bool.{leb-true}
 use Rattle.std.proofs.lemmas.List.Elements.{All-nil, All-cons}
 use Rattle.std.proofs.Math.Nat.{div-mul-le_self, lt-div-mul-add, lt_of_mul-lt-mul_right}
-use Rattle.pdp_unibus.specs.Page.{part_of, words_of}
-use Rattle.pdp_unibus.specs.BusContent.{bus_content}
+use Rattle.pdp_unibus.specs.Page.{part_of, words_of_part}
+use Rattle.pdp_unibus.specs.SavedBusData.{saved_bus}
 use Rattle.pdp_operand.specs.Phases.World.{World}
-use Rattle.pdp_checkpoint.specs.Ladder.{AreRungs, LadderData}
-use Rattle.pdp_checkpoint.specs.Patched.{patched_to, with_word}
+use Rattle.pdp_checkpoint.specs.Ladder.{AreCheckpoints, LadderData}
+use Rattle.pdp_checkpoint.specs.Patched.{patched_to, checkpoint_with_word}
 use Rattle.pdp_checkpoint.specs.declared.checkpoint.Checkpoint.{Checkpoint}
 use Rattle.pdp_cpu.specs.KeptTexts.{kept_before}
-use Rattle.pdp_cpu.specs.Saved.{MachineContent, content_with_word, machine_content}
+use Rattle.pdp_cpu.specs.Saved.{SavedMachineData, saved_machine_with_word, saved_machine}
 use Rattle.pdp_cpu.specs.Turns.MachineState.{MachineWithTexts}
-use Rattle.pdp_replay.specs.FirstTouches.{first_touch, untouched_all, world_changed}
+use Rattle.pdp_replay.specs.Run.FirstTouches.{first_touch, untouched_all, world_changed}
 use Rattle.pdp_store.specs.Firsts.{all_firsts_before, firsts_after, never}
-use Rattle.pdp_replay.specs.KeptStates.{AreStatesOf, KeepsTexts}
+use Rattle.pdp_replay.specs.Run.Checkpoints.{AreStatesOf, KeepsTexts}
 use Rattle.pdp_replay.specs.Past.{Past, with_setup}
-use Rattle.pdp_replay.specs.Setup.{SetupData}
-use Rattle.pdp_replay.specs.States.{at, power, punched_at, state_at, text_at}
+use Rattle.pdp_replay.specs.Past.Setup.{SetupData}
+use Rattle.pdp_replay.specs.Run.States.{at, power, punched_at, state_at, text_at}
 use Rattle.pdp_replay.proofs.Lowered.{texts_cut}
 use Rattle.pdp_replay.proofs.Untouched.{AlikeRuns, alike_runs, changed_alike, part_keeps_size, state_changed, untouched_until}
 
 -- at power-up the other setup differs in this word, which is there
 pub record PowersWith (drive : Option ℕ) (i word : ℕ) (r s : SetupData) : Type 0 where
   pub is : power s ≡ world_changed (part_of drive) i word (power r)
-  pub there : i < length (words_of (part_of drive) (power r).bus)
+  pub there : i < length (words_of_part (part_of drive) (power r).bus)
 
-abbrev content_of : ℕ → World → List ℕ → List ℕ → MachineContent
-content_of n w text punched = machine_content (record { turn = n; world = w; text = text; punched = punched })
+abbrev saved_machine_of : ℕ → World → List ℕ → List ℕ → SavedMachineData
+saved_machine_of n w text punched = saved_machine (record { turn = n; world = w; text = text; punched = punched })
 
-changed_content : (drive : Option ℕ) (n i word : ℕ) (w : World) (text punched : List ℕ)
-    → content_of n (world_changed (part_of drive) i word w) text punched ≡ content_with_word drive i word (content_of n w text punched)
-unfolding content_with_word Rattle.pdp_unibus.specs.BusContent.content_with_word
-changed_content None n i word w text punched = refl
-changed_content (Some number) n i word w text punched = refl
+changed_saved_machine : (drive : Option ℕ) (n i word : ℕ) (w : World) (text punched : List ℕ)
+    → saved_machine_of n (world_changed (part_of drive) i word w) text punched ≡ saved_machine_with_word drive i word (saved_machine_of n w text punched)
+unfolding saved_machine_with_word Rattle.pdp_unibus.specs.SavedBusData.saved_bus_with_word
+changed_saved_machine None n i word w text punched = refl
+changed_saved_machine (Some number) n i word w text punched = refl
 
 pub runs_alike : (drive : Option ℕ) (i word : ℕ) (p : Past) (s : SetupData) (n known : ℕ) → PowersWith drive i word p.setup s
     → n ≤ first_touch p (part_of drive) (i / 256) known → AlikeRuns (part_of drive) (i / 256) p s n
@@ -47,17 +47,17 @@ state_of_patch : (drive : Option ℕ) (i word : ℕ) (p : Past) (s : SetupData) 
     → n ≤ first_touch p (part_of drive) (i / 256) known → state_at (with_setup p s) n ≡ world_changed (part_of drive) i word (state_at p n)
 unfolding state_at
 state_of_patch drive i word p s n known powers low =
-    let inside : i < length (words_of (part_of drive) (state_at p n).bus) = rw (part_keeps_size (part_of drive) p n) powers.there in
+    let inside : i < length (words_of_part (part_of drive) (state_at p n).bus) = rw (part_keeps_size (part_of drive) p n) powers.there in
     state_changed (part_of drive) i word p s n powers.is powers.there inside (untouched_until p (part_of drive) (i / 256) known n low)
 
-pub content_of_patch : (drive : Option ℕ) (i word : ℕ) (p : Past) (s : SetupData) (n known : ℕ) → PowersWith drive i word p.setup s
+pub saved_machine_of_patch : (drive : Option ℕ) (i word : ℕ) (p : Past) (s : SetupData) (n known : ℕ) → PowersWith drive i word p.setup s
     → n ≤ first_touch p (part_of drive) (i / 256) known
-    → machine_content (at (with_setup p s) n) ≡ content_with_word drive i word (machine_content (at p n))
-content_of_patch drive i word p s n known powers low =
+    → saved_machine (at (with_setup p s) n) ≡ saved_machine_with_word drive i word (saved_machine (at p n))
+saved_machine_of_patch drive i word p s n known powers low =
     let so = runs_alike drive i word p s n known powers low in
-    ap (λ w. content_of n w (text_at (with_setup p s) n) (punched_at (with_setup p s) n)) (state_of_patch drive i word p s n known powers low)
-    ∙ ap₂ (content_of n (world_changed (part_of drive) i word (state_at p n))) so.text so.punched
-    ∙ changed_content drive n i word (state_at p n) (text_at p n) (punched_at p n)
+    ap (λ w. saved_machine_of n w (text_at (with_setup p s) n) (punched_at (with_setup p s) n)) (state_of_patch drive i word p s n known powers low)
+    ∙ ap₂ (saved_machine_of n (world_changed (part_of drive) i word (state_at p n))) so.text so.punched
+    ∙ changed_saved_machine drive n i word (state_at p n) (text_at p n) (punched_at p n)
 
 -- what holds of each that is kept, changed
 all_changed : (P Q : Checkpoint → Type 0) (f : Checkpoint → Checkpoint) (keep : Checkpoint → Bool)
@@ -78,20 +78,20 @@ lesser_quotient s known k positive le =
 
 pub states_patched : (drive : Option ℕ) (i word : ℕ) (p : Past) (s : SetupData) (known k : ℕ) (l now : LadderData) → PowersWith drive i word p.setup s
     → AreStatesOf p known l → k ≤ known → k ≤ first_touch p (part_of drive) (i / 256) known → now ≡ patched_to k drive i word l
-    → length now.kept ≡ min (length l.kept) (k / l.stride + 1) → AreRungs now → AreStatesOf (with_setup p s) k now
-states_patched drive i word p s known k l now powers are le low is long rungs =
+    → length now.kept ≡ min (length l.kept) (k / l.stride + 1) → AreCheckpoints now → AreStatesOf (with_setup p s) k now
+states_patched drive i word p s known k l now powers are le low is long checkpoints =
     let stride : now.stride ≡ l.stride = ap (λ (x : LadderData). x.stride) is in
-    let less : k / l.stride < known / l.stride + 1 = lesser_quotient l.stride known k are.rungs.positive le in
+    let less : k / l.stride < known / l.stride + 1 = lesser_quotient l.stride known k are.checkpoints.positive le in
     let count : length now.kept ≡ k / l.stride + 1 = omega (arith, long, are.count, less) in
     record {
-      states = subst (λ (x : LadderData). All (λ c. c.saved ≡ machine_content (at (with_setup p s) c.turn)) x.kept) (sym is)
-          (all_changed (λ c. c.saved ≡ machine_content (at p c.turn)) (λ c. c.saved ≡ machine_content (at (with_setup p s) c.turn)) (with_word drive i word) (λ c. nat_le c.turn k)
+      states = subst (λ (x : LadderData). All (λ c. c.saved ≡ saved_machine (at (with_setup p s) c.turn)) x.kept) (sym is)
+          (all_changed (λ c. c.saved ≡ saved_machine (at p c.turn)) (λ c. c.saved ≡ saved_machine (at (with_setup p s) c.turn)) (checkpoint_with_word drive i word) (λ c. nat_le c.turn k)
           (λ c kept saved.
           let below : c.turn ≤ k = leb-true c.turn k kept in
           let within : c.turn ≤ first_touch p (part_of drive) (i / 256) known = omega (arith, below, low) in
-          ap (content_with_word drive i word) saved ∙ sym (content_of_patch drive i word p s c.turn known powers within))
+          ap (saved_machine_with_word drive i word) saved ∙ sym (saved_machine_of_patch drive i word p s c.turn known powers within))
           l.kept are.states);
-      rungs = rungs;
+      checkpoints = checkpoints;
       count = count ∙ ap (λ n. k / n + 1) (sym stride);
     }
 

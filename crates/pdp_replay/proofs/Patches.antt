@@ -3,10 +3,10 @@ use Rattle.std.proofs.Common.{◌≡◌, ℕ, suc, zero, Bool, true, false, cond
 use Rattle.std.specs.List.{All}
 use Rattle.indexmap.specs.IndexMap.{insert_entry, shift_remove_entry}
 use Rattle.std.proofs.lemmas.List.Elements.{All-cons, All-tail}
-use Rattle.pdp_replay.specs.FirstWords.{AllThere, IsThere}
-use Rattle.pdp_replay.specs.PatchedWords.{Patches}
-use Rattle.pdp_replay.specs.Setup.{SetupData}
-use Rattle.pdp_replay.specs.declared.patch.PatchKey.{PatchKey}
+use Rattle.pdp_replay.specs.Past.FirstWords.{AllThere, IsThere}
+use Rattle.pdp_replay.specs.Past.PatchedWords.{Patches}
+use Rattle.pdp_replay.specs.Past.Setup.{SetupData}
+use Rattle.pdp_replay.specs.declared.past.patch.PatchKey.{PatchKey}
 
 -- what holds of every patch
 module _ (Good : PatchKey × ℕ → Type 0) where

@@ -1,4 +1,5 @@
--- What a patch of a word, a patch less, other delays and another tape make of the state as of power-up.
+-- What a patch of a word, a patch less, other delays and another tape make of the state as of
+-- power-up.
 use Rattle.std.proofs.Common.{◌≡◌, ◌∙◌, ℕ, ◌<◌, ◌&&◌, Bool, true, false, List, [], ◌∷◌, None, Some, ap, ap₂, get_or, length, map, nat_eq, refl, subst, sym, unwrap_or, arith}
 use Rattle.std.specs.Prelude.{slice_index, slice_index_or, slice_set}
 use Rattle.std.specs.List.{range_with_len}
@@ -7,11 +8,11 @@ use Rattle.std.proofs.lemmas.Grind.{get_or-set_at}
 use Rattle.std.proofs.lemmas.List.{get_or-set_other, length-set}
 use Rattle.std.proofs.lemmas.List.FromFn.{fill_by_all, get_or-map-range_with_len, length-map-range_with_len}
 use Rattle.indexmap.specs.IndexMap.{insert_entry, shift_remove_entry}
-use Rattle.pdp_replay.specs.FirstWords.{words_by_number, core_words, first_core_word, disk_words, drives_words, first_disk_word}
-use Rattle.pdp_replay.specs.PatchedWords.{Patches, core_key, disk_key, is_same_word, patch_of}
-use Rattle.pdp_replay.specs.Setup.{SetupData, core_size, drive_words, image_of}
-use Rattle.pdp_replay.specs.declared.patch.PatchKey.{PatchKey}
-use Rattle.pdp_replay.specs.declared.patch.PatchKey.TheVariants as key
+use Rattle.pdp_replay.specs.Past.FirstWords.{words_by_number, core_words, first_core_word, disk_words, drives_words, first_disk_word}
+use Rattle.pdp_replay.specs.Past.PatchedWords.{Patches, core_key, disk_key, is_same_word, patch_of}
+use Rattle.pdp_replay.specs.Past.Setup.{SetupData, core_size, drive_words, image_of}
+use Rattle.pdp_replay.specs.declared.past.patch.PatchKey.{PatchKey}
+use Rattle.pdp_replay.specs.declared.past.patch.PatchKey.TheVariants as key
 use Rattle.pdp_replay.proofs.FirstWords.{drive_by_number, filled_by_number, length_by_number, word_by_number}
 use Rattle.pdp_replay.proofs.Lowered.{both_true}
 

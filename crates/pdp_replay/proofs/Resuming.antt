@@ -1,20 +1,20 @@
--- Where a run goes on from: the machine, or the best kept state.
+-- Where a run goes on from: the machine, or the best checkpoint.
 use Rattle.std.proofs.Common.{◌≡◌, ℕ, ◌+◌, ◌*◌, ◌/◌, ◌<◌, ◌&&◌, Bool, ap, arith, false, min, nat_le}
 use Rattle.pdp_checkpoint.specs.Ladder.{best_of, next_of}
-use Rattle.pdp_replay.specs.KeptRuns.{ComesTo, IsSomeRun, is_current_by, resumed_at, resumed_turn}
-use Rattle.pdp_replay.specs.KeptStates.{AreStatesOf}
-use Rattle.pdp_replay.specs.Known.{IsCome, next_kept}
+use Rattle.pdp_replay.specs.Run.KeptRuns.{ComesTo, IsSomeRun, is_current_by, resumed_at, resumed_turn}
+use Rattle.pdp_replay.specs.Run.Checkpoints.{AreStatesOf}
+use Rattle.pdp_replay.specs.Ask.Known.{IsCome, next_kept}
 use Rattle.pdp_replay.specs.Past.{Past}
 use Rattle.pdp_replay.specs.Timeline.{Timeline}
-use Rattle.pdp_replay.specs.declared.kept_run.KeptRun.{KeptRun}
-use Rattle.pdp_replay.proofs.KeptStates.{lesser_quotient}
+use Rattle.pdp_replay.specs.declared.run.kept_run.KeptRun.{KeptRun}
+use Rattle.pdp_replay.proofs.Checkpoints.{lesser_quotient}
 use Rattle.pdp_replay.proofs.OnWay.{known_below_next}
 
 -- is a machine in a state of a run, of a turn between two?
 abbrev pub says_between : KeptRun → ℕ → ℕ → Bool
 says_between r first last = nat_le first r.machine.state.turn && is_current_by r last
 
--- otherwise a run goes on from the kept state
+-- otherwise a run goes on from the checkpoint
 pub resumed_kept : (r : KeptRun) (to kept : ℕ) → kept ≡ best_of r.ladder (min to r.known) * r.ladder.stride → says_between r kept to ≡ false
     → kept ≡ resumed_turn r to
 resumed_kept r to kept is earlier =
@@ -25,12 +25,12 @@ resumed_kept r to kept is earlier =
 pub known_is_below : (r : KeptRun) → IsSomeRun r → r.known < next_of r.ladder
 known_is_below r some = known_below_next some.past r.known r.ladder some.run.kept.states
 
--- the turn of the best kept state, by the known turn and the stride alone
+-- the turn of the best checkpoint, by the known turn and the stride alone
 kept_turn_is : (p : Past) (r : KeptRun) (to : ℕ) → AreStatesOf p r.known r.ladder → best_of r.ladder (min to r.known) ≡ min to r.known / r.ladder.stride
 kept_turn_is p r to are =
     let count = are.count in
     let less : min to r.known / r.ladder.stride < r.known / r.ladder.stride + 1 =
-    lesser_quotient r.ladder.stride r.known (min to r.known) are.rungs.positive (omega arith) in
+    lesser_quotient r.ladder.stride r.known (min to r.known) are.checkpoints.positive (omega arith) in
     omega (arith, count, less)
 
 pub resumed_is : (p : Past) (r : KeptRun) (to : ℕ) → AreStatesOf p r.known r.ladder

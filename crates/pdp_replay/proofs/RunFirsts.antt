@@ -1,27 +1,27 @@
--- The first touches that the turns of a run leave: run again they add nothing; late ones can be dropped; and of each page
--- they are the first touch of the run.
+-- The first touches that the turns of a run leave: run again they add nothing; late ones can be
+-- dropped; and of each page they are the first touch of the run.
 use Rattle.std.proofs.Common.{◌≡◌, ◌≢◌, ◌∙◌, ℕ, zero, suc, ◌+◌, ◌-◌, ◌/◌, ◌<◌, ◌≤◌, ◌==◌, ◌&&◌, ◌||◌, Bool, true, false, Some, None, List, [], ◌∷◌, ◌++◌, All, ap, ap₂, refl, sym, subst, length, map, max, min, nat_lt, ltb-true, ltb-false, slice_index_or, slice_set, if◌then◌else◌, replicate, arith, append_assoc, append-nil, length-set, get_or-set_same, get_or-set_other}
 use Rattle.std.proofs.lemmas.Bool.{eqb-true, eqb-false}
-use Rattle.pdp_store.specs.Touch.{Part, Touch}
-use Rattle.pdp_store.specs.Touch.{Part as parts}
+use Rattle.pdp_store.specs.TracedAccess.{Part, TracedAccess}
+use Rattle.pdp_store.specs.TracedAccess.{Part as parts}
 use Rattle.pdp_unibus.specs.Touched.{IsOfTurn}
 use Rattle.pdp_cpu.proofs.TurnLaws.{turn_touches}
 use Rattle.pdp_cpu.specs.Turns.Turn.{turn_trace}
 use Rattle.pdp_script.specs.Entries.{events_at}
-use Rattle.pdp_store.specs.Stored.{untouched}
-use Rattle.pdp_replay.specs.FirstTouches.{earlier_touch, first_of, first_touch, firsts_at, if_before, untouched_all, is_same_part, meets}
+use Rattle.pdp_store.specs.Stored.{no_touch_in}
+use Rattle.pdp_replay.specs.Run.FirstTouches.{earlier_touch, first_touch_of, first_touch, firsts_at, if_before, untouched_all, is_same_part, meets}
 use Rattle.pdp_store.specs.Firsts.{Firsts, all_firsts_before, firsts_after, firsts_in, firsts_of, firsts_before, never, first_turn, touch_page, word_touched}
 use Rattle.pdp_replay.specs.Past.{Past}
-use Rattle.pdp_replay.specs.Setup.{SetupData, core_size, drive_words}
-use Rattle.pdp_replay.specs.States.{state_at, trace_at}
+use Rattle.pdp_replay.specs.Past.Setup.{SetupData, core_size, drive_words}
+use Rattle.pdp_replay.specs.Run.States.{state_at, trace_at}
 use Rattle.pdp_replay.proofs.FirstsLaws.{AllIn, absorbed, early_kept, late_dropped}
 use Rattle.pdp_store.proofs.FirstTouches.{firsts_after-append}
 use Rattle.pdp_replay.proofs.Untouched.{first_touch_le}
 
-abbrev pub trace_in : Past → ℕ → List Touch
+abbrev pub trace_in : Past → ℕ → List TracedAccess
 trace_in p t = turn_trace t (events_at p.script.entries t) (state_at p t)
 
-all_in : (t words : ℕ) (xs : List Touch) → All (IsOfTurn t words) xs → AllIn t xs
+all_in : (t words : ℕ) (xs : List TracedAccess) → All (IsOfTurn t words) xs → AllIn t xs
 all_in t words [] all = tt
 all_in t words (x ∷ xs) all = ((all 0 x (omega arith)).turn_is, all_in t words xs (λ k d below. all (suc k) d (omega arith)))
 
@@ -34,7 +34,7 @@ firsts_next p n = firsts_after-append (trace_at p n) (trace_in p n) (untouched_a
 
 -- a turn that stands in a trace
 record Split (p : Past) (t n : ℕ) : Type 0 where
-  rest : List Touch
+  rest : List TracedAccess
   is : trace_at p n ≡ (trace_at p t ++ trace_in p t) ++ rest
 
 split : (p : Past) (t d : ℕ) → Split p t (d + suc t)
@@ -70,7 +70,7 @@ drives_stay k blank (suc n) stays = ap₂ ◌∷◌ stays (drives_stay k blank n
 none_dropped : (k : ℕ) (s : SetupData) → all_firsts_before k (untouched_all s) ≡ untouched_all s
 unfolding untouched_all
 none_dropped k s =
-    ap₂ firsts_of (blank_stays k ((core_size s + 255) / 256)) (drives_stay k (untouched drive_words) s.drives (blank_stays k ((drive_words + 255) / 256)))
+    ap₂ firsts_of (blank_stays k ((core_size s + 255) / 256)) (drives_stay k (no_touch_in drive_words) s.drives (blank_stays k ((drive_words + 255) / 256)))
 
 early_stay : (p : Past) (k n : ℕ) → n ≤ k → k ≤ never → all_firsts_before k (firsts_at p n) ≡ firsts_at p n
 unfolding trace_at firsts_after
@@ -93,13 +93,13 @@ there_drive (x ∷ ds) (suc d) page within = let there = there_drive ds d page w
 
 -- a touch of this page, and another one
 page_met : (part : Part) (w t page : ℕ) (f : Firsts) → page < length (firsts_in part f) → w / 256 ≡ page
-    → first_of part page (word_touched part w t f) ≡ min (first_of part page f) t
+    → first_touch_of part page (word_touched part w t f) ≡ min (first_touch_of part page f) t
 page_met parts.Core w t page f within is = rw is (get_or-set_same f.core page _ never within)
 page_met (parts.Drive d) w t page f within is =
     rw is (ap (λ xs. slice_index_or xs page never) (get_or-set_same f.drives d _ [] (there_drive f.drives d page within)) ∙ get_or-set_same (slice_index_or f.drives d []) page _ never within)
 
 other_page : (part : Part) (w t page : ℕ) (f : Firsts) → page < length (firsts_in part f) → page ≢ w / 256
-    → first_of part page (word_touched part w t f) ≡ first_of part page f
+    → first_touch_of part page (word_touched part w t f) ≡ first_touch_of part page f
 other_page parts.Core w t page f within is = get_or-set_other f.core (w / 256) page _ never is
 other_page (parts.Drive d) w t page f within is =
     ap (λ xs. slice_index_or xs page never) (get_or-set_same f.drives d _ [] (there_drive f.drives d page within)) ∙ get_or-set_other (slice_index_or f.drives d []) (w / 256) page _ never is
@@ -118,9 +118,9 @@ is_part parts.Core (parts.Drive d) is = absurd (cc)
 is_part (parts.Drive d) parts.Core is = absurd (cc)
 is_part (parts.Drive d) (parts.Drive e) is = ap parts.Drive (eqb-true e d is)
 
-one_touch : (part : Part) (page : ℕ) (x : Touch) (f : Firsts) (same inside : Bool) → is_same_part x.part part ≡ same → (x.word / 256 == page) ≡ inside
+one_touch : (part : Part) (page : ℕ) (x : TracedAccess) (f : Firsts) (same inside : Bool) → is_same_part x.part part ≡ same → (x.word / 256 == page) ≡ inside
     → page < length (firsts_in part f)
-    → first_of part page (word_touched x.part x.word x.turn f) ≡ (if same && inside then min (first_of part page f) x.turn else first_of part page f)
+    → first_touch_of part page (word_touched x.part x.word x.turn f) ≡ (if same && inside then min (first_touch_of part page f) x.turn else first_touch_of part page f)
 one_touch part page x f true true is at within =
     rw (is_part part x.part is) (page_met part x.word x.turn page f within (eqb-true (x.word / 256) page at))
 one_touch part page x f true false is at within =
@@ -140,7 +140,7 @@ size_kept parts.Core (parts.Drive e) w t f = refl
 size_kept (parts.Drive d) parts.Core w t f = refl
 size_kept (parts.Drive d) (parts.Drive e) w t f = drive_size f.drives e d (w / 256) t
 
-pub sizes_kept : (part : Part) (xs : List Touch) (f : Firsts) → length (firsts_in part (firsts_after xs f)) ≡ length (firsts_in part f)
+pub sizes_kept : (part : Part) (xs : List TracedAccess) (f : Firsts) → length (firsts_in part (firsts_after xs f)) ≡ length (firsts_in part f)
 unfolding firsts_after
 sizes_kept part [] f = refl
 sizes_kept part (x ∷ xs) f = sizes_kept part xs (word_touched x.part x.word x.turn f) ∙ size_kept part x.part x.word x.turn f
@@ -152,14 +152,14 @@ least true false v now t turn is here = here ∙ ap (min v) is
 least false true v now t turn is here = ap (λ n. min n t) here
 least false false v now t turn is here = here
 
-turn_firsts : (part : Part) (page t : ℕ) (xs : List Touch) (f : Firsts) → AllIn t xs → page < length (firsts_in part f)
-    → first_of part page (firsts_after xs f) ≡ (if meets part page xs then min (first_of part page f) t else first_of part page f)
+turn_firsts : (part : Part) (page t : ℕ) (xs : List TracedAccess) (f : Firsts) → AllIn t xs → page < length (firsts_in part f)
+    → first_touch_of part page (firsts_after xs f) ≡ (if meets part page xs then min (first_touch_of part page f) t else first_touch_of part page f)
 unfolding firsts_after
 turn_firsts part page t [] f all within = refl
 turn_firsts part page t (x ∷ xs) f all within =
     let g = word_touched x.part x.word x.turn f in
     turn_firsts part page t xs g all.1 (rw (size_kept part x.part x.word x.turn f) within)
-    ∙ least (is_same_part x.part part && x.word / 256 == page) (meets part page xs) (first_of part page f) (first_of part page g) t x.turn all.0
+    ∙ least (is_same_part x.part part && x.word / 256 == page) (meets part page xs) (first_touch_of part page f) (first_touch_of part page g) t x.turn all.0
     (one_touch part page x f (is_same_part x.part part) (x.word / 256 == page) refl refl within)
 
 blank_first : (n page : ℕ) → slice_index_or (replicate n never) page never ≡ never
@@ -172,7 +172,7 @@ drive_first zero d size page = refl
 drive_first (suc n) zero size page = blank_first size page
 drive_first (suc n) (suc d) size page = drive_first n d size page
 
-none_yet : (part : Part) (page : ℕ) (s : SetupData) → first_of part page (untouched_all s) ≡ never
+none_yet : (part : Part) (page : ℕ) (s : SetupData) → first_touch_of part page (untouched_all s) ≡ never
 unfolding untouched_all
 none_yet parts.Core page s = blank_first ((core_size s + 255) / 256) page
 none_yet (parts.Drive d) page s = drive_first s.drives d ((drive_words + 255) / 256) page
@@ -199,11 +199,11 @@ next_first first n touches low small = by (nat_lt first n) refl touches where
 
 -- the first touches of a run up to turn n tell the first touch of each page
 pub firsts_tell : (p : Past) (part : Part) (page n : ℕ) → n ≤ never → page < length (firsts_in part (untouched_all p.setup))
-    → first_of part page (firsts_at p n) ≡ if_before (first_touch p part page n) n
+    → first_touch_of part page (firsts_at p n) ≡ if_before (first_touch p part page n) n
 unfolding trace_at firsts_after first_touch
 firsts_tell p part page zero small within = none_yet part page p.setup
 firsts_tell p part page (suc n) small within =
-    ap (first_of part page) (firsts_next p n)
+    ap (first_touch_of part page) (firsts_next p n)
     ∙ turn_firsts part page n (trace_in p n) (firsts_at p n) (turn_in p n) (rw (sizes_kept part (trace_at p n) (untouched_all p.setup)) within)
     ∙ ap (λ v. if meets part page (trace_in p n) then min v n else v) (firsts_tell p part page n (omega arith) within)
     ∙ next_first (first_touch p part page n) n (meets part page (trace_in p n)) (first_touch_le p part page n) (omega arith)
@@ -219,7 +219,7 @@ reached_is first n told low small is = by (nat_lt first n) refl is where
 pub untouched_alike : (r s : SetupData) → core_size r ≡ core_size s → r.drives ≡ s.drives → untouched_all r ≡ untouched_all s
 unfolding untouched_all
 untouched_alike r s core drives =
-    ap₂ (λ words count. firsts_of (untouched words) (replicate count (untouched drive_words))) core drives
+    ap₂ (λ words count. firsts_of (no_touch_in words) (replicate count (no_touch_in drive_words))) core drives
 
 -- a turn up to the known one leaves those of the greater of both
 pub firsts_turned : (p : Past) (n known : ℕ) → n ≤ known → firsts_after (trace_in p n) (firsts_at p known) ≡ firsts_at p (max known (n + 1))
@@ -251,3 +251,6 @@ some_told first turn is = by (first == never) refl is where
   by : (b : Bool) → (first == never) ≡ b → (if b then None else Some first) ≡ Some turn → turn ≡ first
   by true same also = absurd (cc)
   by false same also = cc
+
+-- what the reach of a patch cites
+pub ruleset first_is_told = (none_told, some_told)

@@ -1,20 +1,20 @@
--- Up to the first touch of a page the kept states of a run have it alike.
+-- Up to the first touch of a page the checkpoints of a run have it alike.
 use Rattle.std.proofs.Common.{◌≡◌, ◌∙◌, ℕ, suc, ◌/◌, ◌≤◌, Bool, true, false, if◌then◌else◌, List, [], ◌∷◌, Option, Some, None, arith, nat_le, refl, subst, sym}
 use Rattle.std.specs.List.{All, filter}
 use Rattle.std.proofs.lemmas.Bool.{leb-true}
 use Rattle.std.proofs.lemmas.List.Elements.{All-nil, All-cons}
-use Rattle.pdp_store.specs.Touch.{Part as parts}
+use Rattle.pdp_store.specs.TracedAccess.{Part as parts}
 use Rattle.pdp_unibus.specs.Page.{part_of}
 use Rattle.pdp_unibus.specs.PatchedPages.{HasPageOf}
-use Rattle.pdp_cpu.specs.Saved.{MachineContent, machine_content}
+use Rattle.pdp_cpu.specs.Saved.{SavedMachineData, saved_machine}
 use Rattle.pdp_checkpoint.proofs.PagesAlike.{has_page}
 use Rattle.pdp_checkpoint.specs.Ladder.{LadderData}
 use Rattle.pdp_checkpoint.specs.Patched.{HavePageAlike}
 use Rattle.pdp_checkpoint.specs.declared.checkpoint.Checkpoint.{Checkpoint}
-use Rattle.pdp_replay.specs.FirstTouches.{IsAsAtPowerUp, first_touch}
-use Rattle.pdp_replay.specs.KeptStates.{AreStatesOf}
+use Rattle.pdp_replay.specs.Run.FirstTouches.{IsAsAtPowerUp, first_touch}
+use Rattle.pdp_replay.specs.Run.Checkpoints.{AreStatesOf}
 use Rattle.pdp_replay.specs.Past.{Past}
-use Rattle.pdp_replay.specs.States.{at}
+use Rattle.pdp_replay.specs.Run.States.{at}
 use Rattle.pdp_replay.proofs.AlikePages.{pages_alike}
 use Rattle.pdp_replay.proofs.LastWrites.{lasts_keep_size}
 use Rattle.pdp_replay.proofs.Untouched.{part_keeps_size}
@@ -22,20 +22,20 @@ use Rattle.pdp_replay.proofs.Untouched.{part_keeps_size}
 -- two states of turns up to the first touch
 alike_states : (drive : Option ℕ) (word : ℕ) (p : Past) (n m : ℕ) → IsAsAtPowerUp p (part_of drive) (word / 256) n
     → IsAsAtPowerUp p (part_of drive) (word / 256) m
-    → HasPageOf drive word (machine_content (at p n)).bus (machine_content (at p m)).bus
+    → HasPageOf drive word (saved_machine (at p n)).bus (saved_machine (at p m)).bus
 alike_states None word p n m one other =
-    has_page None word (machine_content (at p n)).bus (machine_content (at p m)).bus (part_keeps_size parts.Core p m ∙ sym (part_keeps_size parts.Core p n))
+    has_page None word (saved_machine (at p n)).bus (saved_machine (at p m)).bus (part_keeps_size parts.Core p m ∙ sym (part_keeps_size parts.Core p n))
     (λ k inside. sym (other.words k inside) ∙ one.words k inside)
     (lasts_keep_size p m ∙ sym (lasts_keep_size p n))
     (λ k inside. other.unstamped refl k inside ∙ sym (one.unstamped refl k inside))
 alike_states (Some number) word p n m one other =
-    has_page (Some number) word (machine_content (at p n)).bus (machine_content (at p m)).bus
+    has_page (Some number) word (saved_machine (at p n)).bus (saved_machine (at p m)).bus
     (part_keeps_size (parts.Drive number) p m ∙ sym (part_keeps_size (parts.Drive number) p n))
     (λ k inside. sym (other.words k inside) ∙ one.words k inside) refl (λ k inside. refl)
 
 pub states_have_page : (drive : Option ℕ) (word : ℕ) (p : Past) (n m known : ℕ) → n ≤ first_touch p (part_of drive) (word / 256) known
     → m ≤ first_touch p (part_of drive) (word / 256) known
-    → HasPageOf drive word (machine_content (at p n)).bus (machine_content (at p m)).bus
+    → HasPageOf drive word (saved_machine (at p n)).bus (saved_machine (at p m)).bus
 states_have_page drive word p n m known low also =
     alike_states drive word p n m (pages_alike p (part_of drive) (word / 256) n known low) (pages_alike p (part_of drive) (word / 256) m known also)
 
@@ -50,15 +50,15 @@ all_filtered P Q keep step (c ∷ cs) all =
     by true is rest = All-cons Q c _ (step c is (all 0 c (omega arith))) rest
     by false is rest = rest
 
--- so have the states that are kept up to the first touch
+-- so have the checkpoints up to the first touch
 pub kept_have_page : (drive : Option ℕ) (word : ℕ) (p : Past) (known k : ℕ) (l : LadderData) → AreStatesOf p known l
     → k ≤ first_touch p (part_of drive) (word / 256) known → HavePageAlike drive word (filter (λ c. nat_le c.turn k) l.kept)
 kept_have_page drive word p known k l are low = record {
-  content = (machine_content (at p 0)).bus;
-  all = all_filtered (λ c. c.saved ≡ machine_content (at p c.turn)) (λ c. HasPageOf drive word (machine_content (at p 0)).bus c.saved.bus) (λ c. nat_le c.turn k)
+  content = (saved_machine (at p 0)).bus;
+  all = all_filtered (λ c. c.saved ≡ saved_machine (at p c.turn)) (λ c. HasPageOf drive word (saved_machine (at p 0)).bus c.saved.bus) (λ c. nat_le c.turn k)
       (λ c kept saved.
       let below : c.turn ≤ first_touch p (part_of drive) (word / 256) known = omega (arith, leb-true c.turn k kept, low) in
-      subst (λ (s : MachineContent). HasPageOf drive word (machine_content (at p 0)).bus s.bus) (sym saved)
+      subst (λ (s : SavedMachineData). HasPageOf drive word (saved_machine (at p 0)).bus s.bus) (sym saved)
       (states_have_page drive word p 0 c.turn known (omega arith) below))
       l.kept are.states;
 }

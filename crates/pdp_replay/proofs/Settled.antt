@@ -1,18 +1,19 @@
--- What a run keeps where its machine came to a turn: the state of that turn too, where it is the next to keep.
+-- What a run keeps where its machine came to a turn: the state of that turn too, where it is the
+-- next to keep.
 use Rattle.std.proofs.Common.{◌≡◌, ◌∙◌, ℕ, ◌+◌, ◌-◌, ◌*◌, ◌/◌, ◌<◌, ◌≤◌, ⊎_elim, ap, arith, length, max, refl, subst, sym}
 use Rattle.std.proofs.Math.Nat.{lt-div-mul-add, mul-le-mul_right}
 use Rattle.std.proofs.lemmas.Bool.{cases_lt}
-use Rattle.pdp_checkpoint.proofs.Rungs.{stride_at_full, stride_in_room}
-use Rattle.pdp_checkpoint.specs.Ladder.{AreRungs, LadderData, checkpoint_of, kept_with, most_kept, next_of}
+use Rattle.pdp_checkpoint.proofs.Checkpoints.{stride_at_full, stride_in_room}
+use Rattle.pdp_checkpoint.specs.Ladder.{AreCheckpoints, LadderData, checkpoint_of, kept_with, most_kept, next_of}
 use Rattle.pdp_cpu.specs.KeptTexts.{kept_before}
 use Rattle.pdp_cpu.specs.Saved.{state_cut}
 use Rattle.pdp_cpu.specs.Turns.MachineState.{MachineState, MachineWithTexts}
 use Rattle.pdp_store.specs.Firsts.{all_firsts_before, never}
-use Rattle.pdp_replay.specs.KeptRuns.{IsUnderWay}
-use Rattle.pdp_replay.specs.KeptStates.{AreKept, AreStatesOf, KeepsTexts}
+use Rattle.pdp_replay.specs.Run.KeptRuns.{IsUnderWay}
+use Rattle.pdp_replay.specs.Run.Checkpoints.{AreKept, AreStatesOf, KeepsTexts}
 use Rattle.pdp_replay.specs.Past.{Past}
-use Rattle.pdp_replay.specs.Strides.{IsStride}
-use Rattle.pdp_replay.proofs.KeptStates.{states_stay, states_taken}
+use Rattle.pdp_replay.specs.Run.Strides.{IsStride}
+use Rattle.pdp_replay.proofs.Checkpoints.{states_stay, states_taken}
 use Rattle.pdp_replay.proofs.Lowered.{built_stays, texts_cut}
 use Rattle.pdp_replay.proofs.StateSizes.{at_is_built}
 use Rattle.pdp_replay.proofs.Strides.{stride_doubles, stride_stays}
@@ -21,7 +22,7 @@ use Rattle.pdp_replay.proofs.UnderWay.{kept_on_way}
 -- the known turn is short of the next one whose state is to be kept
 pub known_is_short : (p : Past) (known : ℕ) (l : LadderData) → AreStatesOf p known l → known < next_of l
 known_is_short p known l are =
-    let high : known < known / l.stride * l.stride + l.stride = lt-div-mul-add are.rungs.positive in
+    let high : known < known / l.stride * l.stride + l.stride = lt-div-mul-add are.checkpoints.positive in
     let next : next_of l ≡ (known / l.stride + 1) * l.stride = ap (λ n. n * l.stride) are.count in
     omega (arith, high, next)
 
@@ -34,12 +35,12 @@ settled p known m l are way below =
 
 -- the state of this turn was kept
 pub settled_taken : (p : Past) (known : ℕ) (m : MachineWithTexts) (l now : LadderData) → AreStatesOf p known l → IsUnderWay p known m
-    → m.state.turn ≡ next_of l → now ≡ kept_with l (checkpoint_of m.state) → AreRungs now → next_of now ≡ next_of l + now.stride
+    → m.state.turn ≡ next_of l → now ≡ kept_with l (checkpoint_of m.state) → AreCheckpoints now → next_of now ≡ next_of l + now.stride
     → AreKept p (max known m.state.turn) m now
-settled_taken p known m l now are way turn is rungs next =
+settled_taken p known m l now are way turn is checkpoints next =
     let short = known_is_short p known l are in
     let reached : m.state.turn ≡ max known m.state.turn = omega (arith, short, turn) in
-    let states : AreStatesOf p m.state.turn now = states_taken p known m.state.turn m.state l now are way.here turn is rungs next in
+    let states : AreStatesOf p m.state.turn now = states_taken p known m.state.turn m.state l now are way.here turn is checkpoints next in
     kept_on_way p known (max known m.state.turn) m now (subst (λ k. AreStatesOf p k now) reached states) way refl
 
 -- there was no memory for it: what was known before this turn stays
@@ -59,27 +60,27 @@ settled_refused p known printed punched m now l are way turn text punched_is fir
     }
 
 -- the stride stays, where the next state to keep wasn't passed
-pub stride_settled : (start high known turn : ℕ) (l : LadderData) → AreRungs l → turn < next_of l → IsStride start (max high known) l.stride
+pub stride_settled : (start high known turn : ℕ) (l : LadderData) → AreCheckpoints l → turn < next_of l → IsStride start (max high known) l.stride
     → IsStride start (max high (max known turn)) l.stride
-stride_settled start high known turn l rungs below is =
-    let few : length l.kept * l.stride ≤ 256 * l.stride = mul-le-mul_right l.stride rungs.few in
+stride_settled start high known turn l checkpoints below is =
+    let few : length l.kept * l.stride ≤ 256 * l.stride = mul-le-mul_right l.stride checkpoints.few in
     let enough = is.enough in
     stride_stays start high known (max known turn) l.stride is (omega arith) (omega (arith, few, enough, below))
 
 -- it doubles where a state was kept that had no room
-pub stride_taken : (start high known : ℕ) (m : MachineState) (l now : LadderData) → AreRungs l → m.turn ≡ next_of l
+pub stride_taken : (start high known : ℕ) (m : MachineState) (l now : LadderData) → AreCheckpoints l → m.turn ≡ next_of l
     → now ≡ kept_with l (checkpoint_of m) → IsStride start (max high known) l.stride → IsStride start (max high (max known m.turn)) now.stride
-stride_taken start high known m l now rungs turn taken is =
+stride_taken start high known m l now checkpoints turn taken is =
     let enough = is.enough in
     ⊎_elim
     (λ (room : length l.kept < most_kept).
     let more : (length l.kept + 1) * l.stride ≤ 256 * l.stride = mul-le-mul_right l.stride (omega (arith, room)) in
-    let positive = rungs.positive in
+    let positive = checkpoints.positive in
     let below : max known m.turn < 256 * l.stride = omega (arith, more, enough, turn, positive) in
     let same : now.stride ≡ l.stride = ap (λ (x : LadderData). x.stride) taken ∙ stride_in_room l (checkpoint_of m) room in
     subst (IsStride start (max high (max known m.turn))) (sym same) (stride_stays start high known (max known m.turn) l.stride is (omega arith) below))
     (λ (full : most_kept ≤ length l.kept).
-    let all : length l.kept ≡ 256 = omega (arith, full, rungs.few) in
+    let all : length l.kept ≡ 256 = omega (arith, full, checkpoints.few) in
     let reached : length l.kept * l.stride ≡ 256 * l.stride = ap (λ n. n * l.stride) all in
     let there : max known m.turn ≡ 256 * l.stride = omega (arith, enough, turn, reached) in
     let twice : now.stride ≡ l.stride * 2 = ap (λ (x : LadderData). x.stride) taken ∙ stride_at_full l (checkpoint_of m) full in

@@ -10,7 +10,7 @@ use Rattle.std.proofs.lemmas.List.Elements.{All-cons, All-nil}
 use Rattle.pdp_script.specs.Refusal.{result_map}
 use Rattle.pdp_script.specs.declared.faults.Fault.{Fault}
 use Rattle.pdp_script.specs.declared.faults.Fault.TheVariants.{BadImage, BadSetup}
-use Rattle.pdp_replay.specs.Setup.{SetupData, setup_checked, IsGood, drive_words, fits_drive, has_good_disks, images_of, most_drives, has_good_numbers, has_good_images}
+use Rattle.pdp_replay.specs.Past.Setup.{SetupData, setup_checked, IsGood, drive_words, fits_drive, has_good_disks, images_of, most_drives, has_good_numbers, has_good_images}
 use Rattle.pdp_replay.proofs.Lowered.{both_true}
 
 abbrev accepted : Result (Unit {0}) Fault

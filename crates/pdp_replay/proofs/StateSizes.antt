@@ -2,12 +2,12 @@
 use Rattle.std.proofs.Common.{◌≡◌, ◌∙◌, ℕ, zero, suc, refl, sym}
 use Rattle.pdp_cpu.proofs.TurnLaws.{turn_keeps_tape}
 use Rattle.pdp_cpu.specs.Turns.MachineState.{MachineWithTexts}
-use Rattle.pdp_cpu.specs.Saved.{MachineContent, machine_content}
-use Rattle.pdp_unibus.specs.BusContent.{HasSizesOf}
+use Rattle.pdp_cpu.specs.Saved.{SavedMachineData, saved_machine}
+use Rattle.pdp_unibus.specs.SavedBusData.{HasSizesOf}
 use Rattle.pdp_script.specs.Entries.{events_at}
-use Rattle.pdp_replay.specs.KeptStates.{IsBuiltFrom}
+use Rattle.pdp_replay.specs.Run.Checkpoints.{IsBuiltFrom}
 use Rattle.pdp_replay.specs.Past.{Past}
-use Rattle.pdp_replay.specs.States.{at, power, state_at}
+use Rattle.pdp_replay.specs.Run.States.{at, power, state_at}
 use Rattle.pdp_replay.proofs.CoreSizes.{core_keeps_size}
 use Rattle.pdp_replay.proofs.DriveSizes.{drives_keep_sizes}
 use Rattle.pdp_replay.proofs.LastWrites.{lasts_keep_size}
@@ -27,9 +27,9 @@ at_is_built p n m here = record {
 }
 
 -- and what is saved of a state fits it
-pub content_fits : (p : Past) (n : ℕ) (m : MachineWithTexts) (saved : MachineContent) → saved ≡ machine_content (at p n) → IsBuiltFrom p.setup m
+pub saved_machine_fits : (p : Past) (n : ℕ) (m : MachineWithTexts) (saved : SavedMachineData) → saved ≡ saved_machine (at p n) → IsBuiltFrom p.setup m
     → HasSizesOf saved.bus m.state.world.bus
-content_fits p n m saved is built = record {
+saved_machine_fits p n m saved is built = record {
   core = rw is (core_keeps_size p n) ∙ sym built.core;
   lasts = rw is (lasts_keep_size p n) ∙ sym built.lasts;
   drives = rw is (drives_keep_sizes p n) ∙ sym built.drives;

@@ -3,7 +3,7 @@ use Rattle.std.proofs.Common.{◌≡◌, ℕ, ◌+◌, refl, add-one}
 use Rattle.pdp_cpu.specs.Turns.MachineState.{after_turn}
 use Rattle.pdp_script.specs.Entries.{events_at}
 use Rattle.pdp_replay.specs.Past.{Past}
-use Rattle.pdp_replay.specs.States.{state_at, text_at, punched_at, at, powered_up}
+use Rattle.pdp_replay.specs.Run.States.{state_at, text_at, punched_at, at, powered_up}
 
 pub at_first : (p : Past) → at p 0 ≡ powered_up p.setup
 unfolding state_at text_at punched_at

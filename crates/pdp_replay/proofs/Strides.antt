@@ -1,7 +1,7 @@
 -- The stride that belongs to the highest turn known, where that grows.
 use Rattle.std.proofs.Common.{◌≡◌, ◌∙◌, ℕ, ◌+◌, ◌*◌, ◌^◌, ◌<◌, ◌≤◌, max, add-one, ap, arith, mul_assoc, sym}
 use Rattle.std.proofs.Math.Nat.{pow-suc}
-use Rattle.pdp_replay.specs.Strides.{IsStride}
+use Rattle.pdp_replay.specs.Run.Strides.{IsStride}
 
 pub stride_stays : (start high known now stride : ℕ) → IsStride start (max high known) stride → known ≤ now → now < 256 * stride → IsStride start (max high now) stride
 stride_stays start high known now stride is le below =

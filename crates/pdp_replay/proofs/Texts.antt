@@ -4,7 +4,7 @@ use Rattle.std.proofs.Math.Seq.{take-append_seam}
 use Rattle.pdp_cpu.specs.Turns.Turn.{printed_in, punched_in}
 use Rattle.pdp_script.specs.Entries.{events_at}
 use Rattle.pdp_replay.specs.Past.{Past}
-use Rattle.pdp_replay.specs.States.{state_at, text_at, punched_at, Begins}
+use Rattle.pdp_replay.specs.Run.States.{state_at, text_at, punched_at, Begins}
 
 -- one list is another with some after it
 abbrev Extends : List ℕ → List ℕ → Type 0

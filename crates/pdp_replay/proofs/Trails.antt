@@ -5,9 +5,9 @@ use Rattle.pdp_cpu.specs.Turns.MachineState.{MachineState, after_turn}
 use Rattle.pdp_script.specs.Entries.{events_at}
 use Rattle.pdp_script.specs.Script.{ScriptData}
 use Rattle.pdp_replay.specs.Past.{Past}
-use Rattle.pdp_replay.specs.States.{at, state_at}
-use Rattle.pdp_replay.specs.Trails.{trail_entry, trail_of}
-use Rattle.pdp_replay.specs.declared.trail.TrailEntry.{TrailEntry}
+use Rattle.pdp_replay.specs.Run.States.{at, state_at}
+use Rattle.pdp_replay.specs.Ask.Trails.{trail_entry, trail_of}
+use Rattle.pdp_replay.specs.declared.ask.trail.TrailEntry.{TrailEntry}
 use Rattle.pdp_replay.proofs.States.{at_next}
 
 pub trail_none : (p : Past) (first : ℕ) → trail_of p first 0 ≡ []

@@ -6,11 +6,11 @@ use Rattle.pdp_unibus.specs.declared.event.Event.{Event}
 use Rattle.pdp_checkpoint.specs.Ladder.{LadderData}
 use Rattle.pdp_store.specs.Firsts.{firsts_after}
 use Rattle.pdp_cpu.specs.Turns.Turn.{turn_trace}
-use Rattle.pdp_replay.specs.KeptRuns.{IsKeptRun, IsOnWay, IsUnderWay}
-use Rattle.pdp_replay.specs.KeptStates.{AreKept, AreStatesOf, IsInRun, KeepsTexts}
+use Rattle.pdp_replay.specs.Run.KeptRuns.{IsKeptRun, IsOnWay, IsUnderWay}
+use Rattle.pdp_replay.specs.Run.Checkpoints.{AreKept, AreStatesOf, IsInRun, KeepsTexts}
 use Rattle.pdp_replay.specs.Past.{Past}
-use Rattle.pdp_replay.specs.States.{at}
-use Rattle.pdp_replay.specs.declared.kept_run.KeptRun.{KeptRun}
+use Rattle.pdp_replay.specs.Run.States.{at}
+use Rattle.pdp_replay.specs.declared.run.kept_run.KeptRun.{KeptRun}
 use Rattle.pdp_replay.proofs.Lowered.{texts_turned}
 use Rattle.pdp_replay.proofs.StateSizes.{at_is_built}
 use Rattle.pdp_replay.proofs.States.{at_next}

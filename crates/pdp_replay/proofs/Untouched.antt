@@ -1,32 +1,33 @@
--- Two runs that differ at power-up in one word, up to the first turn that touches the word's page: the states differ in
--- that word alone, and the traces and what comes out are the same.
+-- Two runs that differ at power-up in one word, up to the first turn that touches the word's page:
+-- the states differ in that word alone, and the traces and what comes out are the same.
 use Rattle.std.proofs.Common.{◌≡◌, ◌∙◌, ℕ, zero, suc, ◌+◌, ◌/◌, ◌<◌, ◌≤◌, ◌==◌, ◌-◌, ◌&&◌, ◌||◌, if◌then◌else◌, nat_lt, ltb-true, ltb-false, Bool, true, false, List, [], ◌∷◌, ◌++◌, ap, ap₂, refl, sym, subst, map, length, length-set, slice_index, slice_index_or, slice_set, get_or-set_same, get_or-set_other, arith}
 use Rattle.std.proofs.lemmas.Bool.{eqb-true, eqb-false}
 use Rattle.std.proofs.lemmas.Grind.{same_number_lists}
 use Rattle.pdp_store.proofs.Traces.{Avoids-first, Avoids-second}
 use Rattle.pdp_store.specs.Parts.{AlikeWords, SameWords}
-use Rattle.pdp_store.specs.Touch.{Avoids, Part, Touch}
-use Rattle.pdp_store.specs.Touch.{Part as parts}
+use Rattle.pdp_store.specs.TracedAccess.{Avoids, Part, TracedAccess}
+use Rattle.pdp_store.specs.TracedAccess.{Part as parts}
 use Rattle.pdp_unibus.specs.BusWorld.{BusWorld}
-use Rattle.pdp_unibus.specs.Page.{SamePage, words_of, with_words}
+use Rattle.pdp_unibus.specs.Page.{SamePage, words_of_part, bus_with_words}
 use Rattle.pdp_operand.specs.Phases.World.{World, world}
 use Rattle.pdp_cpu.proofs.TurnLaws.{turn_undisturbed}
 use Rattle.pdp_cpu.specs.Turns.Turn.{one_turn, printed_in, punched_in, turn_trace}
 use Rattle.pdp_script.specs.Entries.{events_at}
-use Rattle.pdp_replay.specs.FirstTouches.{earlier_touch, first_touch, is_same_part, meets, world_changed, world_with}
-use Rattle.pdp_replay.specs.KeptStates.{with_turn, text_kept_at, punched_kept_at}
+use Rattle.pdp_replay.specs.Run.FirstTouches.{earlier_touch, first_touch, is_same_part, meets, world_changed, world_with}
+use Rattle.pdp_replay.specs.Run.Checkpoints.{with_turn, text_kept_at, punched_kept_at}
 use Rattle.pdp_replay.specs.Past.{Past, with_setup}
-use Rattle.pdp_replay.specs.Setup.{SetupData}
+use Rattle.pdp_replay.specs.Past.Setup.{SetupData}
 use Rattle.pdp_replay.proofs.CoreSizes.{core_keeps_size}
 use Rattle.pdp_replay.proofs.DriveSizes.{drives_keep_sizes}
-use Rattle.pdp_replay.specs.States.{power, state_at, text_at, punched_at, trace_at}
+use Rattle.pdp_replay.specs.Run.States.{power, state_at, text_at, punched_at, trace_at}
 
--- the runs of p and of p with another setup, before turn n: they differ at most in the words of this page, each has there
--- what it had at power-up, and all that came out, and the traces, are the same
+-- the runs of p and of p with another setup, before turn n: they differ at most in the words of
+-- this page, each has there what it had at power-up, and all that came out, and the traces, are the
+-- same
 pub record AlikeRuns (part : Part) (page : ℕ) (p : Past) (s : SetupData) (n : ℕ) : Type 0 where
   pub words : List ℕ
   pub is : state_at (with_setup p s) n ≡ world_with part words (state_at p n)
-  pub alike : AlikeWords page (words_of part (state_at p n).bus) words
+  pub alike : AlikeWords page (words_of_part part (state_at p n).bus) words
   pub page_of_one : SamePage part page (power p.setup).bus (state_at p n).bus
   pub page_of_other : SamePage part page (power s).bus (state_at (with_setup p s) n).bus
   pub text : text_at (with_setup p s) n ≡ text_at p n
@@ -39,7 +40,7 @@ pub record AlikeRuns (part : Part) (page : ℕ) (p : Past) (s : SetupData) (n : 
 pub record AlikePowers (part : Part) (page : ℕ) (r s : SetupData) : Type 0 where
   pub words : List ℕ
   pub is : power s ≡ world_with part words (power r)
-  pub alike : AlikeWords page (words_of part (power r).bus) words
+  pub alike : AlikeWords page (words_of_part part (power r).bus) words
 
 pub alike_runs : (part : Part) (page : ℕ) (p : Past) (s : SetupData) → AlikePowers part page p.setup s → (n : ℕ)
     → Avoids part page (trace_at p n) → AlikeRuns part page p s n
@@ -60,7 +61,7 @@ alike_runs part page p s powers (suc n) avoids =
     let events = events_at p.script.entries n in
     let w = state_at p n in
     let so = alike_runs part page p s powers n (Avoids-first part page (trace_at p n) (turn_trace n events w) avoids) in
-    let turn = turn_undisturbed part page n events w.processor w.bus (with_words part so.words w.bus)
+    let turn = turn_undisturbed part page n events w.processor w.bus (bus_with_words part so.words w.bus)
     (record { words = so.words; is = refl; alike = so.alike }) (Avoids-second part page (trace_at p n) (turn_trace n events w) avoids) in
     let after = one_turn n events w in
     let other : one_turn n events (state_at (with_setup p s) n) ≡ world_with part turn.bus.words after
@@ -74,9 +75,9 @@ alike_runs part page p s powers (suc n) avoids =
       page_of_one = λ k inside. so.page_of_one k inside ∙ turn.page_of_one k inside;
       page_of_other = λ k inside.
           so.page_of_other k inside
-          ∙ ap (λ (v : World). slice_index (words_of part v.bus) k) so.is
+          ∙ ap (λ (v : World). slice_index (words_of_part part v.bus) k) so.is
           ∙ turn.page_of_other k inside
-          ∙ ap (λ (v : World). slice_index (words_of part v.bus) k) (sym (ap (one_turn n events) so.is));
+          ∙ ap (λ (v : World). slice_index (words_of_part part v.bus) k) (sym (ap (one_turn n events) so.is));
       text = ap₂ ◌++◌ so.text printed;
       punched = ap₂ ◌++◌ so.punched punched;
       kept_text = ap₂ ◌++◌ so.kept_text (ap (with_turn n) printed);
@@ -84,7 +85,8 @@ alike_runs part page p s powers (suc n) avoids =
       trace = ap₂ ◌++◌ so.trace (ap (turn_trace n events) so.is ∙ sym turn.trace);
     }
 
--- lists that differ at most in a page, where they have what two others have there that differ in one word
+-- lists that differ at most in a page, where they have what two others have there that differ in
+-- one word
 one_word : (page i word : ℕ) (xs ys firsts others : List ℕ) → AlikeWords page xs ys → SameWords page firsts xs → SameWords page others ys
     → others ≡ slice_set firsts i word → i / 256 ≡ page → i < length firsts → i < length xs → ys ≡ slice_set xs i word
 one_word page i word xs ys firsts others alike here there changed in_page first within =
@@ -104,7 +106,7 @@ there_word [] number i within = absurd (omega arith)
 there_word (drive ∷ drives) zero i within = omega arith
 there_word (drive ∷ drives) (suc number) i within = let there = there_word drives number i within in omega arith
 
-words_put : (part : Part) (words : List ℕ) (b : BusWorld) (i : ℕ) → i < length (words_of part b) → words_of part (with_words part words b) ≡ words
+words_put : (part : Part) (words : List ℕ) (b : BusWorld) (i : ℕ) → i < length (words_of_part part b) → words_of_part part (bus_with_words part words b) ≡ words
 words_put parts.Core words b i within = refl
 words_put (parts.Drive number) words b i within = get_or-set_same b.drives number words [] (there_word b.drives number i within)
 
@@ -114,20 +116,21 @@ changed_alike page i word xs in_page = record {
   words = λ k outside. get_or-set_other xs i k word 0 (λ same. outside (ap (λ n. n / 256) same ∙ in_page));
 }
 
--- the state of the patched run is that of the old one with the word changed, at each turn before which the page isn't touched
+-- the state of the patched run is that of the old one with the word changed, at each turn before
+-- which the page isn't touched
 pub state_changed : (part : Part) (i word : ℕ) (p : Past) (s : SetupData) (n : ℕ) → power s ≡ world_changed part i word (power p.setup)
-    → i < length (words_of part (power p.setup).bus) → i < length (words_of part (state_at p n).bus) → Avoids part (i / 256) (trace_at p n)
+    → i < length (words_of_part part (power p.setup).bus) → i < length (words_of_part part (state_at p n).bus) → Avoids part (i / 256) (trace_at p n)
     → state_at (with_setup p s) n ≡ world_changed part i word (state_at p n)
 state_changed part i word p s n is first within avoids =
     let page = i / 256 in
     let q = with_setup p s in
     let so = alike_runs part page p s (record { words = _; is = is; alike = changed_alike page i word _ refl }) n avoids in
     let w = state_at p n in
-    let put : words_of part (state_at q n).bus ≡ so.words = ap (λ (v : World). words_of part v.bus) so.is ∙ words_put part so.words w.bus i within in
-    let powers : words_of part (power s).bus ≡ slice_set (words_of part (power p.setup).bus) i word
-    = ap (λ (v : World). words_of part v.bus) is ∙ words_put part _ (power p.setup).bus i first in
+    let put : words_of_part part (state_at q n).bus ≡ so.words = ap (λ (v : World). words_of_part part v.bus) so.is ∙ words_put part so.words w.bus i within in
+    let powers : words_of_part part (power s).bus ≡ slice_set (words_of_part part (power p.setup).bus) i word
+    = ap (λ (v : World). words_of_part part v.bus) is ∙ words_put part _ (power p.setup).bus i first in
     so.is ∙ ap (λ words. world_with part words w)
-    (one_word page i word (words_of part w.bus) so.words (words_of part (power p.setup).bus) (words_of part (power s).bus) so.alike so.page_of_one
+    (one_word page i word (words_of_part part w.bus) so.words (words_of_part part (power p.setup).bus) (words_of_part part (power s).bus) so.alike so.page_of_one
     (λ k inside. so.page_of_other k inside ∙ ap (λ xs. slice_index xs k) put) powers refl first within)
 
 -- a part keeps its size
@@ -140,7 +143,7 @@ same_sizes xs ys number same =
     get_or-map_length (z ∷ zs) zero = refl
     get_or-map_length (z ∷ zs) (suc k) = get_or-map_length zs k
 
-pub part_keeps_size : (part : Part) (p : Past) (n : ℕ) → length (words_of part (state_at p n).bus) ≡ length (words_of part (state_at p 0).bus)
+pub part_keeps_size : (part : Part) (p : Past) (n : ℕ) → length (words_of_part part (state_at p n).bus) ≡ length (words_of_part part (state_at p 0).bus)
 part_keeps_size parts.Core p n = core_keeps_size p n ∙ sym (core_keeps_size p 0)
 part_keeps_size (parts.Drive number) p n =
     same_sizes (state_at p n).bus.drives (state_at p 0).bus.drives number (drives_keep_sizes p n ∙ sym (drives_keep_sizes p 0))
@@ -164,13 +167,13 @@ met_by true true true is = absurd (cc)
 met_by true false true is = absurd (cc)
 met_by false inside true is = absurd (cc)
 
-pub avoids_unmet : (part : Part) (page : ℕ) (xs : List Touch) → meets part page xs ≡ false → Avoids part page xs
+pub avoids_unmet : (part : Part) (page : ℕ) (xs : List TracedAccess) → meets part page xs ≡ false → Avoids part page xs
 avoids_unmet part page [] none = tt
 avoids_unmet part page (x ∷ xs) none =
     let parts = met_by (is_same_part x.part part) (x.word / 256 == page) (meets part page xs) none in
     (λ same. eqb-false (x.word / 256) page (parts.0 (ap (λ q. is_same_part q part) same ∙ same_part part)), avoids_unmet part page xs parts.1)
 
-avoids_both : (part : Part) (page : ℕ) (xs ys : List Touch) → Avoids part page xs → Avoids part page ys → Avoids part page (xs ++ ys)
+avoids_both : (part : Part) (page : ℕ) (xs ys : List TracedAccess) → Avoids part page xs → Avoids part page ys → Avoids part page (xs ++ ys)
 avoids_both part page [] ys first second = second
 avoids_both part page (x ∷ xs) ys first second = (first.0, avoids_both part page xs ys first.1 second)
 
@@ -233,9 +236,9 @@ untouched_until p part page k n low =
 
 -- so a patch of a word reaches to the first touch of its page
 pub patched_until : (part : Part) (i word n k : ℕ) (p : Past) (s : SetupData) → power s ≡ world_changed part i word (power p.setup)
-    → i < length (words_of part (power p.setup).bus) → n ≤ first_touch p part (i / 256) k
+    → i < length (words_of_part part (power p.setup).bus) → n ≤ first_touch p part (i / 256) k
     → state_at (with_setup p s) n ≡ world_changed part i word (state_at p n)
 unfolding state_at
 patched_until part i word n k p s is within low =
-    let inside : i < length (words_of part (state_at p n).bus) = rw (part_keeps_size part p n) within in
+    let inside : i < length (words_of_part part (state_at p n).bus) = rw (part_keeps_size part p n) within in
     state_changed part i word p s n is within inside (untouched_until p part (i / 256) k n low)

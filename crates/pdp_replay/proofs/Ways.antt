@@ -5,10 +5,10 @@ use Rattle.pdp_script.specs.Entries.{events_at}
 use Rattle.pdp_unibus.specs.declared.event.Event.{Event}
 use Rattle.pdp_store.specs.Firsts.{firsts_after}
 use Rattle.pdp_cpu.specs.Turns.Turn.{turn_trace}
-use Rattle.pdp_replay.specs.KeptRuns.{IsUnderWay}
-use Rattle.pdp_replay.specs.KeptStates.{KeepsTexts}
+use Rattle.pdp_replay.specs.Run.KeptRuns.{IsUnderWay}
+use Rattle.pdp_replay.specs.Run.Checkpoints.{KeepsTexts}
 use Rattle.pdp_replay.specs.Past.{Past}
-use Rattle.pdp_replay.specs.States.{at}
+use Rattle.pdp_replay.specs.Run.States.{at}
 use Rattle.pdp_replay.proofs.Lowered.{texts_stay}
 use Rattle.pdp_replay.proofs.UnderWay.{way_on}
 

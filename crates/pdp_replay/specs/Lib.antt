@@ -1,17 +1,6 @@
--- Setups, edits and questions, and the run that they are of (this project's profile).
-pub mod PatchedWords
-pub mod Setup
-pub mod FirstWords
-pub mod Image
+-- What determines a run, the run that an engine keeps, the engine as a contract sees it, and what a
+-- question must be answered (this project's profile).
 pub mod Past
-pub mod States
-pub mod FirstTouches
-pub mod KeptStates
-pub mod LastWrites
-pub mod Trails
-pub mod Answer
-pub mod Edit
+pub mod Run
 pub mod Timeline
-pub mod Known
-pub mod Strides
-pub mod KeptRuns
+pub mod Ask

@@ -1,4 +1,5 @@
--- The past: what determines a run, its setup with the delays and the patches, and its script (this project's profile).
+-- The past: what determines a run, its setup with the delays and the patches, and its script (this
+-- project's profile).
 use Rattle.std.specs.Prelude.{ℕ, List, [], Result}
 use Rattle.std.specs.declared.hash.BuildHasherDefault.{BuildHasherDefault}
 use Rattle.std.specs.declared.hash.FoldHasher.{FoldHasher}
@@ -7,25 +8,35 @@ use Rattle.pdp_script.specs.Refusal.{result_map}
 use Rattle.pdp_script.specs.Script.{ScriptData}
 use Rattle.pdp_script.specs.declared.faults.Fault.{Fault}
 use Rattle.pdp_unibus.specs.declared.delays.Delays.{Delays}
-use Rattle.pdp_replay.specs.Setup.{SetupData, setup_from, setup_checked}
-use Rattle.pdp_replay.specs.declared.patch.PatchKey.{PatchKey}
-use Rattle.pdp_replay.specs.declared.origin.Origin.{Origin}
+use Rattle.pdp_replay.specs.Past.Setup.{SetupData, setup_from, setup_checked}
+use Rattle.pdp_replay.specs.declared.past.patch.PatchKey.{PatchKey}
+use Rattle.pdp_replay.specs.declared.past.base_setup.BaseSetup.{BaseSetup}
+pub mod PatchedWords
+pub mod Setup
+pub mod FirstWords
+pub mod Image
+pub mod Edit
 
 pub record Past : Type 0 where
   pub setup : SetupData
   pub script : ScriptData
 
--- an origin with the tape, the delays, the patches and the script of an engine
-abbrev pub past_from : Origin → List ℕ → Delays → IndexMap PatchKey ℕ (BuildHasherDefault FoldHasher) → ScriptData → Past
-past_from origin tape delays patches script = record { setup = setup_from origin tape delays patches; script = script }
+-- a base setup with the tape, the delays, the patches and the script of an engine
+abbrev pub past_from : BaseSetup → List ℕ → Delays → IndexMap PatchKey ℕ
+    (BuildHasherDefault FoldHasher) → ScriptData → Past
+past_from base_setup tape delays patches script = record {
+  setup = setup_from base_setup tape delays
+      patches;
+  script = script;
+}
 
 -- without events, and no number given
-abbrev pub unscripted : SetupData → Past
-unscripted setup = record { setup = setup; script = record { entries = []; given = 0 } }
+abbrev pub past_without_events : SetupData → Past
+past_without_events setup = record { setup = setup; script = record { entries = []; given = 0 } }
 
 -- the past that a run begins with, or why there is none
 abbrev pub starting_past : SetupData → Result Past Fault
-starting_past setup = result_map unscripted (setup_checked setup)
+starting_past setup = result_map past_without_events (setup_checked setup)
 
 abbrev pub with_setup : Past → SetupData → Past
 with_setup p setup = record p { setup = setup }

@@ -1,23 +1,28 @@
 -- An engine as a contract sees it (this project's profile).
-use Rattle.std.specs.Prelude.{ℕ, ◌/◌, ◌≤◌, ◌&&◌, Bool, true, false, List, min, nat_le, unwrap_or, Result, Ok, Err}
+use Rattle.std.specs.Prelude.{ℕ, ◌/◌, ◌≤◌, ◌&&◌, Bool, true, false, List, min, nat_le, unwrap_or}
+use Rattle.std.specs.Prelude.{Result, Ok, Err}
 use Rattle.pdp_script.specs.Refusal.{past_left}
 use Rattle.pdp_unibus.specs.LastTurn.{last_turn}
 use Rattle.pdp_script.specs.declared.faults.Fault.{Fault}
-use Rattle.pdp_unibus.specs.declared.delays.Line.{Line}
+use Rattle.pdp_unibus.specs.declared.delays.DelayedDevice.{DelayedDevice}
 use Rattle.pdp_unibus.specs.declared.event.Event.{Event}
-use Rattle.pdp_store.specs.Touch.{Part}
-use Rattle.pdp_store.specs.Touch.{Part as part}
-use Rattle.pdp_replay.specs.Edit.{core_edit, disk_edit, drives_edit, revert_edit, tape_edit, delay_edit, event_insertion, event_alteration, event_drop, turn_of_event, lesser_turn}
-use Rattle.pdp_replay.specs.FirstTouches.{first_touch}
-use Rattle.pdp_replay.specs.Past.{Past, unscripted}
-use Rattle.pdp_replay.specs.Setup.{SetupData, IsGood}
-use Rattle.pdp_replay.specs.FirstWords.{AllThere}
-use Rattle.pdp_replay.specs.KeptRuns.{IsKeptRun}
-use Rattle.pdp_replay.specs.Strides.{IsStride}
-use Rattle.pdp_replay.specs.declared.kept_run.KeptRun.{KeptRun}
+use Rattle.pdp_store.specs.TracedAccess.{Part}
+use Rattle.pdp_store.specs.TracedAccess.{Part as part}
+use Rattle.pdp_unibus.specs.Page.{part_of}
+use Rattle.pdp_replay.specs.Past.Edit.{core_edit, disk_edit, drives_edit, revert_edit, tape_edit}
+use Rattle.pdp_replay.specs.Past.Edit.{delay_edit, event_insertion, event_alteration, event_drop}
+use Rattle.pdp_replay.specs.Past.Edit.{turn_of_event, lesser_turn, with_patch}
+use Rattle.pdp_replay.specs.Run.FirstTouches.{first_touch}
+use Rattle.pdp_replay.specs.Past.{Past, of_setup, past_without_events}
+use Rattle.pdp_replay.specs.Past.Setup.{SetupData, IsGood}
+use Rattle.pdp_replay.specs.Past.FirstWords.{AllThere}
+use Rattle.pdp_replay.specs.Run.KeptRuns.{IsKeptRun, patch_drive, patch_number}
+use Rattle.pdp_replay.specs.Run.Strides.{IsStride}
+use Rattle.pdp_replay.specs.declared.past.patch.PatchKey.{PatchKey}
+use Rattle.pdp_replay.specs.declared.run.kept_run.KeptRun.{KeptRun}
 
--- the past, the known turn, the highest that it has been, the stride, the turns run so far, and the machine's turn with
--- whether the machine is in the run's state of it
+-- the past, the known turn, the highest that it has been, the stride, the turns run so far, and the
+-- machine's turn with whether the machine is in the run's state of it
 pub record Timeline : Type 0 where
   pub past : Past
   pub known : ℕ
@@ -29,7 +34,16 @@ pub record Timeline : Type 0 where
 
 -- an engine as it is made
 abbrev pub fresh : SetupData → Timeline
-fresh s = record { past = unscripted s; known = 0; highest = 0; stride = s.stride; turns = 0; turn = 0; current = true }
+fresh s = record {
+  past = past_without_events s;
+  known = 0;
+  highest = 0;
+  stride = s.stride;
+  turns =
+      0;
+  turn = 0;
+  current = true;
+}
 
 -- the known turn after an edit that reaches back to this turn; a refused edit leaves it
 abbrev pub known_left : ℕ → Result Past Fault → Bool → ℕ → ℕ
@@ -43,8 +57,8 @@ current_left still (Err fault) refused current = current
 current_left still (Ok past) true current = current
 current_left still (Ok past) false current = still
 
--- an engine after an edit of the script that reaches back to this turn: the past and the known turn change, and a machine
--- at a later turn is in no state of the run any more
+-- an engine after an edit of the script that reaches back to this turn: the past and the known turn
+-- change, and a machine at a later turn is in no state of the run any more
 abbrev pub after_edit : ℕ → Result Past Fault → Bool → Timeline → Timeline
 after_edit reached due refused t = record t {
   past = past_left due refused t.past;
@@ -66,10 +80,17 @@ after_setup_edit reached due refused t = record t {
 abbrev pub reached_in : Part → ℕ → Timeline → ℕ
 reached_in part number t = first_touch t.past part (number / 256) t.known
 
+-- an engine after a word was given this value as of power-up
+abbrev pub word_patched : PatchKey → ℕ → Bool → Timeline → Timeline
+word_patched k word refused t =
+    after_setup_edit (reached_in (part_of (patch_drive k)) (patch_number k) t)
+    (of_setup t.past (with_patch word t.past.setup k)) refused t
+
 -- an engine after each edit; `refused` is whether memory was refused for it
 abbrev pub core_edited : ℕ → ℕ → Bool → Timeline → Timeline
 core_edited address word refused t =
-    after_setup_edit (reached_in part.Core (address / 2) t) (core_edit address word t.past) refused t
+    after_setup_edit (reached_in part.Core (address / 2) t) (core_edit address word t.past) refused
+    t
 
 abbrev pub disk_edited : ℕ → ℕ → ℕ → Bool → Timeline → Timeline
 disk_edited drive number word refused t =
@@ -77,12 +98,13 @@ disk_edited drive number word refused t =
     refused t
 
 -- an engine whose machine was taken to the state of turn 0
-abbrev pub restarted : Timeline → Timeline
-restarted t = record t { turn = 0; current = true }
+abbrev pub timeline_restarted : Timeline → Timeline
+timeline_restarted t = record t { turn = 0; current = true }
 
--- an engine after it was to get eight drives: its machine is in the state of turn 0, also where memory was refused
+-- an engine after it was to get eight drives: its machine is in the state of turn 0, also where
+-- memory was refused
 abbrev pub drives_given : Bool → Timeline → Timeline
-drives_given refused t = record (restarted t) {
+drives_given refused t = record (timeline_restarted t) {
   past = past_left (drives_edit t.past) refused t.past;
   known = known_left 0 (drives_edit t.past) refused t.known;
 }
@@ -94,21 +116,24 @@ core_reverted address refused t =
 abbrev pub tape_replaced : List ℕ → Timeline → Timeline
 tape_replaced tape t = after_setup_edit 0 (tape_edit tape t.past) false t
 
-abbrev pub delay_set : Line → ℕ → Timeline → Timeline
-delay_set line delay t = after_setup_edit 0 (delay_edit line delay t.past) false t
+abbrev pub delay_set : DelayedDevice → ℕ → Timeline → Timeline
+delay_set device delay t = after_setup_edit 0 (delay_edit device delay t.past) false t
 
 abbrev pub event_inserted : ℕ → Event → Bool → Timeline → Timeline
 event_inserted turn event refused t = after_edit turn (event_insertion turn event t.past) refused t
 
 abbrev pub event_altered : ℕ → ℕ → Event → Timeline → Timeline
 event_altered number turn event t =
-    after_edit (lesser_turn (turn_of_event number t.past) turn) (event_alteration number turn event t.past) false t
+    after_edit (lesser_turn (turn_of_event number t.past) turn) (event_alteration number turn event
+    t.past) false t
 
 abbrev pub event_dropped : ℕ → Timeline → Timeline
-event_dropped number t = after_edit (unwrap_or (turn_of_event number t.past) 0) (event_drop number t.past) false t
+event_dropped number t = after_edit (unwrap_or (turn_of_event number t.past) 0)
+    (event_drop number t.past) false t
 
--- what every engine keeps: a setup that a run can start from, patches of words that are there, what it knows, the stride
--- that belongs to the highest turn known, and of the run all that ought to be kept
+-- what every engine keeps: a setup that a run can start from, patches of words that are there, what
+-- it knows, the stride that belongs to the highest turn known, and of the run all that ought to be
+-- kept
 pub record IsEngine (p : Past) (highest : ℕ) (r : KeptRun) : Type 0 where
   pub good : IsGood p.setup
   pub there : AllThere p.setup p.setup.patches

@@ -1,18 +1,16 @@
-ghost use Rattle.std.specs.Prelude.{◌≡◌, ◌+◌, ◌≤◌, ◌<◌, ◌^◌, max, IfOk, OnOk, IsErr, Ok, false, true};
+ghost use Rattle.std.specs.Prelude.{◌≡◌, ◌<◌, ◌^◌, IfOk, IsErr, Ok, false, true};
 ghost use Rattle.pdp_script.specs.Refusal.{for_memory, question_answer, result_map};
-ghost use Rattle.pdp_replay.specs.Setup.{given, setup_checked};
-ghost use Rattle.pdp_replay.specs.Answer.{answer_to, first_turn_needed, question_checked, turn_asked, value_answered};
-ghost use Rattle.pdp_replay.specs.KeptStates.{AreStatesOf, IsBuiltFrom, KeepsTexts, ShowsTexts};
-ghost use Rattle.pdp_replay.specs.Known.{known_after, resumed_from, IsCome, IsWithinBound};
-ghost use Rattle.pdp_replay.specs.States.{at};
-ghost use Rattle.pdp_replay.specs.Strides.{IsStride};
+ghost use Rattle.pdp_replay.specs.Past.Setup.{given_setup, setup_checked};
+ghost use Rattle.pdp_replay.specs.Ask.Answer.{answer_to, question_checked, value_answered};
+ghost use Rattle.pdp_replay.specs.Run.Checkpoints.{AreStatesOf, IsBuiltFrom, KeepsTexts};
+ghost use Rattle.pdp_replay.specs.Run.Checkpoints.{ShowsTexts};
+ghost use Rattle.pdp_replay.specs.Ask.Known.{RunsFor, IsAnswered, IsWithinBound, LeavesPast};
+ghost use Rattle.pdp_replay.specs.Run.States.{at};
 ghost use Rattle.pdp_replay.specs.Timeline.{fresh};
 
-use crate::kept_run::KeptRun;
-use crate::origin::{DriveCount, Origin};
-use crate::patch::PatchKey;
-use crate::question::{Answer, Question};
-use crate::setup::Setup;
+use crate::ask::{Answer, Question};
+use crate::past::{BaseSetup, DriveCount, PatchKey, Setup};
+use crate::run::KeptRun;
 use indexmap::IndexMap;
 use pdp_checkpoint::Ladder;
 use pdp_cpu::PagedMachine;
@@ -21,12 +19,14 @@ use pdp_unibus::Delays;
 use std::alloc::Global;
 use std::marker::Model;
 
-/// A setup with its delays and patches, a script, and all that can be asked of the run that they determine.
+/// A setup with its delays and patches, a script, and all that can be asked of the run that they
+/// determine.
 ///
-/// A contract sees it as a `Timeline`. Answers are always those of the run from power-up of the past as it is now.
+/// A contract sees it as a `Timeline`. Answers are always those of the run from power-up of the
+/// past as it is now.
 #[derive(Drop)]
 pub struct Engine {
-    pub(crate) origin: Origin,
+    pub(crate) base_setup: BaseSetup,
     pub(crate) delays: Delays,
     pub(crate) patches: IndexMap<PatchKey, u16>,
     pub(crate) script: Script,
@@ -41,7 +41,7 @@ impl Model for Engine {
     ghost Value = { Timeline };
 
     ghost view = { λ e. record {
-      past = past_from e.origin e.run.machine.state.world.bus.tape e.delays e.patches e.script;
+      past = past_from e.base_setup e.run.machine.state.world.bus.tape e.delays e.patches e.script;
       known = e.run.known;
       highest = e.highest;
       stride = e.run.ladder.stride;
@@ -50,18 +50,22 @@ impl Model for Engine {
       current = e.run.is_current;
     } };
 
-    ghost invariant = { λ e. IsEngine (past_from e.origin e.run.machine.state.world.bus.tape e.delays e.patches e.script) e.highest e.run };
+    ghost invariant = { λ e. IsEngine
+        (past_from e.base_setup e.run.machine.state.world.bus.tape e.delays e.patches e.script)
+        e.highest e.run };
 }
 
 impl Engine {
-    /// An engine over this setup with one drive and the standard delays, without patches or events; nothing is known yet.
+    /// An engine over this setup with one drive and the standard delays, without patches or events;
+    /// nothing is known yet.
     ///
-    /// Err(BadSetup) where units, start or stride is out of range; else Err(BadImage) where an image or the tape is too
-    /// long, or there are more than eight images of drives; else Err(NoMemory) where a growth was refused. (This
-    /// project's profile.)
-    #[tactic(auto, using(crate::proofs::Setups::good_is), unfolding(crate::specs::Setup::setup_checked))]
+    /// Err(BadSetup) where units, start or stride is out of range; else Err(BadImage) where an
+    /// image or the tape is too long, or there are more than eight images of drives; else
+    /// Err(NoMemory) where a growth was refused. (This project's profile.)
+    #[tactic(auto, unfolding(crate::specs::Past::Setup::setup_checked))]
     pub fn new(alloc: Global, setup: Setup) -> Result<Engine, Fault>
-        ensures engine { result ≡ result_map fresh (question_answer (setup_checked (given setup)) (for_memory result)) }
+        ensures engine { result ≡ result_map fresh
+            (question_answer (setup_checked (given_setup setup)) (for_memory result)) }
     {
         setup.check()?;
         let Setup {
@@ -72,7 +76,7 @@ impl Engine {
             tape,
             stride,
         } = setup;
-        let origin = Origin {
+        let base_setup = BaseSetup {
             units,
             start,
             core,
@@ -80,9 +84,9 @@ impl Engine {
             drives: DriveCount::One,
             stride,
         };
-        let run = KeptRun::power(alloc, &origin, tape)?;
+        let run = KeptRun::power(alloc, &base_setup, tape)?;
         Ok(Engine {
-            origin,
+            base_setup,
             delays: Delays::standard(),
             patches: IndexMap::new(alloc),
             script: Script::new(alloc),
@@ -91,47 +95,38 @@ impl Engine {
         })
     }
 
-    /// Answers a question about the run from power-up of the past as it is now. Once answered, the known turn is the
-    /// larger of what it was and the turn asked about.
+    /// Answers a question about the run from power-up of the past as it is now. Once answered, the
+    /// known turn is the larger of what it was and the turn asked about.
     ///
-    /// The refusals, in their order: Err(TurnTooLarge) if its turn is above 1,000,000,000; Err(CountOutOfRange) if a
-    /// count of words is not 1 to 256, or one of turns of a trail not 1 to 64 or above the turn asked about;
-    /// Err(OutsideCore) if a word of core that is asked for is not in core, else Err(OddAddress) if its address is odd;
-    /// Err(NoSuchDrive) if the drive that is asked for is not below the number of drives, else Err(OutsideDisk) if the
-    /// number of a word of the drive is 4604000 (octal; 1,247,232) or above; Err(NoMemory) if a growth was refused.
-    /// No refusal changes the past, and one for another cause than memory changes nothing. (This project's profile.)
-    #[tactic(auto, unfolding(crate::specs::Answer::answer_to))]
+    /// The refusals, in their order: Err(TurnTooLarge) if its turn is above 1,000,000,000;
+    /// Err(CountOutOfRange) if a count of words is not 1 to 256, or one of turns of a trail not 1
+    /// to 64 or above the turn asked about; Err(OutsideCore) if a word of core that is asked for is
+    /// not in core, else Err(OddAddress) if its address is odd; Err(NoSuchDrive) if the drive that
+    /// is asked for is not below the number of drives, else Err(OutsideDisk) if the number of a
+    /// word of the drive is 4604000 (octal; 1,247,232) or above; Err(NoMemory) if a growth was
+    /// refused. No refusal changes the past, and one for another cause than memory changes nothing.
+    /// (This project's profile.)
+    #[tactic(auto, unfolding(crate::specs::Ask::Answer::answer_to))]
     pub fn ask(&mut self, alloc: Global, question: Question) -> Result<Answer, Fault>
         // The answer is that of the run from power-up, and out of memory is the last refusal.
-        ensures value { value_answered result ≡ question_answer (answer_to question self.old.past) (for_memory result) }
-        ensures past { self.new.past ≡ self.old.past }
+        ensures value { value_answered result
+            ≡ question_answer (answer_to question self.old.past) (for_memory result) }
 
-        // It ran at most one stride of turns more than those that a trail lists or that are past what was known, also
-        // where it is then refused.
+        // It ran at most one stride of turns more than those that a trail lists or that are past
+        // what was known, also where it is then refused.
         ensures bound { IsWithinBound question self.old self.new.turns }
-        ensures ran { IfOk result (λ a. self.new.turns ≡ self.old.turns + a.ran) }
-        ensures counted { self.old.turns ≤ self.new.turns }
 
-        // It went on from the machine where that was in a state of the run, or from a kept state, and came to the turn
-        // that was asked about. A refusal for memory may come earlier: what was come to stays known.
-        ensures resumed { question_checked question self.old.past ≡ Ok tt → self.new.turns + resumed_from self.old (first_turn_needed question) ≤ self.old.turns + self.new.turn }
-        ensures there { OnOk result (self.new.turn ≡ turn_asked question) }
-        ensures come { question_checked question self.old.past ≡ Ok tt → IsCome self.old self.new }
-
-        // What is known afterwards, and the stride.
-        ensures known { OnOk result (self.new.known ≡ known_after question self.old.known) }
-        ensures known_told { IfOk result (λ a. a.known ≡ self.new.known) }
-        ensures known_least { self.old.known ≤ self.new.known }
-        ensures known_most { self.new.known ≤ known_after question self.old.known }
-        ensures highest { self.new.highest ≡ max self.old.highest self.new.known }
-        ensures stride { IfOk result (λ a. a.stride ≡ self.new.stride) }
-        ensures doubled { IsStride self.new.past.setup.stride self.new.highest self.new.stride }
+        // What it leaves, where it went, and what is told with the answer.
+        ensures leaves { LeavesPast question self.old self.new }
+        ensures runs { question_checked question self.old.past ≡ Ok tt
+            → RunsFor question self.old self.new }
+        ensures answered { IfOk result (λ a. IsAnswered question a self.old self.new) }
 
         // A refusal for another cause than memory changes nothing.
         ensures refused { IsErr result → for_memory result ≡ false → self.new ≡ self.old }
     {
         let before = self.run.meter.count();
-        question.check(self.origin.units, self.origin.drives.count())?;
+        question.check(self.base_setup.units, self.base_setup.drives.count())?;
         let answered = question.answer(alloc, &mut self.run, &self.script);
         self.highest = self.highest.max(self.run.known);
         let value = answered?;
@@ -143,15 +138,16 @@ impl Engine {
         })
     }
 
-    /// How many drives there are (this project's profile): drive 0 alone, until `eight_drives` gives eight.
+    /// How many drives there are (this project's profile): drive 0 alone, until `eight_drives`
+    /// gives eight.
     pub fn drives(&self) -> usize
         ensures { result ≡ self.now.past.setup.drives }
     {
-        self.origin.drives.count()
+        self.base_setup.drives.count()
     }
 
-    /// The states that are kept of the run of the past as it is now: those of turn 0 and of each multiple of the stride
-    /// up to the known turn (this project's profile).
+    /// The states that are kept of the run of the past as it is now: those of turn 0 and of each
+    /// multiple of the stride up to the known turn (this project's profile).
     pub fn kept_states(&self) -> &Ladder
         ensures states { AreStatesOf self.now.past self.now.known result.now }
         ensures stride { result.now.stride ≡ self.now.stride }
@@ -159,15 +155,17 @@ impl Engine {
         &self.run.ladder
     }
 
-    /// The machine that runs the turns. It keeps what was printed and punched before the known turn, each byte with its
-    /// turn. After an answer it is in the run's state of the turn asked about, until an edit reaches back before that
-    /// turn, or memory is refused to a later question (this project's profile).
+    /// The machine that runs the turns. It keeps what was printed and punched before the known
+    /// turn, each byte with its turn. After an answer it is in the run's state of the turn asked
+    /// about, until an edit reaches back before that turn, or memory is refused to a later question
+    /// (this project's profile).
     pub fn machine(&self) -> &PagedMachine
         ensures texts { KeepsTexts self.now.past self.now.known result.now }
         ensures shown { ShowsTexts self.now.past self.now.known result.now }
         ensures built { IsBuiltFrom self.now.past.setup result.now }
         ensures turn { result.now.state.turn ≡ self.now.turn }
-        ensures current { self.now.current ≡ true → result.now.state ≡ at self.now.past self.now.turn }
+        ensures current { self.now.current ≡ true
+            → result.now.state ≡ at self.now.past self.now.turn }
     {
         &self.run.machine
     }

@@ -1,25 +1,32 @@
-ghost use Rattle.pdp_replay.specs.FirstTouches.{FirstTouchesAreFirst, FirstTouchesAreTold, LateTouchesAreDropped};
-ghost use Rattle.pdp_replay.specs.FirstTouches.{PatchesReachTheFirstTouch, TurnsRunAgainTouchNothingNew, UntouchedPagesAreAlike};
-ghost use Rattle.pdp_replay.specs.FirstWords.{CoreHasItsSize, DriveHasItsSize, CoreWordsAreFirstWords, DiskWordsAreFirstWords, DrivesAreByNumber, DrivesAreSoMany};
-ghost use Rattle.pdp_replay.specs.Edit.{AlterationNeedsNoMemory, DropNeedsNoMemory, TapeNeedsNoMemory, DelayNeedsNoMemory};
-ghost use Rattle.pdp_replay.specs.LastWrites.{StampsOfKeptStatesAreLastWrites, StampsOfStatesAreLastWrites};
-ghost use Rattle.pdp_replay.specs.States.{TextOnlyGrows, PunchedOnlyGrows};
+ghost use Rattle.pdp_replay.specs.Run.FirstTouches.{FirstTouchesAreFirst, FirstTouchesAreTold};
+ghost use Rattle.pdp_replay.specs.Run.FirstTouches.{LateTouchesAreDropped};
+ghost use Rattle.pdp_replay.specs.Run.FirstTouches.{PatchesReachTheFirstTouch};
+ghost use Rattle.pdp_replay.specs.Run.FirstTouches.{TurnsRunAgainTouchNothingNew};
+ghost use Rattle.pdp_replay.specs.Run.FirstTouches.{UntouchedPagesAreAlike};
+ghost use Rattle.pdp_replay.specs.Past.FirstWords.{CoreHasItsSize, DriveHasItsSize};
+ghost use Rattle.pdp_replay.specs.Past.FirstWords.{CoreWordsAreFirstWords, DiskWordsAreFirstWords};
+ghost use Rattle.pdp_replay.specs.Past.FirstWords.{DrivesAreByNumber, DrivesAreSoMany};
+ghost use Rattle.pdp_replay.specs.Past.Edit.{AlterationNeedsNoMemory, DropNeedsNoMemory};
+ghost use Rattle.pdp_replay.specs.Past.Edit.{TapeNeedsNoMemory, DelayNeedsNoMemory};
+ghost use Rattle.pdp_replay.specs.Ask.LastWrites.{StampsOfCheckpointsAreLastWrites};
+ghost use Rattle.pdp_replay.specs.Ask.LastWrites.{StampsOfStatesAreLastWrites};
+ghost use Rattle.pdp_replay.specs.Run.States.{TextOnlyGrows, PunchedOnlyGrows};
 
-/// A law of setups: core as of power-up has the words of its units, each of which is its patch, else its image's word,
-/// else 0.
+/// A law of setups: core as of power-up has the words of its units, each of which is its patch,
+/// else its image's word, else 0.
 ///
 /// This project's profile.
-#[tactic(auto, using(crate::proofs::FirstWords::core_word_is, crate::proofs::FirstWords::core_has_size))]
+#[tactic(auto, using(crate::proofs::FirstWords::words_of_core))]
 pub fn core_words_are_first_words()
     ensures size { CoreHasItsSize }
     ensures words { CoreWordsAreFirstWords }
 {}
 
-/// A law of setups: there are as many drives as of power-up as the setup says, and each has 1,247,232 words, each of
-/// which is its patch, else the word of the drive's image, else 0.
+/// A law of setups: there are as many drives as of power-up as the setup says, and each has
+/// 1,247,232 words, each of which is its patch, else the word of the drive's image, else 0.
 ///
 /// This project's profile.
-#[tactic(auto, using(crate::proofs::FirstWords::disk_word_is, crate::proofs::FirstWords::drive_has_size, crate::proofs::FirstWords::drive_by_number, crate::proofs::FirstWords::drives_so_many))]
+#[tactic(auto, using(crate::proofs::FirstWords::words_of_drives))]
 pub fn disk_words_are_first_words()
     ensures size { DriveHasItsSize }
     ensures words { DiskWordsAreFirstWords }
@@ -27,11 +34,11 @@ pub fn disk_words_are_first_words()
     ensures count { DrivesAreSoMany }
 {}
 
-/// A law of edits: no alteration and no drop of an event is refused as out of memory, and no edit of the tape or of a
-/// delay.
+/// A law of edits: no alteration and no drop of an event is refused as out of memory, and no edit
+/// of the tape or of a delay.
 ///
 /// This project's profile.
-#[tactic(auto, using(crate::proofs::Memory::alteration_needs_none, crate::proofs::Memory::drop_needs_none, crate::proofs::Memory::tape_needs_none, crate::proofs::Memory::delay_needs_none))]
+#[tactic(auto, using(crate::proofs::Memory::needs_no_memory))]
 pub fn some_edits_need_no_memory()
     ensures alteration { AlterationNeedsNoMemory }
     ensures drop { DropNeedsNoMemory }
@@ -39,8 +46,8 @@ pub fn some_edits_need_no_memory()
     ensures delay { DelayNeedsNoMemory }
 {}
 
-/// A law of runs: what was printed on the console before a turn begins what was printed before each later turn, and
-/// what was punched likewise.
+/// A law of runs: what was printed on the console before a turn begins what was printed before each
+/// later turn, and what was punched likewise.
 ///
 /// This project's profile.
 #[tactic(auto, using(crate::proofs::Texts::text_grows, crate::proofs::Texts::punched_grows))]
@@ -49,14 +56,14 @@ pub fn texts_only_grow()
     ensures punched { PunchedOnlyGrows }
 {}
 
-/// A law of runs: in each state of a run the last stamp of each word of core is that of its last write, by the processor
-/// or by the disk, in the trace of the run from power-up to the turn of the state; a word that was not written has none.
-/// So it is in each state that an engine keeps.
+/// A law of runs: in each state of a run the last stamp of each word of core is that of its last
+/// write, by the processor or by the disk, in the trace of the run from power-up to the turn of the
+/// state; a word that was not written has none. So it is in each state that an engine keeps.
 ///
 /// This project's profile.
 pub fn stamps_of_states_are_last_writes()
     ensures states { StampsOfStatesAreLastWrites }
-    ensures kept { StampsOfKeptStatesAreLastWrites }
+    ensures kept { StampsOfCheckpointsAreLastWrites }
 {}
 
 /// A law of edits: a patch of a word reaches back to the first turn that touches its page. Up to

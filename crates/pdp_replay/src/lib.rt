@@ -8,7 +8,7 @@
 //!
 //! - **The headline**: an answer of [`Engine::ask`] is that of the run from power-up of the past as
 //!   it is, and the turns run for it are bounded, also if it is then refused.
-//! - **Valid whatever is kept**: after any edits, questions and refusals the kept states are the
+//! - **Valid whatever is kept**: after any edits, questions and refusals the checkpoints are the
 //!   run's, at turn 0 and at each multiple of the stride up to the known turn and at no other; the
 //!   bytes that are kept are those that came out before the known turn (`kept_states`, `machine`).
 //! - A last write is that of the trace of the whole run, and a trail has the run's turns.
@@ -32,37 +32,21 @@
 //! Nothing is said of seconds: `bench/` measures them. Lines of text are left to pdp_session.
 #![tactic(auto)]
 
-mod answer_bytes;
-mod answer_words;
-mod changes;
-mod edits;
+mod ask;
 mod engine;
-mod image;
-mod kept_run;
-mod last_write;
 mod laws;
-mod origin;
-mod patch;
-mod question;
-mod setup;
-mod setup_edits;
-mod trail;
-mod turns;
+mod past;
+mod run;
 
-pub use answer_bytes::Bytes;
-pub use answer_words::Words;
+pub use ask::{Answer, Bytes, Items, LastWrite, Question, Trail, TrailEntry, Value, Words};
 pub use engine::Engine;
-pub use last_write::LastWrite;
 pub use laws::{
     core_words_are_first_words, disk_words_are_first_words, first_touches_are_told,
     patches_reach_the_first_touch, some_edits_need_no_memory, stamps_of_states_are_last_writes,
     texts_only_grow, turns_run_again_touch_nothing_new, untouched_pages_are_alike,
 };
-pub use patch::Patch;
+pub use past::{DEFAULT_STRIDE, Patch, Setup};
 pub use pdp_cpu::{Act, DeviceRegisters, PageRegisters, Regs, RunState};
 pub use pdp_script::Fault;
 pub use pdp_store::Agent;
-pub use pdp_unibus::{Delays, Event, Line};
-pub use question::{Answer, Question, Value};
-pub use setup::{DEFAULT_STRIDE, Setup};
-pub use trail::{Trail, TrailEntry};
+pub use pdp_unibus::{DelayedDevice, Delays, Event};

@@ -2,13 +2,13 @@
 use Rattle.std.proofs.Common.{◌≡◌, ◌≢◌, ℕ, ◌/◌, ◌<◌, ◌&&◌, Bool, List, [], ◌==◌, not, refl, sym, ◌∙◌, ap, length, slice_index, slice_index_or, slice_set, get_or-set_same, get_or-set_other}
 use Rattle.std.proofs.lemmas.List.{set-set, set_comm}
 use Rattle.pdp_store.specs.Parts.{AlikeWords, core_with, drives_with, words_in}
-use Rattle.pdp_store.specs.Touch.{Avoids, Part, Core, Drive}
+use Rattle.pdp_store.specs.TracedAccess.{Avoids, Part, Core, Drive}
 use Rattle.pdp_store.proofs.Traces.{Avoids-first}
 use Rattle.pdp_rk11.specs.Completion.{DiskWorld, drive_of, is_write_check, lists_after}
 use Rattle.pdp_rk11.specs.Geometry.{drive_in}
-use Rattle.pdp_rk11.specs.Moves.{moved}
-use Rattle.pdp_rk11.specs.Trace.{fill_touches, joined, move_touches, transfer_touches, with_words}
-use Rattle.pdp_rk11.specs.Transfer.{core_read, core_word, disk_word, disk_written, is_different, moved_to_disk, rest_of_sector}
+use Rattle.pdp_rk11.specs.Moves.{moved_items}
+use Rattle.pdp_rk11.specs.Trace.{fill_touches, joined_lists, move_touches, transfer_touches, disk_world_with_words}
+use Rattle.pdp_rk11.specs.Transfer.{core_after_read, core_word, disk_word, disk_written, is_different, moved_to_disk, rest_of_sector}
 use Rattle.pdp_rk11.specs.declared.function.Function.{Function}
 use Rattle.pdp_rk11.specs.declared.function.Function.TheVariants.{Write, Read, WriteCheck}
 use Rattle.pdp_rk11.specs.declared.transfer.Transfer.{Transfer}
@@ -33,12 +33,12 @@ module _ (page turn drive : ℕ) (t : Transfer) (core words : List ℕ) (alike :
       → slice_index words (core_word t i) ≡ slice_index core (core_word t i)
   core_looks_alike f avoids outside =
       read_alike Core page (move_touches f t drive turn) t.count (core_word t) core words alike
-      (Avoids-first Core page (joined (move_touches f t drive turn) t.count) (fill_touches f t drive turn) avoids) outside
+      (Avoids-first Core page (joined_lists (move_touches f t drive turn) t.count) (fill_touches f t drive turn) avoids) outside
 
   written_alike_core : (disk : List ℕ) → Avoids Core page (transfer_touches Write t drive turn)
       → disk_written t words disk ≡ disk_written t core disk
   written_alike_core disk avoids =
-      ap (λ xs. moved (disk_word t t.count) (rest_of_sector t) (λ i. 0) xs)
+      ap (λ xs. moved_items (disk_word t t.count) (rest_of_sector t) (λ i. 0) xs)
       (moved_same t.disk_start t.count (λ i. slice_index core (core_word t i)) (λ i. slice_index words (core_word t i)) disk
       (core_looks_alike Write avoids (λ i free. free.0 refl)))
 
@@ -58,10 +58,10 @@ module _ (page turn drive : ℕ) (t : Transfer) (disk words : List ℕ) (alike :
       → slice_index words (disk_word t i) ≡ slice_index disk (disk_word t i)
   disk_looks_alike f avoids outside =
       read_alike (Drive drive) page (move_touches f t drive turn) t.count (disk_word t) disk words alike
-      (Avoids-first (Drive drive) page (joined (move_touches f t drive turn) t.count) (fill_touches f t drive turn) avoids) outside
+      (Avoids-first (Drive drive) page (joined_lists (move_touches f t drive turn) t.count) (fill_touches f t drive turn) avoids) outside
 
   read_alike_disk : (core : List ℕ) → Avoids (Drive drive) page (transfer_touches Read t drive turn)
-      → core_read t words core ≡ core_read t disk core
+      → core_after_read t words core ≡ core_after_read t disk core
   read_alike_disk core avoids =
       to_core_same t (λ i. slice_index disk (disk_word t i)) (λ i. slice_index words (disk_word t i)) core
       (disk_looks_alike Read avoids (λ i free. free.0 refl))
@@ -82,9 +82,9 @@ module _ (page turn drive : ℕ) (t : Transfer) (disk words : List ℕ) (alike :
 
 pub core_ends : (f : Function) (page turn : ℕ) (t : Transfer) (w : DiskWorld) (words : List ℕ) → AlikeWords page w.core words
     → Avoids Core page (transfer_touches f t (drive_in w.rk.disk_address) turn)
-    → AlikeEnds Core page (lists_after f t turn w) (lists_after f t turn (with_words Core words w))
+    → AlikeEnds Core page (lists_after f t turn w) (lists_after f t turn (disk_world_with_words Core words w))
 core_ends Read page turn t w words alike avoids = record {
-  left = core_read t (drive_of w) words;
+  left = core_after_read t (drive_of w) words;
   core = refl;
   lasts = refl;
   drives = refl;
@@ -103,18 +103,18 @@ core_ends _ page turn t w words alike avoids = record { left = words; core = ref
 
 -- the drive's words where they have been exchanged
 pub exchanged : (w : DiskWorld) (words : List ℕ) → drive_in w.rk.disk_address < length w.drives
-    → drive_of (with_words (Drive (drive_in w.rk.disk_address)) words w) ≡ words
+    → drive_of (disk_world_with_words (Drive (drive_in w.rk.disk_address)) words w) ≡ words
 exchanged w words there = get_or-set_same w.drives (drive_in w.rk.disk_address) words [] there
 
 pub drive_ends : (f : Function) (page turn : ℕ) (t : Transfer) (w : DiskWorld) (words : List ℕ)
     → drive_in w.rk.disk_address < length w.drives → AlikeWords page (drive_of w) words
     → Avoids (Drive (drive_in w.rk.disk_address)) page (transfer_touches f t (drive_in w.rk.disk_address) turn)
     → AlikeEnds (Drive (drive_in w.rk.disk_address)) page (lists_after f t turn w)
-    (lists_after f t turn (with_words (Drive (drive_in w.rk.disk_address)) words w))
+    (lists_after f t turn (disk_world_with_words (Drive (drive_in w.rk.disk_address)) words w))
 drive_ends Read page turn t w words there alike avoids = record {
   left = words;
   core =
-      ap (λ xs. core_read t xs w.core) (exchanged w words there)
+      ap (λ xs. core_after_read t xs w.core) (exchanged w words there)
       ∙ read_alike_disk page turn (drive_in w.rk.disk_address) t (drive_of w) words alike w.core avoids;
   lasts = refl;
   drives = refl;
@@ -138,15 +138,15 @@ drive_ends _ page turn t w words there alike avoids =
 
 -- another drive's words, which the transfer does not see
 pub other_unseen : (number : ℕ) (w : DiskWorld) (words : List ℕ) → drive_in w.rk.disk_address ≢ number
-    → drive_of (with_words (Drive number) words w) ≡ drive_of w
+    → drive_of (disk_world_with_words (Drive number) words w) ≡ drive_of w
 other_unseen number w words other = get_or-set_other w.drives number (drive_in w.rk.disk_address) words [] other
 
 pub other_ends : (f : Function) (page turn number : ℕ) (t : Transfer) (w : DiskWorld) (words : List ℕ)
     → drive_in w.rk.disk_address ≢ number → AlikeWords page (slice_index_or w.drives number []) words
-    → AlikeEnds (Drive number) page (lists_after f t turn w) (lists_after f t turn (with_words (Drive number) words w))
+    → AlikeEnds (Drive number) page (lists_after f t turn w) (lists_after f t turn (disk_world_with_words (Drive number) words w))
 other_ends Read page turn number t w words other alike = record {
   left = words;
-  core = ap (λ xs. core_read t xs w.core) (other_unseen number w words other);
+  core = ap (λ xs. core_after_read t xs w.core) (other_unseen number w words other);
   lasts = refl;
   drives = refl;
   alike = alike;

@@ -3,12 +3,12 @@ use Rattle.std.proofs.Common.{◌≡◌, ◌≢◌, ℕ, zero, suc, ◌+◌, ◌
 use Rattle.std.proofs.lemmas.Bool.{cases_eq, cases_lt}
 use Rattle.std.proofs.lemmas.List.{set_past}
 use Rattle.pdp_store.specs.Parts.{SameWords, words_in}
-use Rattle.pdp_store.specs.Touch.{Avoids, Part, Core, Drive, Touch}
+use Rattle.pdp_store.specs.TracedAccess.{Avoids, Part, Core, Drive, TracedAccess}
 use Rattle.pdp_store.proofs.Traces.{Avoids-first, Avoids-second}
-use Rattle.pdp_rk11.specs.Completion.{DiskWorld, completed, drive_of, lists_after}
+use Rattle.pdp_rk11.specs.Completion.{DiskWorld, rk_completed, drive_of, lists_after}
 use Rattle.pdp_rk11.specs.Geometry.{drive_in}
-use Rattle.pdp_rk11.specs.Moves.{moved}
-use Rattle.pdp_rk11.specs.Trace.{completion_touches, fill_touches, joined, move_touches, transfer_touches, written_by_disk}
+use Rattle.pdp_rk11.specs.Moves.{moved_items}
+use Rattle.pdp_rk11.specs.Trace.{completion_touches, fill_touches, joined_lists, move_touches, transfer_touches, written_by_disk}
 use Rattle.pdp_rk11.specs.Transfer.{core_word, disk_word, disk_written, moved_to_core, moved_to_disk, rest_of_sector}
 use Rattle.pdp_rk11.specs.declared.function.Function.{Function}
 use Rattle.pdp_rk11.specs.declared.function.Function.TheVariants.{Write, Read}
@@ -27,44 +27,44 @@ same_then page xs ys zs so also k inside = so k inside ∙ also k inside
 
 module _ (page turn drive : ℕ) where
   -- a read, move by move
-  read_leaves : (t : Transfer) (value : ℕ → ℕ) (core : List ℕ) (n : ℕ) → Avoids Core page (joined (move_touches Read t drive turn) n)
+  read_leaves : (t : Transfer) (value : ℕ → ℕ) (core : List ℕ) (n : ℕ) → Avoids Core page (joined_lists (move_touches Read t drive turn) n)
       → SameWords page core (moved_to_core (front t n) value core)
   read_leaves t value core zero avoids k inside = ap (λ xs. slice_index xs k) (sym (no_move t value core))
   read_leaves t value core (suc n) avoids k inside =
-      let before = Avoids-first Core page (joined (move_touches Read t drive turn) n) (move_touches Read t drive turn n) avoids in
-      let last = Avoids-second Core page (joined (move_touches Read t drive turn) n) (move_touches Read t drive turn n) avoids in
+      let before = Avoids-first Core page (joined_lists (move_touches Read t drive turn) n) (move_touches Read t drive turn n) avoids in
+      let last = Avoids-second Core page (joined_lists (move_touches Read t drive turn) n) (move_touches Read t drive turn n) avoids in
       read_leaves t value core n before k inside
       ∙ set_elsewhere page (moved_to_core (front t n) value core) (core_word t n) (value n) (last.1.0 refl) k inside
       ∙ ap (λ xs. slice_index xs k) (sym (one_more_move t n value core))
 
   -- a write, move by move
   write_leaves : (t : Transfer) (value : ℕ → ℕ) (disk : List ℕ) (n : ℕ)
-      → Avoids (Drive drive) page (joined (move_touches Write t drive turn) n) → SameWords page disk (moved t.disk_start n value disk)
+      → Avoids (Drive drive) page (joined_lists (move_touches Write t drive turn) n) → SameWords page disk (moved_items t.disk_start n value disk)
   write_leaves t value disk zero avoids k inside = ap (λ xs. slice_index xs k) (sym (moved_none t.disk_start value disk))
   write_leaves t value disk (suc n) avoids k inside =
-      let before = Avoids-first (Drive drive) page (joined (move_touches Write t drive turn) n) (move_touches Write t drive turn n) avoids in
-      let last = Avoids-second (Drive drive) page (joined (move_touches Write t drive turn) n) (move_touches Write t drive turn n) avoids in
+      let before = Avoids-first (Drive drive) page (joined_lists (move_touches Write t drive turn) n) (move_touches Write t drive turn n) avoids in
+      let last = Avoids-second (Drive drive) page (joined_lists (move_touches Write t drive turn) n) (move_touches Write t drive turn n) avoids in
       write_leaves t value disk n before k inside
-      ∙ set_elsewhere page (moved t.disk_start n value disk) (disk_word t n) (value n) (last.1.0 refl) k inside
+      ∙ set_elsewhere page (moved_items t.disk_start n value disk) (disk_word t n) (value n) (last.1.0 refl) k inside
       ∙ ap (λ xs. slice_index xs k) (sym (moved_one_more t.disk_start n value disk))
 
   -- the fill of a sector, word by word
   fill_leaves : (first : ℕ) (value : ℕ → ℕ) (disk : List ℕ) (n : ℕ)
-      → Avoids (Drive drive) page (joined (λ i. written_by_disk turn (Drive drive) (first + i) ∷ []) n)
-      → SameWords page disk (moved first n value disk)
+      → Avoids (Drive drive) page (joined_lists (λ i. written_by_disk turn (Drive drive) (first + i) ∷ []) n)
+      → SameWords page disk (moved_items first n value disk)
   fill_leaves first value disk zero avoids k inside = ap (λ xs. slice_index xs k) (sym (moved_none first value disk))
   fill_leaves first value disk (suc n) avoids k inside =
-      let before = Avoids-first (Drive drive) page (joined (λ i. written_by_disk turn (Drive drive) (first + i) ∷ []) n) _ avoids in
-      let last = Avoids-second (Drive drive) page (joined (λ i. written_by_disk turn (Drive drive) (first + i) ∷ []) n) _ avoids in
+      let before = Avoids-first (Drive drive) page (joined_lists (λ i. written_by_disk turn (Drive drive) (first + i) ∷ []) n) _ avoids in
+      let last = Avoids-second (Drive drive) page (joined_lists (λ i. written_by_disk turn (Drive drive) (first + i) ∷ []) n) _ avoids in
       fill_leaves first value disk n before k inside
-      ∙ set_elsewhere page (moved first n value disk) (first + n) (value n) (last.0 refl) k inside
+      ∙ set_elsewhere page (moved_items first n value disk) (first + n) (value n) (last.0 refl) k inside
       ∙ ap (λ xs. slice_index xs k) (sym (moved_one_more first n value disk))
 
   drive_leaves : (t : Transfer) (core disk : List ℕ) → Avoids (Drive drive) page (transfer_touches Write t drive turn)
       → SameWords page disk (disk_written t core disk)
   drive_leaves t core disk avoids =
-      let moves = Avoids-first (Drive drive) page (joined (move_touches Write t drive turn) t.count) (fill_touches Write t drive turn) avoids in
-      let fill = Avoids-second (Drive drive) page (joined (move_touches Write t drive turn) t.count) (fill_touches Write t drive turn) avoids in
+      let moves = Avoids-first (Drive drive) page (joined_lists (move_touches Write t drive turn) t.count) (fill_touches Write t drive turn) avoids in
+      let fill = Avoids-second (Drive drive) page (joined_lists (move_touches Write t drive turn) t.count) (fill_touches Write t drive turn) avoids in
       same_then page disk (moved_to_disk t core disk) (disk_written t core disk) (write_leaves t _ disk t.count moves)
       (fill_leaves (disk_word t t.count) (λ i. 0) (moved_to_disk t core disk) (rest_of_sector t) fill)
 
@@ -85,18 +85,18 @@ page_by_function : (f : Function) (part : Part) (page : ℕ) (t : Transfer) (tur
     → SameWords page (words_in part w.core w.drives) (words_in part (lists_after f t turn w).core (lists_after f t turn w).drives)
 page_by_function Read Core page t turn w avoids =
     read_leaves page turn (drive_in w.rk.disk_address) t _ w.core t.count
-    (Avoids-first Core page (joined (move_touches Read t (drive_in w.rk.disk_address) turn) t.count) [] avoids)
+    (Avoids-first Core page (joined_lists (move_touches Read t (drive_in w.rk.disk_address) turn) t.count) [] avoids)
 page_by_function Write (Drive number) page t turn w avoids =
     drives_leave page (drive_in w.rk.disk_address) number w.drives (disk_written t w.core (drive_of w)) (λ equal.
     drive_leaves page turn (drive_in w.rk.disk_address) t w.core (drive_of w)
     (subst (λ d. Avoids (Drive d) page (transfer_touches Write t (drive_in w.rk.disk_address) turn)) equal avoids))
 page_by_function _ _ page t turn w avoids = λ k inside. refl
 
-page_of : {turn : ℕ} {w v : DiskWorld} {xs : List Touch} → Done turn w xs v → (part : Part) (page : ℕ) → Avoids part page xs
+page_of : {turn : ℕ} {w v : DiskWorld} {xs : List TracedAccess} → Done turn w xs v → (part : Part) (page : ℕ) → Avoids part page xs
     → SameWords page (words_in part w.core w.drives) (words_in part v.core v.drives)
 page_of (Quiet rk) part page avoids k inside = refl
 page_of {turn} {w} (Moved rk) part page avoids k inside = page_by_function w.rk.function part page (transfer_in w) turn w avoids k inside
 
 pub completion_keeps_page : (part : Part) (page turn : ℕ) (w : DiskWorld) → Avoids part page (completion_touches turn w)
-    → SameWords page (words_in part w.core w.drives) (words_in part (completed turn w).core (completed turn w).drives)
+    → SameWords page (words_in part w.core w.drives) (words_in part (rk_completed turn w).core (rk_completed turn w).drives)
 completion_keeps_page part page turn w = page_of (done turn w) part page

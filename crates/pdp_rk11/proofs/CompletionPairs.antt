@@ -4,10 +4,10 @@ use Rattle.std.proofs.lemmas.Bool.{cases_eq, cases_lt}
 use Rattle.std.proofs.lemmas.List.{get_or_past, set_past}
 use Rattle.pdp_device.specs.Operation.{is_under_way}
 use Rattle.pdp_store.specs.Parts.{AlikeWords, core_with, drives_with, words_in}
-use Rattle.pdp_store.specs.Touch.{Avoids, Part, Core, Drive, Touch}
-use Rattle.pdp_rk11.specs.Completion.{DiskWorld, completed, drive_of, finished, finished_world, lists_after, performed, refusal, registers_after, transfer_of, transferred, with_rk, worked}
+use Rattle.pdp_store.specs.TracedAccess.{Avoids, Part, Core, Drive, TracedAccess}
+use Rattle.pdp_rk11.specs.Completion.{DiskWorld, rk_completed, drive_of, rk_finished, world_finished, lists_after, run_unless_refused, refusal, registers_after, transfer_of, rk_transferred, with_rk, run_function}
 use Rattle.pdp_rk11.specs.Geometry.{drive_in}
-use Rattle.pdp_rk11.specs.Trace.{AlikeCompletions, completion_touches, performed_touches, transfer_touches, with_words}
+use Rattle.pdp_rk11.specs.Trace.{AlikeCompletions, completion_touches, touches_unless_refused, transfer_touches, disk_world_with_words}
 use Rattle.pdp_rk11.specs.declared.failure.Failure.{Failure}
 use Rattle.pdp_rk11.specs.declared.function.Function.{Function}
 use Rattle.pdp_rk11.specs.declared.function.Function.TheVariants.{ControlReset, Seek, DriveReset, WriteLock}
@@ -18,9 +18,9 @@ use Rattle.pdp_rk11.proofs.CompletionSizes.{drives_count}
 use Rattle.pdp_rk11.proofs.Done.{transfer_in}
 
 -- a trace and a world, and those of the second completion: the same trace, and other words in the part alone
-record Alike (part : Part) (page : ℕ) (xs ys : List Touch) (v w : DiskWorld) : Type 0 where
+record Alike (part : Part) (page : ℕ) (xs ys : List TracedAccess) (v w : DiskWorld) : Type 0 where
   left : List ℕ
-  is : w ≡ with_words part left v
+  is : w ≡ disk_world_with_words part left v
   alike : AlikeWords page (words_in part v.core v.drives) left
   trace : ys ≡ xs
 
@@ -28,53 +28,53 @@ record Alike (part : Part) (page : ℕ) (xs ys : List Touch) (v w : DiskWorld) :
 record LooksAlike (part : Part) (page turn : ℕ) (w : DiskWorld) (words : List ℕ) : Type 0 where
   count : length (drives_with part words w.drives) ≡ length w.drives
   core : length (core_with part words w.core) ≡ length w.core
-  drive : length (drive_of (with_words part words w)) ≡ length (drive_of w)
+  drive : length (drive_of (disk_world_with_words part words w)) ≡ length (drive_of w)
   alike : AlikeWords page (words_in part w.core w.drives) words
   differ : (t : Transfer) → Avoids part page (transfer_touches w.rk.function t (drive_in w.rk.disk_address) turn)
-      → differs w.rk.function t (core_with part words w.core) (drive_of (with_words part words w))
+      → differs w.rk.function t (core_with part words w.core) (drive_of (disk_world_with_words part words w))
       ≡ differs w.rk.function t w.core (drive_of w)
   ends : (t : Transfer) → Avoids part page (transfer_touches w.rk.function t (drive_in w.rk.disk_address) turn)
-      → AlikeEnds part page (lists_after w.rk.function t turn w) (lists_after w.rk.function t turn (with_words part words w))
+      → AlikeEnds part page (lists_after w.rk.function t turn w) (lists_after w.rk.function t turn (disk_world_with_words part words w))
 
 -- the lists after a transfer, with the registers that go with them
 abbrev ending : Transfer → ℕ → Bool → ℕ → DiskWorld → DiskWorld
 ending t size different turn w =
-    finished_world (with_rk (lists_after w.rk.function t turn w) (registers_after size t different w.rk))
+    world_finished (with_rk (lists_after w.rk.function t turn w) (registers_after size t different w.rk))
 
 -- the trace, and the world, of a completion with so many drives, if one is under way
-abbrev touches_if : Bool → ℕ → ℕ → DiskWorld → List Touch
-touches_if under_way drives turn w = if under_way then performed_touches (refusal w.rk drives) turn w else []
+abbrev touches_if : Bool → ℕ → ℕ → DiskWorld → List TracedAccess
+touches_if under_way drives turn w = if under_way then touches_unless_refused (refusal w.rk drives) turn w else []
 
 abbrev world_if : Bool → ℕ → ℕ → DiskWorld → DiskWorld
-world_if under_way drives turn w = if under_way then finished_world (performed (refusal w.rk drives) turn w) else w
+world_if under_way drives turn w = if under_way then world_finished (run_unless_refused (refusal w.rk drives) turn w) else w
 
 module _ (part : Part) (page turn : ℕ) (w : DiskWorld) (words : List ℕ) (looks : LooksAlike part page turn w words) where
-  same_transfer : transfer_in (with_words part words w) ≡ transfer_in w
+  same_transfer : transfer_in (disk_world_with_words part words w) ≡ transfer_in w
   same_transfer =
-      ap (λ n. transfer_of w.rk n (length (drive_of (with_words part words w)))) looks.core
+      ap (λ n. transfer_of w.rk n (length (drive_of (disk_world_with_words part words w)))) looks.core
       ∙ ap (λ n. transfer_of w.rk (length w.core) n) looks.drive
 
-  same_trace : transfer_touches w.rk.function (transfer_in (with_words part words w)) (drive_in w.rk.disk_address) turn
+  same_trace : transfer_touches w.rk.function (transfer_in (disk_world_with_words part words w)) (drive_in w.rk.disk_address) turn
       ≡ transfer_touches w.rk.function (transfer_in w) (drive_in w.rk.disk_address) turn
   same_trace = ap (λ t. transfer_touches w.rk.function t (drive_in w.rk.disk_address) turn) same_transfer
 
   transfers_alike : Avoids part page (transfer_touches w.rk.function (transfer_in w) (drive_in w.rk.disk_address) turn)
       → Alike part page (transfer_touches w.rk.function (transfer_in w) (drive_in w.rk.disk_address) turn)
-      (transfer_touches w.rk.function (transfer_in (with_words part words w)) (drive_in w.rk.disk_address) turn)
-      (finished_world (transferred turn w)) (finished_world (transferred turn (with_words part words w)))
-  unfolding transferred
+      (transfer_touches w.rk.function (transfer_in (disk_world_with_words part words w)) (drive_in w.rk.disk_address) turn)
+      (world_finished (rk_transferred turn w)) (world_finished (rk_transferred turn (disk_world_with_words part words w)))
+  unfolding rk_transferred
   transfers_alike avoids =
       let ends = looks.ends (transfer_in w) avoids in
-      let second = with_words part words w in
+      let second = disk_world_with_words part words w in
       let different = differs w.rk.function (transfer_in w) w.core (drive_of w) in
-      let together : finished_world (transferred turn second) ≡ ending (transfer_in w) (length (drive_of w)) different turn second =
+      let together : world_finished (rk_transferred turn second) ≡ ending (transfer_in w) (length (drive_of w)) different turn second =
       ap (λ t. ending t (length (drive_of second)) (differs w.rk.function t second.core (drive_of second)) turn second) same_transfer
       ∙ ap (λ n. ending (transfer_in w) n (differs w.rk.function (transfer_in w) second.core (drive_of second)) turn second) looks.drive
       ∙ ap (λ d. ending (transfer_in w) (length (drive_of w)) d turn second) (looks.differ (transfer_in w) avoids) in
       let apart : ending (transfer_in w) (length (drive_of w)) different turn second
-      ≡ with_words part ends.left (ending (transfer_in w) (length (drive_of w)) different turn w) =
+      ≡ disk_world_with_words part ends.left (ending (transfer_in w) (length (drive_of w)) different turn w) =
       λ i. record {
-        rk = finished (registers_after (length (drive_of w)) (transfer_in w) different w.rk);
+        rk = rk_finished (registers_after (length (drive_of w)) (transfer_in w) different w.rk);
         core = ends.core i;
         lasts = ends.lasts i;
         drives = ends.drives i;
@@ -84,42 +84,42 @@ module _ (part : Part) (page turn : ℕ) (w : DiskWorld) (words : List ℕ) (loo
   -- a function that moves no word
   others_alike : (rk : Rk)
       → Alike part page (transfer_touches w.rk.function (transfer_in w) (drive_in w.rk.disk_address) turn)
-      (transfer_touches w.rk.function (transfer_in (with_words part words w)) (drive_in w.rk.disk_address) turn)
-      (with_rk w rk) (with_rk (with_words part words w) rk)
+      (transfer_touches w.rk.function (transfer_in (disk_world_with_words part words w)) (drive_in w.rk.disk_address) turn)
+      (with_rk w rk) (with_rk (disk_world_with_words part words w) rk)
   others_alike rk = record { left = words; is = refl; alike = looks.alike; trace = same_trace }
 
   functions_alike : (f : Function) → Avoids part page (transfer_touches w.rk.function (transfer_in w) (drive_in w.rk.disk_address) turn)
       → Alike part page (transfer_touches w.rk.function (transfer_in w) (drive_in w.rk.disk_address) turn)
-      (transfer_touches w.rk.function (transfer_in (with_words part words w)) (drive_in w.rk.disk_address) turn)
-      (finished_world (worked f turn w)) (finished_world (worked f turn (with_words part words w)))
+      (transfer_touches w.rk.function (transfer_in (disk_world_with_words part words w)) (drive_in w.rk.disk_address) turn)
+      (world_finished (run_function f turn w)) (world_finished (run_function f turn (disk_world_with_words part words w)))
   functions_alike ControlReset avoids = others_alike _
   functions_alike Seek avoids = others_alike _
   functions_alike DriveReset avoids = others_alike _
   functions_alike WriteLock avoids = others_alike _
   functions_alike _ avoids = transfers_alike avoids
 
-  performed_alike : (failure : Option Failure) → Avoids part page (performed_touches failure turn w)
-      → Alike part page (performed_touches failure turn w) (performed_touches failure turn (with_words part words w))
-      (finished_world (performed failure turn w)) (finished_world (performed failure turn (with_words part words w)))
+  performed_alike : (failure : Option Failure) → Avoids part page (touches_unless_refused failure turn w)
+      → Alike part page (touches_unless_refused failure turn w) (touches_unless_refused failure turn (disk_world_with_words part words w))
+      (world_finished (run_unless_refused failure turn w)) (world_finished (run_unless_refused failure turn (disk_world_with_words part words w)))
   performed_alike (Some failure) avoids = record { left = words; is = refl; alike = looks.alike; trace = refl }
   performed_alike None avoids = functions_alike w.rk.function avoids
 
   states_alike : (under_way : Bool) → Avoids part page (touches_if under_way (length w.drives) turn w)
       → Alike part page (touches_if under_way (length w.drives) turn w)
-      (touches_if under_way (length (drives_with part words w.drives)) turn (with_words part words w))
+      (touches_if under_way (length (drives_with part words w.drives)) turn (disk_world_with_words part words w))
       (world_if under_way (length w.drives) turn w)
-      (world_if under_way (length (drives_with part words w.drives)) turn (with_words part words w))
+      (world_if under_way (length (drives_with part words w.drives)) turn (disk_world_with_words part words w))
   states_alike true avoids =
       subst (λ n.
-      Alike part page (performed_touches (refusal w.rk (length w.drives)) turn w)
-      (performed_touches (refusal w.rk n) turn (with_words part words w))
-      (finished_world (performed (refusal w.rk (length w.drives)) turn w))
-      (finished_world (performed (refusal w.rk n) turn (with_words part words w))))
+      Alike part page (touches_unless_refused (refusal w.rk (length w.drives)) turn w)
+      (touches_unless_refused (refusal w.rk n) turn (disk_world_with_words part words w))
+      (world_finished (run_unless_refused (refusal w.rk (length w.drives)) turn w))
+      (world_finished (run_unless_refused (refusal w.rk n) turn (disk_world_with_words part words w))))
       (sym looks.count) (performed_alike (refusal w.rk (length w.drives)) avoids)
   states_alike false avoids = record { left = words; is = refl; alike = looks.alike; trace = refl }
 
   alike_where_seen : Avoids part page (completion_touches turn w) → AlikeCompletions part page turn w words
-  unfolding completed completion_touches
+  unfolding rk_completed completion_touches
   alike_where_seen avoids =
       let ends = states_alike (is_under_way w.rk.operation) avoids in
       record { left = ends.left; is = ends.is; alike = ends.alike; trace = ends.trace }
@@ -160,19 +160,19 @@ other_looks page turn number w words other alike = record {
 }
 
 -- a drive that isn't there has no words, and can be given none
-none_there : (number : ℕ) (w : DiskWorld) (words : List ℕ) → length w.drives ≤ number → with_words (Drive number) words w ≡ w
+none_there : (number : ℕ) (w : DiskWorld) (words : List ℕ) → length w.drives ≤ number → disk_world_with_words (Drive number) words w ≡ w
 none_there number w words past = ap (λ drives. record w { drives = drives }) (set_past w.drives number words past)
 
 alike_past : (page turn number : ℕ) (w : DiskWorld) (words : List ℕ) → length w.drives ≤ number
     → AlikeCompletions (Drive number) page turn w words
 alike_past page turn number w words past =
-    let still : length (completed turn w).drives ≤ number = subst (λ n. n ≤ number) (sym (drives_count turn w)) past in
+    let still : length (rk_completed turn w).drives ≤ number = subst (λ n. n ≤ number) (sym (drives_count turn w)) past in
     record {
       left = [];
-      is = ap (λ v. completed turn v) (none_there number w words past) ∙ sym (none_there number (completed turn w) [] still);
+      is = ap (λ v. rk_completed turn v) (none_there number w words past) ∙ sym (none_there number (rk_completed turn w) [] still);
       alike = record {
-        size = ap (λ xs. length xs) (sym (get_or_past (completed turn w).drives number [] still));
-        words = λ k outside. ap (λ xs. slice_index xs k) (sym (get_or_past (completed turn w).drives number [] still));
+        size = ap (λ xs. length xs) (sym (get_or_past (rk_completed turn w).drives number [] still));
+        words = λ k outside. ap (λ xs. slice_index xs k) (sym (get_or_past (rk_completed turn w).drives number [] still));
       };
       trace = ap (λ v. completion_touches turn v) (none_there number w words past);
     }

@@ -1,8 +1,8 @@
 -- A completion keeps the lengths of core, of its stamps and of each drive.
 use Rattle.std.proofs.Common.{◌≡◌, ℕ, List, [], refl, sym, ◌∙◌, ap, length, map, slice_index_or, slice_set}
 use Rattle.std.proofs.lemmas.List.{length-map, map-set, set-get_or}
-use Rattle.pdp_store.specs.Touch.{Touch}
-use Rattle.pdp_rk11.specs.Completion.{DiskWorld, completed, drive_of, lists_after}
+use Rattle.pdp_store.specs.TracedAccess.{TracedAccess}
+use Rattle.pdp_rk11.specs.Completion.{DiskWorld, rk_completed, drive_of, lists_after}
 use Rattle.pdp_rk11.specs.Geometry.{drive_in}
 use Rattle.pdp_rk11.specs.Trace.{SameSizes}
 use Rattle.pdp_rk11.specs.Transfer.{disk_word, disk_written, moved_to_disk, rest_of_sector}
@@ -45,17 +45,17 @@ sizes_by_function ReadCheck t turn w = record { core = refl; lasts = refl; drive
 sizes_by_function DriveReset t turn w = record { core = refl; lasts = refl; drives = refl }
 sizes_by_function WriteLock t turn w = record { core = refl; lasts = refl; drives = refl }
 
-sizes_of : {turn : ℕ} {w v : DiskWorld} {xs : List Touch} → Done turn w xs v → SameSizes w v
+sizes_of : {turn : ℕ} {w v : DiskWorld} {xs : List TracedAccess} → Done turn w xs v → SameSizes w v
 sizes_of (Quiet rk) = record { core = refl; lasts = refl; drives = refl }
 sizes_of {turn} {w} (Moved rk) =
     let same = sizes_by_function w.rk.function (transfer_in w) turn w in
     record { core = same.core; lasts = same.lasts; drives = same.drives }
 
-pub completed_sizes : (turn : ℕ) (w : DiskWorld) → SameSizes w (completed turn w)
+pub completed_sizes : (turn : ℕ) (w : DiskWorld) → SameSizes w (rk_completed turn w)
 completed_sizes turn w = sizes_of (done turn w)
 
-pub drives_count : (turn : ℕ) (w : DiskWorld) → length (completed turn w).drives ≡ length w.drives
+pub drives_count : (turn : ℕ) (w : DiskWorld) → length (rk_completed turn w).drives ≡ length w.drives
 drives_count turn w =
-    sym (length-map (completed turn w).drives length)
+    sym (length-map (rk_completed turn w).drives length)
     ∙ ap (λ ns. length ns) (completed_sizes turn w).drives
     ∙ length-map w.drives length

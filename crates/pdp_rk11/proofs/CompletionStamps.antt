@@ -1,12 +1,12 @@
 -- Each last stamp after a completion is that of the last write to the word in the completion's trace.
 use Rattle.std.proofs.Common.{◌≡◌, ◌==◌, ℕ, zero, suc, ◌<◌, Bool, true, false, List, Option, Some, None, refl, sym, ◌∙◌, ap, arith, length, slice_index_or, slice_set, if◌then◌else◌, get_or-set_same, get_or-set_other}
 use Rattle.std.proofs.lemmas.Bool.{eqb-false, eqb-true}
-use Rattle.pdp_store.specs.Touch.{Touch, last_write}
+use Rattle.pdp_store.specs.TracedAccess.{TracedAccess, last_write}
 use Rattle.pdp_store.specs.declared.Stamp.{Stamp}
 use Rattle.pdp_store.proofs.Traces.{last_write-append}
-use Rattle.pdp_rk11.specs.Completion.{DiskWorld, completed, lists_after, stamp_of_disk}
+use Rattle.pdp_rk11.specs.Completion.{DiskWorld, rk_completed, lists_after, stamp_of_disk}
 use Rattle.pdp_rk11.specs.Geometry.{drive_in}
-use Rattle.pdp_rk11.specs.Trace.{completion_touches, fill_touches, joined, move_touches, transfer_touches}
+use Rattle.pdp_rk11.specs.Trace.{completion_touches, fill_touches, joined_lists, move_touches, transfer_touches}
 use Rattle.pdp_rk11.specs.Transfer.{core_word, moved_to_core, rest_of_sector}
 use Rattle.pdp_rk11.specs.declared.function.Function.{Function}
 use Rattle.pdp_rk11.specs.declared.function.Function.TheVariants.{ControlReset, Write, Read, WriteCheck, Seek, ReadCheck, DriveReset, WriteLock}
@@ -15,11 +15,11 @@ use Rattle.pdp_rk11.proofs.Done.{Done, Quiet, Moved, done, transfer_in}
 use Rattle.pdp_rk11.proofs.Fronts.{front, length-moved_to_core, no_move, one_more_move}
 
 -- where no part of a trace writes core, the last write is the one before
-none_written : (f : ℕ → List Touch) (k : ℕ) (before : Option Stamp) → ((i : ℕ) (last : Option Stamp) → last_write (f i) k last ≡ last)
-    → (n : ℕ) → last_write (joined f n) k before ≡ before
-none_written f k before quiet zero = refl
-none_written f k before quiet (suc n) =
-    last_write-append (joined f n) (f n) k before ∙ quiet n (last_write (joined f n) k before) ∙ none_written f k before quiet n
+none_written : (f : ℕ → List TracedAccess) (k : ℕ) (before : Option Stamp) → ((i : ℕ) (last : Option Stamp) → last_write (f i) k last ≡ last)
+    → (n : ℕ) → last_write (joined_lists f n) k before ≡ before
+none_written f k before init zero = refl
+none_written f k before init (suc n) =
+    last_write-append (joined_lists f n) (f n) k before ∙ init n (last_write (joined_lists f n) k before) ∙ none_written f k before init n
 
 stamped : (lasts : List (Option Stamp)) (j k : ℕ) (stamp : Option Stamp) (same : Bool) → (j == k) ≡ same → k < length lasts
     → slice_index_or (slice_set lasts j stamp) k None ≡ (if same then stamp else slice_index_or lasts k None)
@@ -32,7 +32,7 @@ stamps turn i = Some (stamp_of_disk turn)
 -- a read, move by move
 read_stamps : (t : Transfer) (drive turn : ℕ) (lasts : List (Option Stamp)) (k : ℕ) → k < length lasts → (n : ℕ)
     → slice_index_or (moved_to_core (front t n) (stamps turn) lasts) k None
-    ≡ last_write (joined (move_touches Read t drive turn) n) k (slice_index_or lasts k None)
+    ≡ last_write (joined_lists (move_touches Read t drive turn) n) k (slice_index_or lasts k None)
 read_stamps t drive turn lasts k within zero = ap (λ xs. slice_index_or xs k None) (no_move t (stamps turn) lasts)
 read_stamps t drive turn lasts k within (suc n) =
     let inside : k < length (moved_to_core (front t n) (stamps turn) lasts) =
@@ -40,7 +40,7 @@ read_stamps t drive turn lasts k within (suc n) =
     ap (λ xs. slice_index_or xs k None) (one_more_move t n (stamps turn) lasts)
     ∙ stamped (moved_to_core (front t n) (stamps turn) lasts) (core_word t n) k (Some (stamp_of_disk turn)) _ refl inside
     ∙ ap (λ (last : Option Stamp). if core_word t n == k then Some (stamp_of_disk turn) else last) (read_stamps t drive turn lasts k within n)
-    ∙ sym (last_write-append (joined (move_touches Read t drive turn) n) (move_touches Read t drive turn n) k (slice_index_or lasts k None))
+    ∙ sym (last_write-append (joined_lists (move_touches Read t drive turn) n) (move_touches Read t drive turn n) k (slice_index_or lasts k None))
 
 -- the fill of a sector writes no word of core
 fill_writes_none : (f : Function) (t : Transfer) (drive turn k : ℕ) (before : Option Stamp)
@@ -56,7 +56,7 @@ fill_writes_none WriteLock t drive turn k before = refl
 
 moves_stamp : (f : Function) (t : Transfer) (drive turn : ℕ) (w : DiskWorld) (k : ℕ) → k < length w.lasts
     → slice_index_or (lists_after f t turn w).lasts k None
-    ≡ last_write (joined (move_touches f t drive turn) t.count) k (slice_index_or w.lasts k None)
+    ≡ last_write (joined_lists (move_touches f t drive turn) t.count) k (slice_index_or w.lasts k None)
 moves_stamp ControlReset t drive turn w k within = sym (none_written _ k _ (λ i last. refl) t.count)
 moves_stamp Write t drive turn w k within = sym (none_written _ k _ (λ i last. refl) t.count)
 moves_stamp Read t drive turn w k within = read_stamps t drive turn w.lasts k within t.count
@@ -72,14 +72,14 @@ stamps_by_function : (f : Function) (t : Transfer) (drive turn : ℕ) (w : DiskW
 stamps_by_function f t drive turn w k within =
     moves_stamp f t drive turn w k within
     ∙ sym (fill_writes_none f t drive turn k _)
-    ∙ sym (last_write-append (joined (move_touches f t drive turn) t.count) (fill_touches f t drive turn) k (slice_index_or w.lasts k None))
+    ∙ sym (last_write-append (joined_lists (move_touches f t drive turn) t.count) (fill_touches f t drive turn) k (slice_index_or w.lasts k None))
 
-stamps_of : {turn : ℕ} {w v : DiskWorld} {xs : List Touch} → Done turn w xs v → (k : ℕ) → k < length w.lasts
+stamps_of : {turn : ℕ} {w v : DiskWorld} {xs : List TracedAccess} → Done turn w xs v → (k : ℕ) → k < length w.lasts
     → slice_index_or v.lasts k None ≡ last_write xs k (slice_index_or w.lasts k None)
 stamps_of (Quiet rk) k within = refl
 stamps_of {turn} {w} (Moved rk) k within =
     stamps_by_function w.rk.function (transfer_in w) (drive_in w.rk.disk_address) turn w k within
 
 pub completed_lasts : (turn : ℕ) (w : DiskWorld) (k : ℕ) → k < length w.lasts
-    → slice_index_or (completed turn w).lasts k None ≡ last_write (completion_touches turn w) k (slice_index_or w.lasts k None)
+    → slice_index_or (rk_completed turn w).lasts k None ≡ last_write (completion_touches turn w) k (slice_index_or w.lasts k None)
 completed_lasts turn w = stamps_of (done turn w)

@@ -3,10 +3,10 @@ use Rattle.std.proofs.Common.{◌≡◌, ℕ, zero, suc, ◌+◌, ◌-◌, ◌<�
 use Rattle.std.proofs.lemmas.Bool.Decides.{nat_tests}
 use Rattle.std.proofs.lemmas.List.Elements.{All-nil, All-cons, All-append}
 use Rattle.std.specs.Prelude.{min, nat_lt}
-use Rattle.pdp_store.specs.Touch.{Touch, Core, Drive}
-use Rattle.pdp_rk11.specs.Completion.{DiskWorld, core_word_at, first_disk_word, is_read_check, transfer_of, within_core, words_asked}
+use Rattle.pdp_store.specs.TracedAccess.{TracedAccess, Core, Drive}
+use Rattle.pdp_rk11.specs.Completion.{DiskWorld, core_word_of_bus_address, first_word_of_sector, is_read_check, transfer_of, within_core, words_asked}
 use Rattle.pdp_rk11.specs.Geometry.{drive_in}
-use Rattle.pdp_rk11.specs.Trace.{IsOfCompletion, completion_touches, fill_touches, joined, move_touches, read_by_disk, transfer_touches, written_by_disk}
+use Rattle.pdp_rk11.specs.Trace.{IsOfCompletion, completion_touches, fill_touches, joined_lists, move_touches, read_by_disk, transfer_touches, written_by_disk}
 use Rattle.pdp_rk11.specs.Transfer.{core_word, disk_word, rest_of_sector}
 use Rattle.pdp_rk11.specs.declared.function.Function.{Function}
 use Rattle.pdp_rk11.specs.declared.function.Function.TheVariants.{ControlReset, Write, Read, WriteCheck, Seek, ReadCheck, DriveReset, WriteLock}
@@ -32,16 +32,16 @@ pub transfer_within : (rk : Rk) (words size : ℕ) → IsWithin rk.function (tra
 unfolding transfer_of
 transfer_within rk words size reads i below =
     let limit : within_core rk words
-    ≡ (if rk.no_increment && nat_lt (core_word_at rk.address) words then words_asked rk else words - core_word_at rk.address) =
+    ≡ (if rk.no_increment && nat_lt (core_word_of_bus_address rk.address) words then words_asked rk else words - core_word_of_bus_address rk.address) =
     rw reads refl in
     let fits : (transfer_of rk words size).count ≤ within_core rk words =
-    least_of_three (words_asked rk) (size - first_disk_word rk) (within_core rk words) in
-    within_by rk.no_increment (nat_lt (core_word_at rk.address) words) (core_word_at rk.address) words (words_asked rk)
+    least_of_three (words_asked rk) (size - first_word_of_sector rk) (within_core rk words) in
+    within_by rk.no_increment (nat_lt (core_word_of_bus_address rk.address) words) (core_word_of_bus_address rk.address) words (words_asked rk)
     (transfer_of rk words size).count i refl
     (subst (λ n. (transfer_of rk words size).count ≤ n) limit fits) below
 
 module _ (turn words : ℕ) where
-  abbrev Fits : Touch → Type 0
+  abbrev Fits : TracedAccess → Type 0
   Fits = IsOfCompletion turn words
 
   core_read_fits : (word : ℕ) → word < words → Fits (read_by_disk turn Core word)
@@ -56,15 +56,15 @@ module _ (turn words : ℕ) where
   drive_written_fits : (drive word : ℕ) → Fits (written_by_disk turn (Drive drive) word)
   drive_written_fits drive word = record { turn_is = refl; by_disk = refl; in_core = λ core. cc }
 
-  one_fits : (x : Touch) → Fits x → All Fits (x ∷ [])
+  one_fits : (x : TracedAccess) → Fits x → All Fits (x ∷ [])
   one_fits x fits = All-cons Fits x [] fits (All-nil Fits)
 
-  two_fit : (x y : Touch) → Fits x → Fits y → All Fits (x ∷ y ∷ [])
+  two_fit : (x y : TracedAccess) → Fits x → Fits y → All Fits (x ∷ y ∷ [])
   two_fit x y fits also = All-cons Fits x (y ∷ []) fits (one_fits y also)
 
-  joined_fit : (f : ℕ → List Touch) (n : ℕ) → ((i : ℕ) → i < n → All Fits (f i)) → All Fits (joined f n)
+  joined_fit : (f : ℕ → List TracedAccess) (n : ℕ) → ((i : ℕ) → i < n → All Fits (f i)) → All Fits (joined_lists f n)
   joined_fit f zero each = All-nil Fits
-  joined_fit f (suc n) each = All-append Fits (joined f n) (f n) (joined_fit f n (λ i below. each i (omega arith))) (each n (omega arith))
+  joined_fit f (suc n) each = All-append Fits (joined_lists f n) (f n) (joined_fit f n (λ i below. each i (omega arith))) (each n (omega arith))
 
   move_fits : (f : Function) (t : Transfer) (drive : ℕ) → IsWithin f t words → (i : ℕ) → i < t.count
       → All Fits (move_touches f t drive turn i)
@@ -93,10 +93,10 @@ module _ (turn words : ℕ) where
 
   transfer_fits : (f : Function) (t : Transfer) (drive : ℕ) → IsWithin f t words → All Fits (transfer_touches f t drive turn)
   transfer_fits f t drive within =
-      All-append Fits (joined (move_touches f t drive turn) t.count) (fill_touches f t drive turn)
+      All-append Fits (joined_lists (move_touches f t drive turn) t.count) (fill_touches f t drive turn)
       (joined_fit (move_touches f t drive turn) t.count (move_fits f t drive within)) (fill_fits f t drive)
 
-touches_of : {turn : ℕ} {w v : DiskWorld} {xs : List Touch} → Done turn w xs v → All (IsOfCompletion turn (length w.core)) xs
+touches_of : {turn : ℕ} {w v : DiskWorld} {xs : List TracedAccess} → Done turn w xs v → All (IsOfCompletion turn (length w.core)) xs
 touches_of {turn} {w} (Quiet rk) = All-nil (IsOfCompletion turn (length w.core))
 touches_of {turn} {w} (Moved rk) =
     transfer_fits turn (length w.core) w.rk.function (transfer_in w) (drive_in w.rk.disk_address) (transfer_within w.rk (length w.core) _)

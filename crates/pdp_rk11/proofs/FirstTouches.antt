@@ -1,27 +1,27 @@
 -- The first touches that a completion leaves are those of its trace.
 use Rattle.std.proofs.Common.{◌≡◌, ℕ, zero, suc, ◌+◌, ◌/◌, ◌<◌, List, [], ◌∷◌, ◌++◌, Bool, true, false, Option, Some, None, refl, ap, ap₂, sym, ◌∙◌, length, slice_index_or, slice_set, get_or-set_same, add-one}
 use Rattle.std.proofs.lemmas.List.{set-get_or, set-set}
-use Rattle.pdp_store.specs.Touch.{Drive, Touch}
+use Rattle.pdp_store.specs.TracedAccess.{Drive, TracedAccess}
 use Rattle.pdp_store.specs.Firsts.{Firsts, firsts_after, firsts_of, touch_page}
 use Rattle.pdp_store.proofs.FirstTouches.{firsts_after-append}
 use Rattle.pdp_device.specs.Operation.{is_under_way}
 use Rattle.pdp_rk11.specs.Completion.{DiskWorld, drive_of, refusal, transfer_of}
 use Rattle.pdp_rk11.specs.Geometry.{drive_in}
 use Rattle.pdp_rk11.specs.declared.failure.Failure.{Failure}
-use Rattle.pdp_rk11.specs.Touched.{core_after, core_touched, disk_after, disk_touched, fill_touched, filled, stepped}
-use Rattle.pdp_rk11.specs.Trace.{completion_touches, fill_touches, joined, move_touches, performed_touches, transfer_touches, written_by_disk}
+use Rattle.pdp_rk11.specs.Touched.{core_after, core_touched, disk_after, disk_touched, fill_touched, fill_firsts, after_steps}
+use Rattle.pdp_rk11.specs.Trace.{completion_touches, fill_touches, joined_lists, move_touches, touches_unless_refused, transfer_touches, written_by_disk}
 use Rattle.pdp_rk11.specs.Transfer.{core_word, disk_word, rest_of_sector}
 use Rattle.pdp_rk11.specs.declared.function.Function.{Function}
 use Rattle.pdp_rk11.specs.declared.function.Function.TheVariants.{ControlReset, Write, Read, WriteCheck, Seek, ReadCheck, DriveReset, WriteLock}
 use Rattle.pdp_rk11.specs.declared.transfer.Transfer.{Transfer}
 
-pub stepped_none : (step : ℕ → List ℕ → List ℕ) (xs : List ℕ) → stepped step 0 xs ≡ xs
-unfolding stepped
+pub stepped_none : (step : ℕ → List ℕ → List ℕ) (xs : List ℕ) → after_steps step 0 xs ≡ xs
+unfolding after_steps
 stepped_none step xs = refl
 
 pub stepped_more : (step : ℕ → List ℕ → List ℕ) (n : ℕ) (xs : List ℕ)
-    → stepped step (n + 1) xs ≡ step n (stepped step n xs)
-unfolding stepped
+    → after_steps step (n + 1) xs ≡ step n (after_steps step n xs)
+unfolding after_steps
 stepped_more step n xs = rw (add-one n) refl
 
 -- whether a function moves words, or compares or reads them
@@ -72,34 +72,34 @@ one_move WriteLock t number turn i drives core disk there = refl
 
 moves : (function : Function) (t : Transfer) (number turn : ℕ) (drives : List (List ℕ)) (core disk : List ℕ)
     → number < length drives → (n : ℕ)
-    → firsts_after (joined (move_touches function t number turn) n) (on_drive number drives core disk)
-    ≡ on_drive number drives (stepped (core_touched function t turn) n core)
-    (stepped (disk_touched function t turn) n disk)
-unfolding stepped firsts_after
+    → firsts_after (joined_lists (move_touches function t number turn) n) (on_drive number drives core disk)
+    ≡ on_drive number drives (after_steps (core_touched function t turn) n core)
+    (after_steps (disk_touched function t turn) n disk)
+unfolding after_steps firsts_after
 moves function t number turn drives core disk there zero = refl
 moves function t number turn drives core disk there (suc n) =
     let move = move_touches function t number turn in
-    firsts_after-append (joined move n) (move n) _
+    firsts_after-append (joined_lists move n) (move n) _
     ∙ ap (firsts_after (move n)) (moves function t number turn drives core disk there n)
     ∙ one_move function t number turn n drives _ _ there
 
 fills : (t : Transfer) (number turn : ℕ) (drives : List (List ℕ)) (core disk : List ℕ)
     → number < length drives → (n : ℕ)
-    → firsts_after (joined (λ i. written_by_disk turn (Drive number) (disk_word t t.count + i) ∷ []) n)
+    → firsts_after (joined_lists (λ i. written_by_disk turn (Drive number) (disk_word t t.count + i) ∷ []) n)
     (on_drive number drives core disk)
-    ≡ on_drive number drives core (stepped (fill_touched t turn) n disk)
-unfolding stepped firsts_after
+    ≡ on_drive number drives core (after_steps (fill_touched t turn) n disk)
+unfolding after_steps firsts_after
 fills t number turn drives core disk there zero = refl
 fills t number turn drives core disk there (suc n) =
     let word = disk_word t t.count + n in
-    firsts_after-append (joined _ n) _ (on_drive number drives core disk)
+    firsts_after-append (joined_lists _ n) _ (on_drive number drives core disk)
     ∙ ap (firsts_after (written_by_disk turn (Drive number) word ∷ [])) (fills t number turn drives core disk there n)
-    ∙ beside number drives core (stepped (fill_touched t turn) n disk) (word / 256) turn there
+    ∙ beside number drives core (after_steps (fill_touched t turn) n disk) (word / 256) turn there
 
 filled_by : (function : Function) (t : Transfer) (number turn : ℕ) (drives : List (List ℕ)) (core disk : List ℕ)
     → number < length drives
     → firsts_after (fill_touches function t number turn) (on_drive number drives core disk)
-    ≡ on_drive number drives core (filled function t turn disk)
+    ≡ on_drive number drives core (fill_firsts function t turn disk)
 unfolding firsts_after
 filled_by Write t number turn drives core disk there =
     fills t number turn drives core disk there (rest_of_sector t)
@@ -117,7 +117,7 @@ pub transfer_firsts : (function : Function) (t : Transfer) (number turn : ℕ) (
     ≡ on_drive number drives (core_after function t turn core) (disk_after function t turn disk)
 transfer_firsts function t number turn drives core disk there =
     let fill = fill_touches function t number turn in
-    firsts_after-append (joined (move_touches function t number turn) t.count) fill _
+    firsts_after-append (joined_lists (move_touches function t number turn) t.count) fill _
     ∙ ap (firsts_after fill) (moves function t number turn drives core disk there t.count)
     ∙ filled_by function t number turn drives _ _ there
 
@@ -135,12 +135,12 @@ touched_there function t number turn drives drives_now core core_now disk disk_n
     ∙ ap (λ ds. firsts_after (transfer_touches function t number turn) (firsts_of core ds)) same
 
 -- functions that move no words touch none
-no_moves : (f : ℕ → List Touch) → ((i : ℕ) → f i ≡ []) → (n : ℕ) → joined f n ≡ []
+no_moves : (f : ℕ → List TracedAccess) → ((i : ℕ) → f i ≡ []) → (n : ℕ) → joined_lists f n ≡ []
 no_moves f none zero = refl
 no_moves f none (suc n) = rw (no_moves f none n, none n) refl
 
-no_touches : (moves : ℕ → List Touch) (n : ℕ) (f : Firsts) → ((i : ℕ) → moves i ≡ [])
-    → firsts_after (joined moves n ++ []) f ≡ f
+no_touches : (moves : ℕ → List TracedAccess) (n : ℕ) (f : Firsts) → ((i : ℕ) → moves i ≡ [])
+    → firsts_after (joined_lists moves n ++ []) f ≡ f
 unfolding firsts_after
 no_touches moves n f none = ap (λ xs. firsts_after (xs ++ []) f) (no_moves moves none n)
 
@@ -159,12 +159,12 @@ none_touched ReadCheck t number turn f none = absurd (cc)
 
 -- if a function can't be done
 pub none_performed : (why : Option Failure) (failure : Failure) (turn : ℕ) (w : DiskWorld) (f : Firsts)
-    → why ≡ Some failure → f ≡ firsts_after (performed_touches why turn w) f
+    → why ≡ Some failure → f ≡ firsts_after (touches_unless_refused why turn w) f
 unfolding firsts_after
 none_performed why failure turn w f is = rw is refl
 
 pub under_way : (turn drives : ℕ) (w : DiskWorld) → is_under_way w.rk.operation ≡ true → drives ≡ length w.drives
-    → performed_touches (refusal w.rk drives) turn w ≡ completion_touches turn w
+    → touches_unless_refused (refusal w.rk drives) turn w ≡ completion_touches turn w
 unfolding completion_touches
 under_way turn drives w is same = rw (is, same) refl
 
@@ -175,7 +175,7 @@ not_under_way turn w f is = rw is refl
 
 -- if a function that moves no words is done
 pub none_worked : (turn : ℕ) (w : DiskWorld) (f : Firsts) → moves_words w.rk.function ≡ false
-    → f ≡ firsts_after (performed_touches None turn w) f
+    → f ≡ firsts_after (touches_unless_refused None turn w) f
 none_worked turn w f none =
     let t = transfer_of w.rk (length w.core) (length (drive_of w)) in
     sym (none_touched w.rk.function t (drive_in w.rk.disk_address) turn f none)

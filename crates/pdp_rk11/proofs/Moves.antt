@@ -3,7 +3,7 @@ use Rattle.std.proofs.Common.{◌≡◌, ◌⊎◌, ◌≢◌, ℕ, zero, suc, �
 use Rattle.std.proofs.lemmas.Bool.{cases_eq}
 use Rattle.std.proofs.lemmas.Bool.Decides.{nat_tests}
 use Rattle.std.proofs.lemmas.List.{same_lists}
-use Rattle.pdp_rk11.specs.Moves.{each, item_after, moved, moved_to_one}
+use Rattle.pdp_rk11.specs.Moves.{each, item_after, moved_items, moved_to_one}
 
 length-each : {A B : Type 0} (f : ℕ → A → B) (xs : List A) → length (each f xs) ≡ length xs
 length-each f [] = refl
@@ -15,14 +15,14 @@ get_or-each f [] k d e within = absurd (omega arith)
 get_or-each f (x ∷ xs) zero d e within = refl
 get_or-each f (x ∷ xs) (suc k) d e within = get_or-each (λ j. f (suc j)) xs k d e (omega arith)
 
-pub length-moved : {A : Type 0} (first n : ℕ) (value : ℕ → A) (xs : List A) → length (moved first n value xs) ≡ length xs
-unfolding moved
+pub length-moved : {A : Type 0} (first n : ℕ) (value : ℕ → A) (xs : List A) → length (moved_items first n value xs) ≡ length xs
+unfolding moved_items
 length-moved first n value xs = length-each (item_after first n value) xs
 
 -- an item of the list is the one that was moved there, or as it was
 pub get_or-moved : {A : Type 0} (first n : ℕ) (value : ℕ → A) (xs : List A) (k : ℕ) (d : A) → k < length xs
-    → get_or (moved first n value xs) k d ≡ item_after first n value k (get_or xs k d)
-unfolding moved
+    → get_or (moved_items first n value xs) k d ≡ item_after first n value k (get_or xs k d)
+unfolding moved_items
 get_or-moved first n value xs k d within = get_or-each (item_after first n value) xs k d d within
 
 pub item_inside : {A : Type 0} (first n : ℕ) (value : ℕ → A) (k : ℕ) (x : A) → first ≤ k → k < first + n
@@ -48,35 +48,35 @@ item_last first n value x =
 item_none : {A : Type 0} (first : ℕ) (value : ℕ → A) (k : ℕ) (x : A) → item_after first 0 value k x ≡ x
 item_none first value k x = grind (arith, nat_tests)
 
-pub moved_none : {A : Type 0} (first : ℕ) (value : ℕ → A) (xs : List A) → moved first 0 value xs ≡ xs
-moved_none first value xs = same_lists (moved first 0 value xs) xs (length-moved first 0 value xs) (λ k d within.
+pub moved_none : {A : Type 0} (first : ℕ) (value : ℕ → A) (xs : List A) → moved_items first 0 value xs ≡ xs
+moved_none first value xs = same_lists (moved_items first 0 value xs) xs (length-moved first 0 value xs) (λ k d within.
     let inside : k < length xs = omega (arith, length-moved first 0 value xs) in
     get_or-moved first 0 value xs k d inside ∙ item_none first value k (get_or xs k d))
 
-pub moved_nothing : {A : Type 0} (first n : ℕ) (value : ℕ → A) (xs : List A) → n ≡ 0 → moved first n value xs ≡ xs
+pub moved_nothing : {A : Type 0} (first n : ℕ) (value : ℕ → A) (xs : List A) → n ≡ 0 → moved_items first n value xs ≡ xs
 moved_nothing first n value xs none = rw none (moved_none first value xs)
 
 more_at : {A : Type 0} (first n : ℕ) (value : ℕ → A) (xs : List A) (k : ℕ) (d : A) → k < length xs
-    → get_or (moved first (n + 1) value xs) k d ≡ get_or (slice_set (moved first n value xs) (first + n) (value n)) k d
+    → get_or (moved_items first (n + 1) value xs) k d ≡ get_or (slice_set (moved_items first n value xs) (first + n) (value n)) k d
 more_at first n value xs k d inside = elim (cases_eq k (first + n)) [
   | inl same ↦
-      let here : first + n < length (moved first n value xs) = omega (arith, length-moved first n value xs) in
+      let here : first + n < length (moved_items first n value xs) = omega (arith, length-moved first n value xs) in
       get_or-moved first (n + 1) value xs k d inside
       ∙ rw same (item_last first n value (get_or xs (first + n) d)
-      ∙ sym (get_or-set_same (moved first n value xs) (first + n) (value n) d here))
+      ∙ sym (get_or-set_same (moved_items first n value xs) (first + n) (value n) d here))
   | inr other ↦
       get_or-moved first (n + 1) value xs k d inside
       ∙ item_more first n value k (get_or xs k d) other
-      ∙ sym (get_or-set_other (moved first n value xs) (first + n) k (value n) d other ∙ get_or-moved first n value xs k d inside)
+      ∙ sym (get_or-set_other (moved_items first n value xs) (first + n) k (value n) d other ∙ get_or-moved first n value xs k d inside)
 ]
 
 pub moved_more : {A : Type 0} (first n : ℕ) (value : ℕ → A) (xs : List A)
-    → moved first (n + 1) value xs ≡ slice_set (moved first n value xs) (first + n) (value n)
+    → moved_items first (n + 1) value xs ≡ slice_set (moved_items first n value xs) (first + n) (value n)
 moved_more first n value xs =
-    let sizes : length (moved first (n + 1) value xs) ≡ length (slice_set (moved first n value xs) (first + n) (value n)) =
+    let sizes : length (moved_items first (n + 1) value xs) ≡ length (slice_set (moved_items first n value xs) (first + n) (value n)) =
     length-moved first (n + 1) value xs
-    ∙ sym (length-set (moved first n value xs) (first + n) (value n) ∙ length-moved first n value xs) in
-    same_lists (moved first (n + 1) value xs) (slice_set (moved first n value xs) (first + n) (value n)) sizes (λ k d within.
+    ∙ sym (length-set (moved_items first n value xs) (first + n) (value n) ∙ length-moved first n value xs) in
+    same_lists (moved_items first (n + 1) value xs) (slice_set (moved_items first n value xs) (first + n) (value n)) sizes (λ k d within.
     let inside : k < length xs = omega (arith, length-moved first (n + 1) value xs) in
     more_at first n value xs k d inside)
 
@@ -100,12 +100,12 @@ item_within : {A : Type 0} (first n m : ℕ) (value : ℕ → A) (k : ℕ) (x : 
 item_within first n m value k x inside fewer = grind (arith, nat_tests)
 
 pub moved_within : {A : Type 0} (first n m : ℕ) (value : ℕ → A) (xs : List A) → m ≤ n → m ≡ n ⊎ length xs ≤ first + m
-    → moved first n value xs ≡ moved first m value xs
-moved_within first n m value xs fewer (inl same) = ap (λ j. moved first j value xs) (sym same)
+    → moved_items first n value xs ≡ moved_items first m value xs
+moved_within first n m value xs fewer (inl same) = ap (λ j. moved_items first j value xs) (sym same)
 moved_within first n m value xs fewer (inr past) =
-    let sizes : length (moved first n value xs) ≡ length (moved first m value xs) =
+    let sizes : length (moved_items first n value xs) ≡ length (moved_items first m value xs) =
     length-moved first n value xs ∙ sym (length-moved first m value xs) in
-    same_lists (moved first n value xs) (moved first m value xs) sizes (λ k d within.
+    same_lists (moved_items first n value xs) (moved_items first m value xs) sizes (λ k d within.
     let inside : k < length xs = omega (arith, length-moved first n value xs) in
     get_or-moved first n value xs k d inside
     ∙ item_within first n m value k (get_or xs k d) (omega arith) fewer

@@ -1,10 +1,10 @@
 -- Facts on lists, in the forms that functions name.
 use Rattle.std.proofs.Common.{◌≡◌, ℕ, ◌<◌, List, [], length, map, get_or, slice_index_or, slice_set, ◌∙◌, sym, ap}
 use Rattle.std.proofs.lemmas.List.{get_or-map, length-map, map-set}
-use Rattle.pdp_rk11.specs.Moves.{moved}
+use Rattle.pdp_rk11.specs.Moves.{moved_items}
 use Rattle.pdp_rk11.proofs.Moves.{length-moved}
 
-pub moved_length : {A : Type 0} (first n : ℕ) (value : ℕ → A) (xs : List A) → length (moved first n value xs) ≡ length xs
+pub moved_length : {A : Type 0} (first n : ℕ) (value : ℕ → A) (xs : List A) → length (moved_items first n value xs) ≡ length xs
 moved_length first n value xs = length-moved first n value xs
 
 pub map_length : {A B : Type 0} (f : A → B) (xs : List A) → length (map f xs) ≡ length xs

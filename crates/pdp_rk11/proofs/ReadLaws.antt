@@ -2,10 +2,10 @@
 use Rattle.std.proofs.Common.{◌≡◌, ◌≢◌, ℕ, zero, suc, ◌+◌, ◌-◌, ◌<◌, ◌≤◌, ◌||◌, ◌⊎◌, Bool, true, false, List, Option, refl, sym, ◌∙◌, ap, subst, arith, inl, inr, if◌then◌else◌, length, slice_index, slice_set, get_or-set_same, get_or-set_other}
 use Rattle.std.proofs.lemmas.Bool.{cases_lt}
 use Rattle.std.proofs.lemmas.List.{get_or_past}
-use Rattle.pdp_rk11.specs.Completion.{DiskWorld, completed, drive_of, finished_world, is_read_check, is_write_check, lists_after, performed, transferred, worked}
+use Rattle.pdp_rk11.specs.Completion.{DiskWorld, rk_completed, drive_of, world_finished, is_read_check, is_write_check, lists_after, run_unless_refused, rk_transferred, run_function}
 use Rattle.pdp_rk11.specs.Laws.{CanBeDone, ChecksChangeNoWord, ReadsLeaveTheLastMove, transfer_in}
-use Rattle.pdp_rk11.specs.Moves.{item_after, moved, moved_to_one}
-use Rattle.pdp_rk11.specs.Transfer.{core_read, core_word, disk_word}
+use Rattle.pdp_rk11.specs.Moves.{item_after, moved_items, moved_to_one}
+use Rattle.pdp_rk11.specs.Transfer.{core_after_read, core_word, disk_word}
 use Rattle.pdp_rk11.specs.declared.failure.Failure.{Failure}
 use Rattle.pdp_rk11.specs.declared.function.Function.{Function}
 use Rattle.pdp_rk11.specs.declared.function.Function.TheVariants.{ControlReset, Write, Read, WriteCheck, Seek, ReadCheck, DriveReset, WriteLock}
@@ -13,37 +13,37 @@ use Rattle.pdp_rk11.proofs.CompletionSizes.{completed_sizes}
 use Rattle.pdp_rk11.proofs.CompletionTouches.{transfer_within}
 use Rattle.pdp_rk11.proofs.Done.{Done, Quiet, Moved, done}
 use Rattle.pdp_rk11.proofs.Moves.{get_or-moved, item_before, item_inside, item_past, length-moved}
-use Rattle.pdp_store.specs.Touch.{Touch}
+use Rattle.pdp_store.specs.TracedAccess.{TracedAccess}
 
 -- what is under way is done, where nothing forbids it
-pub done_as : (f : Function) (turn : ℕ) (w : DiskWorld) → CanBeDone f w → completed turn w ≡ finished_world (worked f turn w)
-unfolding completed
+pub done_as : (f : Function) (turn : ℕ) (w : DiskWorld) → CanBeDone f w → rk_completed turn w ≡ world_finished (run_function f turn w)
+unfolding rk_completed
 done_as f turn w can =
     rw can.under_way (
-    ap (λ (r : Option Failure). finished_world (performed r turn w)) can.allowed
-    ∙ ap (λ g. finished_world (worked g turn w)) can.function_is)
+    ap (λ (r : Option Failure). world_finished (run_unless_refused r turn w)) can.allowed
+    ∙ ap (λ g. world_finished (run_function g turn w)) can.function_is)
 
 core_after : (turn : ℕ) (w : DiskWorld) → CanBeDone Read w
-    → (completed turn w).core ≡ core_read (transfer_in w) (drive_of w) w.core
-unfolding transferred
+    → (rk_completed turn w).core ≡ core_after_read (transfer_in w) (drive_of w) w.core
+unfolding rk_transferred
 core_after turn w can =
     ap (λ (x : DiskWorld). x.core) (done_as Read turn w can)
     ∙ ap (λ f. (lists_after f (transfer_in w) turn w).core) can.function_is
 
-drives_after : (turn : ℕ) (w : DiskWorld) → CanBeDone Read w → (completed turn w).drives ≡ w.drives
-unfolding transferred
+drives_after : (turn : ℕ) (w : DiskWorld) → CanBeDone Read w → (rk_completed turn w).drives ≡ w.drives
+unfolding rk_transferred
 drives_after turn w can =
     ap (λ (x : DiskWorld). x.drives) (done_as Read turn w can)
     ∙ ap (λ f. (lists_after f (transfer_in w) turn w).drives) can.function_is
 
 -- an item outside the moved ones is as it was
 pub not_moved : (first n : ℕ) (value : ℕ → ℕ) (xs : List ℕ) (k : ℕ) → (first ≤ k → k < first + n → ⊥)
-    → slice_index (moved first n value xs) k ≡ slice_index xs k
+    → slice_index (moved_items first n value xs) k ≡ slice_index xs k
 not_moved first n value xs k outside = elim (cases_lt k (length xs)) [
   | inl within ↦ get_or-moved first n value xs k 0 within ∙ stays (cases_lt k first)
   | inr past ↦
-      let beyond : length (moved first n value xs) ≤ k = omega (arith, length-moved first n value xs) in
-      get_or_past (moved first n value xs) k 0 beyond ∙ sym (get_or_past xs k 0 past)
+      let beyond : length (moved_items first n value xs) ≤ k = omega (arith, length-moved first n value xs) in
+      get_or_past (moved_items first n value xs) k 0 beyond ∙ sym (get_or_past xs k 0 past)
 ] where
   stays : (k < first) ⊎ (first ≤ k) → item_after first n value k (slice_index xs k) ≡ slice_index xs k
   stays (inl below) = item_before first n value k _ below
@@ -55,7 +55,7 @@ not_moved first n value xs k outside = elim (cases_lt k (length xs)) [
 -- the word of core has the value of the last move to it
 last_moved : (one : Bool) (start n : ℕ) (value : ℕ → ℕ) (xs : List ℕ) (word i : ℕ) → i < n → (if one then start else start + i) ≡ word
     → ((j : ℕ) → i < j → j < n → (if one then start else start + j) ≢ word) → word < length xs
-    → slice_index (if one then moved_to_one start n value xs else moved start n value xs) word ≡ value i
+    → slice_index (if one then moved_to_one start n value xs else moved_items start n value xs) word ≡ value i
 last_moved true start zero value xs word i is_done there last within = absurd (omega arith)
 last_moved true start (suc n) value xs word i is_done there last within = elim (cases_lt i n) [
   | inl earlier ↦ absurd (last n earlier (omega arith) there)
@@ -73,7 +73,7 @@ last_moved false start n value xs word i is_done there last within =
 -- a word of core to which no move goes is as it was
 other_word : (one : Bool) (start n : ℕ) (value : ℕ → ℕ) (xs : List ℕ) (word : ℕ)
     → ((i : ℕ) → i < n → (if one then start else start + i) ≢ word)
-    → slice_index (if one then moved_to_one start n value xs else moved start n value xs) word ≡ slice_index xs word
+    → slice_index (if one then moved_to_one start n value xs else moved_items start n value xs) word ≡ slice_index xs word
 other_word true start zero value xs word none = refl
 other_word true start (suc n) value xs word none =
     get_or-set_other xs start word (value n) 0 (λ same. none n (omega arith) (sym same))
@@ -110,7 +110,7 @@ check_leaves ReadCheck turn w check = refl
 check_leaves DriveReset turn w check = refl
 check_leaves WriteLock turn w check = refl
 
-words_left : {turn : ℕ} {w v : DiskWorld} {xs : List Touch} → (is_write_check w.rk.function || is_read_check w.rk.function) ≡ true
+words_left : {turn : ℕ} {w v : DiskWorld} {xs : List TracedAccess} → (is_write_check w.rk.function || is_read_check w.rk.function) ≡ true
     → Done turn w xs v → (v.core ≡ w.core) × (v.lasts ≡ w.lasts) × (v.drives ≡ w.drives)
 words_left check (Quiet rk) = (refl, refl, refl)
 words_left {turn} {w} check (Moved rk) =

@@ -1,7 +1,7 @@
 -- How RKCS tells the end of a function.
 use Rattle.std.proofs.Common.{◌≡◌, ◌≢◌, ℕ, ◌+◌, ◌*◌, ◌/◌, ◌%◌, ◌<◌, ◌≤◌, ◌||◌, ◌↔◌, Bool, true, false, Option, Some, None, refl, ◌∙◌, ap, arith}
 use Rattle.pdp_word.specs.Bits.{bit_of, field}
-use Rattle.pdp_rk11.specs.Completion.{completed}
+use Rattle.pdp_rk11.specs.Completion.{rk_completed}
 use Rattle.pdp_rk11.specs.Laws.{CompletionsSetReady, ErrorsAreTold, HardErrorsAreTold}
 use Rattle.pdp_rk11.specs.Rk.{code_of, control_word, failure_bit, failure_bits, has_failed}
 use Rattle.pdp_rk11.specs.declared.failure.Failure.{Failure}
@@ -9,7 +9,7 @@ use Rattle.pdp_rk11.specs.declared.failure.Failure.TheVariants.{NoDrive, NoCylin
 use Rattle.pdp_rk11.specs.declared.function.Function.{Function}
 use Rattle.pdp_rk11.specs.declared.function.Function.TheVariants.{ControlReset, Write, Read, WriteCheck, Seek, ReadCheck, DriveReset, WriteLock}
 use Rattle.pdp_rk11.specs.declared.rk.Rk.{Rk}
-use Rattle.pdp_rk11.proofs.Readiness.{completed_channel}
+use Rattle.pdp_rk11.proofs.Readiness.{completed_ready_enable}
 
 one_bit : (flag : Bool) → bit_of flag < 2
 one_bit true = omega arith
@@ -59,7 +59,7 @@ bit_7 e h s n r i a f fits = omega arith
 
 module _ (rk : Rk) where
   fits_of : Fits (bit_of (has_failed rk.failure || rk.write_check)) (bit_of (has_failed rk.failure)) (bit_of rk.search_complete)
-      (bit_of rk.no_increment) (bit_of rk.channel.ready) (bit_of rk.channel.enable) (field 16 2 rk.address) (code_of rk.function)
+      (bit_of rk.no_increment) (bit_of rk.ready_enable.ready) (bit_of rk.ready_enable.enable) (field 16 2 rk.address) (code_of rk.function)
   fits_of = record {
     error = one_bit _;
     hard = one_bit _;
@@ -77,7 +77,7 @@ module _ (rk : Rk) where
   hard_error_of : field 14 1 (control_word rk) ≡ bit_of (has_failed rk.failure)
   hard_error_of = bit_14 _ _ _ _ _ _ _ _ fits_of
 
-  ready_of : field 7 1 (control_word rk) ≡ bit_of rk.channel.ready
+  ready_of : field 7 1 (control_word rk) ≡ bit_of rk.ready_enable.ready
   ready_of = bit_7 _ _ _ _ _ _ _ _ fits_of
 
 told : (failure : Option Failure) (check : Bool)
@@ -100,4 +100,4 @@ hard_errors_are_told drives rk = rw (hard_error_of rk) (hard_told rk.failure rk.
 
 pub completions_set_ready : CompletionsSetReady
 completions_set_ready turn drives w busy =
-    ready_of (completed turn w).rk ∙ ap (λ c. bit_of c.ready) (completed_channel turn w busy)
+    ready_of (rk_completed turn w).rk ∙ ap (λ c. bit_of c.ready) (completed_ready_enable turn w busy)

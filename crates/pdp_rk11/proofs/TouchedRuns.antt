@@ -1,7 +1,7 @@
 -- A run of words is touched if each of its pages is touched once.
 use Rattle.std.proofs.Common.{◌≡◌, ◌≢◌, ◌⊎◌, inl, inr, ℕ, zero, suc, ◌+◌, ◌-◌, ◌*◌, ◌/◌, ◌<◌, ◌≤◌, List, [], ◌∷◌, true, false, Bool, refl, ap, sym, ◌∙◌, min, arith}
 use Rattle.pdp_store.specs.Firsts.{touch_page}
-use Rattle.pdp_rk11.specs.Touched.{core_after, words_named, disk_touched, run_touched, stepped}
+use Rattle.pdp_rk11.specs.Touched.{core_after, words_named, disk_touched, run_touched, after_steps}
 use Rattle.pdp_rk11.specs.Transfer.{core_word}
 use Rattle.pdp_rk11.specs.declared.function.Function.{Function}
 use Rattle.pdp_rk11.specs.declared.function.Function.TheVariants.{ControlReset, Write, Read, WriteCheck, Seek, ReadCheck, DriveReset, WriteLock}
@@ -19,17 +19,17 @@ touch_twice (x ∷ xs) (suc page) turn = ap (λ ys. x ∷ ys) (touch_twice xs pa
 -- words of one page: those from `done` to `last`, where `done` words were touched before
 in_one_page : (word : ℕ → ℕ) (turn page done more last : ℕ) (firsts : List ℕ) → last ≡ more + done
     → ((i : ℕ) → done ≤ i → i ≤ last → word i / 256 ≡ page)
-    → stepped (λ i xs. touch_page xs (word i / 256) turn) (suc last) firsts
-    ≡ touch_page (stepped (λ i xs. touch_page xs (word i / 256) turn) done firsts) page turn
-unfolding stepped
+    → after_steps (λ i xs. touch_page xs (word i / 256) turn) (suc last) firsts
+    ≡ touch_page (after_steps (λ i xs. touch_page xs (word i / 256) turn) done firsts) page turn
+unfolding after_steps
 in_one_page word turn page done zero last firsts is there =
     let same : last ≡ done = omega (arith, is) in
     let here : word last / 256 ≡ page = there last (omega (arith, is)) (omega arith) in
-    ap (λ p. touch_page (stepped (λ i xs. touch_page xs (word i / 256) turn) last firsts) p turn) here
-    ∙ ap (λ n. touch_page (stepped (λ i xs. touch_page xs (word i / 256) turn) n firsts) page turn) same
+    ap (λ p. touch_page (after_steps (λ i xs. touch_page xs (word i / 256) turn) last firsts) p turn) here
+    ∙ ap (λ n. touch_page (after_steps (λ i xs. touch_page xs (word i / 256) turn) n firsts) page turn) same
 in_one_page word turn page done (suc more) zero firsts is there = absurd (omega (arith, is))
 in_one_page word turn page done (suc more) (suc last) firsts is there =
-    let before = stepped (λ i xs. touch_page xs (word i / 256) turn) done firsts in
+    let before = after_steps (λ i xs. touch_page xs (word i / 256) turn) done firsts in
     let here : word (suc last) / 256 ≡ page = there (suc last) (omega (arith, is)) (omega arith) in
     let less : last ≡ more + done = omega (arith, is) in
     ap (λ xs. touch_page xs (word (suc last) / 256) turn)
@@ -39,8 +39,8 @@ in_one_page word turn page done (suc more) (suc last) firsts is there =
 
 -- the words of a run below a page, and those of the page too
 pub run_begun : (start count turn : ℕ) (firsts : List ℕ)
-    → stepped (run_touched start turn) (min count (start / 256 * 256 - start)) firsts ≡ firsts
-unfolding stepped
+    → after_steps (run_touched start turn) (min count (start / 256 * 256 - start)) firsts ≡ firsts
+unfolding after_steps
 run_begun start count turn firsts =
     let none : min count (start / 256 * 256 - start) ≡ 0 = omega arith in
     rw none refl
@@ -50,56 +50,56 @@ last_of done next below = omega arith
 
 pub run_more : (start count turn page : ℕ) (firsts : List ℕ)
     → 0 < count → start / 256 ≤ page → page < (start + count - 1) / 256 + 1
-    → touch_page (stepped (run_touched start turn) (min count (page * 256 - start)) firsts) page turn
-    ≡ stepped (run_touched start turn) (min count ((page + 1) * 256 - start)) firsts
+    → touch_page (after_steps (run_touched start turn) (min count (page * 256 - start)) firsts) page turn
+    ≡ after_steps (run_touched start turn) (min count ((page + 1) * 256 - start)) firsts
 run_more start count turn page firsts some from below =
     let done = min count (page * 256 - start) in
     let next = min count ((page + 1) * 256 - start) in
     let further : done < next = omega arith in
     let there : (i : ℕ) → done ≤ i → i ≤ next - 1 → (start + i) / 256 ≡ page = λ i from_done to. omega arith in
     sym (in_one_page (λ i. start + i) turn page done (next - suc done) (next - 1) firsts (omega arith) there)
-    ∙ ap (λ n. stepped (run_touched start turn) n firsts) (last_of done next further)
+    ∙ ap (λ n. after_steps (run_touched start turn) n firsts) (last_of done next further)
 
 pub run_none : (start count turn : ℕ) (firsts : List ℕ) → count ≡ 0
-    → firsts ≡ stepped (run_touched start turn) count firsts
-unfolding stepped
+    → firsts ≡ after_steps (run_touched start turn) count firsts
+unfolding after_steps
 run_none start count turn firsts none = rw none refl
 
 -- moves of one word of core are as one
 one_word : (word turn count : ℕ) (firsts : List ℕ)
-    → stepped (run_touched word turn) (min count 1) firsts
-    ≡ stepped (λ i xs. touch_page xs (word / 256) turn) count firsts
-unfolding stepped
+    → after_steps (run_touched word turn) (min count 1) firsts
+    ≡ after_steps (λ i xs. touch_page xs (word / 256) turn) count firsts
+unfolding after_steps
 one_word word turn zero firsts = refl
 one_word word turn (suc count) firsts =
     let one : min (suc count) 1 ≡ 1 = omega arith in
     let first : (word + 0) / 256 ≡ word / 256 = omega arith in
-    ap (λ n. stepped (run_touched word turn) n firsts) one
+    ap (λ n. after_steps (run_touched word turn) n firsts) one
     ∙ ap (λ p. touch_page firsts p turn) first
     ∙ sym (in_one_page (λ i. word) turn (word / 256) 0 count count firsts (omega arith) (λ i from to. refl))
 
 pub core_run : (t : Transfer) (turn : ℕ) (firsts : List ℕ)
-    → stepped (run_touched t.core_start turn) (words_named t) firsts
-    ≡ stepped (λ i xs. touch_page xs (core_word t i / 256) turn) t.count firsts
+    → after_steps (run_touched t.core_start turn) (words_named t) firsts
+    ≡ after_steps (λ i xs. touch_page xs (core_word t i / 256) turn) t.count firsts
 core_run t turn firsts = by_increment t.no_increment refl
   where
     by_increment : (none : Bool) → t.no_increment ≡ none
-        → stepped (run_touched t.core_start turn) (words_named t) firsts
-        ≡ stepped (λ i xs. touch_page xs (core_word t i / 256) turn) t.count firsts
+        → after_steps (run_touched t.core_start turn) (words_named t) firsts
+        ≡ after_steps (λ i xs. touch_page xs (core_word t i / 256) turn) t.count firsts
     by_increment true is = rw is (one_word t.core_start turn t.count firsts)
     by_increment false is = rw is refl
 
 -- functions that touch words of core
 pub core_of : (function : Function) (t : Transfer) (turn : ℕ) (firsts : List ℕ)
     → (function ≡ Read) ⊎ ((function ≡ Write) ⊎ (function ≡ WriteCheck))
-    → stepped (run_touched t.core_start turn) (words_named t) firsts ≡ core_after function t turn firsts
+    → after_steps (run_touched t.core_start turn) (words_named t) firsts ≡ core_after function t turn firsts
 core_of function t turn firsts (inl is) = rw is (core_run t turn firsts)
 core_of function t turn firsts (inr (inl is)) = rw is (core_run t turn firsts)
 core_of function t turn firsts (inr (inr is)) = rw is (core_run t turn firsts)
 
 -- no word is touched
-pub no_steps : (n : ℕ) (firsts : List ℕ) → firsts ≡ stepped (λ i xs. xs) n firsts
-unfolding stepped
+pub no_steps : (n : ℕ) (firsts : List ℕ) → firsts ≡ after_steps (λ i xs. xs) n firsts
+unfolding after_steps
 no_steps zero firsts = refl
 no_steps (suc n) firsts = no_steps n firsts
 
@@ -117,7 +117,7 @@ core_untouched WriteLock t turn firsts write read check = no_steps t.count first
 
 pub disk_untouched : (function : Function) (t : Transfer) (turn : ℕ) (firsts : List ℕ)
     → function ≢ Write → function ≢ Read → function ≢ WriteCheck → function ≢ ReadCheck
-    → firsts ≡ stepped (disk_touched function t turn) t.count firsts
+    → firsts ≡ after_steps (disk_touched function t turn) t.count firsts
 disk_untouched Write t turn firsts write read check read_check = absurd (write refl)
 disk_untouched Read t turn firsts write read check read_check = absurd (read refl)
 disk_untouched WriteCheck t turn firsts write read check read_check = absurd (check refl)

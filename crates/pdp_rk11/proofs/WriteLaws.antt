@@ -3,10 +3,10 @@ use Rattle.std.proofs.Common.{◌≡◌, ◌≢◌, ℕ, zero, suc, ◌+◌, ◌
 use Rattle.std.proofs.lemmas.Bool.{cases_lt, eqb-true, ltb-true}
 use Rattle.std.proofs.lemmas.List.{get_or_past}
 use Rattle.std.specs.Prelude.{min, nat_lt}
-use Rattle.pdp_rk11.specs.Completion.{DiskWorld, completed, core_word_at, drive_of, first_disk_word, lists_after, refusal, registers_after, stop_of, transfer_of, transferred, within_core, words_asked}
+use Rattle.pdp_rk11.specs.Completion.{DiskWorld, rk_completed, core_word_of_bus_address, drive_of, first_word_of_sector, lists_after, refusal, registers_after, stop_of, transfer_of, rk_transferred, within_core, words_asked}
 use Rattle.pdp_rk11.specs.Geometry.{drive_in, sector_number}
 use Rattle.pdp_rk11.specs.Laws.{CanBeDone, EndsWell, WrittenWordsAreReadBack, WritesFillWithZeros, drive_numbered, transfer_in}
-use Rattle.pdp_rk11.specs.Moves.{moved}
+use Rattle.pdp_rk11.specs.Moves.{moved_items}
 use Rattle.pdp_rk11.specs.Transfer.{core_word, disk_word, disk_written, moved_to_disk, rest_of_sector}
 use Rattle.pdp_rk11.specs.declared.failure.Failure.{Failure}
 use Rattle.pdp_rk11.specs.declared.failure.Failure.TheVariants.{NoDrive, NoMemory, Overrun}
@@ -18,19 +18,19 @@ use Rattle.pdp_rk11.proofs.Moves.{get_or-moved, item_inside, length-moved}
 use Rattle.pdp_rk11.proofs.ReadLaws.{done_as, not_moved, read_leaves}
 
 lists_written : (turn : ℕ) (w : DiskWorld) → CanBeDone Write w
-    → (completed turn w).drives ≡ slice_set w.drives (drive_in w.rk.disk_address) (disk_written (transfer_in w) w.core (drive_of w))
-unfolding transferred
+    → (rk_completed turn w).drives ≡ slice_set w.drives (drive_in w.rk.disk_address) (disk_written (transfer_in w) w.core (drive_of w))
+unfolding rk_transferred
 lists_written turn w can =
     ap (λ (x : DiskWorld). x.drives) (done_as Write turn w can)
     ∙ ap (λ f. (lists_after f (transfer_in w) turn w).drives) can.function_is
 
-core_stays : (turn : ℕ) (w : DiskWorld) → CanBeDone Write w → (completed turn w).core ≡ w.core
-unfolding transferred
+core_stays : (turn : ℕ) (w : DiskWorld) → CanBeDone Write w → (rk_completed turn w).core ≡ w.core
+unfolding rk_transferred
 core_stays turn w can =
     ap (λ (x : DiskWorld). x.core) (done_as Write turn w can) ∙ ap (λ f. (lists_after f (transfer_in w) turn w).core) can.function_is
 
-lasts_stay : (turn : ℕ) (w : DiskWorld) → CanBeDone Write w → (completed turn w).lasts ≡ w.lasts
-unfolding transferred
+lasts_stay : (turn : ℕ) (w : DiskWorld) → CanBeDone Write w → (rk_completed turn w).lasts ≡ w.lasts
+unfolding rk_transferred
 lasts_stay turn w can =
     ap (λ (x : DiskWorld). x.lasts) (done_as Write turn w can) ∙ ap (λ f. (lists_after f (transfer_in w) turn w).lasts) can.function_is
 
@@ -44,13 +44,13 @@ drive_there rk drives allowed = by_test (nat_lt (drive_in rk.disk_address) drive
   by_test false is rest none = cc
 
 drive_written : (turn : ℕ) (w : DiskWorld) → CanBeDone Write w
-    → drive_numbered (drive_in w.rk.disk_address) (completed turn w) ≡ disk_written (transfer_in w) w.core (drive_of w)
+    → drive_numbered (drive_in w.rk.disk_address) (rk_completed turn w) ≡ disk_written (transfer_in w) w.core (drive_of w)
 drive_written turn w can =
     ap (λ ds. slice_index_or ds (drive_in w.rk.disk_address) []) (lists_written turn w can)
     ∙ get_or-set_same w.drives (drive_in w.rk.disk_address) _ [] (drive_there w.rk (length w.drives) can.allowed)
 
 other_drive : (turn : ℕ) (w : DiskWorld) → CanBeDone Write w → (number : ℕ) → number ≢ drive_in w.rk.disk_address
-    → drive_numbered number (completed turn w) ≡ drive_numbered number w
+    → drive_numbered number (rk_completed turn w) ≡ drive_numbered number w
 other_drive turn w can number other =
     ap (λ ds. slice_index_or ds number []) (lists_written turn w can)
     ∙ get_or-set_other w.drives (drive_in w.rk.disk_address) number _ [] other
@@ -62,8 +62,8 @@ second_of_three a b c = omega arith
 on_drive : (rk : Rk) (words size i : ℕ) → i < (transfer_of rk words size).count → disk_word (transfer_of rk words size) i < size
 unfolding transfer_of
 on_drive rk words size i done =
-    let fits : (transfer_of rk words size).count ≤ size - first_disk_word rk =
-    second_of_three (words_asked rk) (size - first_disk_word rk) (within_core rk words) in
+    let fits : (transfer_of rk words size).count ≤ size - first_word_of_sector rk =
+    second_of_three (words_asked rk) (size - first_word_of_sector rk) (within_core rk words) in
     omega (arith, fits, done)
 
 -- a word that was moved to the drive: the zeros are after it
@@ -82,12 +82,12 @@ in_rest : (sector count last word : ℕ) → last + 1 ≡ count → sector * 256
     → word < sector * 256 + count + ((count + 255) / 256 * 256 - count)
 in_rest sector count last word is after same = omega arith
 
-zero_at : (first n : ℕ) (xs : List ℕ) (word : ℕ) → first ≤ word → word < first + n → slice_index (moved first n (λ j. 0) xs) word ≡ 0
+zero_at : (first n : ℕ) (xs : List ℕ) (word : ℕ) → first ≤ word → word < first + n → slice_index (moved_items first n (λ j. 0) xs) word ≡ 0
 zero_at first n xs word from to = elim (cases_lt word (length xs)) [
   | inl within ↦ get_or-moved first n (λ j. 0) xs word 0 within ∙ item_inside first n (λ j. 0) word _ from to
   | inr past ↦
-      let beyond : length (moved first n (λ j. 0) xs) ≤ word = omega (arith, length-moved first n (λ j. 0) xs) in
-      get_or_past (moved first n (λ j. 0) xs) word 0 beyond
+      let beyond : length (moved_items first n (λ j. 0) xs) ≤ word = omega (arith, length-moved first n (λ j. 0) xs) in
+      get_or_past (moved_items first n (λ j. 0) xs) word 0 beyond
 ]
 
 -- a word in none of the sectors that were written to
@@ -167,18 +167,18 @@ all_done count asked left none = by_test (count == asked) (count == left) refl n
   by_test false false is stop = cc
 
 written_in_full : (turn : ℕ) (w : DiskWorld) → EndsWell Write turn w → (transfer_in w).count ≡ words_asked w.rk
-unfolding transferred registers_after
+unfolding rk_transferred registers_after
 written_in_full turn w well =
     all_done (transfer_in w).count (words_asked w.rk) (length (drive_of w) - (transfer_in w).disk_start)
     (ap (λ (x : DiskWorld). x.rk.failure) (sym (done_as Write turn w well.can_be_done)) ∙ well.no_failure)
 
 read_in_full : (turn : ℕ) (w : DiskWorld) → EndsWell Read turn w → (transfer_in w).count ≡ words_asked w.rk
-unfolding transferred registers_after
+unfolding rk_transferred registers_after
 read_in_full turn w well =
     all_done (transfer_in w).count (words_asked w.rk) (length (drive_of w) - (transfer_in w).disk_start)
     (ap (λ (x : DiskWorld). x.rk.failure) (sym (done_as Read turn w well.can_be_done)) ∙ well.no_failure)
 
-core_word_by : (rk : Rk) (words size i : ℕ) → rk.no_increment ≡ false → core_word (transfer_of rk words size) i ≡ core_word_at rk.address + i
+core_word_by : (rk : Rk) (words size i : ℕ) → rk.no_increment ≡ false → core_word (transfer_of rk words size) i ≡ core_word_of_bus_address rk.address + i
 unfolding transfer_of
 core_word_by rk words size i increments = rw increments refl
 
@@ -199,11 +199,11 @@ read_back turn later v w back i asked =
     let asked_now : words_asked w.rk ≡ words_asked v.rk = ap (λ n. 0o200000 - n) back.same_count in
     let written : i < was.count = omega (arith, asked, written_in_full turn v back.written) in
     let read : i < now.count = omega (arith, asked, asked_now, read_in_full later w back.read) in
-    let last : (j : ℕ) → i < j → j < now.count → core_word now j ≢ core_word_at w.rk.address + i =
+    let last : (j : ℕ) → i < j → j < now.count → core_word now j ≢ core_word_of_bus_address w.rk.address + i =
     λ j above below same. omega (arith, to j back.read.increments, same) in
-    (read_leaves later w back.read.can_be_done).moved_to (core_word_at w.rk.address + i) i
+    (read_leaves later w back.read.can_be_done).moved_to (core_word_of_bus_address w.rk.address + i) i
     (record { done = read; there = to i back.read.increments; last = last })
     ∙ ap (λ xs. slice_index xs (disk_word now i)) back.drive_stays
-    ∙ ap (λ k. slice_index (drive_numbered (drive_in v.rk.disk_address) (completed turn v)) k) place
+    ∙ ap (λ k. slice_index (drive_numbered (drive_in v.rk.disk_address) (rk_completed turn v)) k) place
     ∙ (write_leaves turn v back.written.can_be_done).moved_to i written
     ∙ ap (λ k. slice_index v.core k) from

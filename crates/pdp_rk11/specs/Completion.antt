@@ -1,18 +1,27 @@
--- The completion of a function of the RK11: PDP-11 Peripherals Handbook, RK11 (that it is one act, the order of its tests,
--- and where registers are left are this project's profile).
-use Rattle.std.specs.Prelude.{ℕ, ◌+◌, ◌-◌, ◌*◌, ◌/◌, ◌%◌, ◌==◌, nat_lt, min, Bool, true, false, not, ◌&&◌, ◌||◌, List, [], Option, Some, None, length, slice_index_or, slice_set, if◌then◌else◌}
-use Rattle.pdp_device.specs.Channel.{with_ready}
+-- The completion of a function of the RK11: PDP-11 Peripherals Handbook, RK11 (that it is one act,
+-- the order of its tests, and where registers are left are this project's profile).
+use Rattle.std.specs.Prelude.{ℕ, ◌+◌, ◌-◌, ◌*◌, ◌/◌, ◌%◌, ◌==◌, nat_lt, min, Bool, true, false, not}
+use Rattle.std.specs.Prelude.{◌&&◌, ◌||◌, List, [], Option, Some, None, length, slice_index_or}
+use Rattle.std.specs.Prelude.{slice_set, if◌then◌else◌}
+use Rattle.pdp_device.specs.ReadyEnable.{with_ready}
 use Rattle.pdp_device.specs.Operation.{is_under_way}
 use Rattle.pdp_device.specs.declared.operation.Operation.TheVariants.{Idle}
+use Rattle.pdp_store.specs.Parts.{words_of_drive}
 use Rattle.pdp_store.specs.declared.Agent.TheVariants.{Disk}
 use Rattle.pdp_store.specs.declared.Stamp.{Stamp}
-use Rattle.pdp_rk11.specs.Geometry.{address_of_sector, cylinder_in, cylinders, drive_in, sector_in, sector_number, sectors_of_track, words_of_sector}
+use Rattle.pdp_rk11.specs.Geometry.{address_of_sector, bus_addresses, cylinder_in, cylinders}
+use Rattle.pdp_rk11.specs.Geometry.{drive_in, most_words_asked, sector_in, sector_number}
+use Rattle.pdp_rk11.specs.Geometry.{sectors_of_track, words_of_sector}
 use Rattle.pdp_rk11.specs.Rk.{is_locked}
-use Rattle.pdp_rk11.specs.Transfer.{core_read, disk_written, is_different, lasts_read, stamps_written}
+use Rattle.pdp_rk11.specs.Transfer.{core_after_read, disk_written, is_different, lasts_read}
+use Rattle.pdp_rk11.specs.Transfer.{stamps_written}
 use Rattle.pdp_rk11.specs.declared.function.Function.{Function}
-use Rattle.pdp_rk11.specs.declared.function.Function.TheVariants.{ControlReset, Write, Read, WriteCheck, Seek, ReadCheck, DriveReset, WriteLock}
+use Rattle.pdp_rk11.specs.declared.function.Function.TheVariants.{ControlReset, Write, Read}
+use Rattle.pdp_rk11.specs.declared.function.Function.TheVariants.{WriteCheck, Seek, ReadCheck}
+use Rattle.pdp_rk11.specs.declared.function.Function.TheVariants.{DriveReset, WriteLock}
 use Rattle.pdp_rk11.specs.declared.failure.Failure.{Failure}
-use Rattle.pdp_rk11.specs.declared.failure.Failure.TheVariants.{NoDrive, NoCylinder, NoSector, NoMemory, WriteLocked, Overrun}
+use Rattle.pdp_rk11.specs.declared.failure.Failure.TheVariants.{NoDrive, NoCylinder, NoSector}
+use Rattle.pdp_rk11.specs.declared.failure.Failure.TheVariants.{NoMemory, WriteLocked, Overrun}
 use Rattle.pdp_rk11.specs.declared.rk.Rk.{Rk}
 use Rattle.pdp_rk11.specs.declared.transfer.Transfer.{Transfer}
 
@@ -38,9 +47,9 @@ names_sector Seek = true
 names_sector ReadCheck = true
 names_sector _ = false
 
-abbrev pub is_write : Function → Bool
-is_write Write = true
-is_write _ = false
+abbrev pub is_write_function : Function → Bool
+is_write_function Write = true
+is_write_function _ = false
 
 abbrev pub is_write_check : Function → Bool
 is_write_check WriteCheck = true
@@ -50,60 +59,68 @@ abbrev pub is_read_check : Function → Bool
 is_read_check ReadCheck = true
 is_read_check _ = false
 
--- why a function can't be done with so many drives, if so: of the drive, the cylinder, the sector and the write lock the
--- first that is amiss
+-- why a function can't be done with so many drives, if so: of the drive, the cylinder, the sector
+-- and the write lock the first that is amiss
 unfoldable pub refusal : Rk → ℕ → Option Failure
 refusal rk drives = (
     if not (nat_lt (drive_in rk.disk_address) drives) then Some NoDrive else
-    if names_sector rk.function && not (nat_lt (cylinder_in rk.disk_address) cylinders) then Some NoCylinder else
-    if names_sector rk.function && not (nat_lt (sector_in rk.disk_address) sectors_of_track) then Some NoSector else
-    if is_write rk.function && is_locked rk then Some WriteLocked else None)
+    if names_sector rk.function && not (nat_lt (cylinder_in rk.disk_address) cylinders) then Some
+    NoCylinder else
+    if names_sector rk.function && not (nat_lt (sector_in rk.disk_address) sectors_of_track) then
+    Some NoSector else
+    if is_write_function rk.function && is_locked rk then Some WriteLocked else None)
 
 -- the word of core at a bus address of 18 bits
-abbrev pub core_word_at : ℕ → ℕ
-core_word_at address = address % 0o1000000 / 2
+abbrev pub core_word_of_bus_address : ℕ → ℕ
+core_word_of_bus_address address = address % bus_addresses / 2
 
 -- how many words were asked for: RKWC counts up to 0, and 0 at the start is 65,536
 abbrev pub words_asked : Rk → ℕ
-words_asked rk = 0o200000 - rk.word_count
+words_asked rk = most_words_asked - rk.word_count
 
--- how many of them come before an address outside a core of so many words; a read check asks for no address
+-- how many of them come before an address outside a core of so many words; a read check asks for no
+-- address
 abbrev pub within_core : Rk → ℕ → ℕ
 within_core rk words = (
-    if is_read_check rk.function || rk.no_increment && nat_lt (core_word_at rk.address) words then words_asked rk
-    else words - core_word_at rk.address)
+    if is_read_check rk.function || rk.no_increment && nat_lt (core_word_of_bus_address rk.address)
+    words then words_asked rk
+    else words - core_word_of_bus_address rk.address)
 
 -- the first word of the sector that RKDA names
-abbrev pub first_disk_word : Rk → ℕ
-first_disk_word rk = sector_number rk.disk_address * words_of_sector
+abbrev pub first_word_of_sector : Rk → ℕ
+first_word_of_sector rk = sector_number rk.disk_address * words_of_sector
 
--- what is done: the least of the words asked for, those left on a drive of this size, and those before an address outside
--- core
+-- what is done: the least of the words asked for, those left on a drive of this size, and those
+-- before an address outside core
 unfoldable pub transfer_of : Rk → ℕ → ℕ → Transfer
 transfer_of rk words size = record {
   no_increment = rk.no_increment;
-  core_start = core_word_at rk.address;
-  disk_start = first_disk_word rk;
-  count = min (words_asked rk) (min (size - first_disk_word rk) (within_core rk words));
+  core_start = core_word_of_bus_address rk.address;
+  disk_start = first_word_of_sector rk;
+  count = min (words_asked rk) (min (size - first_word_of_sector rk) (within_core rk words));
 }
 
 -- why it stopped before its end, if it did
 abbrev pub stop_of : ℕ → ℕ → ℕ → Option Failure
-stop_of count asked left = if count == asked then None else if count == left then Some Overrun else Some NoMemory
+stop_of count asked left = if count == asked then None else if count == left then Some Overrun else
+    Some NoMemory
 
--- where the bus address is left: after the last word done, unless it is not to be incremented, or a read check
+-- where the bus address is left: after the last word done, unless it is not to be incremented, or a
+-- read check
 abbrev pub address_after : Rk → Transfer → ℕ
-address_after rk t = if rk.no_increment || is_read_check rk.function then t.core_start * 2 else (t.core_start + t.count) * 2
+address_after rk t = if rk.no_increment || is_read_check rk.function then t.core_start * 2 else
+    (t.core_start + t.count) * 2
 
 -- where the disk address is left: at the sector after the last one in which a word was done
 abbrev pub disk_address_after : ℕ → Transfer → ℕ
 disk_address_after address t =
-    if t.count == 0 then address else address_of_sector (drive_in address) ((t.disk_start + t.count - 1) / words_of_sector + 1)
+    if t.count == 0 then address else address_of_sector (drive_in address)
+    ((t.disk_start + t.count - 1) / words_of_sector + 1)
 
 -- the registers after a transfer with a drive of this size, and whether a write check differed
 unfoldable pub registers_after : ℕ → Transfer → Bool → Rk → Rk
 registers_after size t different rk = record rk {
-  word_count = (rk.word_count + t.count) % 0o200000;
+  word_count = (rk.word_count + t.count) % most_words_asked;
   address = address_after rk t;
   disk_address = disk_address_after rk.disk_address t;
   write_check = different;
@@ -112,74 +129,87 @@ registers_after size t different rk = record rk {
 
 -- the drive that RKDA names
 abbrev pub drive_of : DiskWorld → List ℕ
-drive_of w = slice_index_or w.drives (drive_in w.rk.disk_address) []
+drive_of w = words_of_drive w.drives (drive_in w.rk.disk_address)
 
 abbrev pub stamp_of_disk : ℕ → Stamp
 stamp_of_disk turn = record { turn = turn; agent = Disk }
 
--- core and drives after a transfer: a read leaves core's words stamped, a write the drive's, a check none
+-- core and drives after a transfer: a read leaves core's words stamped, a write the drive's, a
+-- check none
 abbrev pub lists_after : Function → Transfer → ℕ → DiskWorld → DiskWorld
 lists_after Read t turn w = record w {
-  core = core_read t (drive_of w) w.core;
+  core = core_after_read t (drive_of w) w.core;
   lasts = lasts_read t (stamp_of_disk turn) w.lasts;
 }
 lists_after Write t turn w =
-    record w { drives = slice_set w.drives (drive_in w.rk.disk_address) (disk_written t w.core (drive_of w)) }
+    record w {
+      drives = slice_set w.drives (drive_in w.rk.disk_address) (disk_written t w.core
+          (drive_of w));
+    }
 lists_after _ t turn w = w
 
 abbrev pub after_transfer : Transfer → ℕ → DiskWorld → DiskWorld
 after_transfer t turn w =
     with_rk (lists_after w.rk.function t turn w)
-    (registers_after (length (drive_of w)) t (is_write_check w.rk.function && is_different t w.core (drive_of w)) w.rk)
+    (registers_after (length (drive_of w)) t (is_write_check w.rk.function && is_different t w.core
+    (drive_of w)) w.rk)
 
-unfoldable pub transferred : ℕ → DiskWorld → DiskWorld
-transferred turn w = after_transfer (transfer_of w.rk (length w.core) (length (drive_of w))) turn w
+unfoldable pub rk_transferred : ℕ → DiskWorld → DiskWorld
+rk_transferred turn w = after_transfer (transfer_of w.rk (length w.core) (length
+    (drive_of w))) turn w
 
-abbrev pub searched : Rk → Rk
-searched rk = record rk { search_complete = true }
+abbrev pub rk_searched : Rk → Rk
+rk_searched rk = record rk { search_complete = true }
 
 -- write lock: for good
 abbrev pub write_locked : Rk → Rk
 write_locked rk = record rk { locked = slice_set rk.locked (drive_in rk.disk_address) true }
 
 -- what a function does that nothing forbids
-abbrev pub worked : Function → ℕ → DiskWorld → DiskWorld
-worked ControlReset turn w = w
-worked Seek turn w = with_rk w (searched w.rk)
-worked DriveReset turn w = with_rk w (searched w.rk)
-worked WriteLock turn w = with_rk w (write_locked w.rk)
-worked _ turn w = transferred turn w
+abbrev pub run_function : Function → ℕ → DiskWorld → DiskWorld
+run_function ControlReset turn w = w
+run_function Seek turn w = with_rk w (rk_searched w.rk)
+run_function DriveReset turn w = with_rk w (rk_searched w.rk)
+run_function WriteLock turn w = with_rk w (write_locked w.rk)
+run_function _ turn w = rk_transferred turn w
 
-abbrev pub failed : Failure → Rk → Rk
-failed failure rk = record rk { failure = Some failure }
+abbrev pub rk_failed : Failure → Rk → Rk
+rk_failed failure rk = record rk { failure = Some failure }
 
-abbrev pub performed : Option Failure → ℕ → DiskWorld → DiskWorld
-performed (Some failure) turn w = with_rk w (failed failure w.rk)
-performed None turn w = worked w.rk.function turn w
+abbrev pub run_unless_refused : Option Failure → ℕ → DiskWorld → DiskWorld
+run_unless_refused (Some failure) turn w = with_rk w (rk_failed failure w.rk)
+run_unless_refused None turn w = run_function w.rk.function turn w
 
 -- ready again
-abbrev pub finished : Rk → Rk
-finished rk = record rk { operation = Idle; channel = with_ready true rk.channel }
+abbrev pub rk_finished : Rk → Rk
+rk_finished rk = record rk { operation = Idle; ready_enable = with_ready true rk.ready_enable }
 
-abbrev pub finished_world : DiskWorld → DiskWorld
-finished_world w = with_rk w (finished w.rk)
+abbrev pub world_finished : DiskWorld → DiskWorld
+world_finished w = with_rk w (rk_finished w.rk)
 
 -- the completion of what is under way, in this turn; where nothing is under way it does nothing
-unfoldable pub completed : ℕ → DiskWorld → DiskWorld
-completed turn w =
-    if is_under_way w.rk.operation then finished_world (performed (refusal w.rk (length w.drives)) turn w) else w
+unfoldable pub rk_completed : ℕ → DiskWorld → DiskWorld
+rk_completed turn w =
+    if is_under_way w.rk.operation then world_finished (run_unless_refused (refusal w.rk
+    (length w.drives)) turn w) else w
 
--- the last stamps of each drive, where they have any, after a transfer with the drive of a number: only a write changes
--- them, and only that drive's
-abbrev pub stamps_after : Function → Transfer → ℕ → List (List (Option Stamp)) → List (List (Option Stamp))
-stamps_after Write t drive stamps = slice_set stamps drive (stamps_written t (slice_index_or stamps drive []))
+-- the last stamps of each drive, where they have any, after a transfer with the drive of a number:
+-- only a write changes them, and only that drive's
+abbrev pub stamps_after : Function → Transfer → ℕ → List (List (Option Stamp)) → List (List
+    (Option Stamp))
+stamps_after Write t drive stamps = slice_set stamps drive (stamps_written t
+    (slice_index_or stamps drive []))
 stamps_after _ t drive stamps = stamps
 
-abbrev pub stamps_performed : Option Failure → DiskWorld → List (List (Option Stamp)) → List (List (Option Stamp))
-stamps_performed (Some failure) w stamps = stamps
-stamps_performed None w stamps = stamps_after w.rk.function (transfer_of w.rk (length w.core) (length (drive_of w))) (drive_in w.rk.disk_address) stamps
+abbrev pub stamps_unless_refused : Option Failure → DiskWorld → List (List (Option Stamp)) → List
+    (List (Option Stamp))
+stamps_unless_refused (Some failure) w stamps = stamps
+stamps_unless_refused None w stamps = stamps_after w.rk.function (transfer_of w.rk (length w.core)
+    (length (drive_of w))) (drive_in w.rk.disk_address) stamps
 
 -- after the completion of what is under way
-unfoldable pub stamps_completed : DiskWorld → List (List (Option Stamp)) → List (List (Option Stamp))
+unfoldable pub stamps_completed : DiskWorld → List (List (Option Stamp)) → List (List
+    (Option Stamp))
 stamps_completed w stamps =
-    if is_under_way w.rk.operation then stamps_performed (refusal w.rk (length w.drives)) w stamps else stamps
+    if is_under_way w.rk.operation then stamps_unless_refused (refusal w.rk
+    (length w.drives)) w stamps else stamps

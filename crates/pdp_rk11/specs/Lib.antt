@@ -1,3 +1,4 @@
+pub mod Bits
 pub mod Geometry
 pub mod Laws
 pub mod Rk

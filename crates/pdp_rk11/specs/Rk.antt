@@ -1,17 +1,32 @@
--- The RK11's registers: PDP-11 Peripherals Handbook, RK11 (that functions are begun, and registers written, while ready
--- alone, and what control reset and RESET leave are this project's profile).
-use Rattle.std.specs.Prelude.{ℕ, ◌+◌, ◌*◌, ◌==◌, nat_lt, Bool, true, false, ◌||◌, Option, Some, None, List, [], ◌∷◌, slice_index_or, if◌then◌else◌}
-use Rattle.pdp_word.specs.Bits.{bit_of, field, has_bit}
-use Rattle.pdp_device.specs.Channel.{channel_served, channel_status, channel_with, enable_written, quiet_channel}
+-- The RK11's registers: PDP-11 Peripherals Handbook, RK11 (that functions are begun, and registers
+-- written, while ready alone, and what control reset and RESET leave are this project's profile).
+use Rattle.std.specs.Prelude.{ℕ, ◌+◌, ◌*◌, ◌==◌, nat_lt, Bool, true, false, ◌||◌, Option, Some}
+use Rattle.std.specs.Prelude.{None, List, [], ◌∷◌, slice_index_or, if◌then◌else◌}
+use Rattle.pdp_word.specs.Bits.{bit_of, field}
+use Rattle.pdp_word.specs.Mask.{is_set}
+use Rattle.pdp_device.specs.ReadyEnable.{ready_enable_served, ready_enable_status}
+use Rattle.pdp_device.specs.ReadyEnable.{ready_enable_with, enable_written, init_ready_enable}
 use Rattle.pdp_device.specs.Operation.{begun_operation}
 use Rattle.pdp_device.specs.declared.operation.Operation.TheVariants.{Idle}
-use Rattle.pdp_rk11.specs.Geometry.{drive_in}
+use Rattle.pdp_rk11.specs.Bits.{rkcs_address, rkcs_enable, rkcs_error, rkcs_function, rkcs_go}
+use Rattle.pdp_rk11.specs.Bits.{rkcs_hard_error, rkcs_no_increment, rkcs_search_complete}
+use Rattle.pdp_rk11.specs.Bits.{rkds_heads_ready, rkds_ready, rkds_rk05, rkds_sector_counter}
+use Rattle.pdp_rk11.specs.Bits.{rkds_write_locked}
+use Rattle.pdp_rk11.specs.Bits.{rker_no_cylinder, rker_no_drive, rker_no_memory, rker_no_sector}
+use Rattle.pdp_rk11.specs.Bits.{rker_overrun}
+use Rattle.pdp_rk11.specs.Bits.{rker_write_locked}
+use Rattle.pdp_rk11.specs.Geometry.{address_bit_16, drive_in}
 use Rattle.pdp_rk11.specs.declared.function.Function.{Function}
-use Rattle.pdp_rk11.specs.declared.function.Function.TheVariants.{ControlReset, Write, Read, WriteCheck, Seek, ReadCheck, DriveReset, WriteLock}
+use Rattle.pdp_rk11.specs.declared.function.Function.TheVariants.{ControlReset, Write, Read}
+use Rattle.pdp_rk11.specs.declared.function.Function.TheVariants.{WriteCheck, Seek, ReadCheck}
+use Rattle.pdp_rk11.specs.declared.function.Function.TheVariants.{DriveReset, WriteLock}
 use Rattle.pdp_rk11.specs.declared.failure.Failure.{Failure}
-use Rattle.pdp_rk11.specs.declared.failure.Failure.TheVariants.{NoDrive, NoCylinder, NoSector, NoMemory, WriteLocked, Overrun}
+use Rattle.pdp_rk11.specs.declared.failure.Failure.TheVariants.{NoDrive, NoCylinder, NoSector}
+use Rattle.pdp_rk11.specs.declared.failure.Failure.TheVariants.{NoMemory, WriteLocked, Overrun}
 use Rattle.pdp_rk11.specs.declared.register.RkRegister.{RkRegister}
-use Rattle.pdp_rk11.specs.declared.register.RkRegister.TheVariants.{DriveStatus, Error, Control, WordCount, BusAddress, DiskAddress}
+use Rattle.pdp_rk11.specs.declared.register.RkRegister.TheVariants.{DriveStatus, Error, Control}
+use Rattle.pdp_rk11.specs.declared.register.RkRegister.TheVariants.{WordCount, BusAddress}
+use Rattle.pdp_rk11.specs.declared.register.RkRegister.TheVariants.{DiskAddress}
 use Rattle.pdp_rk11.specs.declared.rk.Rk.{Rk}
 
 -- the registers by the bytes from the first one
@@ -45,15 +60,14 @@ code_of ReadCheck = 5
 code_of DriveReset = 6
 code_of WriteLock = 7
 
--- the bit of RKER by which a failure is told: 5 no sector, 6 no cylinder, 7 no drive, 10 no memory, 13 write locked,
--- 14 overrun
+-- the bit of RKER by which a failure is told
 abbrev pub failure_bit : Failure → ℕ
-failure_bit NoSector = 0o40
-failure_bit NoCylinder = 0o100
-failure_bit NoDrive = 0o200
-failure_bit NoMemory = 0o2000
-failure_bit WriteLocked = 0o20000
-failure_bit Overrun = 0o40000
+failure_bit NoSector = rker_no_sector
+failure_bit NoCylinder = rker_no_cylinder
+failure_bit NoDrive = rker_no_drive
+failure_bit NoMemory = rker_no_memory
+failure_bit WriteLocked = rker_write_locked
+failure_bit Overrun = rker_overrun
 
 abbrev pub has_failed : Option Failure → Bool
 has_failed None = false
@@ -63,31 +77,15 @@ abbrev pub failure_bits : Option Failure → ℕ
 failure_bits None = 0
 failure_bits (Some failure) = failure_bit failure
 
--- as RESET leaves it: ready, not enabled, nothing under way, no function, no error, and word count, bus address and disk
--- address 0; the write locks stay
-abbrev pub rk_reset : Rk → Rk
-rk_reset rk = record {
-  channel = quiet_channel true;
-  function = ControlReset;
-  no_increment = false;
-  search_complete = false;
-  write_check = false;
-  failure = None;
-  word_count = 0;
-  address = 0;
-  disk_address = 0;
-  locked = rk.locked;
-  operation = Idle;
-}
-
 -- no drive is locked
 abbrev pub no_locks : List Bool
 no_locks = false ∷ false ∷ false ∷ false ∷ false ∷ false ∷ false ∷ false ∷ []
 
--- at power-up: as RESET leaves it, with no drive locked
-abbrev pub quiet_rk : Rk
-quiet_rk = record {
-  channel = quiet_channel true;
+-- at power-up: ready, not enabled, nothing under way, no function, no error, and word count, bus
+-- address and disk address 0, with no drive locked
+abbrev pub init_rk : Rk
+init_rk = record {
+  ready_enable = init_ready_enable true;
   function = ControlReset;
   no_increment = false;
   search_complete = false;
@@ -100,26 +98,37 @@ quiet_rk = record {
   operation = Idle;
 }
 
+-- as RESET leaves it: as at power-up, but for the write locks, which stay
+abbrev pub rk_reset : Rk → Rk
+rk_reset rk = record init_rk { locked = rk.locked }
+
 -- whether the drive that a disk address names is locked
 abbrev pub is_locked : Rk → Bool
 is_locked rk = slice_index_or rk.locked (drive_in rk.disk_address) false
 
--- RKDS of a controller with so many drives: 0 where the drive that RKDA names isn't there; else 4700, and bit 5 where it is
--- locked
+-- RKDS of a drive that is there and not locked: 4700
+abbrev pub drive_there : ℕ
+drive_there = rkds_rk05 + rkds_sector_counter + rkds_ready + rkds_heads_ready
+
+-- RKDS of a controller with so many drives: 0 where the drive that RKDA names isn't there
 abbrev pub drive_status : ℕ → Rk → ℕ
-drive_status drives rk = if nat_lt (drive_in rk.disk_address) drives then 0o4700 + bit_of (is_locked rk) * 0o40 else 0
+drive_status drives rk =
+    if nat_lt (drive_in rk.disk_address) drives then drive_there + bit_of
+    (is_locked rk) * rkds_write_locked else 0
 
 -- RKER: bit 0 is the write check's
 abbrev pub error_word : Rk → ℕ
 error_word rk = failure_bits rk.failure + bit_of rk.write_check
 
--- RKCS: 15 error, 14 hard error, 13 search complete, 11 no increment, 7 ready, 6 enable, 5-4 bits 17-16 of the bus
--- address, 3-1 function; go, bit 0, reads 0
+-- RKCS: 15 error, 14 hard error, 13 search complete, 11 no increment, 7 ready, 6 enable, 5-4 bits
+-- 17-16 of the bus address, 3-1 function; go, bit 0, reads 0
 abbrev pub control_word : Rk → ℕ
 control_word rk =
-    bit_of (has_failed rk.failure || rk.write_check) * 0o100000 + bit_of (has_failed rk.failure) * 0o40000
-    + bit_of rk.search_complete * 0o20000 + bit_of rk.no_increment * 0o4000 + channel_status rk.channel
-    + field 16 2 rk.address * 0o20 + code_of rk.function * 2
+    bit_of (has_failed rk.failure || rk.write_check) * rkcs_error + bit_of
+    (has_failed rk.failure) * rkcs_hard_error
+    + bit_of rk.search_complete * rkcs_search_complete + bit_of rk.no_increment * rkcs_no_increment
+    + ready_enable_status rk.ready_enable + field 16 2 rk.address * rkcs_address + code_of
+    rk.function * rkcs_function
 
 -- what a read gives, with so many drives; no read has an effect
 abbrev pub rk_value : RkRegister → ℕ → Rk → ℕ
@@ -130,18 +139,19 @@ rk_value WordCount drives rk = rk.word_count
 rk_value BusAddress drives rk = field 0 16 rk.address
 rk_value DiskAddress drives rk = rk.disk_address
 
--- bits 11 and 5-1 of a word written to RKCS: the function, bits 17-16 of the bus address, and no increment
+-- bits 11 and 5-1 of a word written to RKCS: the function, bits 17-16 of the bus address, and no
+-- increment
 abbrev pub with_command : ℕ → Rk → Rk
 with_command word rk = record rk {
   function = function_of (field 1 3 word);
-  address = field 4 2 word * 0o200000 + field 0 16 rk.address;
-  no_increment = has_bit 11 word;
+  address = field 4 2 word * address_bit_16 + field 0 16 rk.address;
+  no_increment = is_set rkcs_no_increment word;
 }
 
 -- a function begins, but for control reset: ready, the errors and search complete are cleared
 abbrev pub begun_function : ℕ → ℕ → ℕ → Rk → Rk
 begun_function word turn delay rk = record (with_command word rk) {
-  channel = channel_with false (has_bit 6 word) rk.channel;
+  ready_enable = ready_enable_with false (is_set rkcs_enable word) rk.ready_enable;
   search_complete = false;
   write_check = false;
   failure = None;
@@ -154,19 +164,22 @@ gone_with ControlReset word turn delay rk = rk_reset rk
 gone_with _ word turn delay rk = begun_function word turn delay rk
 
 -- a word written to RKCS while ready, without go or with it
-abbrev pub commanded : ℕ → ℕ → ℕ → Rk → Rk
-commanded word turn delay rk =
-    if has_bit 0 word then gone_with (function_of (field 1 3 word)) word turn delay rk
-    else record (with_command word rk) { channel = enable_written word rk.channel }
+abbrev pub rk_commanded : ℕ → ℕ → ℕ → Rk → Rk
+rk_commanded word turn delay rk =
+    if is_set rkcs_go word then gone_with (function_of (field 1 3 word)) word turn delay rk
+    else record (with_command word rk) { ready_enable = enable_written word rk.ready_enable }
 
 -- a word written to RKCS; while not ready it sets or clears enable alone
 abbrev pub control_written : ℕ → ℕ → ℕ → Rk → Rk
 control_written word turn delay rk =
-    if rk.channel.ready then commanded word turn delay rk else record rk { channel = enable_written word rk.channel }
+    if rk.ready_enable.ready then rk_commanded word turn delay rk else record rk {
+      ready_enable =
+          enable_written word rk.ready_enable;
+    }
 
 -- what is written while ready alone
 abbrev pub while_ready : Rk → Rk → Rk
-while_ready written rk = if rk.channel.ready then written else rk
+while_ready written rk = if rk.ready_enable.ready then written else rk
 
 -- what a write of a word does in a turn, with the delay of the disk; RKDS and RKER can't be written
 unfoldable pub rk_written : RkRegister → ℕ → ℕ → ℕ → Rk → Rk
@@ -175,9 +188,9 @@ rk_written Error word turn delay rk = rk
 rk_written Control word turn delay rk = control_written word turn delay rk
 rk_written WordCount word turn delay rk = while_ready (record rk { word_count = word }) rk
 rk_written BusAddress word turn delay rk =
-    while_ready (record rk { address = field 16 2 rk.address * 0o200000 + word }) rk
+    while_ready (record rk { address = field 16 2 rk.address * address_bit_16 + word }) rk
 rk_written DiskAddress word turn delay rk = while_ready (record rk { disk_address = word }) rk
 
 -- the request is served: it goes, and nothing else changes
 abbrev pub rk_served : Rk → Rk
-rk_served rk = record rk { channel = channel_served rk.channel }
+rk_served rk = record rk { ready_enable = ready_enable_served rk.ready_enable }

@@ -4,7 +4,8 @@ use Rattle.std.specs.Prelude.{ℕ, zero, suc, ◌+◌, ◌/◌, List, min, if◌
 use Rattle.pdp_store.specs.Firsts.{touch_page}
 use Rattle.pdp_rk11.specs.Transfer.{core_word, disk_word, rest_of_sector}
 use Rattle.pdp_rk11.specs.declared.function.Function.{Function}
-use Rattle.pdp_rk11.specs.declared.function.Function.TheVariants.{Write, Read, WriteCheck, ReadCheck}
+use Rattle.pdp_rk11.specs.declared.function.Function.TheVariants.{Write, Read, WriteCheck}
+use Rattle.pdp_rk11.specs.declared.function.Function.TheVariants.{ReadCheck}
 use Rattle.pdp_rk11.specs.declared.transfer.Transfer.{Transfer}
 
 -- the first touches of core after move i in a turn: a read check touches no word of core
@@ -23,9 +24,9 @@ disk_touched ReadCheck t turn i firsts = touch_page firsts (disk_word t i / 256)
 disk_touched _ t turn i firsts = firsts
 
 -- the first touches after the steps 0, 1 and so on below a number
-unfoldable pub stepped : (ℕ → List ℕ → List ℕ) → ℕ → List ℕ → List ℕ
-stepped step zero firsts = firsts
-stepped step (suc n) firsts = step n (stepped step n firsts)
+unfoldable pub after_steps : (ℕ → List ℕ → List ℕ) → ℕ → List ℕ → List ℕ
+after_steps step zero firsts = firsts
+after_steps step (suc n) firsts = step n (after_steps step n firsts)
 
 -- the first touches of a list after an access to word i of those from a start on
 abbrev pub run_touched : ℕ → ℕ → ℕ → List ℕ → List ℕ
@@ -40,14 +41,14 @@ abbrev pub fill_touched : Transfer → ℕ → ℕ → List ℕ → List ℕ
 fill_touched t turn i firsts = touch_page firsts ((disk_word t t.count + i) / 256) turn
 
 -- only a write fills its last sector
-abbrev pub filled : Function → Transfer → ℕ → List ℕ → List ℕ
-filled Write t turn firsts = stepped (fill_touched t turn) (rest_of_sector t) firsts
-filled _ t turn firsts = firsts
+abbrev pub fill_firsts : Function → Transfer → ℕ → List ℕ → List ℕ
+fill_firsts Write t turn firsts = after_steps (fill_touched t turn) (rest_of_sector t) firsts
+fill_firsts _ t turn firsts = firsts
 
 -- the first touches of core, and of the drive, after all moves and the zeros
 abbrev pub core_after : Function → Transfer → ℕ → List ℕ → List ℕ
-core_after function t turn firsts = stepped (core_touched function t turn) t.count firsts
+core_after function t turn firsts = after_steps (core_touched function t turn) t.count firsts
 
 abbrev pub disk_after : Function → Transfer → ℕ → List ℕ → List ℕ
 disk_after function t turn firsts =
-    filled function t turn (stepped (disk_touched function t turn) t.count firsts)
+    fill_firsts function t turn (after_steps (disk_touched function t turn) t.count firsts)

@@ -1,51 +1,63 @@
 //! The completion of what is under way, as one act.
 
-ghost use Rattle.std.specs.Prelude.{◌≡◌, ℕ, ◌+◌, ◌*◌, ◌<◌, ◌≤◌, ◌-◌, ◌%◌, None, true, false, ◌&&◌, length, map};
-ghost use Rattle.pdp_rk11.specs.Completion.{address_after, completed, disk_address_after, disk_world, drive_of};
-ghost use Rattle.pdp_rk11.specs.Completion.{finished, is_read_check, is_write_check, lists_after, names_sector};
-ghost use Rattle.pdp_rk11.specs.Completion.{performed, refusal, registers_after, stop_of, transfer_of, transferred};
-ghost use Rattle.pdp_rk11.specs.Completion.{core_word_at, within_core, worked, words_asked, write_locked};
-ghost use Rattle.pdp_rk11.specs.Completion.{stamps_after, stamps_completed, stamps_performed};
-ghost use Rattle.pdp_rk11.specs.Geometry.{drive_in, sector_number};
-ghost use Rattle.pdp_rk11.specs.Trace.{completion_touches, performed_touches, transfer_touches};
+ghost use Rattle.std.specs.Prelude.{◌≡◌, ℕ, ◌+◌, ◌*◌, ◌<◌, ◌≤◌, ◌-◌, ◌%◌, None, true, false, ◌&&◌};
+ghost use Rattle.std.specs.Prelude.{length, map};
+ghost use Rattle.pdp_rk11.specs.Completion.{address_after, rk_completed, disk_address_after};
+ghost use Rattle.pdp_rk11.specs.Completion.{disk_world, drive_of};
+ghost use Rattle.pdp_rk11.specs.Completion.{rk_finished, is_read_check, is_write_check};
+ghost use Rattle.pdp_rk11.specs.Completion.{lists_after, names_sector};
+ghost use Rattle.pdp_rk11.specs.Completion.{run_unless_refused, refusal, registers_after, stop_of};
+ghost use Rattle.pdp_rk11.specs.Completion.{transfer_of, rk_transferred};
+ghost use Rattle.pdp_rk11.specs.Completion.{core_word_of_bus_address, within_core, run_function};
+ghost use Rattle.pdp_rk11.specs.Completion.{words_asked, write_locked};
+ghost use Rattle.pdp_rk11.specs.Completion.{stamps_after, stamps_completed, stamps_unless_refused};
+ghost use Rattle.pdp_rk11.specs.Geometry.{bus_words, drive_in, most_words_asked, sector_number};
+ghost use Rattle.pdp_rk11.specs.Geometry.{sectors_of_drive, words_of_sector};
+ghost use Rattle.pdp_rk11.specs.Trace.{completion_touches, touches_unless_refused};
+ghost use Rattle.pdp_rk11.specs.Trace.{transfer_touches};
 ghost use Rattle.pdp_store.specs.Firsts.{firsts_after, firsts_of};
+ghost use Rattle.pdp_store.specs.Unchanged.{SameWritten};
 ghost use Rattle.pdp_rk11.specs.Transfer.{core_word, disk_word, is_different};
 
 use crate::geometry::{
-    WORDS_OF_SECTOR, address_of_sector, has_cylinder, has_sector, sector_number,
+    BUS_ADDRESSES, MOST_WORDS, WORDS_OF_SECTOR, address_of_sector, drive_in, has_cylinder,
+    has_sector, sector_number,
 };
 use crate::transfer::Transfer;
 use crate::{Failure, Function, Rk};
 use pdp_device::Operation;
 use pdp_store::{Agent, Stamp, Store};
-use pdp_word::field;
 
 impl Rk {
-    /// The function that is under way is done in this turn, as one act over core and the drives, numbered from 0 on:
-    /// words move or are compared, the registers tell how it ended, and the controller is ready again. Where none is
-    /// under way, nothing happens.
+    /// The function that is under way is done in this turn, as one act over core and the drives,
+    /// numbered from 0 on: words move or are compared, the registers tell how it ended, and the
+    /// controller is ready again. Where none is under way, nothing happens.
     ///
-    /// RKER tells the first of these that holds, and then nothing is moved: no drive where the drive isn't there; no
-    /// cylinder, then no sector, where write, read, write check, seek or read check names one that no drive has; write
-    /// locked where a locked drive would be written. It tells of a transfer that stops before its count is up: overrun
-    /// past the last sector of the drive, else no memory at an address outside core, which no read check asks for. A
-    /// write check sets bit 0 where any word differs.
+    /// RKER tells the first of these that holds, and then nothing is moved: no drive where the
+    /// drive isn't there; no cylinder, then no sector, where write, read, write check, seek or read
+    /// check names one that no drive has; write locked where a locked drive would be written. It
+    /// tells of a transfer that stops before its count is up: overrun past the last sector of the
+    /// drive, else no memory at an address outside core, which no read check asks for. A write
+    /// check sets bit 0 where any word differs.
     ///
-    /// Words read into core take the stamp of this turn and of the disk. A write fills the rest of its last sector with
-    /// zeros. No word of a drive takes a stamp; where drives have any, a write takes those of the words that it writes
-    /// away.
+    /// Words read into core take the stamp of this turn and of the disk. A write fills the rest of
+    /// its last sector with zeros. No word of a drive takes a stamp; where drives have any, a write
+    /// takes those of the words that it writes away.
     ///
     /// The words that are moved, compared or checked are touched in this turn, in core and on the
     /// drive, and so are the words of the zero fill. A read check touches no word of core.
     ///
-    /// PDP-11 Peripherals Handbook, RK11; that it is one act, the order of the tests, the fill, and where the registers
-    /// are left, are this project's profile.
-    #[tactic(auto, unfolding(crate::specs::Completion::completed, crate::specs::Completion::stamps_completed), using(crate::proofs::Names::map_length))]
+    /// PDP-11 Peripherals Handbook, RK11; that it is one act, the order of the tests, the fill, and
+    /// where the registers are left, are this project's profile.
+    #[tactic(auto, unfolding(crate::specs::Completion::rk_completed, crate::specs::Completion::stamps_completed), using(crate::proofs::Names::map_length))]
     pub fn complete<S: Store, D: Store>(&mut self, core: &mut S, drives: &mut [D], turn: u32)
-        ensures world { disk_world self.new (S.words core.new) (S.lasts core.new) (map D.words drives.new)
-            ≡ completed turn (disk_world self.old (S.words core.old) (S.lasts core.old) (map D.words drives.old)) }
+        ensures world { disk_world self.new (S.words core.new) (S.lasts core.new)
+            (map D.words drives.new)
+            ≡ rk_completed turn (disk_world self.old (S.words core.old) (S.lasts core.old)
+            (map D.words drives.old)) }
         ensures stamps { map D.lasts drives.new
-            ≡ stamps_completed (disk_world self.old (S.words core.old) (S.lasts core.old) (map D.words drives.old))
+            ≡ stamps_completed (disk_world self.old (S.words core.old) (S.lasts core.old)
+            (map D.words drives.old))
             (map D.lasts drives.old) }
         ensures firsts { firsts_of (S.firsts core.new) (map D.firsts drives.new)
             ≡ firsts_after (completion_touches turn
@@ -53,36 +65,37 @@ impl Rk {
             (firsts_of (S.firsts core.old) (map D.firsts drives.old)) }
     {
         if self.operation.is_under_way() {
-            self.perform(core, drives, turn);
-            self.finish();
+            self.run_unless_refused(core, drives, turn);
+            self.finish_function();
         }
     }
 
     // Ready again.
-    fn finish(&mut self)
-        ensures { self.new ≡ finished self.old }
+    fn finish_function(&mut self)
+        ensures { self.new ≡ rk_finished self.old }
     {
-        self.channel.set_ready(true);
+        self.ready_enable.set_ready(true);
         self.operation = Operation::Idle;
     }
 
     // What is under way, or why it can't be done.
-    fn perform<S: Store, D: Store>(&mut self, core: &mut S, drives: &mut [D], turn: u32)
-        ensures world { disk_world self.new (S.words core.new) (S.lasts core.new) (map D.words drives.new)
-            ≡ performed (refusal self.old (length drives.old)) turn
+    fn run_unless_refused<S: Store, D: Store>(&mut self, core: &mut S, drives: &mut [D], turn: u32)
+        ensures world { disk_world self.new (S.words core.new) (S.lasts core.new)
+            (map D.words drives.new)
+            ≡ run_unless_refused (refusal self.old (length drives.old)) turn
             (disk_world self.old (S.words core.old) (S.lasts core.old) (map D.words drives.old)) }
         ensures stamps { map D.lasts drives.new
-            ≡ stamps_performed (refusal self.old (length drives.old))
+            ≡ stamps_unless_refused (refusal self.old (length drives.old))
             (disk_world self.old (S.words core.old) (S.lasts core.old) (map D.words drives.old))
             (map D.lasts drives.old) }
         ensures firsts { firsts_of (S.firsts core.new) (map D.firsts drives.new)
-            ≡ firsts_after (performed_touches (refusal self.old (length drives.old)) turn
+            ≡ firsts_after (touches_unless_refused (refusal self.old (length drives.old)) turn
             (disk_world self.old (S.words core.old) (S.lasts core.old) (map D.words drives.old)))
             (firsts_of (S.firsts core.old) (map D.firsts drives.old)) }
     {
         match self.refusal(drives.len()) {
             Some(failure) => self.failure = Some(failure),
-            None => self.work(core, drives, turn),
+            None => self.run_function(core, drives, turn),
         }
     }
 
@@ -91,7 +104,8 @@ impl Rk {
     fn refusal(&self, drives: usize) -> Option<Failure>
         ensures value { result ≡ refusal self.now drives }
         ensures drive { result ≡ None → drive_in self.now.disk_address < drives }
-        ensures sector { result ≡ None → names_sector self.now.function ≡ true → sector_number self.now.disk_address < 4872 }
+        ensures sector { result ≡ None → names_sector self.now.function ≡ true
+            → sector_number self.now.disk_address < sectors_of_drive }
     {
         if self.drive() >= drives {
             Some(Failure::NoDrive)
@@ -107,18 +121,20 @@ impl Rk {
     }
 
     // What the function does, where nothing forbids it.
-    fn work<S: Store, D: Store>(&mut self, core: &mut S, drives: &mut [D], turn: u32)
+    fn run_function<S: Store, D: Store>(&mut self, core: &mut S, drives: &mut [D], turn: u32)
         requires drive { drive_in self.old.disk_address < length drives.old }
-        requires sector { names_sector self.old.function ≡ true → sector_number self.old.disk_address < 4872 }
-        ensures world { disk_world self.new (S.words core.new) (S.lasts core.new) (map D.words drives.new)
-            ≡ worked self.old.function turn
+        requires sector { names_sector self.old.function ≡ true → sector_number
+            self.old.disk_address < sectors_of_drive }
+        ensures world { disk_world self.new (S.words core.new) (S.lasts core.new)
+            (map D.words drives.new)
+            ≡ run_function self.old.function turn
             (disk_world self.old (S.words core.old) (S.lasts core.old) (map D.words drives.old)) }
         ensures stamps { map D.lasts drives.new
-            ≡ stamps_performed None
+            ≡ stamps_unless_refused None
             (disk_world self.old (S.words core.old) (S.lasts core.old) (map D.words drives.old))
             (map D.lasts drives.old) }
         ensures firsts { firsts_of (S.firsts core.new) (map D.firsts drives.new)
-            ≡ firsts_after (performed_touches None turn
+            ≡ firsts_after (touches_unless_refused None turn
             (disk_world self.old (S.words core.old) (S.lasts core.old) (map D.words drives.old)))
             (firsts_of (S.firsts core.old) (map D.firsts drives.old)) }
     {
@@ -142,18 +158,20 @@ impl Rk {
     }
 
     // Words are moved or compared.
-    #[tactic(auto, unfolding(crate::specs::Completion::transferred), using(crate::proofs::Names::map_get))]
+    #[tactic(auto, unfolding(crate::specs::Completion::rk_transferred), using(crate::proofs::Names::map_get))]
     fn transfer<S: Store, D: Store>(&mut self, core: &mut S, drives: &mut [D], turn: u32)
         requires drive { drive_in self.old.disk_address < length drives.old }
-        requires sector { sector_number self.old.disk_address < 4872 }
-        ensures world { disk_world self.new (S.words core.new) (S.lasts core.new) (map D.words drives.new)
-            ≡ transferred turn (disk_world self.old (S.words core.old) (S.lasts core.old) (map D.words drives.old)) }
+        requires sector { sector_number self.old.disk_address < sectors_of_drive }
+        ensures world { disk_world self.new (S.words core.new) (S.lasts core.new)
+            (map D.words drives.new)
+            ≡ rk_transferred turn (disk_world self.old (S.words core.old) (S.lasts core.old)
+            (map D.words drives.old)) }
         ensures stamps { map D.lasts drives.new
-            ≡ stamps_performed None
+            ≡ stamps_unless_refused None
             (disk_world self.old (S.words core.old) (S.lasts core.old) (map D.words drives.old))
             (map D.lasts drives.old) }
         ensures firsts { firsts_of (S.firsts core.new) (map D.firsts drives.new)
-            ≡ firsts_after (performed_touches None turn
+            ≡ firsts_after (touches_unless_refused None turn
             (disk_world self.old (S.words core.old) (S.lasts core.old) (map D.words drives.old)))
             (firsts_of (S.firsts core.old) (map D.firsts drives.old)) }
     {
@@ -167,14 +185,15 @@ impl Rk {
     // The words of a transfer, with so many words of core and with a drive of this size (words).
     #[tactic(auto, unfolding(crate::specs::Completion::transfer_of))]
     fn transfer_of(&self, words: usize, size: usize) -> Transfer
-        requires { sector_number self.now.disk_address < 4872 }
+        requires { sector_number self.now.disk_address < sectors_of_drive }
         ensures value { result ≡ transfer_of self.now words size }
         ensures on_disk { (i : ℕ) → i < result.count → disk_word result i < size }
-        ensures in_core { is_read_check self.now.function ≡ false → (i : ℕ) → i < result.count → core_word result i < words }
-        ensures count { result.count ≤ 65536 }
-        ensures core_start { result.core_start < 131072 }
-        ensures aligned { result.disk_start % 256 ≡ 0 }
-        ensures disk_start { result.disk_start < 4872 * 256 }
+        ensures in_core { is_read_check self.now.function ≡ false → (i : ℕ) → i < result.count
+            → core_word result i < words }
+        ensures count { result.count ≤ most_words_asked }
+        ensures core_start { result.core_start < bus_words }
+        ensures aligned { result.disk_start % words_of_sector ≡ 0 }
+        ensures disk_start { result.disk_start < sectors_of_drive * words_of_sector }
     {
         let disk_start = sector_number(self.disk_address) * WORDS_OF_SECTOR;
         let left = size.saturating_sub(disk_start as usize);
@@ -190,16 +209,16 @@ impl Rk {
 
     // The number of the word of core at the bus address.
     fn core_word(&self) -> u32
-        ensures { result ≡ core_word_at self.now.address }
+        ensures { result ≡ core_word_of_bus_address self.now.address }
     {
-        self.address % 0o1000000 / 2
+        self.address % BUS_ADDRESSES / 2
     }
 
     // How many words were asked for.
     fn words_asked(&self) -> u32
         ensures { result ≡ words_asked self.now }
     {
-        0o200000 - u32::from(self.word_count)
+        MOST_WORDS - u32::from(self.word_count)
     }
 
     // How many of the words asked for come before an address outside a core of so many words.
@@ -229,9 +248,9 @@ impl Rk {
             (disk_world self.now (S.words core.old) (S.lasts core.old) (map D.words drives.old))) }
         requires in_core { is_read_check self.now.function ≡ false → (i : ℕ) → i < transfer.count
             → core_word transfer i < length (S.words core.old) }
-        requires aligned { transfer.disk_start % 256 ≡ 0 }
-        ensures words { S.words core.new ≡ S.words core.old }
-        ensures lasts { S.lasts core.new ≡ S.lasts core.old }
+        requires aligned { transfer.disk_start % words_of_sector ≡ 0 }
+        ensures core { SameWritten (S.words core.new) (S.words core.old)
+            (S.lasts core.new) (S.lasts core.old) }
         ensures disks { map D.words drives.new ≡ map D.words drives.old }
         ensures stamps { map D.lasts drives.new ≡ map D.lasts drives.old }
         ensures firsts { firsts_of (S.firsts core.new) (map D.firsts drives.new)
@@ -254,13 +273,17 @@ impl Rk {
     ) -> bool
         requires drive { drive_in self.now.disk_address < length drives.old }
         requires on_disk { (i : ℕ) → i < transfer.count
-            → disk_word transfer i < length (drive_of (disk_world self.now (S.words core.old) (S.lasts core.old) (map D.words drives.old))) }
-        requires in_core { is_read_check self.now.function ≡ false → (i : ℕ) → i < transfer.count → core_word transfer i < length (S.words core.old) }
-        ensures words { disk_world self.now (S.words core.new) (S.lasts core.new) (map D.words drives.new)
+            → disk_word transfer i < length (drive_of (disk_world self.now (S.words core.old)
+            (S.lasts core.old) (map D.words drives.old))) }
+        requires in_core { is_read_check self.now.function ≡ false → (i : ℕ) → i < transfer.count
+            → core_word transfer i < length (S.words core.old) }
+        ensures words { disk_world self.now (S.words core.new) (S.lasts core.new)
+            (map D.words drives.new)
             ≡ lists_after self.now.function transfer turn
             (disk_world self.now (S.words core.old) (S.lasts core.old) (map D.words drives.old)) }
         ensures stamps { map D.lasts drives.new
-            ≡ stamps_after self.now.function transfer (drive_in self.now.disk_address) (map D.lasts drives.old) }
+            ≡ stamps_after self.now.function transfer (drive_in self.now.disk_address)
+            (map D.lasts drives.old) }
         ensures firsts { firsts_of (S.firsts core.new) (map D.firsts drives.new)
             ≡ firsts_of (S.firsts core.old) (map D.firsts drives.old) }
         ensures different { result
@@ -284,16 +307,17 @@ impl Rk {
         }
     }
 
-    // The registers tell how the transfer with a drive of this size (words) ended, and whether a write check differed.
+    // The registers tell how the transfer with a drive of this size (words) ended, and whether a
+    // write check differed.
     #[tactic(auto, unfolding(crate::specs::Completion::registers_after))]
     fn end_transfer(&mut self, size: usize, transfer: Transfer, different: bool)
-        requires count { transfer.count ≤ 65536 }
-        requires core_start { transfer.core_start < 131072 }
-        requires disk_start { transfer.disk_start < 4872 * 256 }
+        requires count { transfer.count ≤ most_words_asked }
+        requires core_start { transfer.core_start < bus_words }
+        requires disk_start { transfer.disk_start < sectors_of_drive * words_of_sector }
         ensures { self.new ≡ registers_after size transfer different self.old }
     {
         *self = Rk {
-            word_count: ((u32::from(self.word_count) + transfer.count) % 0o200000) as u16,
+            word_count: ((u32::from(self.word_count) + transfer.count) % MOST_WORDS) as u16,
             address: self.address_after(transfer),
             disk_address: self.disk_address_after(transfer),
             write_check: different,
@@ -304,8 +328,8 @@ impl Rk {
 
     // Where the bus address is left.
     fn address_after(&self, transfer: Transfer) -> u32
-        requires count { transfer.count ≤ 65536 }
-        requires core_start { transfer.core_start < 131072 }
+        requires count { transfer.count ≤ most_words_asked }
+        requires core_start { transfer.core_start < bus_words }
         ensures { result ≡ address_after self.now transfer }
     {
         if self.no_increment || self.function == Function::ReadCheck {
@@ -317,21 +341,22 @@ impl Rk {
 
     // Where the disk address is left: past the last sector in which a word was done.
     fn disk_address_after(&self, transfer: Transfer) -> u16
-        requires count { transfer.count ≤ 65536 }
-        requires disk_start { transfer.disk_start < 4872 * 256 }
+        requires count { transfer.count ≤ most_words_asked }
+        requires disk_start { transfer.disk_start < sectors_of_drive * words_of_sector }
         ensures { result ≡ disk_address_after self.now.disk_address transfer }
     {
         if transfer.count == 0 {
             self.disk_address
         } else {
             let last = (transfer.disk_start + transfer.count - 1) / WORDS_OF_SECTOR;
-            address_of_sector(field(13, 3, self.disk_address), last + 1)
+            address_of_sector(drive_in(self.disk_address), last + 1)
         }
     }
 
     // Why the transfer stopped before its end, if it did.
     fn stop_of(&self, transfer: Transfer, size: usize) -> Option<Failure>
-        ensures { result ≡ stop_of transfer.count (words_asked self.now) (size - transfer.disk_start) }
+        ensures { result ≡ stop_of transfer.count (words_asked self.now)
+            (size - transfer.disk_start) }
     {
         if transfer.count == self.words_asked() {
             None

@@ -1,5 +1,10 @@
 ghost use Rattle.std.specs.Prelude.{◌≡◌, ◌<◌};
 
+use crate::bits::{
+    RKER_NO_CYLINDER, RKER_NO_DRIVE, RKER_NO_MEMORY, RKER_NO_SECTOR, RKER_OVERRUN,
+    RKER_WRITE_LOCKED,
+};
+
 /// Why a function of the RK11 failed, or why its transfer stopped; RKER tells it.
 ///
 /// PDP-11 Peripherals Handbook, RK11.
@@ -28,12 +33,12 @@ impl Failure {
         ensures fits { result < 0o100000 }
     {
         match self {
-            Failure::NoSector => 0o40,
-            Failure::NoCylinder => 0o100,
-            Failure::NoDrive => 0o200,
-            Failure::NoMemory => 0o2000,
-            Failure::WriteLocked => 0o20000,
-            Failure::Overrun => 0o40000,
+            Failure::NoSector => RKER_NO_SECTOR,
+            Failure::NoCylinder => RKER_NO_CYLINDER,
+            Failure::NoDrive => RKER_NO_DRIVE,
+            Failure::NoMemory => RKER_NO_MEMORY,
+            Failure::WriteLocked => RKER_WRITE_LOCKED,
+            Failure::Overrun => RKER_OVERRUN,
         }
     }
 }

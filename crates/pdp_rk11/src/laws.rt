@@ -1,41 +1,47 @@
-ghost use Rattle.pdp_rk11.specs.Laws.{ChecksChangeNoWord, CompletionsSetReady, ErrorsAreTold, HardErrorsAreTold};
-ghost use Rattle.pdp_rk11.specs.Laws.{ReadsLeaveTheLastMove, WritesFillWithZeros, WrittenWordsAreReadBack};
+ghost use Rattle.pdp_rk11.specs.Laws.{ChecksChangeNoWord, CompletionsSetReady, ErrorsAreTold};
+ghost use Rattle.pdp_rk11.specs.Laws.{HardErrorsAreTold};
+ghost use Rattle.pdp_rk11.specs.Laws.{ReadsLeaveTheLastMove, WritesFillWithZeros};
+ghost use Rattle.pdp_rk11.specs.Laws.{WrittenWordsAreReadBack};
 
-/// A law and no code: after a read that nothing forbids, each word of core to which a move goes has the drive's word of
-/// the last move to it, and every other word of core is as it was; so are the drives.
+/// A law and no code: after a read that nothing forbids, each word of core to which a move goes has
+/// the drive's word of the last move to it, and every other word of core is as it was; so are the
+/// drives.
 ///
 /// PDP-11 Peripherals Handbook, RK11.
 pub fn a_read_leaves_the_last_move()
     ensures { ReadsLeaveTheLastMove }
 {}
 
-/// A law and no code: after a write that nothing forbids, the drive's words to which moves go have core's words, those
-/// after them in the sector of the last one are 0, and every other word of the drive is as it was; so are the other
-/// drives, and core with its stamps.
+/// A law and no code: after a write that nothing forbids, the drive's words to which moves go have
+/// core's words, those after them in the sector of the last one are 0, and every other word of the
+/// drive is as it was; so are the other drives, and core with its stamps.
 ///
 /// PDP-11 Peripherals Handbook, RK11; the zeros are this project's profile.
 pub fn a_write_fills_with_zeros()
     ensures { WritesFillWithZeros }
 {}
 
-/// A law and no code: words that are written and then read back from the same disk address, with the same count, both
-/// with no error and over incremented bus addresses, come to the words of core to which they are read, whatever is done
-/// to core between, where the drive is as the write left it.
+/// A law and no code: words that are written and then read back from the same disk address, with
+/// the same count, both with no error and over incremented bus addresses, come to the words of core
+/// to which they are read, whatever is done to core between, where the drive is as the write left
+/// it.
 ///
 /// PDP-11 Peripherals Handbook, RK11.
 pub fn what_is_written_and_read_back_is_the_same()
     ensures { WrittenWordsAreReadBack }
 {}
 
-/// A law and no code: a write check and a read check change no word of core, no stamp and no word of a drive.
+/// A law and no code: a write check and a read check change no word of core, no stamp and no word
+/// of a drive.
 ///
 /// PDP-11 Peripherals Handbook, RK11.
 pub fn a_check_changes_no_word()
     ensures { ChecksChangeNoWord }
 {}
 
-/// A law and no code: the completion of what is under way sets ready, however it ends; error, bit 15 of RKCS, is set
-/// exactly where RKER isn't 0, and hard error, bit 14, exactly where a bit of RKER other than write check is.
+/// A law and no code: the completion of what is under way sets ready, however it ends; error, bit
+/// 15 of RKCS, is set exactly where RKER isn't 0, and hard error, bit 14, exactly where a bit of
+/// RKER other than write check is.
 ///
 /// PDP-11 Peripherals Handbook, RK11.
 pub fn the_control_register_tells_the_end()

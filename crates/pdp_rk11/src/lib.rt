@@ -21,6 +21,7 @@
 //! completes, and which request is served are left to pdp_unibus.
 #![tactic(auto)]
 
+mod bits;
 mod completion;
 mod failure;
 mod function;

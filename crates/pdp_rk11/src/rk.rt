@@ -2,8 +2,14 @@ ghost use Rattle.std.specs.Prelude.{◌≡◌, ◌<◌};
 ghost use Rattle.pdp_word.specs.Bits.{field};
 
 use super::{Failure, Function, RkRegister};
-use pdp_device::{Channel, Operation};
-use pdp_word::{bit_of, field, has_bit};
+use crate::bits::{
+    RKCS_ADDRESS, RKCS_ENABLE, RKCS_ERROR, RKCS_FUNCTION, RKCS_GO, RKCS_HARD_ERROR,
+    RKCS_NO_INCREMENT, RKCS_SEARCH_COMPLETE, RKDS_HEADS_READY, RKDS_READY, RKDS_RK05,
+    RKDS_SECTOR_COUNTER, RKDS_WRITE_LOCKED,
+};
+use crate::geometry::{ADDRESS_BIT_16, drive_in};
+use pdp_device::{Operation, ReadyEnable};
+use pdp_word::{bit_of, field, is_set};
 
 /// The RK11 controller.
 ///
@@ -11,7 +17,7 @@ use pdp_word::{bit_of, field, has_bit};
 #[derive(Clone, Copy, Debug, PartialEq, Eq)]
 pub struct Rk {
     /// Ready where no function is under way.
-    pub channel: Channel,
+    pub ready_enable: ReadyEnable,
     /// The function that was written last.
     pub function: Function,
     /// Bit 11 of RKCS: the bus address isn't incremented.
@@ -36,16 +42,18 @@ pub struct Rk {
 
 impl Rk {
     ghost use Rattle.pdp_rk11.specs.Geometry.{drive_in};
-    ghost use Rattle.pdp_rk11.specs.Rk.{begun_function, commanded, control_word, control_written, drive_status};
-    ghost use Rattle.pdp_rk11.specs.Rk.{error_word, function_of, gone_with, is_locked, quiet_rk, rk_reset, rk_served, rk_value};
+    ghost use Rattle.pdp_rk11.specs.Rk.{begun_function, rk_commanded, control_word};
+    ghost use Rattle.pdp_rk11.specs.Rk.{control_written, drive_status};
+    ghost use Rattle.pdp_rk11.specs.Rk.{error_word, function_of, gone_with, is_locked, init_rk};
+    ghost use Rattle.pdp_rk11.specs.Rk.{rk_reset, rk_served, rk_value};
     ghost use Rattle.pdp_rk11.specs.Rk.{rk_written, with_command};
 
     /// The controller at power-up: as after RESET, with no drive locked (this project's profile).
-    pub fn quiet() -> Rk
-        ensures { result ≡ quiet_rk }
+    pub fn init() -> Rk
+        ensures { result ≡ init_rk }
     {
         Rk {
-            channel: Channel::quiet(true),
+            ready_enable: ReadyEnable::init(true),
             function: Function::ControlReset,
             no_increment: false,
             search_complete: false,
@@ -59,10 +67,11 @@ impl Rk {
         }
     }
 
-    /// What a read of the register gives, where there are so many drives, numbered from 0 on. A read has no effect.
+    /// What a read of the register gives, where there are so many drives, numbered from 0 on. A
+    /// read has no effect.
     ///
-    /// PDP-11 Peripherals Handbook, RK11; that RKDS has no other bits, and is 0 for a drive that isn't there, is this
-    /// project's profile.
+    /// PDP-11 Peripherals Handbook, RK11; that RKDS has no other bits, and is 0 for a drive that
+    /// isn't there, is this project's profile.
     pub fn read_reg(&self, register: RkRegister, drives: usize) -> u16
         ensures { result ≡ rk_value register drives self.now }
     {
@@ -71,17 +80,17 @@ impl Rk {
             RkRegister::Error => self.error_word(),
             RkRegister::Control => self.control_word(),
             RkRegister::WordCount => self.word_count,
-            RkRegister::BusAddress => (self.address % 0o200000) as u16,
+            RkRegister::BusAddress => (self.address % ADDRESS_BIT_16) as u16,
             RkRegister::DiskAddress => self.disk_address,
         }
     }
 
-    /// A write of a word to the register in this turn; a function takes so many turns, with 0 until its event. While
-    /// the controller isn't ready a write sets or clears enable, by RKCS, and nothing else. Control reset acts at once,
-    /// and drops the enable that is written with it.
+    /// A write of a word to the register in this turn; a function takes so many turns, with 0 until
+    /// its event. While the controller isn't ready a write sets or clears enable, by RKCS, and
+    /// nothing else. Control reset acts at once, and drops the enable that is written with it.
     ///
-    /// PDP-11 Peripherals Handbook, RK11; how long a function takes, what a write does while the controller isn't
-    /// ready, and that control reset acts at once, are this project's profile.
+    /// PDP-11 Peripherals Handbook, RK11; how long a function takes, what a write does while the
+    /// controller isn't ready, and that control reset acts at once, are this project's profile.
     #[tactic(auto, unfolding(crate::specs::Rk::rk_written))]
     pub fn write_reg(&mut self, register: RkRegister, word: u16, turn: u32, delay: u32)
         ensures { self.new ≡ rk_written register word turn delay self.old }
@@ -90,25 +99,26 @@ impl Rk {
             RkRegister::DriveStatus | RkRegister::Error => {}
             RkRegister::Control => self.write_control(word, turn, delay),
             RkRegister::WordCount => {
-                if self.channel.ready {
+                if self.ready_enable.ready {
                     self.word_count = word;
                 }
             }
             RkRegister::BusAddress => {
-                if self.channel.ready {
-                    self.address = self.address / 0o200000 % 4 * 0o200000 + u32::from(word);
+                if self.ready_enable.ready {
+                    let high = self.address / ADDRESS_BIT_16 % 4;
+                    self.address = high * ADDRESS_BIT_16 + u32::from(word);
                 }
             }
             RkRegister::DiskAddress => {
-                if self.channel.ready {
+                if self.ready_enable.ready {
                     self.disk_address = word;
                 }
             }
         }
     }
 
-    /// RESET, and control reset: ready, not enabled, no request, nothing under way, no error, and word count, bus
-    /// address and disk address 0. Drives that are locked stay so.
+    /// RESET, and control reset: ready, not enabled, no request, nothing under way, no error, and
+    /// word count, bus address and disk address 0. Drives that are locked stay so.
     ///
     /// PDP-11 Peripherals Handbook, RK11; that the locks stay is this project's profile.
     pub fn reset(&mut self)
@@ -116,23 +126,23 @@ impl Rk {
     {
         *self = Rk {
             locked: self.locked,
-            ..Rk::quiet()
+            ..Rk::init()
         };
     }
 
     /// Whether it requests an interrupt.
     pub fn request(&self) -> bool
-        ensures { result ≡ self.now.channel.request }
+        ensures { result ≡ self.now.ready_enable.request }
     {
-        self.channel.request
+        self.ready_enable.request
     }
 
-    /// The request is served: it goes, and nothing else changes. The next one appears where ready or enable was cleared
-    /// and both are set again (this project's profile).
+    /// The request is served: it goes, and nothing else changes. The next one appears where ready
+    /// or enable was cleared and both are set again (this project's profile).
     pub fn serve(&mut self)
         ensures { self.new ≡ rk_served self.old }
     {
-        self.channel.serve();
+        self.ready_enable.serve();
     }
 
     // The number of the drive that RKDA names, 0 to 7.
@@ -140,7 +150,7 @@ impl Rk {
         ensures value { result ≡ drive_in self.now.disk_address }
         ensures fits { result < 8 }
     {
-        usize::from(field(13, 3, self.disk_address))
+        usize::from(drive_in(self.disk_address))
     }
 
     // Whether the drive that RKDA names is locked.
@@ -154,7 +164,8 @@ impl Rk {
         ensures { result ≡ drive_status drives self.now }
     {
         if self.drive() < drives {
-            0o4700 + bit_of(self.is_locked()) * 0o40
+            let there = RKDS_RK05 + RKDS_SECTOR_COUNTER + RKDS_READY + RKDS_HEADS_READY;
+            there + bit_of(self.is_locked()) * RKDS_WRITE_LOCKED
         } else {
             0
         }
@@ -174,32 +185,35 @@ impl Rk {
         ensures { result ≡ control_word self.now }
     {
         let failed = self.failure.is_some();
-        let errors = bit_of(failed || self.write_check) * 0o100000 + bit_of(failed) * 0o40000;
-        let flags = bit_of(self.search_complete) * 0o20000 + bit_of(self.no_increment) * 0o4000;
-        let high_address = (self.address / 0o200000 % 4) as u16;
-        errors + flags + self.channel.status() + high_address * 0o20 + self.function.code() * 2
+        let errors = bit_of(failed || self.write_check) * RKCS_ERROR
+            + bit_of(failed) * RKCS_HARD_ERROR;
+        let flags = bit_of(self.search_complete) * RKCS_SEARCH_COMPLETE
+            + bit_of(self.no_increment) * RKCS_NO_INCREMENT;
+        let high_address = (self.address / ADDRESS_BIT_16 % 4) as u16 * RKCS_ADDRESS;
+        let function = self.function.code() * RKCS_FUNCTION;
+        errors + flags + self.ready_enable.status() + high_address + function
     }
 
     // A write of a word to RKCS.
     fn write_control(&mut self, word: u16, turn: u32, delay: u32)
         ensures { self.new ≡ control_written word turn delay self.old }
     {
-        if self.channel.ready {
+        if self.ready_enable.ready {
             self.command(word, turn, delay);
         } else {
-            self.channel.write_enable(word);
+            self.ready_enable.write_enable(word);
         }
     }
 
     // A write of a word to RKCS while ready, without go or with it.
     fn command(&mut self, word: u16, turn: u32, delay: u32)
-        ensures { self.new ≡ commanded word turn delay self.old }
+        ensures { self.new ≡ rk_commanded word turn delay self.old }
     {
-        if has_bit(0, word) {
+        if is_set(RKCS_GO, word) {
             self.go(word, turn, delay);
         } else {
             self.set_command(word);
-            self.channel.write_enable(word);
+            self.ready_enable.write_enable(word);
         }
     }
 
@@ -209,16 +223,16 @@ impl Rk {
     {
         match Function::of_code(field(1, 3, word)) {
             Function::ControlReset => self.reset(),
-            _ => self.begin(word, turn, delay),
+            _ => self.begin_function(word, turn, delay),
         }
     }
 
     // A function begins.
-    fn begin(&mut self, word: u16, turn: u32, delay: u32)
+    fn begin_function(&mut self, word: u16, turn: u32, delay: u32)
         ensures { self.new ≡ begun_function word turn delay self.old }
     {
         self.set_command(word);
-        self.channel.change(false, has_bit(6, word));
+        self.ready_enable.change(false, is_set(RKCS_ENABLE, word));
         self.search_complete = false;
         self.write_check = false;
         self.failure = None;
@@ -230,7 +244,8 @@ impl Rk {
         ensures { self.new ≡ with_command word self.old }
     {
         self.function = Function::of_code(field(1, 3, word));
-        self.address = u32::from(field(4, 2, word)) * 0o200000 + self.address % 0o200000;
-        self.no_increment = has_bit(11, word);
+        self.address = u32::from(field(4, 2, word)) * ADDRESS_BIT_16
+            + self.address % ADDRESS_BIT_16;
+        self.no_increment = is_set(RKCS_NO_INCREMENT, word);
     }
 }

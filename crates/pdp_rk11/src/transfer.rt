@@ -1,12 +1,17 @@
 //! The words of a transfer, moved or compared.
 
-ghost use Rattle.std.specs.Prelude.{◌≡◌, ℕ, ◌+◌, ◌-◌, ◌*◌, ◌/◌, ◌^◌, ◌<◌, ◌%◌, None, false, length, slice_index};
-ghost use Rattle.pdp_rk11.specs.Touched.{run_touched, stepped};
+ghost use Rattle.std.specs.Prelude.{◌≡◌, ℕ, ◌+◌, ◌-◌, ◌*◌, ◌/◌, ◌^◌, ◌<◌, ◌%◌, None, false, length};
+ghost use Rattle.std.specs.Prelude.{slice_index};
+ghost use Rattle.pdp_rk11.specs.Geometry.{words_of_sector};
+ghost use Rattle.pdp_rk11.specs.Touched.{run_touched, after_steps};
+ghost use Rattle.pdp_store.specs.Unchanged.{SameWritten};
 
 use crate::Function;
+use crate::geometry::WORDS_OF_SECTOR;
 use pdp_store::{PAGE_WORDS, Stamp, Store};
 
-/// The words that a transfer moves or compares: so many, one by one from a first word of core and of the drive on.
+/// The words that a transfer moves or compares: so many, one by one from a first word of core and
+/// of the drive on.
 #[derive(Clone, Copy, Debug, PartialEq, Eq)]
 pub struct Transfer {
     /// The bus address isn't incremented: each move is of the first word of core.
@@ -22,16 +27,18 @@ pub struct Transfer {
 impl Transfer {
     ghost use Rattle.pdp_rk11.specs.Completion.{is_read_check};
     ghost use Rattle.pdp_rk11.specs.Touched.{core_after, disk_after, disk_touched};
-    ghost use Rattle.pdp_rk11.specs.Touched.{fill_touched, stepped, words_named};
-    ghost use Rattle.pdp_rk11.specs.Moves.{moved, moved_to_one};
-    ghost use Rattle.pdp_rk11.specs.Transfer.{core_read, core_word, disk_word, disk_written, is_different, lasts_read};
+    ghost use Rattle.pdp_rk11.specs.Touched.{fill_touched, after_steps, words_named};
+    ghost use Rattle.pdp_rk11.specs.Moves.{moved_items, moved_to_one};
+    ghost use Rattle.pdp_rk11.specs.Transfer.{core_after_read, core_word, disk_word, disk_written};
+    ghost use Rattle.pdp_rk11.specs.Transfer.{is_different, lasts_read};
     ghost use Rattle.pdp_rk11.specs.Transfer.{moved_to_disk, rest_of_sector, stamps_written};
 
     /// A read: words of the drive go to core, with this stamp.
     pub(crate) fn read<S: Store, D: Store>(self, core: &mut S, disk: &D, stamp: Stamp)
         requires on_disk { (i : ℕ) → i < self.count → disk_word self i < length (D.words disk.now) }
         requires in_core { (i : ℕ) → i < self.count → core_word self i < length (S.words core.old) }
-        ensures words { S.words core.new ≡ core_read self (D.words disk.now) (S.words core.old) }
+        ensures words { S.words core.new ≡ core_after_read self (D.words disk.now)
+            (S.words core.old) }
         ensures lasts { S.lasts core.new ≡ lasts_read self stamp (S.lasts core.old) }
         ensures firsts { S.firsts core.new ≡ S.firsts core.old }
     {
@@ -45,11 +52,15 @@ impl Transfer {
     // Each word goes to a word of its own.
     #[tactic(auto, using(crate::proofs::Moves::moved_none, crate::proofs::Moves::moved_more, crate::proofs::Names::moved_length))]
     fn read_all<S: Store, D: Store>(self, core: &mut S, disk: &D, stamp: Stamp)
-        requires on_disk { (i : ℕ) → i < self.count → self.disk_start + i < length (D.words disk.now) }
-        requires in_core { (i : ℕ) → i < self.count → self.core_start + i < length (S.words core.old) }
+        requires on_disk { (i : ℕ) → i < self.count → self.disk_start + i < length
+            (D.words disk.now) }
+        requires in_core { (i : ℕ) → i < self.count → self.core_start + i < length
+            (S.words core.old) }
         ensures words { S.words core.new
-            ≡ moved self.core_start self.count (λ i. slice_index (D.words disk.now) (self.disk_start + i)) (S.words core.old) }
-        ensures lasts { S.lasts core.new ≡ moved self.core_start self.count (λ i. Some stamp) (S.lasts core.old) }
+            ≡ moved_items self.core_start self.count (λ i. slice_index (D.words disk.now)
+            (self.disk_start + i)) (S.words core.old) }
+        ensures lasts { S.lasts core.new ≡ moved_items self.core_start self.count (λ i. Some stamp)
+            (S.lasts core.old) }
         ensures firsts { S.firsts core.new ≡ S.firsts core.old }
     {
         let core_start = self.core_start as usize;
@@ -62,11 +73,14 @@ impl Transfer {
     // All words go to one word of core, where the last stays.
     #[tactic(auto, using(crate::proofs::Moves::moved_to_one_none, crate::proofs::Moves::moved_to_one_last))]
     fn read_last<S: Store, D: Store>(self, core: &mut S, disk: &D, stamp: Stamp)
-        requires on_disk { (i : ℕ) → i < self.count → self.disk_start + i < length (D.words disk.now) }
+        requires on_disk { (i : ℕ) → i < self.count → self.disk_start + i < length
+            (D.words disk.now) }
         requires in_core { (i : ℕ) → i < self.count → self.core_start < length (S.words core.old) }
         ensures words { S.words core.new
-            ≡ moved_to_one self.core_start self.count (λ i. slice_index (D.words disk.now) (self.disk_start + i)) (S.words core.old) }
-        ensures lasts { S.lasts core.new ≡ moved_to_one self.core_start self.count (λ i. Some stamp) (S.lasts core.old) }
+            ≡ moved_to_one self.core_start self.count (λ i. slice_index (D.words disk.now)
+            (self.disk_start + i)) (S.words core.old) }
+        ensures lasts { S.lasts core.new ≡ moved_to_one self.core_start self.count
+            (λ i. Some stamp) (S.lasts core.old) }
         ensures firsts { S.firsts core.new ≡ S.firsts core.old }
     {
         if self.count > 0 {
@@ -92,8 +106,10 @@ impl Transfer {
     fn write_all<S: Store, D: Store>(self, core: &S, disk: &mut D)
         requires on_disk { (i : ℕ) → i < self.count → disk_word self i < length (D.words disk.old) }
         requires in_core { (i : ℕ) → i < self.count → core_word self i < length (S.words core.now) }
-        ensures words { D.words disk.new ≡ moved_to_disk self (S.words core.now) (D.words disk.old) }
-        ensures stamps { D.lasts disk.new ≡ moved self.disk_start self.count (λ i. None) (D.lasts disk.old) }
+        ensures words { D.words disk.new ≡ moved_to_disk self (S.words core.now)
+            (D.words disk.old) }
+        ensures stamps { D.lasts disk.new ≡ moved_items self.disk_start self.count (λ i. None)
+            (D.lasts disk.old) }
         ensures firsts { D.firsts disk.new ≡ D.firsts disk.old }
     {
         let disk_start = self.disk_start as usize;
@@ -106,9 +122,11 @@ impl Transfer {
     #[tactic(auto, using(crate::proofs::Moves::moved_none, crate::proofs::Moves::moved_more, crate::proofs::Names::moved_length))]
     fn fill_sector<D: Store>(self, disk: &mut D)
         ensures words { D.words disk.new
-            ≡ moved (disk_word self self.count) (rest_of_sector self) (λ i. 0) (D.words disk.old) }
+            ≡ moved_items (disk_word self self.count) (rest_of_sector self) (λ i. 0)
+            (D.words disk.old) }
         ensures stamps { D.lasts disk.new
-            ≡ moved (disk_word self self.count) (rest_of_sector self) (λ i. None) (D.lasts disk.old) }
+            ≡ moved_items (disk_word self self.count) (rest_of_sector self) (λ i. None)
+            (D.lasts disk.old) }
         ensures firsts { D.firsts disk.new ≡ D.firsts disk.old }
     {
         let start = self.disk_start as usize + self.count as usize;
@@ -144,9 +162,9 @@ impl Transfer {
         requires on_disk { (i : ℕ) → i < self.count → disk_word self i < length (D.words disk.old) }
         requires in_core { is_read_check function ≡ false → (i : ℕ) → i < self.count
             → core_word self i < length (S.words core.old) }
-        requires aligned { self.disk_start % 256 ≡ 0 }
-        ensures words { S.words core.new ≡ S.words core.old }
-        ensures lasts { S.lasts core.new ≡ S.lasts core.old }
+        requires aligned { self.disk_start % words_of_sector ≡ 0 }
+        ensures core { SameWritten (S.words core.new) (S.words core.old)
+            (S.lasts core.new) (S.lasts core.old) }
         ensures disk { D.words disk.new ≡ D.words disk.old }
         ensures stamps { D.lasts disk.new ≡ D.lasts disk.old }
         ensures core_firsts { S.firsts core.new
@@ -195,7 +213,7 @@ impl Transfer {
         ensures disk { D.words disk.new ≡ D.words disk.old }
         ensures stamps { D.lasts disk.new ≡ D.lasts disk.old }
         ensures firsts { D.firsts disk.new
-            ≡ stepped (disk_touched function self turn) self.count (D.firsts disk.old) }
+            ≡ after_steps (disk_touched function self turn) self.count (D.firsts disk.old) }
     {
         match function {
             Function::Read | Function::Write | Function::WriteCheck | Function::ReadCheck => {
@@ -208,11 +226,11 @@ impl Transfer {
     // Touches the words that a write fills with zeros, which are in the page of its last word.
     fn touch_fill<D: Store>(self, disk: &mut D, turn: u32)
         requires on_disk { (i : ℕ) → i < self.count → disk_word self i < length (D.words disk.old) }
-        requires aligned { self.disk_start % 256 ≡ 0 }
+        requires aligned { self.disk_start % words_of_sector ≡ 0 }
         ensures disk { D.words disk.new ≡ D.words disk.old }
         ensures stamps { D.lasts disk.new ≡ D.lasts disk.old }
         ensures firsts { D.firsts disk.new
-            ≡ stepped (fill_touched self turn) (rest_of_sector self) (D.firsts disk.old) }
+            ≡ after_steps (fill_touched self turn) (rest_of_sector self) (D.firsts disk.old) }
     {
         let start = self.disk_start as usize + self.count as usize;
         touch_run(disk, start, self.rest_of_sector(), turn);
@@ -236,7 +254,8 @@ impl Transfer {
         ensures { result ≡ rest_of_sector self }
     {
         let count = self.count as usize;
-        count.div_ceil(256) * 256 - count
+        let words = WORDS_OF_SECTOR as usize;
+        count.div_ceil(words) * words - count
     }
 }
 
@@ -247,7 +266,7 @@ fn touch_run<S: Store>(store: &mut S, start: usize, count: usize, turn: u32)
     ensures words { S.words store.new ≡ S.words store.old }
     ensures lasts { S.lasts store.new ≡ S.lasts store.old }
     ensures firsts { S.firsts store.new
-        ≡ stepped (run_touched start turn) count (S.firsts store.old) }
+        ≡ after_steps (run_touched start turn) count (S.firsts store.old) }
 {
     if count > 0 {
         let last = (start + count - 1) / PAGE_WORDS;

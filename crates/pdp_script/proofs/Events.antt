@@ -4,7 +4,7 @@ use Rattle.std.proofs.lemmas.Bool.{ne_eqb, eq-eqb, ltb-true, cond-true, cond-fal
 use Rattle.std.specs.List.{All, filter}
 use Rattle.std.specs.List.Sorted.{IsNonDecreasingBy}
 use Rattle.pdp_unibus.specs.declared.event.Event.{Event}
-use Rattle.pdp_script.specs.Entries.{Entry, entry_of, events_at, inserted, without, changed_in_place, altered}
+use Rattle.pdp_script.specs.Entries.{Entry, entry_of, events_at, inserted_entries, without, changed_in_place, altered_entries}
 
 -- an entry of another turn before the others
 pub events_at-other : (e : Entry) (es : List Entry) (t : ℕ) → (e.turn ≡ t → ⊥) → events_at (e ∷ es) t ≡ events_at es t
@@ -16,12 +16,12 @@ events_at-cons e es fs t same =
     elim (eqb e.turn t) as (λ b. map (λ (x : Entry). x.event) (cond b (e ∷ filter (λ (x : Entry). eqb x.turn t) es) (filter (λ (x : Entry). eqb x.turn t) es)) ≡ map (λ (x : Entry). x.event) (cond b (e ∷ filter (λ (x : Entry). eqb x.turn t) fs) (filter (λ (x : Entry). eqb x.turn t) fs))) [ true ↦ ap (λ (l : List Event). e.event ∷ l) same | false ↦ same ]
 
 pub events_at-inserted : (entries : List Entry) (entry : Entry) (t : ℕ) → (entry.turn ≡ t → ⊥)
-    → events_at (inserted entries entry) t ≡ events_at entries t
+    → events_at (inserted_entries entries entry) t ≡ events_at entries t
 events_at-inserted [] entry t other = events_at-other entry [] t other
 events_at-inserted (e ∷ es) entry t other =
-    cond_both (ltb entry.turn e.turn) (entry ∷ e ∷ es) (e ∷ inserted es entry) (λ l. events_at l t ≡ events_at (e ∷ es) t)
+    cond_both (ltb entry.turn e.turn) (entry ∷ e ∷ es) (e ∷ inserted_entries es entry) (λ l. events_at l t ≡ events_at (e ∷ es) t)
     (λ _. events_at-other entry (e ∷ es) t other)
-    (λ _. events_at-cons e (inserted es entry) es t (events_at-inserted es entry t other))
+    (λ _. events_at-cons e (inserted_entries es entry) es t (events_at-inserted es entry t other))
 
 pub events_at-dropped : (entries : List Entry) (number : ℕ) (old : Entry) (t : ℕ) → entry_of entries number ≡ Some old → (old.turn ≡ t → ⊥)
     → events_at (without entries number) t ≡ events_at entries t
@@ -43,9 +43,9 @@ events_at-changed_in_place (e ∷ es) entry old t found from to =
     (λ no. events_at-cons e (changed_in_place es entry) es t (events_at-changed_in_place es entry old t (sym (cond-false (eqb e.number entry.number) (Some e) (entry_of es entry.number) no) ∙ found) from to))
 
 pub events_at-altered : (entries : List Entry) (entry old : Entry) (t : ℕ) → entry_of entries entry.number ≡ Some old
-    → (old.turn ≡ t → ⊥) → (entry.turn ≡ t → ⊥) → events_at (altered entries old entry) t ≡ events_at entries t
+    → (old.turn ≡ t → ⊥) → (entry.turn ≡ t → ⊥) → events_at (altered_entries entries old entry) t ≡ events_at entries t
 events_at-altered entries entry old t found from to =
-    cond_both (eqb old.turn entry.turn) (changed_in_place entries entry) (inserted (without entries entry.number) entry) (λ l. events_at l t ≡ events_at entries t)
+    cond_both (eqb old.turn entry.turn) (changed_in_place entries entry) (inserted_entries (without entries entry.number) entry) (λ l. events_at l t ≡ events_at entries t)
     (λ _. events_at-changed_in_place entries entry old t found from to)
     (λ _. events_at-inserted (without entries entry.number) entry t to ∙ events_at-dropped entries entry.number old t found from)
 
@@ -60,12 +60,12 @@ no_events (e ∷ es) t none = events_at-other e es t (none 0 e (omega arith)) �
 
 -- an entry goes last among those of its turn
 pub events_at-inserted_last : (entries : List Entry) (entry : Entry) → IsNonDecreasingBy (λ e. e.turn) entries
-    → events_at (inserted entries entry) entry.turn ≡ events_at entries entry.turn ++ entry.event ∷ []
+    → events_at (inserted_entries entries entry) entry.turn ≡ events_at entries entry.turn ++ entry.event ∷ []
 events_at-inserted_last [] entry ordered = let here = eq-eqb entry.turn entry.turn refl in rw here refl
 events_at-inserted_last (e ∷ es) entry ordered =
     let here = eq-eqb entry.turn entry.turn refl in
     let rest = events_at-inserted_last es entry (λ i j d le lt. ordered (suc i) (suc j) d (omega arith) (omega arith)) in
-    cond_both (ltb entry.turn e.turn) (entry ∷ e ∷ es) (e ∷ inserted es entry) (λ l. events_at l entry.turn ≡ events_at (e ∷ es) entry.turn ++ entry.event ∷ [])
+    cond_both (ltb entry.turn e.turn) (entry ∷ e ∷ es) (e ∷ inserted_entries es entry) (λ l. events_at l entry.turn ≡ events_at (e ∷ es) entry.turn ++ entry.event ∷ [])
     (λ later. let above : entry.turn < e.turn = ltb-true entry.turn e.turn later in
     let none : events_at (e ∷ es) entry.turn ≡ [] = no_events (e ∷ es) entry.turn (λ k d lt q. absurd (omega (arith, ordered 0 k d (omega arith) lt))) in
     rw (none, here) (ap (λ (l : List Event). entry.event ∷ l) none))

@@ -10,7 +10,7 @@ use Rattle.pdp_script.specs.declared.labels.Label.{Label}
 use Rattle.pdp_script.specs.Script.{most_events}
 use Rattle.pdp_unibus.specs.LastTurn.{last_turn}
 use Rattle.pdp_script.specs.Labels.{IsFirstOf, IsKept, PutsLast}
-use Rattle.pdp_script.proofs.Places.{AllPairs-insert, IsNonDecreasingBy-remove, All-remove_others}
+use Rattle.pdp_script.proofs.Indexes.{AllPairs-insert, IsNonDecreasingBy-remove, All-remove_others}
 
 All-insert : {X : Type 0} (P : X → Type 0) (xs : List X) (p : ℕ) (y : X) → All P xs → P y → All P (insert xs p y)
 All-insert P xs p y all is = All-append P (take p xs) (y ∷ drop p xs) (All-take P p xs all) (All-cons P y (drop p xs) is (All-drop P p xs all))
@@ -44,7 +44,7 @@ pub IsKept-put : (ss : List Label) (es : List Event) (given given' : ℕ) (s : L
     → IsKept ss es given → PutsLast ss es s v ss' es' → length ss < most_events → s.turn ≤ last_turn → 1 ≤ s.number → s.number ≤ given' → given ≤ given'
     → All (λ x. x.number ≡ s.number → ⊥) ss → IsKept ss' es' given'
 IsKept-put ss es given given' s v ss' es' kept put room turn low high more unused =
-    let i = put.place in
+    let i = put.index in
     let step : length ss ≡ length es = kept.in_step in
     let new : IsKept (insert ss i s) (insert es i v) given' = record {
       in_step = omega (arith, length-insert ss i s put.within, length-insert es i v (omega (arith, put.within)));

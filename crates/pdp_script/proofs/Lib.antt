@@ -3,4 +3,4 @@ pub mod Events
 pub mod Labelled
 pub mod Kept
 pub mod Others
-pub mod Places
+pub mod Indexes

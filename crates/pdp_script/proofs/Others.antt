@@ -4,7 +4,7 @@ use Rattle.std.proofs.lemmas.Bool.{ne_eqb, eq-eqb, eqb-true, cond-true, cond-fal
 use Rattle.std.proofs.lemmas.List.Elements.{All-cons}
 use Rattle.std.specs.List.{All}
 use Rattle.pdp_unibus.specs.declared.event.Event.{Event}
-use Rattle.pdp_script.specs.Entries.{Entry, entry_of, events_at, inserted, without, changed_in_place, altered}
+use Rattle.pdp_script.specs.Entries.{Entry, entry_of, events_at, inserted_entries, without, changed_in_place, altered_entries}
 use Rattle.pdp_script.specs.EditLaws.{AreInOrder, AreNumberedApart, others, with_event_of}
 use Rattle.pdp_script.proofs.Events.{events_at-inserted_last, events_at-dropped}
 
@@ -22,12 +22,12 @@ others-cons e es fs n same =
     (λ (no : eqb e.number n ≡ false). others-other e es n no ∙ ap (λ (l : List Entry). e ∷ l) same ∙ sym (others-other e fs n no))
     (cases_Bool (eqb e.number n))
 
-pub others-inserted : (entries : List Entry) (entry : Entry) → others entry.number (inserted entries entry) ≡ others entry.number entries
+pub others-inserted : (entries : List Entry) (entry : Entry) → others entry.number (inserted_entries entries entry) ≡ others entry.number entries
 others-inserted [] entry = others-same entry [] entry.number (eq-eqb entry.number entry.number refl)
 others-inserted (e ∷ es) entry =
-    cond_both (ltb entry.turn e.turn) (entry ∷ e ∷ es) (e ∷ inserted es entry) (λ l. others entry.number l ≡ others entry.number (e ∷ es))
+    cond_both (ltb entry.turn e.turn) (entry ∷ e ∷ es) (e ∷ inserted_entries es entry) (λ l. others entry.number l ≡ others entry.number (e ∷ es))
     (λ _. others-same entry (e ∷ es) entry.number (eq-eqb entry.number entry.number refl))
-    (λ _. others-cons e (inserted es entry) es entry.number (others-inserted es entry))
+    (λ _. others-cons e (inserted_entries es entry) es entry.number (others-inserted es entry))
 
 others-without : (entries : List Entry) (n : ℕ) → others n (without entries n) ≡ others n entries
 others-without [] n = refl
@@ -43,9 +43,9 @@ others-changed_in_place (e ∷ es) entry =
     (λ yes. others-same entry es entry.number (eq-eqb entry.number entry.number refl) ∙ sym (others-same e es entry.number yes))
     (λ _. others-cons e (changed_in_place es entry) es entry.number (others-changed_in_place es entry))
 
-pub others-altered : (entries : List Entry) (entry old : Entry) → others entry.number (altered entries old entry) ≡ others entry.number entries
+pub others-altered : (entries : List Entry) (entry old : Entry) → others entry.number (altered_entries entries old entry) ≡ others entry.number entries
 others-altered entries entry old =
-    cond_both (eqb old.turn entry.turn) (changed_in_place entries entry) (inserted (without entries entry.number) entry) (λ l. others entry.number l ≡ others entry.number entries)
+    cond_both (eqb old.turn entry.turn) (changed_in_place entries entry) (inserted_entries (without entries entry.number) entry) (λ l. others entry.number l ≡ others entry.number entries)
     (λ _. others-changed_in_place entries entry)
     (λ _. others-inserted (without entries entry.number) entry ∙ others-without entries entry.number)
 
@@ -98,7 +98,7 @@ changed_in_place-one (e ∷ es) old event apart found =
     ∙ ap (λ (x : Entry). x ∷ map (with_event_of old.number event) es) (sym (with_event_of-other e old.number event no)))
 
 pub altered-in_place : (entries : List Entry) (old : Entry) (event : Event) → AreNumberedApart entries → entry_of entries old.number ≡ Some old
-    → altered entries old (record old { event = event }) ≡ map (with_event_of old.number event) entries
+    → altered_entries entries old (record old { event = event }) ≡ map (with_event_of old.number event) entries
 altered-in_place entries old event apart found =
     let here = eq-eqb old.turn old.turn refl in rw here (changed_in_place-one entries old event apart found)
 
@@ -123,7 +123,7 @@ in_order-without (e ∷ es) n ordered =
     (λ _. in_order_cons e (without es n) (All-without (λ x. e.turn ≤ x.turn) es n (λ k d lt. ordered 0 (suc k) d (omega arith) (omega arith))) (in_order-without es n rest))
 
 pub events_at-altered_last : (entries : List Entry) (entry old : Entry) → AreInOrder entries → entry_of entries entry.number ≡ Some old
-    → (old.turn ≡ entry.turn → ⊥) → events_at (altered entries old entry) entry.turn ≡ events_at entries entry.turn ++ entry.event ∷ []
+    → (old.turn ≡ entry.turn → ⊥) → events_at (altered_entries entries old entry) entry.turn ≡ events_at entries entry.turn ++ entry.event ∷ []
 events_at-altered_last entries entry old ordered found other =
     let no = ne_eqb old.turn entry.turn other in
     rw no

@@ -1,6 +1,7 @@
--- The entries of a script: its events with their numbers and turns, in the order of their turns (this project's
--- profile).
-use Rattle.std.specs.Prelude.{ℕ, ◌≡◌, ◌<◌, ◌≤◌, cond, eqb, nat_lt, nat_le, Option, Some, None, List, [], ◌∷◌, map}
+-- The entries of a script: its events with their numbers and turns, in the order of their turns
+-- (this project's profile).
+use Rattle.std.specs.Prelude.{ℕ, ◌≡◌, ◌<◌, ◌≤◌, cond, eqb, nat_lt, nat_le, Option, Some, None, List}
+use Rattle.std.specs.Prelude.{[], ◌∷◌, map}
 use Rattle.std.specs.List.{filter}
 use Rattle.pdp_unibus.specs.declared.event.Event.{Event}
 
@@ -23,16 +24,19 @@ abbrev pub turn_from : List Entry → ℕ → Option ℕ
 turn_from [] from = None
 turn_from (e ∷ es) from = cond (nat_le from e.turn) (Some e.turn) (turn_from es from)
 
--- this is the least turn not below `from` that has events: none stand between, and with None none come after
+-- this is the least turn not below `from` that has events: none stand between, and with None none
+-- come after
 abbrev pub IsNextTurn : List Entry → ℕ → Option ℕ → Type 0
 IsNextTurn entries from None = (turn : ℕ) → from ≤ turn → events_at entries turn ≡ []
 IsNextTurn entries from (Some next) =
-    (from ≤ next) × (events_at entries next ≡ [] → ⊥) × ((turn : ℕ) → from ≤ turn → turn < next → events_at entries turn ≡ [])
+    (from ≤ next) × (events_at entries next ≡ [] → ⊥) × ((turn : ℕ) → from ≤ turn → turn < next
+    → events_at entries turn ≡ [])
 
 -- with one more entry, before the first of a later turn: last among its turn's
-abbrev pub inserted : List Entry → Entry → List Entry
-inserted [] entry = entry ∷ []
-inserted (e ∷ es) entry = cond (nat_lt entry.turn e.turn) (entry ∷ e ∷ es) (e ∷ inserted es entry)
+abbrev pub inserted_entries : List Entry → Entry → List Entry
+inserted_entries [] entry = entry ∷ []
+inserted_entries (e ∷ es) entry = cond (nat_lt entry.turn e.turn) (entry ∷ e ∷ es)
+    (e ∷ inserted_entries es entry)
 
 -- without the first entry of this number
 abbrev pub without : List Entry → ℕ → List Entry
@@ -42,9 +46,12 @@ without (e ∷ es) number = cond (eqb e.number number) es (e ∷ without es numb
 -- with this entry in the place of the first of its number
 abbrev pub changed_in_place : List Entry → Entry → List Entry
 changed_in_place [] entry = []
-changed_in_place (e ∷ es) entry = cond (eqb e.number entry.number) (entry ∷ es) (e ∷ changed_in_place es entry)
+changed_in_place (e ∷ es) entry = cond (eqb e.number entry.number) (entry ∷ es)
+    (e ∷ changed_in_place es entry)
 
--- with this entry for `old` of the same number: in its place if the turn is the same, else last of its new turn
-abbrev pub altered : List Entry → Entry → Entry → List Entry
-altered entries old entry =
-    cond (eqb old.turn entry.turn) (changed_in_place entries entry) (inserted (without entries entry.number) entry)
+-- with this entry for `old` of the same number: in its place if the turn is the same, else last of
+-- its new turn
+abbrev pub altered_entries : List Entry → Entry → Entry → List Entry
+altered_entries entries old entry =
+    cond (eqb old.turn entry.turn) (changed_in_place entries entry) (inserted_entries
+    (without entries entry.number) entry)

@@ -1,7 +1,12 @@
 -- The faults by number and by name, as a reply shows them (this project's profile).
 use Rattle.std.specs.Prelude.{ℕ, List, codes}
 use Rattle.pdp_script.specs.declared.faults.Fault.{Fault}
-use Rattle.pdp_script.specs.declared.faults.Fault.TheVariants.{NoMemory, OutsideCore, OddAddress, OutsideDisk, NoSuchEvent, ScriptFull, TurnTooLarge, CountOutOfRange, NoSuchPatch, BadLine, LineTooLong, Input, Output, BadImage, BadSetup, NoSuchDrive}
+use Rattle.pdp_script.specs.declared.faults.Fault.TheVariants.{NoMemory, OutsideCore, OddAddress}
+use Rattle.pdp_script.specs.declared.faults.Fault.TheVariants.{OutsideDisk, NoSuchEvent, ScriptFull}
+use Rattle.pdp_script.specs.declared.faults.Fault.TheVariants.{TurnTooLarge, CountOutOfRange}
+use Rattle.pdp_script.specs.declared.faults.Fault.TheVariants.{NoSuchPatch, BadLine, LineTooLong}
+use Rattle.pdp_script.specs.declared.faults.Fault.TheVariants.{Input, Output, BadImage, BadSetup}
+use Rattle.pdp_script.specs.declared.faults.Fault.TheVariants.{NoSuchDrive}
 
 abbrev pub number_of_fault : Fault → ℕ
 number_of_fault NoMemory = 1

@@ -1,10 +1,12 @@
 -- The script of a run as callers see it, and what each edit makes of it (this project's profile).
-use Rattle.std.specs.Prelude.{Bool, ℕ, ◌≡◌, ◌+◌, ◌≤◌, ◌||◌, cond, eqb, nat_lt, nat_le, Option, Some, None, List, length, Result, Ok, Err}
+use Rattle.std.specs.Prelude.{Bool, ℕ, ◌≡◌, ◌+◌, ◌≤◌, ◌||◌, cond, eqb, nat_lt, nat_le, Option, Some}
+use Rattle.std.specs.Prelude.{None, List, length, Result, Ok, Err}
 use Rattle.std.specs.List.{All, AllPairs}
 use Rattle.std.specs.List.Sorted.{IsNonDecreasingBy}
 use Rattle.pdp_script.specs.declared.faults.Fault.{Fault}
-use Rattle.pdp_script.specs.declared.faults.Fault.TheVariants.{NoSuchEvent, ScriptFull, TurnTooLarge}
-use Rattle.pdp_script.specs.Entries.{Entry, entry_of, inserted, without, altered}
+use Rattle.pdp_script.specs.declared.faults.Fault.TheVariants.{NoSuchEvent, ScriptFull}
+use Rattle.pdp_script.specs.declared.faults.Fault.TheVariants.{TurnTooLarge}
+use Rattle.pdp_script.specs.Entries.{Entry, entry_of, inserted_entries, without, altered_entries}
 use Rattle.pdp_script.specs.Refusal.{edit_answer}
 use Rattle.pdp_unibus.specs.LastTurn.{last_turn}
 use Rattle.pdp_unibus.specs.declared.event.Event.{Event}
@@ -24,7 +26,12 @@ most_numbers = 4294967295
 -- with an event under a fresh number
 abbrev pub with_event : ℕ → Event → ScriptData → ScriptData
 with_event turn event script = record {
-  entries = inserted script.entries (record { number = script.given + 1; turn = turn; event = event });
+  entries = inserted_entries script.entries (record {
+    number = script.given + 1;
+    turn = turn;
+    event
+        = event;
+  });
   given = script.given + 1;
 }
 
@@ -32,12 +39,14 @@ with_event turn event script = record {
 abbrev pub insert_edit : ℕ → Event → ScriptData → Result ScriptData Fault
 insert_edit turn event script =
     cond (nat_lt last_turn turn) (Err TurnTooLarge)
-    (cond (nat_le most_events (length script.entries) || eqb script.given most_numbers) (Err ScriptFull)
+    (cond (nat_le most_events (length script.entries) || eqb script.given most_numbers)
+    (Err ScriptFull)
     (Ok (with_event turn event script)))
 
 -- what an insertion answers: one more than how many numbers were given, or its refusal
 abbrev pub insert_answer : ℕ → Event → Bool → ScriptData → Result ℕ Fault
-insert_answer turn event refused script = edit_answer (insert_edit turn event script) refused (script.given + 1)
+insert_answer turn event refused script = edit_answer (insert_edit turn event script) refused
+    (script.given + 1)
 
 -- the script with other entries, or the refusal where there was no such entry
 abbrev pub of_entry : Option Entry → (Entry → List Entry) → ScriptData → Result ScriptData Fault
@@ -49,14 +58,19 @@ abbrev pub alter_edit : ℕ → ℕ → Event → ScriptData → Result ScriptDa
 alter_edit number turn event script =
     cond (nat_lt last_turn turn) (Err TurnTooLarge)
     (of_entry (entry_of script.entries number)
-    (λ old. altered script.entries old (record { number = number; turn = turn; event = event })) script)
+    (λ old. altered_entries script.entries old (record {
+      number = number;
+      turn = turn;
+      event = event;
+    })) script)
 
 -- what dropping an event makes of a script
 abbrev pub drop_edit : ℕ → ScriptData → Result ScriptData Fault
 drop_edit number script =
     of_entry (entry_of script.entries number) (λ _. without script.entries number) script
 
--- what every script is: in order of turns, of few enough events, each of a number of its own among those given
+-- what every script is: in order of turns, of few enough events, each of a number of its own among
+-- those given
 pub record IsScript (script : ScriptData) : Type 0 where
   pub ordered : IsNonDecreasingBy (λ e. e.turn) script.entries
   pub few : length script.entries ≤ most_events

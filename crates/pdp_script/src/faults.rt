@@ -18,7 +18,8 @@ pub enum Fault {
     /// A core address is odd.
     #[error("odd address")]
     OddAddress = 3,
-    /// The number of a word of a drive, or one of the range, is past its last word: octal 4604000 or above.
+    /// The number of a word of a drive, or one of the range, is past its last word: octal 4604000
+    /// or above.
     #[error("outside the disk")]
     OutsideDisk = 4,
     /// No event has this number now.

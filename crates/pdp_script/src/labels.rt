@@ -1,4 +1,5 @@
-ghost use Rattle.std.specs.Prelude.{◌≡◌, ℕ, ◌<◌, ◌≤◌, length, IfOk, IsErr, MatchOption, vec_len, vec_capacity};
+ghost use Rattle.std.specs.Prelude.{◌≡◌, ℕ, ◌<◌, ◌≤◌, length, IfOk, IsErr, MatchOption, vec_len};
+ghost use Rattle.std.specs.Prelude.{vec_capacity};
 ghost use Rattle.std.specs.List.{All, AllWithin};
 ghost use Rattle.pdp_script.specs.Labels.{IsFirstOf, IsInOrder, PutsLast};
 
@@ -13,7 +14,7 @@ pub struct Label {
 }
 
 /// The place of the first label whose turn isn't below `turn`, or the number of labels.
-pub fn place_from(labels: &[Label], turn: u32) -> usize
+pub fn index_from(labels: &[Label], turn: u32) -> usize
     requires { IsInOrder labels.now }
     ensures within { result ≤ length labels.now }
     ensures before { AllWithin (λ (s : Label). s.turn < turn) labels.now 0 result }
@@ -23,7 +24,7 @@ pub fn place_from(labels: &[Label], turn: u32) -> usize
 }
 
 /// The place of the first label of a turn above `turn`, or the number of labels.
-pub fn place_after(labels: &[Label], turn: u32) -> usize
+pub fn index_after(labels: &[Label], turn: u32) -> usize
     requires { IsInOrder labels.now }
     ensures within { result ≤ length labels.now }
     ensures before { AllWithin (λ (s : Label). s.turn ≤ turn) labels.now 0 result }
@@ -33,8 +34,9 @@ pub fn place_after(labels: &[Label], turn: u32) -> usize
 }
 
 /// The place of the first label of this number.
-pub fn place_of(labels: &[Label], number: u32) -> Option<usize>
-    ensures { MatchOption result (All (λ (s : Label). s.number ≡ number → ⊥) labels.now) (IsFirstOf labels.now number) }
+pub fn index_of(labels: &[Label], number: u32) -> Option<usize>
+    ensures { MatchOption result (All (λ (s : Label). s.number ≡ number → ⊥) labels.now)
+        (IsFirstOf labels.now number) }
 {
     labels.iter().position(|label| label.number == number)
 }
@@ -50,7 +52,8 @@ pub fn insert_last(
 ) -> Result<(), NoMemory>
     requires in_step { length labels.old.items ≡ length events.old.items }
     requires ordered { IsInOrder labels.old.items }
-    ensures put { IfOk result (λ _. PutsLast labels.old.items events.old.items label event labels.new.items events.new.items) }
+    ensures put { IfOk result (λ _. PutsLast labels.old.items events.old.items label event
+        labels.new.items events.new.items) }
     ensures same_labels { IsErr result → labels.new.items ≡ labels.old.items }
     ensures same_events { IsErr result → events.new.items ≡ events.old.items }
 {
@@ -66,9 +69,10 @@ pub fn put_last(labels: &mut Vec<Label>, events: &mut Vec<Event>, label: Label, 
     requires ordered { IsInOrder labels.old.items }
     requires labels_room { vec_len labels.old < vec_capacity labels.old }
     requires events_room { vec_len events.old < vec_capacity events.old }
-    ensures { PutsLast labels.old.items events.old.items label event labels.new.items events.new.items }
+    ensures { PutsLast labels.old.items events.old.items label event labels.new.items
+        events.new.items }
 {
-    let place = place_after(labels, label.turn);
-    labels.insert(place, label).unwrap();
-    events.insert(place, event).unwrap();
+    let index = index_after(labels, label.turn);
+    labels.insert(index, label).unwrap();
+    events.insert(index, event).unwrap();
 }

@@ -1,11 +1,12 @@
 ghost use Rattle.std.specs.Prelude.{◌≡◌, ℕ, ◌+◌, [], Option, true, false};
 ghost use Rattle.pdp_script.specs.Entries.{entry_of, events_at, turn_from, IsNextTurn};
 ghost use Rattle.pdp_script.specs.Refusal.{edit_answer, for_memory, past_left};
-ghost use Rattle.pdp_script.specs.Script.{insert_edit, insert_answer, alter_edit, drop_edit, IsScript};
+ghost use Rattle.pdp_script.specs.Script.{insert_edit, insert_answer, alter_edit, drop_edit};
+ghost use Rattle.pdp_script.specs.Script.{IsScript};
 ghost use Rattle.std.specs.Option.{option_map};
 
 use crate::faults::Fault;
-use crate::labels::{Label, insert_last, place_after, place_from, place_of, put_last};
+use crate::labels::{Label, index_after, index_from, index_of, insert_last, put_last};
 use pdp_unibus::{Event, LAST_TURN};
 use std::alloc::Global;
 use std::marker::Model;
@@ -27,9 +28,13 @@ impl Model for Script {
 
     ghost Value = { ScriptData };
 
-    ghost use Rattle.pdp_script.specs.Labels.{labelled, IsKept};
+    ghost use Rattle.pdp_script.specs.Labels.{labelled_entries, IsKept};
 
-    ghost view = { λ s. record { entries = labelled s.labels.items s.events.items; given = s.given } };
+    ghost view = { λ s. record {
+      entries = labelled_entries s.labels.items s.events.items;
+      given =
+          s.given;
+    } };
 
     ghost invariant = { λ s. IsKept s.labels.items s.events.items s.given };
 }
@@ -52,8 +57,8 @@ impl Script {
         ensures events { result.now ≡ events_at self.now.entries turn }
         ensures kept { IsScript self.now }
     {
-        let from = place_from(&self.labels, turn);
-        let to = place_after(&self.labels, turn);
+        let from = index_from(&self.labels, turn);
+        let to = index_after(&self.labels, turn);
         &self.events[from..to]
     }
 
@@ -62,10 +67,10 @@ impl Script {
         ensures turn { result ≡ option_map (λ e. e.turn) (entry_of self.now.entries number) }
         ensures kept { IsScript self.now }
     {
-        let Some(place) = place_of(&self.labels, number) else {
+        let Some(index) = index_of(&self.labels, number) else {
             return None;
         };
-        Some(self.labels[place].turn)
+        Some(self.labels[index].turn)
     }
 
     /// The least turn of an event that is not below `from`, if there is one.
@@ -74,7 +79,7 @@ impl Script {
         ensures least { IsNextTurn self.now.entries from result }
         ensures kept { IsScript self.now }
     {
-        let first = place_from(&self.labels, from);
+        let first = index_from(&self.labels, from);
         if first < self.labels.len() {
             Some(self.labels[first].turn)
         } else {
@@ -87,12 +92,13 @@ impl Script {
     ///
     /// # Errors
     ///
-    /// In this order: `TurnTooLarge` at a turn above 1,000,000,000; `ScriptFull` where 65,536 events
-    /// are there, or 4,294,967,295 numbers were given; `NoMemory` where a growth was refused. The
-    /// script is then as it was, and no number is used up.
+    /// In this order: `TurnTooLarge` at a turn above 1,000,000,000; `ScriptFull` where 65,536
+    /// events are there, or 4,294,967,295 numbers were given; `NoMemory` where a growth was
+    /// refused. The script is then as it was, and no number is used up.
     pub fn insert(&mut self, turn: u32, event: Event) -> Result<u32, Fault>
         ensures answer { result ≡ insert_answer turn event (for_memory result) self.old }
-        ensures after { self.new ≡ past_left (insert_edit turn event self.old) (for_memory result) self.old }
+        ensures after { self.new ≡ past_left (insert_edit turn event self.old)
+            (for_memory result) self.old }
     {
         if turn > LAST_TURN {
             return Err(Fault::TurnTooLarge);
@@ -117,7 +123,7 @@ impl Script {
         ensures answer { result ≡ edit_answer (drop_edit number self.old) false tt }
         ensures after { self.new ≡ past_left (drop_edit number self.old) false self.old }
     {
-        let Some(dropped) = place_of(&self.labels, number) else {
+        let Some(dropped) = index_of(&self.labels, number) else {
             return Err(Fault::NoSuchEvent);
         };
         self.labels.remove(dropped);
@@ -130,8 +136,8 @@ impl Script {
     ///
     /// # Errors
     ///
-    /// In this order: `TurnTooLarge` at a turn above 1,000,000,000; `NoSuchEvent` where no event has
-    /// this number. The script is then as it was.
+    /// In this order: `TurnTooLarge` at a turn above 1,000,000,000; `NoSuchEvent` where no event
+    /// has this number. The script is then as it was.
     pub fn alter(&mut self, number: u32, turn: u32, event: Event) -> Result<(), Fault>
         ensures answer { result ≡ edit_answer (alter_edit number turn event self.old) false tt }
         ensures after { self.new ≡ past_left (alter_edit number turn event self.old) false self.old }
@@ -139,14 +145,14 @@ impl Script {
         if turn > LAST_TURN {
             return Err(Fault::TurnTooLarge);
         }
-        let Some(place) = place_of(&self.labels, number) else {
+        let Some(index) = index_of(&self.labels, number) else {
             return Err(Fault::NoSuchEvent);
         };
-        if self.labels[place].turn == turn {
-            self.events[place] = event;
+        if self.labels[index].turn == turn {
+            self.events[index] = event;
         } else {
-            self.labels.remove(place);
-            self.events.remove(place);
+            self.labels.remove(index);
+            self.events.remove(index);
             put_last(
                 &mut self.labels,
                 &mut self.events,

@@ -1,11 +1,9 @@
 -- Bytes as they are written one after another.
 use Rattle.std.proofs.Common.{◌≡◌, ℕ, zero, suc, ◌+◌, ◌<◌, List, [], ◌∷◌, ◌++◌, length, take, drop, get_or, codes, Result, Ok, Err, refl, sym, ap, ◌∙◌, append_assoc, append-nil, take-append-drop, add-one, subst, arith}
-use Rattle.std.proofs.KnownBytes.{Appends-trans}
-use Rattle.std.specs.Io.KnownBytes.{Appends}
-use Rattle.std.specs.Prelude.{Option}
 use Rattle.pdp_session.specs.Reply.{byte_text, byte_texts, bytes_head, bytes_line}
-use Rattle.pdp_session.specs.Inside.Sends.{Cut, Sends}
-use Rattle.pdp_session.proofs.Pieces.{cut_first, cut_last, cut_later}
+use Rattle.pdp_session.specs.Streams.{OutputData}
+use Rattle.pdp_session.specs.Inside.Sends.{Sent, Cut, Sends}
+use Rattle.pdp_session.proofs.Pieces.{sent_then, cut_first, cut_last, cut_later}
 
 pub no_byte_texts : [] ≡ byte_texts []
 unfolding byte_texts
@@ -37,27 +35,27 @@ bytes_parted bytes front rest others n split left =
     split ∙ ap (λ back. front ++ back) (sym (take-append-drop n rest) ∙ ap (λ back. take n rest ++ back) (sym left))
 
 -- the name, the count and the bytes of this front were written
-abbrev pub IsShownTo : List ℕ → List ℕ → List ℕ → Option (List ℕ) → Option (List ℕ) → Type 0
-IsShownTo name bytes front written written_after = Appends written written_after (bytes_head name (length bytes) ++ byte_texts front)
+abbrev pub IsShownTo : List ℕ → List ℕ → List ℕ → OutputData → OutputData → Type 0
+IsShownTo name bytes front output output_after = Sent (bytes_head name (length bytes) ++ byte_texts front) output output_after
 
-pub shown_head : (name bytes : List ℕ) (written written_after : Option (List ℕ))
-    → Appends written written_after (bytes_head name (length bytes)) → IsShownTo name bytes [] written written_after
+pub shown_head : (name bytes : List ℕ) (output output_after : OutputData)
+    → Sent (bytes_head name (length bytes)) output output_after → IsShownTo name bytes [] output output_after
 unfolding byte_texts
-shown_head name bytes written written_after head = subst (λ all. Appends written written_after all) (sym (append-nil (bytes_head name (length bytes)))) head
+shown_head name bytes output output_after head = subst (λ all. Sent all output output_after) (sym (append-nil (bytes_head name (length bytes)))) head
 
 -- the writer failed before the bytes
-pub bytes_cut_at_head : (name bytes : List ℕ) (written written_after : Option (List ℕ))
-    → Cut (bytes_head name (length bytes)) written written_after → Cut (bytes_line name bytes) written written_after
+pub bytes_cut_at_head : (name bytes : List ℕ) (output output_after : OutputData)
+    → Cut (bytes_head name (length bytes)) output output_after → Cut (bytes_line name bytes) output output_after
 unfolding bytes_line
-bytes_cut_at_head name bytes written written_after cut =
-    cut_first (bytes_head name (length bytes) ++ byte_texts bytes) (codes "\n") written written_after
-    (cut_first (bytes_head name (length bytes)) (byte_texts bytes) written written_after cut)
+bytes_cut_at_head name bytes output output_after cut =
+    cut_first (bytes_head name (length bytes) ++ byte_texts bytes) (codes "\n") output output_after
+    (cut_first (bytes_head name (length bytes)) (byte_texts bytes) output output_after cut)
 
 -- or in some of them
-pub bytes_cut_within : (name bytes front some others : List ℕ) (written between written_after : Option (List ℕ)) → bytes ≡ front ++ (some ++ others)
-    → IsShownTo name bytes front written between → Cut (byte_texts some) between written_after → Cut (bytes_line name bytes) written written_after
+pub bytes_cut_within : (name bytes front some others : List ℕ) (output between output_after : OutputData) → bytes ≡ front ++ (some ++ others)
+    → IsShownTo name bytes front output between → Cut (byte_texts some) between output_after → Cut (bytes_line name bytes) output output_after
 unfolding bytes_line
-bytes_cut_within name bytes front some others written between written_after split before cut =
+bytes_cut_within name bytes front some others output between output_after split before cut =
     let head = bytes_head name (length bytes) in
     let texts : byte_texts bytes ≡ byte_texts front ++ (byte_texts some ++ byte_texts others) =
     ap byte_texts split ∙ byte_texts-append front (some ++ others) ∙ ap (λ back. byte_texts front ++ back) (byte_texts-append some others) in
@@ -66,30 +64,30 @@ bytes_cut_within name bytes front some others written between written_after spli
     ∙ ap (λ all. all ++ codes "\n") (sym (append_assoc head (byte_texts front) (byte_texts some ++ byte_texts others)))
     ∙ append_assoc (head ++ byte_texts front) (byte_texts some ++ byte_texts others) (codes "\n")
     ∙ ap (λ all. (head ++ byte_texts front) ++ all) (append_assoc (byte_texts some) (byte_texts others) (codes "\n")) in
-    subst (λ all. Cut all written written_after) (sym whole)
-    (cut_later (head ++ byte_texts front) (byte_texts some) (byte_texts others ++ codes "\n") written between written_after before cut)
+    subst (λ all. Cut all output output_after) (sym whole)
+    (cut_later (head ++ byte_texts front) (byte_texts some) (byte_texts others ++ codes "\n") output between output_after before cut)
 
 -- or they were written
-pub bytes_go_on : (name bytes front some : List ℕ) (written between written_after : Option (List ℕ))
-    → IsShownTo name bytes front written between → Appends between written_after (byte_texts some) → IsShownTo name bytes (front ++ some) written written_after
-bytes_go_on name bytes front some written between written_after before more =
+pub bytes_go_on : (name bytes front some : List ℕ) (output between output_after : OutputData)
+    → IsShownTo name bytes front output between → Sent (byte_texts some) between output_after → IsShownTo name bytes (front ++ some) output output_after
+bytes_go_on name bytes front some output between output_after before more =
     let head = bytes_head name (length bytes) in
     let whole : (head ++ byte_texts front) ++ byte_texts some ≡ head ++ byte_texts (front ++ some) =
     append_assoc head (byte_texts front) (byte_texts some) ∙ ap (λ texts. head ++ texts) (sym (byte_texts-append front some)) in
-    subst (λ all. Appends written written_after all) whole (Appends-trans written between written_after (head ++ byte_texts front) (byte_texts some) before more)
+    subst (λ all. Sent all output output_after) whole (sent_then (head ++ byte_texts front) (byte_texts some) output between output_after before more)
 
 -- after all bytes the line ends, or the writer fails there
-pub bytes_end : {T E : Type 0} (name bytes front rest : List ℕ) (written between written_after : Option (List ℕ)) (result : Result T E)
-    → bytes ≡ front ++ rest → length rest ≡ 0 → IsShownTo name bytes front written between → Sends (codes "\n") between written_after result
-    → Sends (bytes_line name bytes) written written_after result
+pub bytes_end : {T E : Type 0} (name bytes front rest : List ℕ) (output between output_after : OutputData) (result : Result T E)
+    → bytes ≡ front ++ rest → length rest ≡ 0 → IsShownTo name bytes front output between → Sends (codes "\n") between output_after result
+    → Sends (bytes_line name bytes) output output_after result
 unfolding bytes_line
-bytes_end name bytes front (b ∷ bs) written between written_after result split none before sent = absurd (omega arith)
-bytes_end name bytes front [] written between written_after result split none before sent =
+bytes_end name bytes front (b ∷ bs) output between output_after result split none before sent = absurd (omega arith)
+bytes_end name bytes front [] output between output_after result split none before sent =
     let all : bytes ≡ front = split ∙ append-nil front in
-    by_result result (subst (λ shown. IsShownTo name bytes shown written between) (sym all) before) sent
+    by_result result (subst (λ shown. IsShownTo name bytes shown output between) (sym all) before) sent
   where
-    by_result : {T E : Type 0} (r : Result T E) → IsShownTo name bytes bytes written between → Sends (codes "\n") between written_after r → Sends (bytes_line name bytes) written written_after r
+    by_result : {T E : Type 0} (r : Result T E) → IsShownTo name bytes bytes output between → Sends (codes "\n") between output_after r → Sends (bytes_line name bytes) output output_after r
     by_result (Ok x) shown sent =
-        Appends-trans written between written_after (bytes_head name (length bytes) ++ byte_texts bytes) (codes "\n") shown sent
+        sent_then (bytes_head name (length bytes) ++ byte_texts bytes) (codes "\n") output between output_after shown sent
     by_result (Err e) shown sent =
-        cut_last (bytes_head name (length bytes) ++ byte_texts bytes) (codes "\n") written between written_after shown sent
+        cut_last (bytes_head name (length bytes) ++ byte_texts bytes) (codes "\n") output between output_after shown sent

@@ -1,6 +1,6 @@
 -- What a call of the session's parts does to how far it has come.
-use Rattle.std.proofs.Common.{◌≡◌, ℕ, ◌+◌, ◌<◌, Result, Ok, Err, Option, List, [], ◌∷◌, ◌++◌, length, take, drop, get_or, sym, ap, ◌∙◌, append_assoc, append-nil, take-append-drop}
-use Rattle.std.proofs.KnownBytes.{Appends-nil, Appends-trans}
+use Rattle.std.proofs.Common.{◌≡◌, ℕ, ◌+◌, ◌<◌, Result, Ok, Err, List, [], ◌∷◌, ◌++◌, length, take, drop, get_or, sym, ap, ◌∙◌, append_assoc, append-nil, take-append-drop}
+use Rattle.std.proofs.KnownBytes.{Appends-trans}
 use Rattle.std.proofs.lemmas.List.{take_more}
 use Rattle.pdp_replay.specs.Past.{Past}
 use Rattle.pdp_session.specs.Command.{past_after}
@@ -8,6 +8,8 @@ use Rattle.pdp_session.specs.Lines.{without_return, lines_of}
 use Rattle.pdp_session.specs.Inside.Progress.{Reached, Goes, Breaks, Serves, Moves, Finishes}
 use Rattle.pdp_session.specs.Reply.{text_to}
 use Rattle.pdp_session.specs.Session.{BeginsReplies}
+use Rattle.pdp_session.specs.Streams.{OutputData}
+use Rattle.pdp_session.proofs.Pieces.{sent_nothing, sent_then}
 use Rattle.pdp_session.proofs.Reaching.{line_reached, broken, last_replied}
 use Rattle.pdp_session.proofs.Replying.{answers, begins_answers}
 
@@ -16,33 +18,34 @@ cut_text : (out text taken unwritten : List ℕ) → text ≡ taken ++ unwritten
 cut_text out text taken unwritten split = ap (λ back. out ++ back) split ∙ sym (append_assoc out taken unwritten)
 
 -- the line that an LF ended was served
-pub line_moves : {T E : Type 0} (past : Past) (done out held : List ℕ) (now after : Past) (written written_after : Option (List ℕ)) (result : Result T E)
-    → Reached past done out held now → Serves (without_return held) now after written written_after result
-    → Moves past (done ++ 10 ∷ []) out written written_after [] after result
-line_moves past done out held now after written written_after (Ok x) r s = record {
+pub line_moves : {T E : Type 0} (past : Past) (done out held : List ℕ) (now after : Past) (output output_after : OutputData) (result : Result T E)
+    → Reached past done out held now → Serves (without_return held) now after output output_after result
+    → Moves past (done ++ 10 ∷ []) out output output_after [] after result
+line_moves past done out held now after output output_after (Ok x) r s = record {
   more = text_to (without_return held) s.refused now;
-  writes = s.sends;
+  sent = s.sends;
   reached = rw s.after (line_reached past done out held now s.refused s.only r);
 }
-line_moves past done out held now after written written_after (Err e) r s =
+line_moves past done out held now after output output_after (Err e) r s =
     let text = text_to (without_return held) s.refused now in
     let reached : Reached past (done ++ 10 ∷ []) ((out ++ s.sends.taken) ++ s.sends.unwritten) [] (past_after (without_return held) s.refused now) =
     rw (← cut_text out text s.sends.taken s.sends.unwritten s.sends.split) (line_reached past done out held now s.refused s.only r) in
     record {
       more = s.sends.taken;
       writes = s.sends.writes;
+      failed = s.sends.failed;
       broken = broken past (done ++ 10 ∷ []) (out ++ s.sends.taken) s.sends.unwritten [] _ reached;
     }
 
 -- the line that the end of the input left open was served
-pub last_finishes : {T E : Type 0} (past : Past) (done out held : List ℕ) (now after : Past) (written written_after : Option (List ℕ)) (result : Result T E)
-    → 0 < length held → Reached past done out held now → Serves held now after written written_after result → Finishes past done out written written_after result
-last_finishes past done out held now after written written_after (Ok x) some r s = record {
+pub last_finishes : {T E : Type 0} (past : Past) (done out held : List ℕ) (now after : Past) (output output_after : OutputData) (result : Result T E)
+    → 0 < length held → Reached past done out held now → Serves held now after output output_after result → Finishes past done out output output_after result
+last_finishes past done out held now after output output_after (Ok x) some r s = record {
   more = text_to held s.refused now;
-  writes = s.sends;
+  sent = s.sends;
   answers = answers past (lines_of done) _ _ (last_replied past done out held now s.refused s.only some r);
 }
-last_finishes past done out held now after written written_after (Err e) some r s =
+last_finishes past done out held now after output output_after (Err e) some r s =
     let text = text_to held s.refused now in
     let begins : BeginsReplies past (lines_of done ++ []) (out ++ s.sends.taken) =
     begins_answers past (lines_of done) (out ++ s.sends.taken) s.sends.unwritten (past_after held s.refused now) []
@@ -50,39 +53,42 @@ last_finishes past done out held now after written written_after (Err e) some r 
     record {
       more = s.sends.taken;
       writes = s.sends.writes;
+      failed = s.sends.failed;
       begins = rw append-nil at begins;
     }
 
 -- nothing was written
-pub nothing_more : (past : Past) (done out held : List ℕ) (now : Past) (written : Option (List ℕ)) → Reached past done out held now
-    → Goes past done out written written held now
-nothing_more past done out held now written r = record {
+pub nothing_more : (past : Past) (done out held : List ℕ) (now : Past) (output : OutputData) → Reached past done out held now
+    → Goes past done out output output held now
+nothing_more past done out held now output r = record {
   more = [];
-  writes = Appends-nil written;
+  sent = sent_nothing output;
   reached = rw (append-nil out) r;
 }
 
 -- some bytes, and then some more
-pub then_moves : {T E : Type 0} (past : Past) (done all out held now_held : List ℕ) (between now : Past) (written written_between written_after : Option (List ℕ)) (result : Result T E)
-    → (g : Goes past done out written written_between held between) → Moves past all (out ++ g.more) written_between written_after now_held now result
-    → Moves past all out written written_after now_held now result
-then_moves past done all out held now_held between now written written_between written_after (Ok x) g m = record {
+pub then_moves : {T E : Type 0} (past : Past) (done all out held now_held : List ℕ) (between now : Past) (output output_between output_after : OutputData) (result : Result T E)
+    → (g : Goes past done out output output_between held between) → Moves past all (out ++ g.more) output_between output_after now_held now result
+    → Moves past all out output output_after now_held now result
+then_moves past done all out held now_held between now output output_between output_after (Ok x) g m = record {
   more = g.more ++ m.more;
-  writes = Appends-trans written written_between written_after g.more m.more g.writes m.writes;
+  sent = sent_then g.more m.more output output_between output_after g.sent m.sent;
   reached = rw (← append_assoc out g.more m.more) m.reached;
 }
-then_moves past done all out held now_held between now written written_between written_after (Err e) g m = record {
+then_moves past done all out held now_held between now output output_between output_after (Err e) g m = record {
   more = g.more ++ m.more;
-  writes = Appends-trans written written_between written_after g.more m.more g.writes m.writes;
+  writes = Appends-trans output.written output_between.written output_after.written g.more m.more g.sent.writes m.writes;
+  failed = m.failed;
   broken = rw (← append_assoc out g.more m.more) m.broken;
 }
 
 -- the writer failed before the rest was taken
-pub breaks_early : (past : Past) (done rest out : List ℕ) (written written_after : Option (List ℕ)) → Breaks past done out written written_after
-    → Breaks past (done ++ rest) out written written_after
-breaks_early past done rest out written written_after b = record {
+pub breaks_early : (past : Past) (done rest out : List ℕ) (output output_after : OutputData) → Breaks past done out output output_after
+    → Breaks past (done ++ rest) out output output_after
+breaks_early past done rest out output output_after b = record {
   more = b.more;
   writes = b.writes;
+  failed = b.failed;
   broken = λ next. rw append_assoc (b.broken (rest ++ next));
 }
 

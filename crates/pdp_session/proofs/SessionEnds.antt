@@ -5,8 +5,8 @@ use Rattle.pdp_script.specs.Refusal.{question_answer, result_map}
 use Rattle.pdp_script.specs.declared.faults.Fault.{Fault}
 use Rattle.pdp_script.specs.declared.faults.Fault.TheVariants.{BadImage, BadSetup, NoMemory}
 use Rattle.pdp_session.specs.Session.{Ends, is_told_first}
-use Rattle.pdp_replay.specs.Past.{unscripted}
-use Rattle.pdp_replay.specs.Setup.{SetupData, setup_checked, has_good_numbers, has_good_images}
+use Rattle.pdp_replay.specs.Past.{past_without_events}
+use Rattle.pdp_replay.specs.Past.Setup.{SetupData, setup_checked, has_good_numbers, has_good_images}
 use Rattle.pdp_replay.specs.Timeline.{Timeline, fresh}
 
 abbrev is_start : Result SetupData Fault → Bool
@@ -39,14 +39,14 @@ start_refuses f setup fault refused e =
 
 -- a session begins with the past of its engine
 pub starts_with : (checked : Result SetupData Fault) (refused : Bool) (t : Timeline) → Ok t ≡ result_map fresh (question_answer checked refused)
-    → result_map unscripted checked ≡ Ok t.past
+    → result_map past_without_events checked ≡ Ok t.past
 starts_with (Ok setup) true t is = cc
 starts_with (Ok setup) false t is = let same : t ≡ fresh setup = cc in rw same refl
 starts_with (Err fault) refused t is = cc
 
 -- and where there is none it has read and written nothing
 pub ends_refused : (checked : Result SetupData Fault) (refused : Bool) (fault : Fault) (rest : Option (List ℕ))
-    → Err fault ≡ result_map fresh (question_answer checked refused) → Ends (result_map unscripted checked) [] [] rest (Err fault)
+    → Err fault ≡ result_map fresh (question_answer checked refused) → Ends (result_map past_without_events checked) [] [] rest (Err fault)
 ends_refused (Ok setup) true fault rest is = let same : fault ≡ NoMemory = cc in rw same (refl, refl)
 ends_refused (Ok setup) false fault rest is = cc
 ends_refused (Err other) refused fault rest is = let same : fault ≡ other = cc in rw same (refl, refl, refl)

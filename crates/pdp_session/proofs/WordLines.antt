@@ -1,12 +1,10 @@
 -- Words as they are written one after another, and in a line after a name.
 use Rattle.std.proofs.Common.{◌≡◌, ℕ, zero, suc, ◌+◌, ◌<◌, ◌≤◌, List, [], ◌∷◌, ◌++◌, length, take, drop, get_or, codes, Result, Ok, Err, refl, sym, ap, ◌∙◌, append_assoc, append-nil, add-one, subst, arith}
-use Rattle.std.proofs.KnownBytes.{Appends-trans}
-use Rattle.std.specs.Io.KnownBytes.{Appends}
-use Rattle.std.specs.Prelude.{Option}
 use Rattle.std.proofs.lemmas.List.{take_all}
 use Rattle.pdp_session.specs.Reply.{word_text, word_texts, words_line}
-use Rattle.pdp_session.specs.Inside.Sends.{Cut, Sends}
-use Rattle.pdp_session.proofs.Pieces.{cut_first, cut_last, cut_later}
+use Rattle.pdp_session.specs.Streams.{OutputData}
+use Rattle.pdp_session.specs.Inside.Sends.{Sent, Cut, Sends}
+use Rattle.pdp_session.proofs.Pieces.{sent_then, cut_first, cut_last, cut_later}
 
 word_texts_suc : (words : List ℕ) (i : ℕ) → i < length words
     → word_texts (take (suc i) words) ≡ word_texts (take i words) ++ word_text (get_or words i 0)
@@ -34,22 +32,22 @@ word_texts_split (w ∷ ws) (suc i) below =
     ∙ sym (append_assoc (word_text w) (word_texts (take i ws)) (word_text (get_or ws i 0) ++ word_texts (drop (suc i) ws)))
 
 -- the name and i words were written
-abbrev pub AreWordsTo : List ℕ → List ℕ → ℕ → Option (List ℕ) → Option (List ℕ) → Type 0
-AreWordsTo name words i written written_after = Appends written written_after (name ++ word_texts (take i words))
+abbrev pub AreWordsTo : List ℕ → List ℕ → ℕ → OutputData → OutputData → Type 0
+AreWordsTo name words i output output_after = Sent (name ++ word_texts (take i words)) output output_after
 
 -- the writer failed in the name
-pub words_cut_at_name : (name words : List ℕ) (written written_after : Option (List ℕ))
-    → Cut name written written_after → Cut (words_line name words) written written_after
+pub words_cut_at_name : (name words : List ℕ) (output output_after : OutputData)
+    → Cut name output output_after → Cut (words_line name words) output output_after
 unfolding words_line
-words_cut_at_name name words written written_after cut =
-    cut_first (name ++ word_texts words) (codes "\n") written written_after
-    (cut_first (name) (word_texts words) written written_after cut)
+words_cut_at_name name words output output_after cut =
+    cut_first (name ++ word_texts words) (codes "\n") output output_after
+    (cut_first (name) (word_texts words) output output_after cut)
 
 -- or in a word
-pub words_cut_at_word : (name words : List ℕ) (i : ℕ) (written between written_after : Option (List ℕ)) → i < length words
-    → AreWordsTo name words i written between → Cut (word_text (get_or words i 0)) between written_after → Cut (words_line name words) written written_after
+pub words_cut_at_word : (name words : List ℕ) (i : ℕ) (output between output_after : OutputData) → i < length words
+    → AreWordsTo name words i output between → Cut (word_text (get_or words i 0)) between output_after → Cut (words_line name words) output output_after
 unfolding words_line
-words_cut_at_word name words i written between written_after below before cut =
+words_cut_at_word name words i output between output_after below before cut =
     let front = name ++ word_texts (take i words) in
     let text = word_text (get_or words i 0) in
     let others = word_texts (drop (suc i) words) in
@@ -58,27 +56,27 @@ words_cut_at_word name words i written between written_after below before cut =
     ∙ ap (λ texts. texts ++ codes "\n") (sym (append_assoc (name) (word_texts (take i words)) (text ++ others)))
     ∙ append_assoc front (text ++ others) (codes "\n")
     ∙ ap (λ texts. front ++ texts) (append_assoc text others (codes "\n")) in
-    subst (λ all. Cut all written written_after) (sym whole)
-    (cut_later front text (others ++ codes "\n") written between written_after before cut)
+    subst (λ all. Cut all output output_after) (sym whole)
+    (cut_later front text (others ++ codes "\n") output between output_after before cut)
 
 -- or one more word was written
-pub words_goes_on : (name words : List ℕ) (i : ℕ) (written between written_after : Option (List ℕ)) → i < length words
-    → AreWordsTo name words i written between → Appends between written_after (word_text (get_or words i 0)) → AreWordsTo name words (i + 1) written written_after
-words_goes_on name words i written between written_after below before word =
+pub words_goes_on : (name words : List ℕ) (i : ℕ) (output between output_after : OutputData) → i < length words
+    → AreWordsTo name words i output between → Sent (word_text (get_or words i 0)) between output_after → AreWordsTo name words (i + 1) output output_after
+words_goes_on name words i output between output_after below before word =
     let front = name ++ word_texts (take i words) in
     let text = word_text (get_or words i 0) in
     let whole : front ++ text ≡ name ++ word_texts (take (i + 1) words) =
     append_assoc (name) (word_texts (take i words)) text
     ∙ rw add-one (ap (λ texts. name ++ texts) (sym (word_texts_suc words i below))) in
-    subst (λ all. Appends written written_after all) whole (Appends-trans written between written_after front text before word)
+    subst (λ all. Sent all output output_after) whole (sent_then front text output between output_after before word)
 
 -- after all words the line ends, or the writer fails there
-pub words_ends : {T E : Type 0} (name words : List ℕ) (i : ℕ) (written between written_after : Option (List ℕ)) (result : Result T E) → length words ≤ i
-    → AreWordsTo name words i written between → Sends (codes "\n") between written_after result → Sends (words_line name words) written written_after result
+pub words_ends : {T E : Type 0} (name words : List ℕ) (i : ℕ) (output between output_after : OutputData) (result : Result T E) → length words ≤ i
+    → AreWordsTo name words i output between → Sends (codes "\n") between output_after result → Sends (words_line name words) output output_after result
 unfolding words_line
-words_ends name words i written between written_after (Ok x) all before sent =
-    let front : Appends written between (name ++ word_texts words) = rw (take_all i words all) at before in
-    Appends-trans written between written_after (name ++ word_texts words) (codes "\n") front sent
-words_ends name words i written between written_after (Err e) all before sent =
-    let front : Appends written between (name ++ word_texts words) = rw (take_all i words all) at before in
-    cut_last (name ++ word_texts words) (codes "\n") written between written_after front sent
+words_ends name words i output between output_after (Ok x) all before sent =
+    let front : Sent (name ++ word_texts words) output between = rw (take_all i words all) at before in
+    sent_then (name ++ word_texts words) (codes "\n") output between output_after front sent
+words_ends name words i output between output_after (Err e) all before sent =
+    let front : Sent (name ++ word_texts words) output between = rw (take_all i words all) at before in
+    cut_last (name ++ word_texts words) (codes "\n") output between output_after front sent

@@ -1,17 +1,23 @@
--- What a line is answered, and the past that it leaves (this project's profile). Whether it is out of memory comes in
--- as a flag: it is told only where nothing else refuses the line, and only of a command.
+-- What a line is answered, and the past that it leaves (this project's profile). Whether it is out
+-- of memory comes in as a flag: it is told only where nothing else refuses the line, and only of a
+-- command.
 use Rattle.std.specs.Prelude.{Bool, true, false, List, ℕ, ◌+◌, Option, None, Some, Result, Ok, Err}
 use Rattle.pdp_script.specs.Refusal.{edit_answer, question_answer, past_left}
 use Rattle.pdp_script.specs.declared.faults.Fault.{Fault}
 use Rattle.pdp_script.specs.declared.faults.Fault.TheVariants.{NoMemory}
-use Rattle.pdp_replay.specs.Answer.{answer_to}
-use Rattle.pdp_replay.specs.Edit.{core_edit, revert_edit, disk_edit, tape_edit, delay_edit, drives_edit, event_insertion, event_alteration, event_drop}
+use Rattle.pdp_replay.specs.Ask.Answer.{answer_to}
+use Rattle.pdp_replay.specs.Past.Edit.{core_edit, revert_edit, disk_edit, tape_edit, delay_edit}
+use Rattle.pdp_replay.specs.Past.Edit.{drives_edit, event_insertion, event_alteration, event_drop}
 use Rattle.pdp_replay.specs.Past.{Past}
-use Rattle.pdp_replay.specs.declared.question.Value.{Value}
+use Rattle.pdp_replay.specs.declared.ask.question.Value.{Value}
 use Rattle.pdp_session.specs.declared.command.Command.{Command}
-use Rattle.pdp_session.specs.declared.command.Command.TheVariants.{SetCore, RevertCore, SetDisk, SetTape, SetDelay, UseEightDrives, Insert, Alter, DropEvent, ListPatches, Ask}
+use Rattle.pdp_session.specs.declared.command.Command.TheVariants.{SetCore, RevertCore, SetDisk}
+use Rattle.pdp_session.specs.declared.command.Command.TheVariants.{SetTape, SetDelay}
+use Rattle.pdp_session.specs.declared.command.Command.TheVariants.{UseEightDrives, Insert, Alter}
+use Rattle.pdp_session.specs.declared.command.Command.TheVariants.{DropEvent, ListPatches, Ask}
 use Rattle.pdp_session.specs.declared.reply.Reply.{Reply}
-use Rattle.pdp_session.specs.declared.reply.Reply.TheVariants.{Nothing, Done, Inserted, Shown, Listed, Refused}
+use Rattle.pdp_session.specs.declared.reply.Reply.TheVariants.{Nothing, Done, Inserted, Shown}
+use Rattle.pdp_session.specs.declared.reply.Reply.TheVariants.{Listed, Refused}
 use Rattle.pdp_session.specs.Grammar.{line_means}
 use Rattle.pdp_session.specs.Version.{version_of}
 
@@ -31,27 +37,40 @@ ask_reply (Ok value) = Shown value
 ask_reply (Err fault) = Refused fault
 
 abbrev pub command_reply : Command → Bool → Past → Reply
-command_reply (SetCore address word) refused past = edit_reply {X = Unit {0}} (edit_answer (core_edit address word past) refused tt)
-command_reply (RevertCore address) refused past = edit_reply {X = Unit {0}} (edit_answer (revert_edit address past) refused tt)
-command_reply (SetDisk drive number word) refused past = edit_reply {X = Unit {0}} (edit_answer (disk_edit drive number word past) refused tt)
-command_reply (SetTape tape) refused past = edit_reply {X = Unit {0}} (edit_answer (tape_edit tape.items past) refused tt)
-command_reply (SetDelay line turns) refused past = edit_reply (delay_edit line turns past)
-command_reply UseEightDrives refused past = edit_reply {X = Unit {0}} (edit_answer (drives_edit past) refused tt)
-command_reply (Insert turn event) refused past = insertion_reply (edit_answer (event_insertion turn event past) refused (past.script.given + 1))
-command_reply (Alter number turn event) refused past = edit_reply (event_alteration number turn event past)
+command_reply (SetCore address word) refused past = edit_reply {X = Unit {0}} (edit_answer
+    (core_edit address word past) refused tt)
+command_reply (RevertCore address) refused past = edit_reply {X = Unit {0}} (edit_answer
+    (revert_edit address past) refused tt)
+command_reply (SetDisk drive number word) refused past = edit_reply {X = Unit {0}} (edit_answer
+    (disk_edit drive number word past) refused tt)
+command_reply (SetTape tape) refused past = edit_reply {X = Unit {0}} (edit_answer
+    (tape_edit tape.items past) refused tt)
+command_reply (SetDelay device turns) refused past = edit_reply (delay_edit device turns past)
+command_reply UseEightDrives refused past = edit_reply {X = Unit {0}} (edit_answer
+    (drives_edit past) refused tt)
+command_reply (Insert turn event) refused past = insertion_reply (edit_answer
+    (event_insertion turn event past) refused (past.script.given + 1))
+command_reply (Alter number turn event) refused past = edit_reply (event_alteration number turn
+    event past)
 command_reply (DropEvent number) refused past = edit_reply (event_drop number past)
 command_reply ListPatches refused past = Listed
-command_reply (Ask question) refused past = ask_reply (question_answer (answer_to question past) refused)
+command_reply (Ask question) refused past = ask_reply (question_answer (answer_to question past)
+    refused)
 
 abbrev pub command_leaves : Command → Bool → Past → Past
-command_leaves (SetCore address word) refused past = past_left (core_edit address word past) refused past
+command_leaves (SetCore address word) refused past = past_left (core_edit address word past) refused
+    past
 command_leaves (RevertCore address) refused past = past_left (revert_edit address past) refused past
-command_leaves (SetDisk drive number word) refused past = past_left (disk_edit drive number word past) refused past
+command_leaves (SetDisk drive number word) refused past = past_left (disk_edit drive number word
+    past) refused past
 command_leaves (SetTape tape) refused past = past_left (tape_edit tape.items past) refused past
-command_leaves (SetDelay line turns) refused past = past_left (delay_edit line turns past) false past
+command_leaves (SetDelay device turns) refused past = past_left (delay_edit device turns past) false
+    past
 command_leaves UseEightDrives refused past = past_left (drives_edit past) refused past
-command_leaves (Insert turn event) refused past = past_left (event_insertion turn event past) refused past
-command_leaves (Alter number turn event) refused past = past_left (event_alteration number turn event past) false past
+command_leaves (Insert turn event) refused past = past_left (event_insertion turn event past)
+    refused past
+command_leaves (Alter number turn event) refused past = past_left (event_alteration number turn
+    event past) false past
 command_leaves (DropEvent number) refused past = past_left (event_drop number past) false past
 command_leaves ListPatches refused past = past
 command_leaves (Ask question) refused past = past
@@ -66,7 +85,8 @@ past_meant (Err fault) refused past = past
 past_meant (Ok None) refused past = past
 past_meant (Ok (Some command)) refused past = command_leaves command refused past
 
--- what a line is answered, and the past after it: it is read in the version that the session has then
+-- what a line is answered, and the past after it: it is read in the version that the session has
+-- then
 unfoldable pub reply_to : List ℕ → Bool → Past → Reply
 reply_to line refused past = reply_meant (line_means (version_of past) line) refused past
 

@@ -1,6 +1,7 @@
--- The grammar of a line (this project's profile): the command that it is, no command where it has no
--- words or is a comment, or the refusal of its form. Ranges are no part of the grammar.
-use Rattle.std.specs.Prelude.{ℕ, Bool, ◌==◌, nat_lt, if◌then◌else◌, List, [], ◌∷◌, length, slice_index, codes, Option, None, Some, Result, Ok, Err}
+-- The grammar of a line (this project's profile): the command that it is, no command where it has
+-- no words or is a comment, or the refusal of its form. Ranges are no part of the grammar.
+use Rattle.std.specs.Prelude.{ℕ, Bool, ◌==◌, nat_lt, if◌then◌else◌, List, [], ◌∷◌, length}
+use Rattle.std.specs.Prelude.{slice_index, codes, Option, None, Some, Result, Ok, Err}
 use Rattle.std.specs.Option.{option_map, ok_or}
 use Rattle.std.specs.Str.{bytes_eq}
 use Rattle.arrayvec.specs.ArrayVec.{ArrayVec}
@@ -8,12 +9,17 @@ use Rattle.pdp_word.specs.Number.{number_of}
 use Rattle.pdp_script.specs.declared.faults.Fault.{Fault}
 use Rattle.pdp_script.specs.declared.faults.Fault.TheVariants.{BadLine, LineTooLong}
 use Rattle.pdp_session.specs.declared.command.Command.{Command}
-use Rattle.pdp_session.specs.declared.command.Command.TheVariants.{SetCore, RevertCore, SetDisk, SetTape, SetDelay, UseEightDrives, Insert, Alter, DropEvent, ListPatches, Ask}
+use Rattle.pdp_session.specs.declared.command.Command.TheVariants.{SetCore, RevertCore, SetDisk}
+use Rattle.pdp_session.specs.declared.command.Command.TheVariants.{SetTape, SetDelay}
+use Rattle.pdp_session.specs.declared.command.Command.TheVariants.{UseEightDrives, Insert, Alter}
+use Rattle.pdp_session.specs.declared.command.Command.TheVariants.{DropEvent, ListPatches, Ask}
 use Rattle.pdp_session.specs.declared.version.Version.{Version}
-use Rattle.pdp_session.specs.Grammar.Arguments.{◌>>=◌, first_of, one_of, two_of, drive_first, word_named, bytes_named, line_named, event_named, turn_named}
+use Rattle.pdp_session.specs.Grammar.Arguments.{◌>>=◌, first_of, one_of, two_of, drive_first}
+use Rattle.pdp_session.specs.Grammar.Arguments.{word_named, bytes_named, device_named, event_named}
+use Rattle.pdp_session.specs.Grammar.Arguments.{turn_named}
 use Rattle.pdp_session.specs.Grammar.Events.{event_of}
 use Rattle.pdp_session.specs.Grammar.Questions.{question_with}
-use Rattle.pdp_session.specs.Grammar.Words.{words_of}
+use Rattle.pdp_session.specs.Grammar.Words.{words_of_line}
 use Rattle.pdp_session.specs.Lines.{longest_line}
 pub mod Arguments
 pub mod Events
@@ -55,9 +61,9 @@ tape_form arguments = option_map (λ bytes. SetTape (tape_of bytes)) (bytes_name
 abbrev pub delay_form : List (List ℕ) → Option Command
 delay_form arguments = do
   (name, turns) ← two_of arguments
-  line ← line_named name
+  device ← device_named name
   n ← turn_named turns
-  Some (SetDelay line n)
+  Some (SetDelay device n)
 
 -- `at T event`: a turn, in decimal, and an event
 abbrev pub at_form : List (List ℕ) → Option Command
@@ -96,7 +102,8 @@ abbrev pub patches_form : List (List ℕ) → Option Command
 patches_form [] = Some ListPatches
 patches_form _ = None
 
--- a command by its name and the words that follow it; a name that is none of these may be a question's
+-- a command by its name and the words that follow it; a name that is none of these may be a
+-- question's
 unfoldable pub command_with : Version → List ℕ → List (List ℕ) → Option Command
 command_with version name arguments =
     if bytes_eq name (codes "core") then core_form arguments
@@ -126,4 +133,4 @@ unfoldable pub line_means : Version → List ℕ → Result (Option Command) Fau
 line_means version line =
     if nat_lt longest_line (length line) then Err LineTooLong
     else if is_comment line then Ok None
-    else command_of version (words_of line)
+    else command_of version (words_of_line line)

@@ -1,6 +1,7 @@
 -- The lines of a text (this project's profile). A line ends at LF, and one CR directly before that
 -- LF is dropped. What follows the last LF is a line too, as it stands, unless it is empty.
-use Rattle.std.specs.Prelude.{ℕ, Bool, List, [], ◌∷◌, ◌++◌, ◌-◌, ◌==◌, if◌then◌else◌, length, take, slice_index}
+use Rattle.std.specs.Prelude.{ℕ, Bool, List, [], ◌∷◌, ◌++◌, ◌-◌, ◌==◌, if◌then◌else◌, length, take}
+use Rattle.std.specs.Prelude.{slice_index}
 use Rattle.std.specs.List.{slice_split}
 
 -- the most bytes that a line of the grammar has
@@ -12,7 +13,8 @@ is_line_feed byte = byte == 10
 
 -- a line less one CR at its end
 abbrev pub without_return : List ℕ → List ℕ
-without_return line = if slice_index line (length line - 1) == 13 then take (length line - 1) line else line
+without_return line = if slice_index line (length line - 1) == 13 then take
+    (length line - 1) line else line
 
 -- of the pieces between line feeds, the lines that an LF ended: all but the last
 abbrev pub closed_pieces : List (List ℕ) → List (List ℕ)
@@ -32,4 +34,5 @@ ended_lines text = closed_pieces (slice_split is_line_feed text)
 
 -- all lines
 unfoldable pub lines_of : List ℕ → List (List ℕ)
-lines_of text = closed_pieces (slice_split is_line_feed text) ++ open_piece (slice_split is_line_feed text)
+lines_of text = closed_pieces (slice_split is_line_feed text) ++ open_piece
+    (slice_split is_line_feed text)

@@ -1,5 +1,7 @@
 -- What a reply is as text: lines that each end in LF (this project's profile).
-use Rattle.std.specs.Prelude.{ℕ, Bool, ◌==◌, ◌&&◌, not, nat_le, if◌then◌else◌, length, List, [], ◌∷◌, ◌++◌, codes, decimal, Option, None, Some, option_to_list, slice_get, slice_index}
+use Rattle.std.specs.Prelude.{ℕ, Bool, ◌==◌, ◌&&◌, not, nat_le, if◌then◌else◌, length, List, []}
+use Rattle.std.specs.Prelude.{◌∷◌, ◌++◌, codes, decimal, Option, None, Some, option_to_list}
+use Rattle.std.specs.Prelude.{slice_get, slice_index}
 use Rattle.std.specs.List.{flat_map}
 use Rattle.pdp_word.specs.Number.{octal_digits}
 use Rattle.pdp_script.specs.Fault.{number_of_fault, name_of_fault}
@@ -9,21 +11,29 @@ use Rattle.pdp_store.specs.declared.Agent.TheVariants.{Cpu as ByProcessor, Disk 
 use Rattle.pdp_cpu.specs.declared.act.Act.{Act}
 use Rattle.pdp_cpu.specs.declared.act.Act.TheVariants.{Instr, Trace, Stack, Irq, Idle}
 use Rattle.pdp_cpu.specs.declared.regs.Regs.{Regs}
-use Rattle.pdp_cpu.specs.declared.devices.DeviceRegisters.{DeviceRegisters}
-use Rattle.pdp_cpu.specs.declared.pages.PageRegisters.{PageRegisters}
+use Rattle.pdp_unibus.specs.declared.device_registers.DeviceRegisters.{DeviceRegisters}
+use Rattle.pdp_unibus.specs.declared.page_registers.PageRegisters.{PageRegisters}
 use Rattle.pdp_operand.specs.declared.processor.RunState.{RunState}
 use Rattle.pdp_operand.specs.declared.processor.RunState.TheVariants.{Run, Wait, Halted}
-use Rattle.pdp_replay.specs.Edit.{patch_shown}
+use Rattle.pdp_replay.specs.Past.Edit.{patch_shown}
 use Rattle.pdp_replay.specs.Past.{Past}
-use Rattle.pdp_replay.specs.declared.patch.Patch.{Patch}
-use Rattle.pdp_replay.specs.declared.patch.Patch.TheVariants.{Core, Disk}
-use Rattle.pdp_replay.specs.declared.patch.PatchKey.{PatchKey}
-use Rattle.pdp_replay.specs.declared.last_write.LastWrite.{LastWrite}
-use Rattle.pdp_replay.specs.declared.question.Value.{Value}
-use Rattle.pdp_replay.specs.declared.question.Value.TheVariants.{Regs as RegsAre, Core as CoreIs, Text as TextIs, Punched as PunchedAre, Devices as DevicesAre, Pages as PagesAre, Last as LastIs, Trail as TrailIs, Disk as DiskIs}
-use Rattle.pdp_replay.specs.declared.trail.TrailEntry.{TrailEntry}
+use Rattle.pdp_replay.specs.declared.past.patch.Patch.{Patch}
+use Rattle.pdp_replay.specs.declared.past.patch.Patch.TheVariants.{Core, Disk}
+use Rattle.pdp_replay.specs.declared.past.patch.PatchKey.{PatchKey}
+use Rattle.pdp_replay.specs.declared.ask.last_write.LastWrite.{LastWrite}
+use Rattle.pdp_replay.specs.declared.ask.question.Value.{Value}
+use Rattle.pdp_replay.specs.declared.ask.question.Value.TheVariants.{Regs as RegsAre}
+use Rattle.pdp_replay.specs.declared.ask.question.Value.TheVariants.{Core as CoreIs, Text as TextIs}
+use Rattle.pdp_replay.specs.declared.ask.question.Value.TheVariants.{Punched as PunchedAre}
+use Rattle.pdp_replay.specs.declared.ask.question.Value.TheVariants.{Devices as DevicesAre}
+use Rattle.pdp_replay.specs.declared.ask.question.Value.TheVariants.{Pages as PagesAre}
+use Rattle.pdp_replay.specs.declared.ask.question.Value.TheVariants.{Last as LastIs}
+use Rattle.pdp_replay.specs.declared.ask.question.Value.TheVariants.{Trail as TrailIs}
+use Rattle.pdp_replay.specs.declared.ask.question.Value.TheVariants.{Disk as DiskIs}
+use Rattle.pdp_replay.specs.declared.ask.trail.TrailEntry.{TrailEntry}
 use Rattle.pdp_session.specs.declared.reply.Reply.{Reply}
-use Rattle.pdp_session.specs.declared.reply.Reply.TheVariants.{Nothing, Done, Inserted, Shown, Listed, Refused}
+use Rattle.pdp_session.specs.declared.reply.Reply.TheVariants.{Nothing, Done, Inserted, Shown}
+use Rattle.pdp_session.specs.declared.reply.Reply.TheVariants.{Listed, Refused}
 use Rattle.pdp_session.specs.declared.version.Version.{Version}
 use Rattle.pdp_session.specs.declared.version.Version.TheVariants.{One, Two}
 use Rattle.pdp_session.specs.Command.{reply_to, past_after}
@@ -53,12 +63,14 @@ regs_line regs =
     ++ state_name regs.state
 
 abbrev pub refusal_line : Fault → List ℕ
-refusal_line fault = codes "refused " ++ decimal (number_of_fault fault) ++ codes " " ++ name_of_fault fault
+refusal_line fault = codes "refused " ++ decimal (number_of_fault fault) ++ codes " " ++
+    name_of_fault fault
 
 abbrev pub refusal_text : Fault → List ℕ
 refusal_text fault = refusal_line fault ++ codes "\n"
 
--- the number of a drive and the space after it; in version 1 there is one drive, and no line names it
+-- the number of a drive and the space after it; in version 1 there is one drive, and no line names
+-- it
 abbrev pub drive_text : Version → ℕ → List ℕ
 drive_text One drive = []
 drive_text Two drive = octal_digits 1 drive ++ codes " "
@@ -68,7 +80,8 @@ abbrev pub patch_line : Version → Patch → List ℕ
 patch_line version (Core address word) =
     codes "core " ++ octal_digits 6 address ++ codes " " ++ octal_digits 6 word ++ codes "\n"
 patch_line version (Disk drive number word) =
-    codes "disk " ++ drive_text version drive ++ octal_digits 7 number ++ codes " " ++ octal_digits 6 word ++ codes "\n"
+    codes "disk " ++ drive_text version drive ++ octal_digits 7 number ++ codes " " ++ octal_digits
+    6 word ++ codes "\n"
 
 abbrev pub kept_patch_line : Version → PatchKey × ℕ → List ℕ
 kept_patch_line version entry = patch_line version (patch_shown entry.0 entry.1)
@@ -87,7 +100,8 @@ line_at line items index = flat_map line (option_to_list (slice_get items index)
 
 -- the patches
 abbrev pub patches_text : Past → List ℕ
-patches_text past = list_text (codes "patches") (kept_patch_line (version_of past)) past.setup.patches
+patches_text past = list_text (codes "patches") (kept_patch_line (version_of past))
+    past.setup.patches
 
 -- a word in six octal digits, after a space
 abbrev pub word_text : ℕ → List ℕ
@@ -174,7 +188,8 @@ agent_name ByDisk = codes "disk"
 abbrev pub last_line : Option LastWrite → List ℕ
 last_line None = codes "last never\n"
 last_line (Some write) =
-    codes "last " ++ decimal write.turn ++ codes " " ++ agent_name write.agent ++ word_text write.word ++ codes "\n"
+    codes "last " ++ decimal write.turn ++ codes " " ++ agent_name write.agent ++ word_text
+    write.word ++ codes "\n"
 
 -- the act of a turn; a vector has three octal digits
 abbrev pub act_text : Act → List ℕ
@@ -186,7 +201,8 @@ act_text Idle = codes "idle"
 
 -- a turn, PC before it, and its act
 abbrev pub entry_line : TrailEntry → List ℕ
-entry_line entry = decimal entry.turn ++ word_text entry.pc ++ codes " " ++ act_text entry.act ++ codes "\n"
+entry_line entry = decimal entry.turn ++ word_text entry.pc ++ codes " " ++ act_text entry.act ++
+    codes "\n"
 
 -- the turns of a trail
 abbrev pub trail_text : List TrailEntry → List ℕ

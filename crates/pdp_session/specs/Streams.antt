@@ -1,5 +1,27 @@
--- Where the bytes of a session come from and go to: when a put has failed (this project's profile).
-use Rattle.std.specs.Prelude.{ℕ, Bool, true, ◌==◌, ◌&&◌, nat_lt, Result, Ok, Err}
+-- What contracts see of the streams of a session, and when a put has failed (this project's
+-- profile).
+use Rattle.std.specs.Prelude.{ℕ, Bool, true, ◌==◌, ◌&&◌, nat_lt, List, Option, Result, Ok, Err}
+
+-- a feed: the bytes that are still to come, where they are known; how many pulls are left; and
+-- whether a pull has failed
+pub record InputData : Type 0 where
+  pub unread : Option (List ℕ)
+  pub pulls : ℕ
+  pub has_failed : Bool
+
+-- a drain: the bytes that were put, where they are known; and whether a put has failed, or took
+-- none of some bytes
+pub record OutputData : Type 0 where
+  pub written : Option (List ℕ)
+  pub has_failed : Bool
+
+-- both streams of a session
+pub record StreamsData : Type 0 where
+  pub input : InputData
+  pub output : OutputData
+
+abbrev pub streams_of : InputData → OutputData → StreamsData
+streams_of input output = record { input = input; output = output }
 
 -- how many pulls a feed over one of std's readers begins with: more than any input has
 abbrev pub pulls_at_first : ℕ

@@ -1,13 +1,14 @@
 ghost use Rattle.std.specs.Prelude.{◌≡◌, ◌≤◌, length};
-ghost use Rattle.pdp_replay.specs.Edit.{tape_edit};
+ghost use Rattle.pdp_replay.specs.Past.Edit.{tape_edit};
 ghost use Rattle.pdp_script.specs.Refusal.{edit_answer, for_memory, past_left};
-ghost use Rattle.pdp_session.specs.Command.{edit_reply, command_reply, command_leaves, reply_to, past_after, wants_memory};
+ghost use Rattle.pdp_session.specs.Command.{edit_reply, command_reply, command_leaves, reply_to};
+ghost use Rattle.pdp_session.specs.Command.{past_after, wants_memory};
 
 use crate::grammar::{LONGEST_LINE, read_line};
 use crate::reply::Reply;
 use crate::version::Version;
 use arrayvec::ArrayVec;
-use pdp_replay::{Engine, Event, Fault, Line, Question};
+use pdp_replay::{DelayedDevice, Engine, Event, Fault, Question};
 use std::alloc::Global;
 
 // The bytes of a paper tape that a line names. They take no memory; a line has room for fewer.
@@ -30,7 +31,7 @@ pub enum Command {
     },
     SetTape(TapeBytes),
     SetDelay {
-        line: Line,
+        device: DelayedDevice,
         delay: u32,
     },
     UseEightDrives,
@@ -77,7 +78,7 @@ fn run_command(alloc: Global, engine: &mut Engine, command: Command) -> Reply
             word,
         } => edit_reply(engine.set_disk(drive, number, word)),
         Command::SetTape(tape) => edit_reply(set_tape(alloc, engine, &tape)),
-        Command::SetDelay { line, delay } => edit_reply(engine.set_delay(line, delay)),
+        Command::SetDelay { device, delay } => edit_reply(engine.set_delay(device, delay)),
         Command::UseEightDrives => edit_reply(engine.eight_drives()),
         Command::Insert { turn, event } => match engine.insert(turn, event) {
             Ok(number) => Reply::Inserted(number),
@@ -98,10 +99,12 @@ fn run_command(alloc: Global, engine: &mut Engine, command: Command) -> Reply
 }
 
 // Replaces the tape. The engine's own copy of the bytes is all the memory that it takes.
-#[tactic(auto, unfolding(pdp_replay::specs::Edit::tape_edit))]
+#[tactic(auto, unfolding(pdp_replay::specs::Past::Edit::tape_edit))]
 fn set_tape(alloc: Global, engine: &mut Engine, tape: &TapeBytes) -> Result<(), Fault>
-    ensures answer { result ≡ edit_answer (tape_edit tape.now.items engine.old.past) (for_memory result) tt }
-    ensures after { engine.new.past ≡ past_left (tape_edit tape.now.items engine.old.past) (for_memory result) engine.old.past }
+    ensures answer { result
+        ≡ edit_answer (tape_edit tape.now.items engine.old.past) (for_memory result) tt }
+    ensures after { engine.new.past ≡ past_left (tape_edit tape.now.items engine.old.past)
+        (for_memory result) engine.old.past }
 {
     let bytes = Vec::from_slice(alloc, tape.as_slice())?;
     engine.set_tape(bytes)

@@ -1,10 +1,12 @@
-//! The grammar of the session language: what a line means. A command is one row of [`read_command`] and one form below
-//! it; a question is one row of `read_question` and one form below that.
+//! The grammar of the session language: what a line means. A command is one row of [`read_command`]
+//! and one form below it; a question is one row of `read_question` and one form below that.
 
 ghost use Rattle.std.specs.Prelude.{◌≡◌, ◌≤◌, length};
-ghost use Rattle.pdp_session.specs.Grammar.{core_form, uncore_form, disk_form, at_form, alter_form, drop_form, version_form, patches_form, tape_form, delay_form, command_with, line_means};
+ghost use Rattle.pdp_session.specs.Grammar.{core_form, uncore_form, disk_form, at_form, alter_form};
+ghost use Rattle.pdp_session.specs.Grammar.{drop_form, version_form, patches_form, tape_form};
+ghost use Rattle.pdp_session.specs.Grammar.{delay_form, command_with, line_means};
 ghost use Rattle.pdp_session.specs.Lines.{longest_line};
-ghost use Rattle.pdp_session.specs.Grammar.Words.{words_of};
+ghost use Rattle.pdp_session.specs.Grammar.Words.{words_of_line};
 
 mod arguments;
 mod events;
@@ -14,7 +16,7 @@ mod words;
 use crate::command::Command;
 use crate::version::Version;
 use arguments::{
-    drive_first, one_word, read_bytes, read_event_number, read_line_name, read_turn, read_word,
+    drive_first, one_word, read_bytes, read_device_name, read_event_number, read_turn, read_word,
     two_words,
 };
 use events::read_event;
@@ -26,8 +28,9 @@ use words::next_word;
 // The most bytes that a line may have.
 pub const LONGEST_LINE: usize = 200;
 
-// A line, less what ended it, as a command in this version; `None` for a line without words and for a comment.
-// `LineTooLong` comes where the line has more than 200 bytes, and `BadLine` where it is not in the grammar.
+// A line, less what ended it, as a command in this version; `None` for a line without words and for
+// a comment. `LineTooLong` comes where the line has more than 200 bytes, and `BadLine` where it is
+// not in the grammar.
 #[tactic(auto, unfolding(crate::specs::Grammar::line_means))]
 pub fn read_line(version: Version, line: &[u8]) -> Result<Option<Command>, Fault>
     ensures { result ≡ line_means version line.now }
@@ -51,7 +54,7 @@ pub fn read_line(version: Version, line: &[u8]) -> Result<Option<Command>, Fault
 #[tactic(auto, unfolding(crate::specs::Grammar::command_with))]
 fn read_command(version: Version, name: &[u8], arguments: &[u8]) -> Option<Command>
     requires { length arguments.now ≤ longest_line }
-    ensures { result ≡ command_with version name.now (words_of arguments.now) }
+    ensures { result ≡ command_with version name.now (words_of_line arguments.now) }
 {
     if name == b"core".as_slice() {
         read_core(arguments)
@@ -81,7 +84,7 @@ fn read_command(version: Version, name: &[u8], arguments: &[u8]) -> Option<Comma
 
 // `core A W`
 fn read_core(arguments: &[u8]) -> Option<Command>
-    ensures { result ≡ core_form (words_of arguments.now) }
+    ensures { result ≡ core_form (words_of_line arguments.now) }
 {
     let (address, word) = two_words(arguments)?;
     let address = read_octal(address)?;
@@ -91,7 +94,7 @@ fn read_core(arguments: &[u8]) -> Option<Command>
 
 // `uncore A`
 fn read_uncore(arguments: &[u8]) -> Option<Command>
-    ensures { result ≡ uncore_form (words_of arguments.now) }
+    ensures { result ≡ uncore_form (words_of_line arguments.now) }
 {
     let address = read_octal(one_word(arguments)?)?;
     Some(Command::RevertCore { address })
@@ -99,7 +102,7 @@ fn read_uncore(arguments: &[u8]) -> Option<Command>
 
 // `disk I W`, in version 2 `disk D I W`
 fn read_disk(version: Version, arguments: &[u8]) -> Option<Command>
-    ensures { result ≡ disk_form version (words_of arguments.now) }
+    ensures { result ≡ disk_form version (words_of_line arguments.now) }
 {
     let (drive, others) = drive_first(version, arguments)?;
     let (number, word) = two_words(others)?;
@@ -115,7 +118,7 @@ fn read_disk(version: Version, arguments: &[u8]) -> Option<Command>
 // `tape B B ..`
 fn read_tape(arguments: &[u8]) -> Option<Command>
     requires { length arguments.now ≤ longest_line }
-    ensures { result ≡ tape_form (words_of arguments.now) }
+    ensures { result ≡ tape_form (words_of_line arguments.now) }
 {
     let bytes = read_bytes(arguments)?;
     Some(Command::SetTape(bytes))
@@ -123,17 +126,17 @@ fn read_tape(arguments: &[u8]) -> Option<Command>
 
 // `delay printer N`, also `reader`, `punch`, `disk` and `clock`
 fn read_delay(arguments: &[u8]) -> Option<Command>
-    ensures { result ≡ delay_form (words_of arguments.now) }
+    ensures { result ≡ delay_form (words_of_line arguments.now) }
 {
     let (name, delay) = two_words(arguments)?;
-    let line = read_line_name(name)?;
+    let device = read_device_name(name)?;
     let delay = read_turn(delay)?;
-    Some(Command::SetDelay { line, delay })
+    Some(Command::SetDelay { device, delay })
 }
 
 // `at T event`
 fn read_at(arguments: &[u8]) -> Option<Command>
-    ensures { result ≡ at_form (words_of arguments.now) }
+    ensures { result ≡ at_form (words_of_line arguments.now) }
 {
     let (turn, event) = next_word(arguments)?;
     let turn = read_turn(turn)?;
@@ -143,7 +146,7 @@ fn read_at(arguments: &[u8]) -> Option<Command>
 
 // `alter E T event`
 fn read_alter(arguments: &[u8]) -> Option<Command>
-    ensures { result ≡ alter_form (words_of arguments.now) }
+    ensures { result ≡ alter_form (words_of_line arguments.now) }
 {
     let (number, others) = next_word(arguments)?;
     let (turn, event) = next_word(others)?;
@@ -159,7 +162,7 @@ fn read_alter(arguments: &[u8]) -> Option<Command>
 
 // `drop E`
 fn read_drop(arguments: &[u8]) -> Option<Command>
-    ensures { result ≡ drop_form (words_of arguments.now) }
+    ensures { result ≡ drop_form (words_of_line arguments.now) }
 {
     let number = read_event_number(one_word(arguments)?)?;
     Some(Command::DropEvent { number })
@@ -167,7 +170,7 @@ fn read_drop(arguments: &[u8]) -> Option<Command>
 
 // `version 2`; there is no line that leads back to version 1
 fn read_version(arguments: &[u8]) -> Option<Command>
-    ensures { result ≡ version_form (words_of arguments.now) }
+    ensures { result ≡ version_form (words_of_line arguments.now) }
 {
     match read_decimal(one_word(arguments)?)? {
         2 => Some(Command::UseEightDrives),
@@ -177,7 +180,7 @@ fn read_version(arguments: &[u8]) -> Option<Command>
 
 // `patches`
 fn read_patches(arguments: &[u8]) -> Option<Command>
-    ensures { result ≡ patches_form (words_of arguments.now) }
+    ensures { result ≡ patches_form (words_of_line arguments.now) }
 {
     if next_word(arguments).is_some() {
         return None;

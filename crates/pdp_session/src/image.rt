@@ -6,16 +6,18 @@ use byteorder::{ByteOrder, LittleEndian};
 use pdp_replay::Fault;
 use std::alloc::Global;
 
-/// The words of an image of core or of a drive, in the order of its bytes: each word is two bytes, the low one first
-/// (this project's profile). The word 012700 octal is the bytes c0 and 15, hexadecimal.
+/// The words of an image of core or of a drive, in the order of its bytes: each word is two bytes,
+/// the low one first (this project's profile). The word 012700 octal is the bytes c0 and 15,
+/// hexadecimal.
 ///
 /// # Errors
 ///
-/// [`Fault::BadImage`] where the number of bytes is odd; else [`Fault::NoMemory`] where there is no memory for the
-/// words. How many words an image may have is for the engine to say.
+/// [`Fault::BadImage`] where the number of bytes is odd; else [`Fault::NoMemory`] where there is no
+/// memory for the words. How many words an image may have is for the engine to say.
 #[tactic(auto, unfolding(crate::specs::Image::image_read))]
 pub fn read_image(alloc: Global, bytes: &[u8]) -> Result<Vec<u16>, Fault>
-    ensures { result_map (λ words. words.items) result ≡ question_answer (image_read bytes.now) (for_memory result) }
+    ensures { result_map (λ words. words.items) result
+        ≡ question_answer (image_read bytes.now) (for_memory result) }
 {
     if bytes.len() % 2 != 0 {
         return Err(Fault::BadImage);

@@ -1,5 +1,6 @@
-ghost use Rattle.std.specs.Prelude.{◌≡◌, ◌||◌, is_err};
-ghost use Rattle.pdp_session.specs.Reply.{text_of, value_text, patches_text, kept_patch_line, line_at, words_line};
+ghost use Rattle.std.specs.Prelude.{◌≡◌};
+ghost use Rattle.pdp_session.specs.Reply.{text_of, value_text, patches_text, kept_patch_line};
+ghost use Rattle.pdp_session.specs.Reply.{line_at, words_line};
 ghost use Rattle.pdp_session.specs.Inside.Sends.{Sends};
 ghost use Rattle.pdp_session.specs.Version.{version_of};
 
@@ -32,8 +33,8 @@ pub enum Reply {
 // Writes a reply: nothing, or lines that each end in LF.
 #[tactic(auto, unfolding(crate::specs::Reply::text_of))]
 pub fn send_reply<W: Drain>(engine: &Engine, reply: Reply, writer: &mut W) -> Result<(), Failed>
-    ensures sends { Sends (text_of reply engine.now.past) (W.written writer.old) (W.written writer.new) result }
-    ensures fails { W.has_failed writer.new ≡ (W.has_failed writer.old || is_err result) }
+    ensures { Sends (text_of reply engine.now.past)
+        (W.output writer.old) (W.output writer.new) result }
 {
     let text = match reply {
         Reply::Nothing => Text::new(),
@@ -48,15 +49,14 @@ pub fn send_reply<W: Drain>(engine: &Engine, reply: Reply, writer: &mut W) -> Re
 
 // Writes the answer to a question: one row for each kind of question.
 fn send_value<W: Drain>(value: &Value, writer: &mut W) -> Result<(), Failed>
-    ensures sends { Sends (value_text value.now) (W.written writer.old) (W.written writer.new) result }
-    ensures fails { W.has_failed writer.new ≡ (W.has_failed writer.old || is_err result) }
+    ensures { Sends (value_text value.now) (W.output writer.old) (W.output writer.new) result }
 {
     match value {
         Value::Regs(regs) => send(writer, regs_text(*regs).as_slice()),
-        Value::Core(words) => send_words("mem", words.words(), writer),
-        Value::Disk(words) => send_words("dsk", words.words(), writer),
-        Value::Text(bytes) => send_bytes("text", bytes.bytes(), writer),
-        Value::Punched(bytes) => send_bytes("punched", bytes.bytes(), writer),
+        Value::Core(words) => send_words("mem", words.items(), writer),
+        Value::Disk(words) => send_words("dsk", words.items(), writer),
+        Value::Text(bytes) => send_bytes("text", bytes.items(), writer),
+        Value::Punched(bytes) => send_bytes("punched", bytes.items(), writer),
         Value::Devices(devices) => send(writer, devices_text(*devices).as_slice()),
         Value::Pages(pages) => send(writer, pages_text(*pages).as_slice()),
         Value::Last(last) => send(writer, last_text(*last).as_slice()),
@@ -66,28 +66,22 @@ fn send_value<W: Drain>(value: &Value, writer: &mut W) -> Result<(), Failed>
 
 // Writes how many patches there are, and a line for each.
 fn send_patches<W: Drain>(engine: &Engine, writer: &mut W) -> Result<(), Failed>
-    ensures sends { Sends (patches_text engine.now.past) (W.written writer.old) (W.written writer.new) result }
-    ensures fails { W.has_failed writer.new ≡ (W.has_failed writer.old || is_err result) }
+    ensures { Sends (patches_text engine.now.past)
+        (W.output writer.old) (W.output writer.new) result }
 {
     let count = engine.patch_count();
-    match send(writer, count_text("patches", count).as_slice()) {
-        Ok(()) => {}
-        Err(failed) => return Err(failed),
-    }
+    send(writer, count_text("patches", count).as_slice())?;
     for index in 0..count {
-        match send_patch(engine, index, writer) {
-            Ok(()) => {}
-            Err(failed) => return Err(failed),
-        }
+        send_patch(engine, index, writer)?;
     }
     Ok(())
 }
 
 // Writes the line of the patch of this index, where there is one.
 fn send_patch<W: Drain>(engine: &Engine, index: usize, writer: &mut W) -> Result<(), Failed>
-    ensures sends { Sends (line_at (kept_patch_line (version_of engine.now.past)) engine.now.past.setup.patches index)
-        (W.written writer.old) (W.written writer.new) result }
-    ensures fails { W.has_failed writer.new ≡ (W.has_failed writer.old || is_err result) }
+    ensures { Sends (line_at (kept_patch_line (version_of engine.now.past))
+        engine.now.past.setup.patches index)
+        (W.output writer.old) (W.output writer.new) result }
 {
     let text = match engine.patches(index) {
         Some(patch) => patch_text(Version::of(engine), patch),
@@ -98,18 +92,12 @@ fn send_patch<W: Drain>(engine: &Engine, index: usize, writer: &mut W) -> Result
 
 // Writes words, in one line after a name.
 fn send_words<W: Drain>(name: &str, words: &[u16], writer: &mut W) -> Result<(), Failed>
-    ensures sends { Sends (words_line name.now words.now) (W.written writer.old) (W.written writer.new) result }
-    ensures fails { W.has_failed writer.new ≡ (W.has_failed writer.old || is_err result) }
+    ensures { Sends (words_line name.now words.now)
+        (W.output writer.old) (W.output writer.new) result }
 {
-    match send(writer, name.as_bytes()) {
-        Ok(()) => {}
-        Err(failed) => return Err(failed),
-    }
+    send(writer, name.as_bytes())?;
     for word in words {
-        match send(writer, word_text(*word).as_slice()) {
-            Ok(()) => {}
-            Err(failed) => return Err(failed),
-        }
+        send(writer, word_text(*word).as_slice())?;
     }
     send(writer, b"\n")
 }

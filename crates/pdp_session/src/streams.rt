@@ -1,6 +1,6 @@
-ghost use Rattle.std.specs.Prelude.{◌≡◌, ℕ, ◌+◌, ◌≤◌, Option, List, Bool, true, ◌||◌, is_err, length, IfOk, OnOk, OnErr};
+ghost use Rattle.std.specs.Prelude.{◌≡◌, ◌+◌, ◌≤◌, true, ◌||◌, is_err, length, IfOk, OnOk, OnErr};
 ghost use Rattle.std.specs.Io.KnownBytes.{ReadConsumes, WriteAppends};
-ghost use Rattle.pdp_session.specs.Streams.{put_failed};
+ghost use Rattle.pdp_session.specs.Streams.{InputData, OutputData, put_failed};
 
 mod from_read;
 mod sending;
@@ -16,63 +16,59 @@ pub struct Failed;
 
 /// Where a session's bytes come from.
 pub trait Feed {
-    // the bytes that are still to come, where they are known
-    ghost remaining: { Self → Option (List ℕ) };
+    // the bytes that are still to come, the pulls that are left, and whether one has failed
+    ghost input: { Self → InputData };
 
-    // how many pulls are left
-    ghost pulls: { Self → ℕ };
-
-    // whether a pull has failed since the feed was made
-    ghost has_failed: { Self → Bool };
-
-    /// Takes the next bytes into the front of `buf` and returns how many there were: 0 only at the end
-    /// of the input, or if `buf` has no room. Each pull that doesn't fail lowers what [`left`](Feed::left)
-    /// returns by 1.
+    /// Takes the next bytes into the front of `buf` and returns how many there were: 0 only at the
+    /// end of the input, or if `buf` has no room. Each pull that doesn't fail lowers what
+    /// [`left`](Feed::left) returns by 1.
     ///
     /// # Errors
     ///
-    /// [`Failed`] if the input can't be read, if no pulls are left, or if an earlier pull failed. Then no byte
-    /// was taken, and as many pulls are left as before. So a feed gives nothing more once it has failed.
+    /// [`Failed`] if the input can't be read, if no pulls are left, or if an earlier pull failed.
+    /// Then no byte was taken, and as many pulls are left as before. So a feed gives nothing more
+    /// once it has failed.
     fn pull(&mut self, buf: &mut [u8]) -> Result<usize, Failed>
         ensures bound { IfOk result (λ n. n ≤ length buf.new) }
-        ensures bytes { ReadConsumes (remaining self.old) (remaining self.new) result buf.new }
-        ensures lowers { OnOk result (pulls self.new + 1 ≡ pulls self.old) }
-        ensures keeps { OnErr result (pulls self.new ≡ pulls self.old) }
-        ensures fails { has_failed self.new ≡ (has_failed self.old || is_err result) }
-        ensures ended { has_failed self.old ≡ true → is_err result ≡ true }
-        ensures rests { has_failed self.old ≡ true → self.new ≡ self.old };
+        ensures bytes { ReadConsumes (input self.old).unread (input self.new).unread result
+            buf.new }
+        ensures lowers { OnOk result ((input self.new).pulls + 1 ≡ (input self.old).pulls) }
+        ensures keeps { OnErr result ((input self.new).pulls ≡ (input self.old).pulls) }
+        ensures fails { (input self.new).has_failed
+            ≡ ((input self.old).has_failed || is_err result) }
+        ensures ended { (input self.old).has_failed ≡ true → is_err result ≡ true }
+        ensures rests { (input self.old).has_failed ≡ true → self.new ≡ self.old };
 
     /// How many pulls are left: at 0 the next one fails.
     fn left(&self) -> u64
-        ensures { result ≡ pulls self.now };
+        ensures { result ≡ (input self.now).pulls };
 
     /// Whether a pull has failed since the feed was made.
     fn failed(&self) -> bool
-        ensures { result ≡ has_failed self.now };
+        ensures { result ≡ (input self.now).has_failed };
 }
 
 /// Where a session's bytes go.
 pub trait Drain {
-    // the bytes that were put, where they are known
-    ghost written: { Self → Option (List ℕ) };
-
-    // whether a put has failed since the drain was made, or took none of some bytes
-    ghost has_failed: { Self → Bool };
+    // the bytes that were put, and whether a put has failed, or took none of some bytes
+    ghost output: { Self → OutputData };
 
     /// Writes a front part of `bytes` and returns how many bytes that was.
     ///
     /// # Errors
     ///
-    /// [`Failed`] if the output can't be written, or if an earlier put failed or took none of some bytes. Then
-    /// no byte was written. So a drain takes nothing more once it has failed.
+    /// [`Failed`] if the output can't be written, or if an earlier put failed or took none of some
+    /// bytes. Then no byte was written. So a drain takes nothing more once it has failed.
     fn put(&mut self, bytes: &[u8]) -> Result<usize, Failed>
         ensures bound { IfOk result (λ n. n ≤ length bytes.now) }
-        ensures bytes { WriteAppends (written self.old) (written self.new) result bytes.now }
-        ensures fails { has_failed self.new ≡ (has_failed self.old || put_failed result (length bytes.now)) }
-        ensures ended { has_failed self.old ≡ true → is_err result ≡ true }
-        ensures rests { has_failed self.old ≡ true → self.new ≡ self.old };
+        ensures bytes { WriteAppends (output self.old).written (output self.new).written result
+            bytes.now }
+        ensures fails { (output self.new).has_failed
+            ≡ ((output self.old).has_failed || put_failed result (length bytes.now)) }
+        ensures ended { (output self.old).has_failed ≡ true → is_err result ≡ true }
+        ensures rests { (output self.old).has_failed ≡ true → self.new ≡ self.old };
 
     /// Whether a put has failed since the drain was made, or took none of some bytes.
     fn failed(&self) -> bool
-        ensures { result ≡ has_failed self.now };
+        ensures { result ≡ (output self.now).has_failed };
 }

@@ -2,12 +2,12 @@
 use Rattle.std.proofs.Common.{◌≡◌, ℕ, suc, zero, ◌+◌, ◌*◌, ◌/◌, false, List, [], ◌∷◌, ◌++◌, Some, length, map, replicate, refl, sym, ◌∙◌, ap, arith}
 use Rattle.std.proofs.lemmas.List.{length-map, length-replicate, map-append, replicate-append-replicate, replicate_more}
 use Rattle.pdp_store.specs.declared.page.Page.{Page}
-use Rattle.pdp_store.specs.declared.paged_drive.Place.{Place}
-use Rattle.pdp_store.specs.declared.paged_drive.Place.TheVariants.{Shared}
+use Rattle.pdp_store.specs.declared.paged_drive.Backing.{Backing}
+use Rattle.pdp_store.specs.declared.paged_drive.Backing.TheVariants.{Shared}
 use Rattle.pdp_store.specs.Bases.{IsPageOf}
-use Rattle.pdp_store.specs.DrivePlaces.{AreDriveFields, AreZeros, bases_held, loaded, words_read}
+use Rattle.pdp_store.specs.DriveBackings.{AreDriveFields, AreZeros, bases_held, drive_from_pages, words_read}
 use Rattle.pdp_store.specs.Pages.{SharedPage, blank_drive, lasts_of, page_lasts, page_serial, page_words, serials, words_of}
-use Rattle.pdp_store.specs.Stored.{untouched}
+use Rattle.pdp_store.specs.Stored.{no_touch_in}
 use Rattle.pdp_store.proofs.DriveTaken.{drive, fields-renewed, renewed}
 use Rattle.pdp_store.proofs.Pages.{lasts_of-push, words_of-push}
 
@@ -43,23 +43,23 @@ map-first zero = refl
 map-first (suc count) = ap (λ xs. Some 1 ∷ xs) (map-first count)
 
 loaded-zeros : (count len : ℕ) (pages : List SharedPage) → AreZeros count pages → count ≡ len / 256 → count * 256 ≡ len
-    → loaded pages 1 (untouched len) ≡ blank_drive len
+    → drive_from_pages pages 1 (no_touch_in len) ≡ blank_drive len
 loaded-zeros count len pages are many whole =
     let words : words_of pages ≡ replicate len 0 = are.zeros ∙ ap (λ n. replicate n 0) whole in
     let bases : map Some (serials pages) ≡ replicate (len / 256) (Some 1) =
     ap (map {A = ℕ} Some) are.first ∙ map-first count ∙ ap (λ n. replicate n (Some 1)) many in
     rw (words, bases) refl
 
-pub blank-value : (pages : List SharedPage) (places : List Place) (own firsts : List ℕ) (count len : ℕ) → AreZeros count pages
-    → count ≡ len / 256 → count * 256 ≡ len → places ≡ replicate count Shared → own ≡ replicate len 0 → firsts ≡ untouched len
-    → drive (words_read pages places own) (bases_held pages places) 1 firsts ≡ blank_drive len
-blank-value pages places own firsts count len are many whole shared zeros none =
+pub blank-value : (pages : List SharedPage) (backings : List Backing) (own firsts : List ℕ) (count len : ℕ) → AreZeros count pages
+    → count ≡ len / 256 → count * 256 ≡ len → backings ≡ replicate count Shared → own ≡ replicate len 0 → firsts ≡ no_touch_in len
+    → drive (words_read pages backings own) (bases_held pages backings) 1 firsts ≡ blank_drive len
+blank-value pages backings own firsts count len are many whole shared zeros none =
     let size : length own ≡ count * 256 = ap length zeros ∙ length-replicate len 0 ∙ sym whole in
-    renewed pages places own 1 count firsts (count-zeros count pages are) size shared
-    ∙ ap (loaded pages 1) none ∙ loaded-zeros count len pages are many whole
+    renewed pages backings own 1 count firsts (count-zeros count pages are) size shared
+    ∙ ap (drive_from_pages pages 1) none ∙ loaded-zeros count len pages are many whole
 
-pub blank-fields : (pages : List SharedPage) (places : List Place) (own : List ℕ) (count len : ℕ) → AreZeros count pages
-    → count * 256 ≡ len → places ≡ replicate count Shared → own ≡ replicate len 0 → AreDriveFields pages places own 1 false
-blank-fields pages places own count len are whole shared zeros =
-    fields-renewed pages places own 1 count (count-zeros count pages are) (ap length zeros ∙ length-replicate len 0 ∙ sym whole) shared
+pub blank-fields : (pages : List SharedPage) (backings : List Backing) (own : List ℕ) (count len : ℕ) → AreZeros count pages
+    → count * 256 ≡ len → backings ≡ replicate count Shared → own ≡ replicate len 0 → AreDriveFields pages backings own 1 false
+blank-fields pages backings own count len are whole shared zeros =
+    fields-renewed pages backings own 1 count (count-zeros count pages are) (ap length zeros ∙ length-replicate len 0 ∙ sym whole) shared
     (omega arith) are.no_lasts

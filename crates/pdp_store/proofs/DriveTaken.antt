@@ -1,41 +1,41 @@
 -- A drive taken as pages, and loaded from them.
 use Rattle.std.proofs.Common.{◌≡◌, ◌≢◌, ℕ, suc, zero, ◌+◌, ◌*◌, ◌/◌, ◌%◌, ◌-◌, ◌<◌, ◌≤◌, ◌^◌, Bool, false, true, List, [], ◌∷◌, ◌++◌, Option, Some, None, length, map, take, drop, get_or, replicate, slice_get, slice_set, refl, sym, ◌∙◌, ap, arith, length-append, length-set, append_assoc}
 use Rattle.std.proofs.lemmas.List.{ext_get_or, length-map, map-append, length-replicate, length-take-le, length-drop, take_all, take_at, take_more, take_more_set}
-use Rattle.pdp_store.specs.declared.paged_drive.Place.{Place}
-use Rattle.pdp_store.specs.declared.paged_drive.Place.TheVariants.{Shared, Written, Copied}
+use Rattle.pdp_store.specs.declared.paged_drive.Backing.{Backing}
+use Rattle.pdp_store.specs.declared.paged_drive.Backing.TheVariants.{Shared, Written, Copied}
 use Rattle.pdp_store.specs.Pages.{PagedWords, SharedPage, page_words, page_lasts, page_serial, words_of, lasts_of, serials, serials_taken, given_after, next_serial, next_given}
 use Rattle.pdp_store.specs.declared.Stamp.{Stamp}
 use Rattle.pdp_store.specs.Bases.{IsPageOf, serial_there, given_there}
 use Rattle.pdp_store.specs.Pieces.{piece}
-use Rattle.pdp_store.specs.DrivePlaces.{AreDriveFields, AreTaken, copied_from, loaded, base_from, place_at, base_at, word_from, words_read, bases_held, with_part}
-use Rattle.pdp_store.proofs.DrivePlaces.{length-words_read, length-bases_held, get_or-bases_held, get_or-piece, read_shared, read_own, not_none, same_words, same_bases, words-shared, bases-shared, length-with_part}
+use Rattle.pdp_store.specs.DriveBackings.{AreDriveFields, AreTaken, copied_from, drive_from_pages, base_from, backing_at, base_at, word_from, words_read, bases_held, with_part}
+use Rattle.pdp_store.proofs.DriveBackings.{length-words_read, length-bases_held, get_or-bases_held, get_or-piece, read_shared, read_own, not_none, same_words, same_bases, words-shared, bases-shared, length-with_part}
 use Rattle.pdp_store.proofs.Pages.{length-words_of, words_of-push, lasts_of-push, take-piece}
 
 -- how many words and places there are
-pub count_own : (pages : List SharedPage) (places : List Place) (own words : List ℕ) → words_read pages places own ≡ words → length words ≡ length own
-count_own pages places own words is = sym (ap length is) ∙ length-words_read pages places own
+pub count_own : (pages : List SharedPage) (backings : List Backing) (own words : List ℕ) → words_read pages backings own ≡ words → length words ≡ length own
+count_own pages backings own words is = sym (ap length is) ∙ length-words_read pages backings own
 
-pub count_places : (pages : List SharedPage) (places : List Place) (bases : List (Option ℕ)) → bases_held pages places ≡ bases → length bases ≡ length places
-count_places pages places bases is = sym (ap length is) ∙ length-bases_held pages places
+pub count_places : (pages : List SharedPage) (backings : List Backing) (bases : List (Option ℕ)) → bases_held pages backings ≡ bases → length bases ≡ length backings
+count_places pages backings bases is = sym (ap length is) ∙ length-bases_held pages backings
 
 -- the base of a place
-pub base_there : (pages : List SharedPage) (places : List Place) (bases : List (Option ℕ)) (k : ℕ) (held : Place) → bases_held pages places ≡ bases
-    → k < length places → held ≡ place_at places k → get_or bases k None ≡ base_from held (slice_get pages k)
-base_there pages places bases k held is within here =
-    ap (λ xs. get_or xs k None) (sym is) ∙ get_or-bases_held pages places k None within ∙ ap (λ p. base_from p (slice_get pages k)) (sym here)
+pub base_there : (pages : List SharedPage) (backings : List Backing) (bases : List (Option ℕ)) (k : ℕ) (held : Backing) → bases_held pages backings ≡ bases
+    → k < length backings → held ≡ backing_at backings k → get_or bases k None ≡ base_from held (slice_get pages k)
+base_there pages backings bases k held is within here =
+    ap (λ xs. get_or xs k None) (sym is) ∙ get_or-bases_held pages backings k None within ∙ ap (λ p. base_from p (slice_get pages k)) (sym here)
 
 given_with : (page : Option SharedPage) (given : ℕ) → page ≢ None → given ≡ given_there (base_from Shared page) given
 given_with None given some = absurd (some refl)
 given_with (Some page) given some = refl
 
 -- a place that was not written takes no new serial
-pub given_kept : (held : Place) (pages : List SharedPage) (k given : ℕ) → held ≢ Written → (held ≡ Shared → k < length pages)
+pub given_kept : (held : Backing) (pages : List SharedPage) (k given : ℕ) → held ≢ Written → (held ≡ Shared → k < length pages)
     → given ≡ given_there (base_from held (slice_get pages k)) given
 given_kept Shared pages k given other shared = given_with (slice_get pages k) given (not_none pages k (shared refl))
 given_kept Written pages k given other shared = absurd (other refl)
 given_kept (Copied serial) pages k given other shared = refl
 
-pub base_of_own : (held : Place) (page : Option SharedPage) → held ≢ Shared → base_from held page ≡ base_from held None
+pub base_of_own : (held : Backing) (page : Option SharedPage) → held ≢ Shared → base_from held page ≡ base_from held None
 base_of_own Shared page other = absurd (other refl)
 base_of_own Written page other = refl
 base_of_own (Copied serial) page other = refl
@@ -50,30 +50,30 @@ pub length-part : (k : ℕ) (xs part : List ℕ) → part ≡ piece k xs → k *
 length-part k xs part is within = ap length is ∙ length-piece k xs within
 
 -- the words that are read of a place
-pub piece-shared : (pages : List SharedPage) (places : List Place) (own : List ℕ) (k : ℕ) (page : SharedPage) → length own ≡ length places * 256
-    → k < length places → place_at places k ≡ Shared → slice_get pages k ≡ Some page → page_words page ≡ piece k (words_read pages places own)
-piece-shared pages places own k page full within is at =
-    let all : length (words_read pages places own) ≡ length own = length-words_read pages places own in
+pub piece-shared : (pages : List SharedPage) (backings : List Backing) (own : List ℕ) (k : ℕ) (page : SharedPage) → length own ≡ length backings * 256
+    → k < length backings → backing_at backings k ≡ Shared → slice_get pages k ≡ Some page → page_words page ≡ piece k (words_read pages backings own)
+piece-shared pages backings own k page full within is at =
+    let all : length (words_read pages backings own) ≡ length own = length-words_read pages backings own in
     let many : length (page_words page) ≡ 256 = page.value.full in
-    let size : length (piece k (words_read pages places own)) ≡ 256 = length-piece k (words_read pages places own) (omega arith) in
-    ext_get_or 0 (page_words page) (piece k (words_read pages places own)) (many ∙ sym size) (λ j below.
+    let size : length (piece k (words_read pages backings own)) ≡ 256 = length-piece k (words_read pages backings own) (omega arith) in
+    ext_get_or 0 (page_words page) (piece k (words_read pages backings own)) (many ∙ sym size) (λ j below.
     let place : (k * 256 + j) / 256 ≡ k = omega arith in
     let left : (k * 256 + j) % 256 ≡ j = omega arith in
     ap (λ n. get_or (page_words page) n 0) (sym left)
-    ∙ sym (read_shared pages places own (k * 256 + j) page (omega arith) (ap (λ n. place_at places n) place ∙ is) (ap (λ n. slice_get pages n) place ∙ at))
-    ∙ sym (get_or-piece k (words_read pages places own) j (omega arith)))
+    ∙ sym (read_shared pages backings own (k * 256 + j) page (omega arith) (ap (λ n. backing_at backings n) place ∙ is) (ap (λ n. slice_get pages n) place ∙ at))
+    ∙ sym (get_or-piece k (words_read pages backings own) j (omega arith)))
 
-pub piece-own : (pages : List SharedPage) (places : List Place) (own : List ℕ) (k : ℕ) → length own ≡ length places * 256
-    → k < length places → place_at places k ≢ Shared → piece k own ≡ piece k (words_read pages places own)
-piece-own pages places own k full within other =
-    let all : length (words_read pages places own) ≡ length own = length-words_read pages places own in
+pub piece-own : (pages : List SharedPage) (backings : List Backing) (own : List ℕ) (k : ℕ) → length own ≡ length backings * 256
+    → k < length backings → backing_at backings k ≢ Shared → piece k own ≡ piece k (words_read pages backings own)
+piece-own pages backings own k full within other =
+    let all : length (words_read pages backings own) ≡ length own = length-words_read pages backings own in
     let many : length (piece k own) ≡ 256 = length-piece k own (omega arith) in
-    let size : length (piece k (words_read pages places own)) ≡ 256 = length-piece k (words_read pages places own) (omega arith) in
-    ext_get_or 0 (piece k own) (piece k (words_read pages places own)) (many ∙ sym size) (λ j below.
+    let size : length (piece k (words_read pages backings own)) ≡ 256 = length-piece k (words_read pages backings own) (omega arith) in
+    ext_get_or 0 (piece k own) (piece k (words_read pages backings own)) (many ∙ sym size) (λ j below.
     let place : (k * 256 + j) / 256 ≡ k = omega arith in
     get_or-piece k own j (omega arith)
-    ∙ sym (read_own pages places own (k * 256 + j) (omega arith) (λ is. other (sym (ap (λ n. place_at places n) place) ∙ is)))
-    ∙ sym (get_or-piece k (words_read pages places own) j (omega arith)))
+    ∙ sym (read_own pages backings own (k * 256 + j) (omega arith) (λ is. other (sym (ap (λ n. backing_at backings n) place) ∙ is)))
+    ∙ sym (get_or-piece k (words_read pages backings own) j (omega arith)))
 
 -- the pages of a list without stamps have none
 pub lasts-none : (pages : List SharedPage) (k : ℕ) (page : SharedPage) → lasts_of pages ≡ [] → slice_get pages k ≡ Some page → page_lasts page ≡ []
@@ -154,14 +154,14 @@ taken-all pages after words bases given k taken all_bases all_words = record {
 abbrev pub drive : List ℕ → List (Option ℕ) → ℕ → List ℕ → PagedWords
 drive words bases given firsts = record { words = words; bases = bases; given = given; firsts = firsts }
 
-pub renewed : (pages : List SharedPage) (places : List Place) (own : List ℕ) (given n : ℕ) (firsts : List ℕ) → length pages ≡ n → length own ≡ n * 256
-    → places ≡ replicate n Shared → drive (words_read pages places own) (bases_held pages places) given firsts ≡ loaded pages given firsts
-renewed pages places own given n firsts many full all =
+pub renewed : (pages : List SharedPage) (backings : List Backing) (own : List ℕ) (given n : ℕ) (firsts : List ℕ) → length pages ≡ n → length own ≡ n * 256
+    → backings ≡ replicate n Shared → drive (words_read pages backings own) (bases_held pages backings) given firsts ≡ drive_from_pages pages given firsts
+renewed pages backings own given n firsts many full all =
     rw all (rw (words-shared pages n own many full, bases-shared pages n many) refl)
 
-pub fields-renewed : (pages : List SharedPage) (places : List Place) (own : List ℕ) (given n : ℕ) → length pages ≡ n → length own ≡ n * 256
-    → places ≡ replicate n Shared → given < 2 ^ 64 → lasts_of pages ≡ [] → AreDriveFields pages places own given false
-fields-renewed pages places own given n many full all range lasts = rw all (
+pub fields-renewed : (pages : List SharedPage) (backings : List Backing) (own : List ℕ) (given n : ℕ) → length pages ≡ n → length own ≡ n * 256
+    → backings ≡ replicate n Shared → given < 2 ^ 64 → lasts_of pages ≡ [] → AreDriveFields pages backings own given false
+fields-renewed pages backings own given n many full all range lasts = rw all (
     let size : length (replicate n Shared) ≡ n = length-replicate n Shared in
     record {
       words = rw size full;
@@ -171,25 +171,25 @@ fields-renewed pages places own given n many full all range lasts = rw all (
       unchanged = λ same. (many ∙ sym size, ap (λ m. replicate m Shared) (sym size));
     })
   where
-    written_past : (m k : ℕ) → place_at (replicate m Shared) k ≡ Shared → k < m
+    written_past : (m k : ℕ) → backing_at (replicate m Shared) k ≡ Shared → k < m
     written_past zero k is = absurd (cc)
     written_past (suc m) zero is = omega arith
     written_past (suc m) (suc k) is = let rest : k < m = written_past m k is in omega arith
 
-    below : (k : ℕ) → place_at (replicate n Shared) k ≡ Shared → k < length pages
+    below : (k : ℕ) → backing_at (replicate n Shared) k ≡ Shared → k < length pages
     below k is = let inside : k < n = written_past n k is in omega arith
 
 -- pages that were copied, up to place k
-pub record AreCopied (k : ℕ) (pages : List SharedPage) (own : List ℕ) (places : List Place) : Type 0 where
+pub record AreCopied (k : ℕ) (pages : List SharedPage) (own : List ℕ) (backings : List Backing) : Type 0 where
   pub words : take (k * 256) own ≡ words_of (take k pages)
-  pub marks : take k places ≡ map copied_from (take k pages)
+  pub marks : take k backings ≡ map copied_from (take k pages)
   pub size : length own ≡ length pages * 256
-  pub count : length places ≡ length pages
+  pub count : length backings ≡ length pages
 
-pub copied-none : (pages : List SharedPage) (own : List ℕ) (places : List Place) → length own ≡ length pages * 256 → length places ≡ length pages
-    → AreCopied 0 pages own places
+pub copied-none : (pages : List SharedPage) (own : List ℕ) (backings : List Backing) → length own ≡ length pages * 256 → length backings ≡ length pages
+    → AreCopied 0 pages own backings
 unfolding words_of
-copied-none pages own places size count = record { words = refl; marks = refl; size = size; count = count }
+copied-none pages own backings size count = record { words = refl; marks = refl; size = size; count = count }
 
 take-with_part : (k : ℕ) (part xs : List ℕ) → length part ≡ 256 → k * 256 + 256 ≤ length xs
     → take ((k + 1) * 256) (with_part k part xs) ≡ take (k * 256) xs ++ part
@@ -200,10 +200,10 @@ take-with_part k part xs full fits =
     ap (λ ys. take ((k + 1) * 256) ys) (sym (append_assoc (take (k * 256) xs) part (drop 256 (drop (k * 256) xs))))
     ∙ take_at (take (k * 256) xs ++ part) (drop 256 (drop (k * 256) xs)) ((k + 1) * 256) (omega arith)
 
-pub copied-more : (k : ℕ) (pages : List SharedPage) (own written : List ℕ) (places : List Place) (page : SharedPage) → AreCopied k pages own places
+pub copied-more : (k : ℕ) (pages : List SharedPage) (own written : List ℕ) (backings : List Backing) (page : SharedPage) → AreCopied k pages own backings
     → k < length pages → page ≡ get_or pages k page → written ≡ with_part k (page_words page) own
-    → AreCopied (k + 1) pages written (slice_set places k (copied_from page))
-copied-more k pages own written places page copied within is put =
+    → AreCopied (k + 1) pages written (slice_set backings k (copied_from page))
+copied-more k pages own written backings page copied within is put =
     let next : take (k + 1) pages ≡ take k pages ++ page ∷ [] = take_more pages k page within ∙ ap (λ p. take k pages ++ p ∷ []) (sym is) in
     let full : length (page_words page) ≡ 256 = page.value.full in
     let room : k * 256 + 256 ≤ length own = omega (arith, copied.size) in
@@ -212,29 +212,29 @@ copied-more k pages own written places page copied within is put =
           ap (λ xs. take ((k + 1) * 256) xs) put ∙ take-with_part k (page_words page) own full room
           ∙ ap (λ xs. xs ++ page_words page) copied.words ∙ sym (words_of-push (take k pages) page) ∙ ap words_of (sym next);
       marks =
-          take_more_set places k (copied_from page) (omega (arith, copied.count))
+          take_more_set backings k (copied_from page) (omega (arith, copied.count))
           ∙ ap (λ xs. xs ++ copied_from page ∷ []) copied.marks ∙ sym (map-append copied_from (take k pages) (page ∷ [])) ∙ ap (map copied_from) (sym next);
       size = ap length put ∙ length-with_part k (page_words page) own full room ∙ copied.size;
-      count = length-set places k (copied_from page) ∙ copied.count;
+      count = length-set backings k (copied_from page) ∙ copied.count;
     }
 
-pub copied-words : (k : ℕ) (pages : List SharedPage) (own : List ℕ) (places : List Place) → AreCopied k pages own places → length pages ≤ k
+pub copied-words : (k : ℕ) (pages : List SharedPage) (own : List ℕ) (backings : List Backing) → AreCopied k pages own backings → length pages ≤ k
     → own ≡ words_of pages
-copied-words k pages own places copied all =
+copied-words k pages own backings copied all =
     sym (take_all (k * 256) own (omega (arith, copied.size))) ∙ copied.words ∙ ap words_of (take_all k pages all)
 
-pub copied-places : (k : ℕ) (pages : List SharedPage) (own : List ℕ) (places : List Place) → AreCopied k pages own places → length pages ≤ k
-    → places ≡ map copied_from pages
-copied-places k pages own places copied all =
-    sym (take_all k places (omega (arith, copied.count))) ∙ copied.marks ∙ ap (map copied_from) (take_all k pages all)
+pub copied-backings : (k : ℕ) (pages : List SharedPage) (own : List ℕ) (backings : List Backing) → AreCopied k pages own backings → length pages ≤ k
+    → backings ≡ map copied_from pages
+copied-backings k pages own backings copied all =
+    sym (take_all k backings (omega (arith, copied.count))) ∙ copied.marks ∙ ap (map copied_from) (take_all k pages all)
 
 -- a drive whose places are all copied
-copied-there : (others : List SharedPage) (k : ℕ) → (place_at (map copied_from others) k ≡ Shared) → ⊥
+copied-there : (others : List SharedPage) (k : ℕ) → (backing_at (map copied_from others) k ≡ Shared) → ⊥
 copied-there [] k is = absurd (cc)
 copied-there (page ∷ others) zero is = absurd (cc)
 copied-there (page ∷ others) (suc k) is = copied-there others k is
 
-word-copied : (held : Place) (page : Option SharedPage) (own : List ℕ) (i : ℕ) → held ≢ Shared → word_from held page own i ≡ get_or own i 0
+word-copied : (held : Backing) (page : Option SharedPage) (own : List ℕ) (i : ℕ) → held ≢ Shared → word_from held page own i ≡ get_or own i 0
 word-copied Shared page own i other = absurd (other refl)
 word-copied Written page own i other = refl
 word-copied (Copied serial) page own i other = refl
@@ -243,27 +243,27 @@ base-copied : (pages others : List SharedPage) (k : ℕ) → k < length others �
 base-copied pages others k within = by_place others k within (slice_get pages k)
   where
     by_place : (others : List SharedPage) (k : ℕ) → k < length others → (page : Option SharedPage)
-        → base_from (place_at (map copied_from others) k) page ≡ get_or (map Some (serials others)) k None
+        → base_from (backing_at (map copied_from others) k) page ≡ get_or (map Some (serials others)) k None
     by_place [] k within page = absurd (omega arith)
     by_place (first ∷ others) zero within page = refl
     by_place (first ∷ others) (suc k) within page = by_place others k (omega arith) page
 
-pub all-copied : (pages others : List SharedPage) (places : List Place) (own : List ℕ) (given : ℕ) (firsts : List ℕ) → places ≡ map copied_from others → own ≡ words_of others
-    → drive (words_read pages places own) (bases_held pages places) given firsts ≡ loaded others given firsts
-all-copied pages others places own given firsts marks words =
+pub all-copied : (pages others : List SharedPage) (backings : List Backing) (own : List ℕ) (given : ℕ) (firsts : List ℕ) → backings ≡ map copied_from others → own ≡ words_of others
+    → drive (words_read pages backings own) (bases_held pages backings) given firsts ≡ drive_from_pages others given firsts
+all-copied pages others backings own given firsts marks words =
     let size : length (map copied_from others) ≡ length others = length-map others copied_from in
     let many : length (map Some (serials others)) ≡ length others = length-map (serials others) Some ∙ length-map others page_serial in
     let reads : words_read pages (map copied_from others) (words_of others) ≡ words_of others =
     same_words pages (map copied_from others) (words_of others) (words_of others) refl (λ i within.
-    word-copied (place_at (map copied_from others) (i / 256)) (slice_get pages (i / 256)) (words_of others) i (copied-there others (i / 256))) in
+    word-copied (backing_at (map copied_from others) (i / 256)) (slice_get pages (i / 256)) (words_of others) i (copied-there others (i / 256))) in
     let holds : bases_held pages (map copied_from others) ≡ map Some (serials others) =
     same_bases pages (map copied_from others) (map Some (serials others)) (size ∙ sym many) (λ k within. base-copied pages others k (omega arith)) in
     rw (marks, words) (rw (reads, holds) refl)
 
-pub fields-copied : (pages others : List SharedPage) (places old_places : List Place) (own old_own : List ℕ) (given : ℕ) (changed : Bool)
-    → AreDriveFields pages old_places old_own given changed → places ≡ map copied_from others → own ≡ words_of others
-    → AreDriveFields pages places own given true
-fields-copied pages others places old_places own old_own given changed old marks words = rw (marks, words) (record {
+pub fields-copied : (pages others : List SharedPage) (backings old_places : List Backing) (own old_own : List ℕ) (given : ℕ) (changed : Bool)
+    → AreDriveFields pages old_places old_own given changed → backings ≡ map copied_from others → own ≡ words_of others
+    → AreDriveFields pages backings own given true
+fields-copied pages others backings old_places own old_own given changed old marks words = rw (marks, words) (record {
   words = length-words_of others ∙ ap (λ n. n * 256) (sym (length-map others copied_from));
   range = old.range;
   shared = λ k is. absurd (copied-there others k is);

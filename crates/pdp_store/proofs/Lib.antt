@@ -2,7 +2,7 @@ pub mod Traces
 pub mod FirstTouches
 pub mod Pages
 pub mod PagedFields
-pub mod DrivePlaces
+pub mod DriveBackings
 pub mod DriveTaken
 pub mod PageRuns
 pub mod PagedTakes

@@ -6,7 +6,7 @@ use Rattle.pdp_store.specs.declared.Stamp.{Stamp}
 use Rattle.pdp_store.specs.declared.base.Base.{Base}
 use Rattle.pdp_store.specs.Bases.{AreFields, bases_of, given_there, serial_of}
 use Rattle.pdp_store.specs.Pages.{blank_paged}
-use Rattle.pdp_store.specs.Stored.{untouched}
+use Rattle.pdp_store.specs.Stored.{no_touch_in}
 use Rattle.pdp_store.specs.Pieces.{piece}
 
 -- a write marks its place
@@ -69,7 +69,7 @@ bases_of-new (suc places) [] many = absurd (omega arith)
 bases_of-new (suc places) (base ∷ bases) many = ap (λ xs. None ∷ xs) (bases_of-new places bases (omega arith))
 
 pub new_view : (words : List ℕ) (lasts : List (Option Stamp)) (bases : List Base) (marks : List Bool) (firsts : List ℕ) (len : ℕ) (stamped : Bool)
-    → firsts ≡ untouched len → words ≡ replicate len 0 → lasts ≡ (if stamped then replicate len None else []) → length bases ≡ len / 256 → marks ≡ replicate (len / 256) true
+    → firsts ≡ no_touch_in len → words ≡ replicate len 0 → lasts ≡ (if stamped then replicate len None else []) → length bases ≡ len / 256 → marks ≡ replicate (len / 256) true
     → record { words = words; lasts = lasts; bases = bases_of marks bases; given = 0; firsts = firsts } ≡ blank_paged len stamped
 new_view words lasts bases marks firsts len stamped none zeros blank count marked =
     rw (none, zeros, blank, marked, bases_of-new (len / 256) bases count) refl

@@ -6,7 +6,7 @@ use Rattle.pdp_store.specs.declared.Stamp.{Stamp}
 use Rattle.pdp_store.specs.declared.page.Page.{Page}
 use Rattle.pdp_store.specs.declared.base.Base.{Base}
 use Rattle.pdp_store.specs.Pages.{SharedPage, PagedStored, page_serial, page_words, page_lasts, serials, serials_taken, given_after, words_of, lasts_of}
-use Rattle.pdp_store.specs.Bases.{AreAllTaken, AreBases, AreFields, AreTaken, IsPageOf, bases_of, given_there, serial_there}
+use Rattle.pdp_store.specs.Bases.{AreAllTaken, AreBases, AreFields, AreTakenBelow, IsPageOf, bases_of, given_there, serial_there}
 use Rattle.pdp_store.specs.Pieces.{piece}
 use Rattle.pdp_store.proofs.Pages.{length-words_of, words_of-push, lasts_of-push, take-piece, piece-words_of, piece-lasts_of}
 
@@ -37,13 +37,13 @@ page_is page xs words ys lasts n serial words_are lasts_are serial_is is = recor
   has_serial = is.has_serial ∙ serial_is;
 }
 
-pub none_taken : (store : PagedStored) → AreTaken 0 [] store.given store
+pub none_taken : (store : PagedStored) → AreTakenBelow 0 [] store.given store
 unfolding words_of lasts_of
 none_taken store = record { words_so_far = refl; lasts_so_far = refl; serials_so_far = refl; given_so_far = refl }
 
-pub one_taken_more : (store : PagedStored) (n given : ℕ) (pages : List SharedPage) (page : SharedPage) → AreTaken n pages given store → n < length store.bases
+pub one_taken_more : (store : PagedStored) (n given : ℕ) (pages : List SharedPage) (page : SharedPage) → AreTakenBelow n pages given store → n < length store.bases
     → IsPageOf page (piece n store.words) (piece n store.lasts) (serial_there (get_or store.bases n None) given)
-    → AreTaken (n + 1) (pages ++ page ∷ []) (given_there (get_or store.bases n None) given) store
+    → AreTakenBelow (n + 1) (pages ++ page ∷ []) (given_there (get_or store.bases n None) given) store
 one_taken_more store n given pages page taken below is =
     let base = get_or store.bases n None in
     let rest = drop (n + 1) store.bases in
@@ -67,7 +67,7 @@ one_taken_more store n given pages page taken below is =
           ∙ ap (λ xs. given_after xs given) (sym step) ∙ taken.given_so_far;
     }
 
-pub all_taken : (store : PagedStored) (n given : ℕ) (pages : List SharedPage) → AreTaken n pages given store → length store.bases ≤ n
+pub all_taken : (store : PagedStored) (n given : ℕ) (pages : List SharedPage) → AreTakenBelow n pages given store → length store.bases ≤ n
     → length store.words ≤ n * 256 → length store.lasts ≤ n * 256 → AreAllTaken pages given store
 unfolding serials_taken given_after
 all_taken store n given pages taken all words lasts = record {

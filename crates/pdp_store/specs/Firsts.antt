@@ -1,7 +1,8 @@
 -- First touches: for each page of 256 words, the first turn with an access to one of its words.
 -- (This project's profile.)
-use Rattle.std.specs.Prelude.{ℕ, ◌/◌, ◌==◌, Option, Some, None, List, [], ◌∷◌, map, min, nat_lt, slice_index_or, slice_set, if◌then◌else◌}
-use Rattle.pdp_store.specs.Touch.{Part, Core, Drive, Touch}
+use Rattle.std.specs.Prelude.{ℕ, ◌/◌, ◌==◌, Option, Some, None, List, [], ◌∷◌, map, min, nat_lt}
+use Rattle.std.specs.Prelude.{slice_index_or, slice_set, if◌then◌else◌}
+use Rattle.pdp_store.specs.TracedAccess.{Part, Core, Drive, TracedAccess}
 
 -- the first touch of a page that was not touched: every turn has a smaller number
 abbrev pub never : ℕ
@@ -55,6 +56,6 @@ word_touched (Drive number) word turn f = record f {
 }
 
 -- the accesses of a trace, one after the other
-unfoldable pub firsts_after : List Touch → Firsts → Firsts
+unfoldable pub firsts_after : List TracedAccess → Firsts → Firsts
 firsts_after [] f = f
 firsts_after (x ∷ xs) f = firsts_after xs (word_touched x.part x.word x.turn f)

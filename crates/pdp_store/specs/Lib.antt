@@ -1,10 +1,11 @@
 pub mod Stored
-pub mod Touch
+pub mod TracedAccess
 pub mod Firsts
 pub mod Parts
 pub mod Pages
 pub mod Pieces
 pub mod Bases
-pub mod DrivePlaces
+pub mod DriveBackings
 pub mod PageLaws
 pub mod PageLists
+pub mod Unchanged

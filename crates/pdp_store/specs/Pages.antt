@@ -1,9 +1,10 @@
 -- Pages of 256 words, shared between a store and what was taken of it (this project's profile).
-use Rattle.std.specs.Prelude.{ℕ, ◌≡◌, ◌+◌, ◌/◌, Bool, if◌then◌else◌, Option, Some, None, List, [], ◌∷◌, map, min, nat_lt, replicate, slice_set}
+use Rattle.std.specs.Prelude.{ℕ, ◌≡◌, ◌+◌, ◌/◌, Bool, if◌then◌else◌, Option, Some, None, List, []}
+use Rattle.std.specs.Prelude.{◌∷◌, map, min, nat_lt, replicate, slice_set}
 use Rattle.std.specs.List.{flat_map}
 use Rattle.std.specs.declared.alloc.Global.{Global}
 use Rattle.std.specs.declared.rc.Rc.{Rc}
-use Rattle.pdp_store.specs.Stored.{untouched}
+use Rattle.pdp_store.specs.Stored.{no_touch_in}
 use Rattle.pdp_store.specs.declared.Stamp.{Stamp}
 use Rattle.pdp_store.specs.declared.page.Page.{Page}
 
@@ -30,9 +31,10 @@ lasts_of pages = flat_map page_lasts pages
 abbrev pub serials : List SharedPage → List ℕ
 serials pages = map page_serial pages
 
--- a store whose words can be taken as pages: its words, their last stamps and the first touches of its pages as of any
--- store; at each place of 256 words the serial of its base, which is the page last taken or loaded there while no word
--- there was written since; and how many serials it has given
+-- a store whose words can be taken as pages: its words, their last stamps and the first touches of
+-- its pages as of any store; at each place of 256 words the serial of its base, which is the page
+-- last taken or loaded there while no word there was written since; and how many serials it has
+-- given
 pub record PagedStored : Type 0 where
   pub words : List ℕ
   pub lasts : List (Option Stamp)
@@ -47,7 +49,7 @@ blank_paged len stamped = record {
   lasts = if stamped then replicate len None else [];
   bases = replicate (len / 256) None;
   given = 0;
-  firsts = untouched len;
+  firsts = no_touch_in len;
 }
 
 -- a drive, which keeps no stamps: its words, and bases, serials and first touches as above
@@ -62,7 +64,7 @@ blank_words len = record {
   words = replicate len 0;
   bases = replicate (len / 256) None;
   given = 0;
-  firsts = untouched len;
+  firsts = no_touch_in len;
 }
 
 -- a drive as it is made if one page of zeros, the first that it numbers, is the base of each place
@@ -71,7 +73,7 @@ blank_drive len = record {
   words = replicate len 0;
   bases = replicate (len / 256) (Some 1);
   given = 1;
-  firsts = untouched len;
+  firsts = no_touch_in len;
 }
 
 -- the most serials that a store gives
@@ -86,7 +88,8 @@ next_serial given = if nat_lt given most_serials then given + 1 else 0
 abbrev pub next_given : ℕ → ℕ
 next_given given = min (given + 1) most_serials
 
--- the serials of the pages that are taken: each base keeps its own, and each other place has the next one
+-- the serials of the pages that are taken: each base keeps its own, and each other place has the
+-- next one
 unfoldable pub serials_taken : List (Option ℕ) → ℕ → List ℕ
 serials_taken [] given = []
 serials_taken (Some serial ∷ bases) given = serial ∷ serials_taken bases given
@@ -102,7 +105,8 @@ given_after (None ∷ bases) given = given_after bases (next_given given)
 abbrev pub without_base : List (Option ℕ) → ℕ → List (Option ℕ)
 without_base bases i = slice_set bases (i / 256) None
 
--- this page is the other one with its word i changed, its stamps kept, under the serial that comes after so many
+-- this page is the other one with its word i changed, its stamps kept, under the serial that comes
+-- after so many
 pub record IsPatched (page patched : Page) (i word given : ℕ) : Type 0 where
   pub words : patched.words.items ≡ slice_set page.words.items i word
   pub stamps : patched.stamps.value.items ≡ page.stamps.value.items

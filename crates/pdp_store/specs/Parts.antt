@@ -1,11 +1,16 @@
 -- The words of core and of the drives, by the part where they are. No rule of the handbook is here.
-use Rattle.std.specs.Prelude.{ℕ, ◌≡◌, ◌≢◌, ◌/◌, List, [], length, slice_index, slice_index_or, slice_set}
-use Rattle.pdp_store.specs.Touch.{Part, Core, Drive}
+use Rattle.std.specs.Prelude.{ℕ, ◌≡◌, ◌≢◌, ◌/◌, List, [], length, slice_index, slice_index_or}
+use Rattle.std.specs.Prelude.{slice_set}
+use Rattle.pdp_store.specs.TracedAccess.{Part, Core, Drive}
+
+-- the words of the drive of a number, of those that there are: none of one that isn't there
+abbrev pub words_of_drive : List (List ℕ) → ℕ → List ℕ
+words_of_drive drives number = slice_index_or drives number []
 
 -- the words of a part: none of a drive that isn't there
 abbrev pub words_in : Part → List ℕ → List (List ℕ) → List ℕ
 words_in Core core drives = core
-words_in (Drive number) core drives = slice_index_or drives number []
+words_in (Drive number) core drives = words_of_drive drives number
 
 -- core, and the drives, where the words of a part are these
 abbrev pub core_with : Part → List ℕ → List ℕ → List ℕ

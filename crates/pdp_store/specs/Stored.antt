@@ -1,5 +1,6 @@
 -- A store as callers see it (stamps are this project's profile).
-use Rattle.std.specs.Prelude.{◌≡◌, ◌<◌, ◌+◌, ◌/◌, ℕ, Bool, if◌then◌else◌, Option, None, List, [], length, replicate, slice_set}
+use Rattle.std.specs.Prelude.{◌≡◌, ◌<◌, ◌+◌, ◌/◌, ℕ, Bool, if◌then◌else◌, Option, None, List, []}
+use Rattle.std.specs.Prelude.{length, replicate, slice_set}
 use Rattle.pdp_store.specs.Firsts.{never}
 use Rattle.pdp_store.specs.declared.Stamp.{Stamp}
 
@@ -15,15 +16,15 @@ abbrev pub HasLastOfEachOrNone : List ℕ → List (Option Stamp) → Type 0
 HasLastOfEachOrNone words lasts = 0 < length lasts → length lasts ≡ length words
 
 -- the first touches of `len` words: no page was touched, and the last page may have fewer words
-abbrev pub untouched : ℕ → List ℕ
-untouched len = replicate ((len + 255) / 256) never
+abbrev pub no_touch_in : ℕ → List ℕ
+no_touch_in len = replicate ((len + 255) / 256) never
 
 -- a store of so many words, as it is made: all zero, none written yet
 abbrev pub blank_store : ℕ → Bool → Stored
 blank_store len stamped = record {
   words = replicate len 0;
   lasts = if stamped then replicate len None else [];
-  firsts = untouched len;
+  firsts = no_touch_in len;
 }
 
 -- the store with this word and this last stamp in place i, and all else as it was

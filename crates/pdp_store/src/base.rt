@@ -39,7 +39,8 @@ impl Base {
         }
     }
 
-    // The page, for a place of these words and stamps: itself where it is here and can be shared, or made again.
+    // The page, for a place of these words and stamps: itself where it is here and can be shared,
+    // or made again.
     //
     // Err(NoMemory) where a growth was refused.
     pub(crate) fn page(

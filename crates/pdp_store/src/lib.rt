@@ -7,8 +7,9 @@
 //! - A store is its list of words with the stamp of the last write to each, and with the first
 //!   touch of each page ([`Store`]); [`Flat`] keeps that contract in three arrays.
 //! - The first touch of a page is the least turn of its touches that were not forgotten
-//!   ([`Store::touch`], [`Store::first`], [`Store::is_touched`], [`Store::forget`]). A new store has none. Only `touch` and
-//!   `forget` change first touches: writes, takes, loads and patches leave them.
+//!   ([`Store::touch`], [`Store::first`], [`Store::is_touched`], [`Store::forget`]). A new store
+//!   has none. Only `touch` and `forget` change first touches: writes, takes, loads and patches
+//!   leave them.
 //! - What is taken of a store as pages of 256 words ([`Page`]) is its words with their stamps. A
 //!   load, which needs no memory, makes the store equal to the pages ([`Paged::take_pages`],
 //!   [`SharedPaging`]).
@@ -16,8 +17,8 @@
 //!   and is taken again under its serial. Each other place is taken under a serial that was not
 //!   given before, no two of them the same, while there are serials enough
 //!   (`serials_are_given_once`).
-//! - A page with one word changed has the next serial and keeps its stamps (`page_with_word`). It is
-//!   put into a list of pages at one place, and every other page stays (`with_page`).
+//! - A page with one word changed has the next serial and keeps its stamps (`page_with_word`). It
+//!   is put into a list of pages at one place, and every other page stays (`with_page`).
 //!
 //! [`Paged`], for core, keeps its words in flat arrays; [`PagedDrive`], for drives, reads a place
 //! from its page until a word there is written.
@@ -27,7 +28,8 @@
 //! pdp_unibus and pdp_rk11.
 #![tactic(auto)]
 
-ghost use Rattle.std.specs.Prelude.{◌≡◌, ◌<◌, ◌*◌, ◌/◌, length, map, nat_le, slice_index, slice_index_or, slice_set};
+ghost use Rattle.std.specs.Prelude.{◌≡◌, ◌<◌, ◌*◌, ◌/◌, length, map, nat_le, slice_index};
+ghost use Rattle.std.specs.Prelude.{slice_index_or, slice_set};
 ghost use Rattle.pdp_store.specs.Stored.{HasLastOfEachOrNone};
 ghost use Rattle.pdp_store.specs.Firsts.{firsts_before, never, first_turn, touch_page};
 
@@ -114,8 +116,9 @@ pub trait Store {
         requires { i < length (words self.now) }
         ensures { result ≡ slice_index_or (lasts self.now) i None };
 
-    /// Makes word `i` equal to `w` and takes its stamp away: for what an image or a patch puts there,
-    /// which is no write of the machine, and for what the disk writes to a drive, which has no stamps.
+    /// Makes word `i` equal to `w` and takes its stamp away: for what an image or a patch puts
+    /// there, which is no write of the machine, and for what the disk writes to a drive, which has
+    /// no stamps.
     fn set(&mut self, i: usize, w: u16)
         requires { i < length (words self.old) }
         ensures words { words self.new ≡ slice_set (words self.old) i w }
@@ -138,8 +141,8 @@ pub trait Store {
     fn first(&self, page: usize) -> Option<u32>
         ensures { result ≡ first_turn (slice_index_or (firsts self.now) page never) };
 
-    /// Whether the page of word `i` was touched in turn `turn` or before it, so that a touch in that
-    /// turn would change nothing.
+    /// Whether the page of word `i` was touched in turn `turn` or before it, so that a touch in
+    /// that turn would change nothing.
     fn is_touched(&self, i: usize, turn: u32) -> bool
         requires { i < length (words self.now) }
         ensures { result ≡ nat_le (slice_index_or (firsts self.now) (i / 256) never) turn };

@@ -13,10 +13,12 @@ pub const PAGE_WORDS: usize = 256;
 /// A list of shared pages, itself shared: the words of a drive, 256 at each place.
 pub type Pages = Rc<Vec<Rc<Page>>>;
 
-/// 256 words with their last stamps, as a store had them at a place when they were taken. (This project's profile.)
+/// 256 words with their last stamps, as a store had them at a place when they were taken. (This
+/// project's profile.)
 #[derive(Drop)]
 pub struct Page {
-    /// The number that the store gave it when it was made: from 1 up, each number once; 0 where they were used up.
+    /// The number that the store gave it when it was made: from 1 up, each number once; 0 where
+    /// they were used up.
     pub serial: u64,
     pub words: Vec<u16>,
     /// As many as the words; or none, where the store is without stamps. The pages that are made of
@@ -53,7 +55,8 @@ impl Page {
 
     /// The page with its word `i` (0 to 255) changed to `w`, its stamps shared, under this serial.
     ///
-    /// Err(NoMemory) if a growth was refused, or if the stamps have as many owners as can be counted.
+    /// Err(NoMemory) if a growth was refused, or if the stamps have as many owners as can be
+    /// counted.
     pub(crate) fn changed(
         &self,
         alloc: Global,

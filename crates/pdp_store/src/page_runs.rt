@@ -36,7 +36,8 @@ pub(crate) fn put_words(words: &mut [u16], pages: &[Rc<Page>])
     }
 }
 
-// Puts the last stamps of these pages, one page after the other, in place of the stamps that are there.
+// Puts the last stamps of these pages, one page after the other, in place of the stamps that are
+// there.
 #[tactic(auto, unfolding(crate::specs::Pages::lasts_of), using(crate::proofs::PageRuns::has_room, crate::proofs::PageRuns::put_all))]
 pub(crate) fn put_stamps(stamps: &mut [Option<Stamp>], pages: &[Rc<Page>])
     requires { length (lasts_of pages.now) ≡ length stamps.old }

@@ -1,9 +1,15 @@
-//! A store for a drive: read through shared pages, and from words of its own once a place was written.
+//! A store for a drive: read through shared pages, and from words of its own once a place was
+//! written.
 
-ghost use Rattle.std.specs.Prelude.{◌≡◌, ◌<◌, ◌≤◌, ◌+◌, ◌*◌, ◌/◌, ◌%◌, [], Some, None, length, map, slice_get, slice_index, slice_index_or, slice_set, replicate, IfOk, IfSome, false};
-ghost use Rattle.pdp_store.specs.Pages.{blank_drive, blank_words, without_base, next_given, next_serial, words_of, lasts_of, serials, serials_taken, given_after};
-ghost use Rattle.pdp_store.specs.declared.paged_drive.Place.TheVariants.{Shared};
-ghost use Rattle.pdp_store.specs.DrivePlaces.{AreTaken, AreZeros, base_from, copied_from, loaded, unshared, with_part};
+ghost use Rattle.std.specs.Prelude.{◌≡◌, ◌<◌, ◌≤◌, ◌+◌, ◌*◌, ◌/◌, ◌%◌, [], Some, None, length, map};
+ghost use Rattle.std.specs.Prelude.{slice_get, slice_index, slice_index_or, slice_set, replicate};
+ghost use Rattle.std.specs.Prelude.{IfOk, IfSome, false};
+ghost use Rattle.pdp_store.specs.Pages.{blank_drive, blank_words, without_base, next_given};
+ghost use Rattle.pdp_store.specs.Pages.{next_serial, words_of, lasts_of, serials, serials_taken};
+ghost use Rattle.pdp_store.specs.Pages.{given_after};
+ghost use Rattle.pdp_store.specs.declared.paged_drive.Backing.TheVariants.{Shared};
+ghost use Rattle.pdp_store.specs.DriveBackings.{AreTaken, AreZeros, base_from, copied_from};
+ghost use Rattle.pdp_store.specs.DriveBackings.{drive_from_pages, own_with_copy, with_part};
 ghost use Rattle.pdp_store.specs.Bases.{IsPageOf, given_there, serial_there};
 ghost use Rattle.pdp_store.specs.Pieces.{piece};
 ghost use Rattle.pdp_store.specs.Firsts.{firsts_before, touch_page};
@@ -20,7 +26,7 @@ use std::rc::Rc;
 
 /// What the words of a place are read from.
 #[derive(Clone, Copy, Drop)]
-enum Place {
+enum Backing {
     /// Its page of the list.
     Shared,
 
@@ -31,8 +37,8 @@ enum Place {
     Copied(u64),
 }
 
-/// A store without stamps which reads each place of 256 words from a page that it shares, until a word there is written.
-/// (This project's profile.)
+/// A store without stamps which reads each place of 256 words from a page that it shares, until a
+/// word there is written. (This project's profile.)
 ///
 /// So to load pages is to share their list, whose words stay where they are.
 #[derive(Drop)]
@@ -40,7 +46,7 @@ pub struct PagedDrive {
     // The pages last taken or loaded.
     pages: Pages,
 
-    places: Vec<Place>,
+    backings: Vec<Backing>,
 
     // The words of each place that isn't shared, and what was there before of each place that is.
     own: Vec<u16>,
@@ -61,16 +67,17 @@ impl Model for PagedDrive {
 
     ghost Value = { PagedWords };
 
-    ghost use Rattle.pdp_store.specs.DrivePlaces.{AreDriveFields, bases_held, words_read};
+    ghost use Rattle.pdp_store.specs.DriveBackings.{AreDriveFields, bases_held, words_read};
 
     ghost view = { λ s. record {
-      words = words_read s.pages.value.items s.places.items s.own.items;
-      bases = bases_held s.pages.value.items s.places.items;
+      words = words_read s.pages.value.items s.backings.items s.own.items;
+      bases = bases_held s.pages.value.items s.backings.items;
       given = s.given;
       firsts = s.touches;
     } };
 
-    ghost invariant = { λ s. AreDriveFields s.pages.value.items s.places.items s.own.items s.given s.changed };
+    ghost invariant = { λ s. AreDriveFields s.pages.value.items s.backings.items s.own.items s.given
+        s.changed };
 }
 
 impl PagedDrive {
@@ -83,12 +90,12 @@ impl PagedDrive {
     {
         let list = Vec::new(alloc);
         let pages = Rc::new(alloc, list)?;
-        let places = vec![in alloc; Place::Written; len / PAGE_WORDS]?;
+        let backings = vec![in alloc; Backing::Written; len / PAGE_WORDS]?;
         let own = vec![in alloc; 0; len]?;
         let touches = FirstTouches::new(alloc, len)?;
         Ok(PagedDrive {
             pages,
-            places,
+            backings,
             own,
             given: 0,
             changed: true,
@@ -96,11 +103,12 @@ impl PagedDrive {
         })
     }
 
-    /// Makes a drive of `len` zero words; `len` is a whole number of pages. (This project's profile.)
+    /// Makes a drive of `len` zero words; `len` is a whole number of pages. (This project's
+    /// profile.)
     ///
-    /// Each place reads one page of zeros, which all of them own. So the drive takes memory for that
-    /// page, for the list of its owners, for the words of its own that a write needs, and for the
-    /// first touches of its places. Pages that are taken of the drive share the list.
+    /// Each place reads one page of zeros, which all of them own. So the drive takes memory for
+    /// that page, for the list of its owners, for the words of its own that a write needs, and for
+    /// the first touches of its places. Pages that are taken of the drive share the list.
     ///
     /// Err(NoMemory) if a growth was refused, or if the page would have more owners than can be
     /// counted.
@@ -110,12 +118,12 @@ impl PagedDrive {
     {
         let list = zero_pages(alloc, len / PAGE_WORDS)?;
         let pages = Rc::new(alloc, list)?;
-        let places = vec![in alloc; Place::Shared; len / PAGE_WORDS]?;
+        let backings = vec![in alloc; Backing::Shared; len / PAGE_WORDS]?;
         let own = vec![in alloc; 0; len]?;
         let touches = FirstTouches::new(alloc, len)?;
         Ok(PagedDrive {
             pages,
-            places,
+            backings,
             own,
             given: 1,
             changed: false,
@@ -153,8 +161,8 @@ impl Store for PagedDrive {
     #[inline(always)]
     fn read(&self, i: usize) -> u16 {
         let place = i / PAGE_WORDS;
-        match self.places[place] {
-            Place::Shared => self.pages[place].words[i % PAGE_WORDS],
+        match self.backings[place] {
+            Backing::Shared => self.pages[place].words[i % PAGE_WORDS],
             _ => self.own[i],
         }
     }
@@ -228,9 +236,9 @@ impl PagedDrive {
         ensures firsts { self.new.firsts ≡ self.old.firsts }
     {
         let place = i / PAGE_WORDS;
-        let held = self.places[place];
+        let held = self.backings[place];
         unshare(&mut self.own, place, held, &self.pages);
-        self.places[place] = Place::Written;
+        self.backings[place] = Backing::Written;
         self.changed = true;
         self.own[i] = w;
     }
@@ -238,12 +246,12 @@ impl PagedDrive {
 
 // Copies the words of this place from its page into `own`, where it is shared.
 #[inline(always)]
-fn unshare(own: &mut Vec<u16>, place: usize, held: Place, pages: &[Rc<Page>])
+fn unshare(own: &mut Vec<u16>, place: usize, held: Backing, pages: &[Rc<Page>])
     requires shared { held ≡ Shared → place < length pages.now }
     requires place { place * 256 + 256 ≤ length own.old.items }
-    ensures { own.new.items ≡ unshared held (slice_get pages.now place) place own.old.items }
+    ensures { own.new.items ≡ own_with_copy held (slice_get pages.now place) place own.old.items }
 {
-    if let Place::Shared = held {
+    if let Backing::Shared = held {
         put_part(own, place, &pages[place].words);
     }
 }
@@ -300,12 +308,14 @@ impl PagedDrive {
         ensures words { result * 256 ≡ length self.now.words }
     {
         let _own = self.own.len();
-        self.places.len()
+        self.backings.len()
     }
 
-    // The list of the pages, where each place is read from it; None too where it has as many owners as can be counted.
+    // The list of the pages, where each place is read from it; None too where it has as many owners
+    // as can be counted.
     fn kept(&self) -> Option<Pages>
-        ensures kept { IfSome result (λ pages. self.now ≡ loaded pages.value.items self.now.given self.now.firsts) }
+        ensures kept { IfSome result (λ pages. self.now ≡ drive_from_pages pages.value.items
+            self.now.given self.now.firsts) }
         ensures lasts { IfSome result (λ pages. lasts_of pages.value.items ≡ []) }
     {
         if self.changed {
@@ -321,7 +331,8 @@ impl PagedDrive {
     //
     // Err(NoMemory) where a growth was refused.
     fn listed(&self, alloc: Global) -> Result<(Vec<Rc<Page>>, u64), NoMemory>
-        ensures { IfOk result (λ taken. AreTaken taken.0.items taken.1 self.now.words self.now.bases self.now.given) }
+        ensures { IfOk result (λ taken. AreTaken taken.0.items taken.1 self.now.words self.now.bases
+            self.now.given) }
     {
         let mut list = Vec::new(alloc);
         let mut given = self.given;
@@ -338,10 +349,11 @@ impl PagedDrive {
     // Err(NoMemory) where a growth was refused.
     fn page_of(&self, alloc: Global, place: usize, given: u64) -> Result<Rc<Page>, NoMemory>
         requires { place < length self.now.bases }
-        ensures { IfOk result (λ page. IsPageOf page (piece place self.now.words) [] (serial_there (slice_index_or self.now.bases place None) given)) }
+        ensures { IfOk result (λ page. IsPageOf page (piece place self.now.words) [] (serial_there
+            (slice_index_or self.now.bases place None) given)) }
     {
-        let held = self.places[place];
-        if let Place::Shared = held {
+        let held = self.backings[place];
+        if let Backing::Shared = held {
             let page = self.pages[place].clone()?;
             return Ok(page);
         }
@@ -353,8 +365,8 @@ impl PagedDrive {
         requires { place < length self.now.bases }
         ensures { result ≡ given_there (slice_index_or self.now.bases place None) given }
     {
-        match self.places[place] {
-            Place::Written => next_given(given),
+        match self.backings[place] {
+            Backing::Written => next_given(given),
             _ => given,
         }
     }
@@ -363,9 +375,9 @@ impl PagedDrive {
     fn renew(&mut self, pages: Pages, given: u64)
         requires words { length (words_of pages.value.items) ≡ length self.old.words }
         requires lasts { lasts_of pages.value.items ≡ [] }
-        ensures { self.new ≡ loaded pages.value.items given self.old.firsts }
+        ensures { self.new ≡ drive_from_pages pages.value.items given self.old.firsts }
     {
-        share_all(&mut self.places, self.changed);
+        share_all(&mut self.backings, self.changed);
         self.pages = pages;
         self.given = given;
         self.changed = false;
@@ -382,21 +394,21 @@ fn part(words: &[u16], place: usize) -> &[u16]
 }
 
 // Makes each place shared, where some may not be.
-fn share_all(places: &mut Vec<Place>, changed: bool)
-    requires { changed ≡ false → places.old.items ≡ replicate (length places.old.items) Shared }
-    ensures { places.new.items ≡ replicate (length places.old.items) Shared }
+fn share_all(backings: &mut Vec<Backing>, changed: bool)
+    requires { changed ≡ false → backings.old.items ≡ replicate (length backings.old.items) Shared }
+    ensures { backings.new.items ≡ replicate (length backings.old.items) Shared }
 {
     if changed {
-        places.fill(Place::Shared);
+        backings.fill(Backing::Shared);
     }
 }
 
 // The serial of the page that is made of a place that isn't shared.
-fn serial_for(held: Place, given: u64) -> u64
+fn serial_for(held: Backing, given: u64) -> u64
     ensures { result ≡ serial_there (base_from held None) given }
 {
     match held {
-        Place::Copied(serial) => serial,
+        Backing::Copied(serial) => serial,
         _ => next_serial(given),
     }
 }
@@ -421,24 +433,24 @@ impl PagedDrive {
     fn copy_all(&mut self, pages: &[Rc<Page>])
         requires words { length (words_of pages.now) ≡ length self.old.words }
         requires lasts { lasts_of pages.now ≡ [] }
-        ensures { self.new ≡ loaded pages.now self.old.given self.old.firsts }
+        ensures { self.new ≡ drive_from_pages pages.now self.old.given self.old.firsts }
     {
         let _given = self.given;
         self.changed = true;
-        copy_each(&mut self.own, &mut self.places, pages);
+        copy_each(&mut self.own, &mut self.backings, pages);
     }
 }
 
 // Copies the words and the serials of these pages.
-fn copy_each(own: &mut Vec<u16>, places: &mut Vec<Place>, pages: &[Rc<Page>])
+fn copy_each(own: &mut Vec<u16>, backings: &mut Vec<Backing>, pages: &[Rc<Page>])
     requires own { length own.old.items ≡ length pages.now * 256 }
-    requires places { length places.old.items ≡ length pages.now }
+    requires backings { length backings.old.items ≡ length pages.now }
     ensures own { own.new.items ≡ words_of pages.now }
-    ensures places { places.new.items ≡ map copied_from pages.now }
+    ensures backings { backings.new.items ≡ map copied_from pages.now }
 {
     for place in 0..pages.len() {
         let page = &pages[place];
         put_part(own, place, &page.words);
-        places[place] = Place::Copied(page.serial);
+        backings[place] = Backing::Copied(page.serial);
     }
 }

@@ -1,9 +1,12 @@
 //! A store in flat arrays, with the base of each place of 256 words beside them.
 
-ghost use Rattle.std.specs.Prelude.{◌≡◌, ◌<◌, ◌≤◌, ◌*◌, ◌/◌, ◌+◌, Some, None, length, map, min, replicate, slice_get, slice_set, slice_index_or, true, [], IfOk, OnErr, is_ok, if◌then◌else◌};
+ghost use Rattle.std.specs.Prelude.{◌≡◌, ◌<◌, ◌≤◌, ◌*◌, ◌/◌, ◌+◌, Some, None, length, map, min};
+ghost use Rattle.std.specs.Prelude.{replicate, slice_get, slice_set, slice_index_or, true, []};
+ghost use Rattle.std.specs.Prelude.{IfOk, OnErr, is_ok, if◌then◌else◌};
 ghost use Rattle.pdp_store.specs.Stored.{HasLastOfEachOrNone};
 ghost use Rattle.pdp_store.specs.Firsts.{firsts_before, touch_page};
-ghost use Rattle.pdp_store.specs.Pages.{blank_paged, lasts_of, next_given, next_serial, serials, without_base, words_of};
+ghost use Rattle.pdp_store.specs.Pages.{blank_paged, lasts_of, next_given, next_serial, serials};
+ghost use Rattle.pdp_store.specs.Pages.{without_base, words_of};
 ghost use Rattle.pdp_store.specs.Bases.{AreAllTaken, IsPageOf, given_there, serial_there};
 ghost use Rattle.pdp_store.specs.Pieces.{piece};
 
@@ -17,9 +20,10 @@ use std::alloc::Global;
 use std::marker::Model;
 use std::rc::Rc;
 
-/// A store of pages that keeps its words in one array and their stamps in another, so that a read costs what it costs
-/// in [`Flat`](crate::Flat), and a write the mark of its place more. Taking copies the places that were written since
-/// they were last taken or loaded; loading copies every place. (This project's profile.)
+/// A store of pages that keeps its words in one array and their stamps in another, so that a read
+/// costs what it costs in [`Flat`](crate::Flat), and a write the mark of its place more. Taking
+/// copies the places that were written since they were last taken or loaded; loading copies every
+/// place. (This project's profile.)
 #[derive(Drop)]
 pub struct Paged {
     words: Vec<u16>,
@@ -59,7 +63,8 @@ impl Model for Paged {
 }
 
 impl Paged {
-    /// A store of `len` words, a multiple of 256, each of them zero and none written yet; with stamps where `stamped`.
+    /// A store of `len` words, a multiple of 256, each of them zero and none written yet; with
+    /// stamps where `stamped`.
     ///
     /// Err(NoMemory) where a growth was refused.
     pub fn new(alloc: Global, len: usize, stamped: bool) -> Result<Paged, NoMemory>
@@ -236,12 +241,15 @@ struct Taken {
 }
 
 impl Paged {
-    // The page of this place, where so many serials are given before it: its base, or where it has none a new page.
+    // The page of this place, where so many serials are given before it: its base, or where it has
+    // none a new page.
     //
     // Err(NoMemory) where a growth was refused.
     fn page_at(&self, alloc: Global, place: usize, given: u64) -> Result<Rc<Page>, NoMemory>
         requires { place * 256 < length self.now.words }
-        ensures { IfOk result (λ page. IsPageOf page (piece place self.now.words) (piece place self.now.lasts) (serial_there (slice_index_or self.now.bases place None) given)) }
+        ensures { IfOk result (λ page. IsPageOf page (piece place self.now.words)
+            (piece place self.now.lasts) (serial_there (slice_index_or self.now.bases place None)
+            given)) }
     {
         let words = piece_at(&self.words, place);
         let stamps = piece_at(&self.stamps, place);
@@ -252,7 +260,8 @@ impl Paged {
         }
     }
 
-    // How many serials are given with that of the page of this place, where so many are given before it.
+    // How many serials are given with that of the page of this place, where so many are given
+    // before it.
     fn given_with(&self, place: usize, given: u64) -> u64
         requires { place * 256 < length self.now.words }
         ensures { result ≡ given_there (slice_index_or self.now.bases place None) given }
@@ -282,12 +291,12 @@ impl Paged {
 }
 
 impl Paged {
-    /// The words with their last stamps, as pages: each base is given again, and each other place as a new page under
-    /// the next serial, which becomes its base. So only the words of places without a base are copied. The list is the
-    /// caller's own.
+    /// The words with their last stamps, as pages: each base is given again, and each other place
+    /// as a new page under the next serial, which becomes its base. So only the words of places
+    /// without a base are copied. The list is the caller's own.
     ///
-    /// Err(NoMemory) where a growth was refused, or a page has as many owners as can be counted; the store is then as
-    /// before.
+    /// Err(NoMemory) where a growth was refused, or a page has as many owners as can be counted;
+    /// the store is then as before.
     pub fn take_pages(&mut self, alloc: Global) -> Result<Vec<Rc<Page>>, NoMemory>
         ensures words { self.new.words ≡ self.old.words }
         ensures lasts { self.new.lasts ≡ self.old.lasts }
@@ -302,8 +311,8 @@ impl Paged {
         Ok(pages)
     }
 
-    /// Makes the store equal to these pages, which were taken of a store of as many words, with stamps or without as
-    /// this one; each becomes the base of its place. Takes no memory.
+    /// Makes the store equal to these pages, which were taken of a store of as many words, with
+    /// stamps or without as this one; each becomes the base of its place. Takes no memory.
     ///
     /// Serials tell pages of one store apart: pages of another store may have the same.
     pub fn load_pages(&mut self, pages: &[Rc<Page>])

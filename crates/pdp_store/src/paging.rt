@@ -1,17 +1,20 @@
 //! Stores whose words can be taken as shared pages, and loaded from them.
 
 ghost use Rattle.std.specs.Prelude.{◌≡◌, ◌<◌, Some, length, map, IfOk, IsErr, is_ok, if◌then◌else◌};
-ghost use Rattle.pdp_store.specs.Pages.{IsPatched, given_after, lasts_of, next_given, serials, serials_taken, words_of};
+ghost use Rattle.pdp_store.specs.Pages.{IsPatched, given_after, lasts_of, next_given, serials};
+ghost use Rattle.pdp_store.specs.Pages.{serials_taken, words_of};
+ghost use Rattle.pdp_store.specs.Unchanged.{SameStored};
 
 use crate::Store;
 use crate::page::{Page, Pages};
 use pdp_word::NoMemory;
 use std::alloc::Global;
 
-/// A store of a whole number of pages of 256 words, which can be taken as shared pages and loaded from them.
+/// A store of a whole number of pages of 256 words, which can be taken as shared pages and loaded
+/// from them.
 ///
-/// At each place of 256 words it has a base, the page last taken or loaded there, until a word there is written or set.
-/// It numbers the pages that are made of it. (This project's profile.)
+/// At each place of 256 words it has a base, the page last taken or loaded there, until a word
+/// there is written or set. It numbers the pages that are made of it. (This project's profile.)
 pub trait Paging: Store {
     ghost use Rattle.std.specs.Prelude.{List, ℕ, Option};
 
@@ -21,9 +24,11 @@ pub trait Paging: Store {
     // How many serials were given.
     ghost given: { Self → ℕ };
 
-    /// This page with its word `i` (0 to 255) changed to `w` and its stamps kept, under the next serial.
+    /// This page with its word `i` (0 to 255) changed to `w` and its stamps kept, under the next
+    /// serial.
     ///
-    /// Err(NoMemory) where a growth was refused; no serial is given then. The words and bases of the store stay.
+    /// Err(NoMemory) where a growth was refused; no serial is given then. The words and bases of
+    /// the store stay.
     fn patched(&mut self, alloc: Global, page: &Page, i: usize, w: u16) -> Result<Page, NoMemory>
         requires { i < 256 }
         ensures page { IfOk result (λ patched. IsPatched page.now patched i w (given self.old)) }
@@ -31,31 +36,37 @@ pub trait Paging: Store {
         ensures lasts { Self.lasts self.new ≡ Self.lasts self.old }
         ensures bases { bases self.new ≡ bases self.old }
         ensures firsts { Self.firsts self.new ≡ Self.firsts self.old }
-        ensures given { given self.new ≡ (if is_ok result then next_given (given self.old) else given self.old) };
+        ensures given { given self.new ≡ (if is_ok result then next_given
+            (given self.old) else given self.old) };
 }
 
-/// A [`Paging`] store whose pages are taken as one list, which is itself shared. So a store that was not written since
-/// gives the same list again, and a load shares it. (This project's profile.)
+/// A [`Paging`] store whose pages are taken as one list, which is itself shared. So a store that
+/// was not written since gives the same list again, and a load shares it. (This project's profile.)
 pub trait SharedPaging: Paging {
-    /// The words with their last stamps, as pages: each base is given again, and each other place as a new page under
-    /// the next serial, which becomes its base. So only the words of places without a base are copied.
+    /// The words with their last stamps, as pages: each base is given again, and each other place
+    /// as a new page under the next serial, which becomes its base. So only the words of places
+    /// without a base are copied.
     ///
-    /// Err(NoMemory) where a growth was refused, or a page has as many owners as can be counted; the store is then as
-    /// before.
+    /// Err(NoMemory) where a growth was refused, or a page has as many owners as can be counted;
+    /// the store is then as before.
     fn take_pages(&mut self, alloc: Global) -> Result<Pages, NoMemory>
-        ensures words { Self.words self.new ≡ Self.words self.old }
-        ensures lasts { Self.lasts self.new ≡ Self.lasts self.old }
-        ensures firsts { Self.firsts self.new ≡ Self.firsts self.old }
-        ensures pages_words { IfOk result (λ pages. words_of pages.value.items ≡ Self.words self.old) }
-        ensures pages_lasts { IfOk result (λ pages. lasts_of pages.value.items ≡ Self.lasts self.old) }
-        ensures serials { IfOk result (λ pages. serials pages.value.items ≡ serials_taken (Self.bases self.old) (Self.given self.old)) }
-        ensures bases { IfOk result (λ pages. Self.bases self.new ≡ map Some (serials pages.value.items)) }
-        ensures given { IfOk result (λ _. Self.given self.new ≡ given_after (Self.bases self.old) (Self.given self.old)) }
+        ensures same { SameStored (Self.words self.new) (Self.words self.old)
+            (Self.lasts self.new) (Self.lasts self.old) (Self.firsts self.new) (Self.firsts self.old) }
+        ensures pages_words { IfOk result (λ pages. words_of pages.value.items
+            ≡ Self.words self.old) }
+        ensures pages_lasts { IfOk result (λ pages. lasts_of pages.value.items
+            ≡ Self.lasts self.old) }
+        ensures serials { IfOk result (λ pages. serials pages.value.items ≡ serials_taken
+            (Self.bases self.old) (Self.given self.old)) }
+        ensures bases { IfOk result (λ pages. Self.bases self.new ≡ map Some
+            (serials pages.value.items)) }
+        ensures given { IfOk result (λ _. Self.given self.new ≡ given_after (Self.bases self.old)
+            (Self.given self.old)) }
         ensures same_bases { IsErr result → Self.bases self.new ≡ Self.bases self.old }
         ensures same_given { IsErr result → Self.given self.new ≡ Self.given self.old };
 
-    /// Makes the store equal to these pages, which were taken of a store of as many words, with stamps or without as
-    /// this one; each becomes the base of its place. Takes no memory.
+    /// Makes the store equal to these pages, which were taken of a store of as many words, with
+    /// stamps or without as this one; each becomes the base of its place. Takes no memory.
     ///
     /// Serials tell pages of one store apart: pages of another store may have the same.
     fn load_pages(&mut self, pages: &Pages)

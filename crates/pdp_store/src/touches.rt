@@ -1,6 +1,7 @@
 //! First touches: for each page of a store, the first turn with an access to one of its words.
 
-ghost use Rattle.std.specs.Prelude.{◌≡◌, ◌<◌, ◌/◌, ◌+◌, length, map, nat_le, replicate, slice_index_or, IfOk};
+ghost use Rattle.std.specs.Prelude.{◌≡◌, ◌<◌, ◌/◌, ◌+◌, length, map, nat_le, replicate};
+ghost use Rattle.std.specs.Prelude.{slice_index_or, IfOk};
 ghost use Rattle.pdp_store.specs.Firsts.{first_before, never, first_turn, touch_page};
 
 use crate::page::PAGE_WORDS;

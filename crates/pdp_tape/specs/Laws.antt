@@ -1,99 +1,119 @@
--- What the laws of the reader say: each name is the law's sentence (PDP-11 Peripherals Handbook, PC11; when requests
--- appear and go, and go while busy, are this project's profile).
-use Rattle.std.specs.Prelude.{◌≡◌, ◌↔◌, ◌⊎◌, ⊤, ℕ, Bool, true, false, ◌&&◌, not, Option, Some, None, List, [], ◌∷◌}
-use Rattle.pdp_word.specs.Bits.{field, has_bit}
+-- What the laws of the reader say: each name is the law's sentence (PDP-11 Peripherals Handbook,
+-- PC11; when requests appear and go, and go while busy, are this project's profile).
+use Rattle.std.specs.Prelude.{◌≡◌, ◌↔◌, ◌⊎◌, ⊤, ℕ, Bool, true, false, ◌&&◌, not, Option, Some, None}
+use Rattle.std.specs.Prelude.{List, [], ◌∷◌}
+use Rattle.pdp_word.specs.Bits.{field}
+use Rattle.pdp_word.specs.Mask.{is_set}
+use Rattle.pdp_tape.specs.Bits.{prs_enable, prs_go}
 use Rattle.pdp_device.specs.Operation.{is_under_way}
 use Rattle.pdp_tape.specs.Pc.{pc_read, pc_reader_completed, pc_value, pc_written, reader_served}
-use Rattle.pdp_tape.specs.Reader.{is_reader_calling}
+use Rattle.pdp_tape.specs.Reader.{reader_wants_interrupt}
 use Rattle.pdp_tape.specs.declared.pc.Pc.{Pc}
 use Rattle.pdp_tape.specs.declared.pc.PcRegister.{PcRegister}
 use Rattle.pdp_tape.specs.declared.pc.PcRegister.TheVariants.{ReaderStatus, ReaderBuffer}
 
 -- error, bit 15 of the reader's status
-abbrev pub error_bit : Pc → ℕ
-error_bit p = field 15 1 (pc_value ReaderStatus p)
+abbrev pub reader_error_bit : Pc → ℕ
+reader_error_bit p = field 15 1 (pc_value ReaderStatus p)
 
 -- busy, bit 11
 abbrev pub busy_bit : Pc → ℕ
 busy_bit p = field 11 1 (pc_value ReaderStatus p)
 
 -- done, bit 7
-abbrev pub done_bit : Pc → ℕ
-done_bit p = field 7 1 (pc_value ReaderStatus p)
+abbrev pub reader_done_bit : Pc → ℕ
+reader_done_bit p = field 7 1 (pc_value ReaderStatus p)
 
 -- enable, bit 6
-abbrev pub enable_bit : Pc → ℕ
-enable_bit p = field 6 1 (pc_value ReaderStatus p)
+abbrev pub reader_enable_bit : Pc → ℕ
+reader_enable_bit p = field 6 1 (pc_value ReaderStatus p)
 
 -- the condition is what the status shows: enable, and one of error and done
-abbrev pub ConditionIsShown : Type 0
-ConditionIsShown = (p : Pc)
-    → (is_reader_calling p.reader ≡ true) ↔ ((error_bit p ≡ 1 ⊎ done_bit p ≡ 1) × (enable_bit p ≡ 1))
+abbrev pub ReaderConditionIsShown : Type 0
+ReaderConditionIsShown = (p : Pc)
+    → (reader_wants_interrupt p.reader ≡ true) ↔ ((reader_error_bit p ≡ 1 ⊎ reader_done_bit p ≡ 1)
+    × (reader_enable_bit p ≡ 1))
 
--- what happens to the reader: a register is read, or written with a word in a turn with the delays of reader and punch,
--- or a read of the tape is over, with the next byte if there is one
-pub data Change : Type 0 where
-  Reading : PcRegister → Change
-  Writing : PcRegister → ℕ → ℕ → ℕ → ℕ → Change
-  Completing : Option ℕ → Change
+-- what happens to the reader: a register is read, or written with a word in a turn with the delays
+-- of reader and punch, or a read of the tape is over, with the next byte if there is one
+pub data PcUse : Type 0 where
+  Reading : PcRegister → PcUse
+  Writing : PcRegister → ℕ → ℕ → ℕ → ℕ → PcUse
+  Completing : Option ℕ → PcUse
 
-abbrev pub after_change : Change → Pc → Pc
-after_change (Reading register) p = pc_read register p
-after_change (Writing register word turn reader_delay punch_delay) p =
+abbrev pub pc_after_use : PcUse → Pc → Pc
+pc_after_use (Reading register) p = pc_read register p
+pc_after_use (Writing register word turn reader_delay punch_delay) p =
     pc_written register word turn reader_delay punch_delay p
-after_change (Completing next) p = pc_reader_completed next p
+pc_after_use (Completing next) p = pc_reader_completed next p
 
-abbrev pub after_changes : List Change → Pc → Pc
-after_changes [] p = p
-after_changes (c ∷ cs) p = after_changes cs (after_change c p)
+abbrev pub pc_after_uses : List PcUse → Pc → Pc
+pc_after_uses [] p = p
+pc_after_uses (c ∷ cs) p = pc_after_uses cs (pc_after_use c p)
 
 -- a go that finds error while nothing is under way
-abbrev pub is_go_with_error : Change → Pc → Bool
+abbrev pub is_go_with_error : PcUse → Pc → Bool
 is_go_with_error (Writing ReaderStatus word turn reader_delay punch_delay) p =
-    has_bit 0 word && (p.reader.error && not (is_under_way p.reader.operation))
+    is_set prs_go word && (p.reader.error && not (is_under_way p.reader.operation))
 is_go_with_error _ p = false
 
 -- where there is no request, a change makes one exactly where the condition goes from false to true
-abbrev pub RequestsAppearOnARise : Type 0
-RequestsAppearOnARise = (c : Change) (p : Pc) → is_go_with_error c p ≡ false → p.reader.request ≡ false
-    → ((after_change c p).reader.request ≡ true)
-    ↔ ((is_reader_calling p.reader ≡ false) × (is_reader_calling (after_change c p).reader ≡ true))
+abbrev pub ReaderRequestsAppearOnARise : Type 0
+ReaderRequestsAppearOnARise = (c : PcUse) (p : Pc) → is_go_with_error c p ≡ false
+    → p.reader.request ≡ false
+    → ((pc_after_use c p).reader.request ≡ true)
+    ↔ ((reader_wants_interrupt p.reader ≡ false) × (reader_wants_interrupt
+    (pc_after_use c p).reader ≡ true))
 
--- where there is one while the condition holds, a change leaves it exactly where the condition holds after it
-abbrev pub RequestsGoWithTheCondition : Type 0
-RequestsGoWithTheCondition = (c : Change) (p : Pc) → p.reader.request ≡ true → is_reader_calling p.reader ≡ true
-    → (after_change c p).reader.request ≡ is_reader_calling (after_change c p).reader
+-- where there is one while the condition holds, a change leaves it exactly where the condition
+-- holds after it
+abbrev pub ReaderRequestsGoWithTheCondition : Type 0
+ReaderRequestsGoWithTheCondition = (c : PcUse) (p : Pc) → p.reader.request ≡ true
+    → reader_wants_interrupt p.reader ≡ true
+    → (pc_after_use c p).reader.request ≡ reader_wants_interrupt (pc_after_use c p).reader
 
--- a go that finds error requests exactly where it sets enable, whatever was before, and changes nothing else
+-- a go that finds error requests exactly where it sets enable, whatever was before, and changes
+-- nothing else
 abbrev pub GoWithErrorRequests : Type 0
 GoWithErrorRequests = (word turn reader_delay punch_delay : ℕ) (p : Pc)
     → is_go_with_error (Writing ReaderStatus word turn reader_delay punch_delay) p ≡ true
     → pc_written ReaderStatus word turn reader_delay punch_delay p
-    ≡ record p { reader = record p.reader { enable = has_bit 6 word; request = has_bit 6 word } }
+    ≡ record p {
+      reader = record p.reader {
+        enable = is_set prs_enable word;
+        request = is_set
+            prs_enable word;
+      };
+    }
 
 -- the condition holds, and still does after each of the changes
-abbrev pub HoldsThroughout : List Change → Pc → Type 0
-HoldsThroughout [] p = is_reader_calling p.reader ≡ true
-HoldsThroughout (c ∷ cs) p = (is_reader_calling p.reader ≡ true) × HoldsThroughout cs (after_change c p)
+abbrev pub ReaderHoldsThroughout : List PcUse → Pc → Type 0
+ReaderHoldsThroughout [] p = reader_wants_interrupt p.reader ≡ true
+ReaderHoldsThroughout (c ∷ cs) p = (reader_wants_interrupt p.reader ≡ true)
+    × ReaderHoldsThroughout cs (pc_after_use c p)
 
 -- none of the changes is a go that finds error
-abbrev pub NeverGoesWithError : List Change → Pc → Type 0
+abbrev pub NeverGoesWithError : List PcUse → Pc → Type 0
 NeverGoesWithError [] p = ⊤
-NeverGoesWithError (c ∷ cs) p = (is_go_with_error c p ≡ false) × NeverGoesWithError cs (after_change c p)
+NeverGoesWithError (c ∷ cs) p = (is_go_with_error c p ≡ false) × NeverGoesWithError cs
+    (pc_after_use c p)
 
 -- a request that was served stays away while the condition holds and no go finds error
-abbrev pub ServedRequestsStayAway : Type 0
-ServedRequestsStayAway = (p : Pc) (cs : List Change) → HoldsThroughout cs (reader_served p)
-    → NeverGoesWithError cs (reader_served p) → (after_changes cs (reader_served p)).reader.request ≡ false
+abbrev pub ServedReaderRequestsStayAway : Type 0
+ServedReaderRequestsStayAway = (p : Pc) (cs : List PcUse) → ReaderHoldsThroughout cs
+    (reader_served p)
+    → NeverGoesWithError cs (reader_served p) → (pc_after_uses cs (reader_served p)).reader.request
+    ≡ false
 
--- while a byte is being read, a write of the status changes enable, and the request by it, and nothing else
+-- while a byte is being read, a write of the status changes enable, and the request by it, and
+-- nothing else
 abbrev pub BusyGoChangesNothingButEnable : Type 0
 BusyGoChangesNothingButEnable = (word turn reader_delay punch_delay : ℕ) (p : Pc)
     → is_under_way p.reader.operation ≡ true
     → pc_written ReaderStatus word turn reader_delay punch_delay p
     ≡ record p {
       reader = record p.reader {
-        enable = has_bit 6 word;
+        enable = is_set prs_enable word;
         request = (pc_written ReaderStatus word turn reader_delay punch_delay p).reader.request;
       };
     }
@@ -105,22 +125,23 @@ read_by word turn reader_delay punch_delay next p =
 
 -- go begins a read: bit 0 is set, with no error and nothing under way
 pub record BeginsToRead (word : ℕ) (p : Pc) : Type 0 where
-  pub go : has_bit 0 word ≡ true
+  pub go : is_set prs_go word ≡ true
   pub no_error : p.reader.error ≡ false
   pub idle : is_under_way p.reader.operation ≡ false
 
 -- a byte was read: done, and no error
 abbrev pub ReadingGivesTheNextByte : Type 0
-ReadingGivesTheNextByte = (word turn reader_delay punch_delay byte : ℕ) (p : Pc) → BeginsToRead word p
-    → (done_bit (read_by word turn reader_delay punch_delay (Some byte) p) ≡ 1)
-    × (error_bit (read_by word turn reader_delay punch_delay (Some byte) p) ≡ 0)
+ReadingGivesTheNextByte = (word turn reader_delay punch_delay byte : ℕ) (p : Pc)
+    → BeginsToRead word p
+    → (reader_done_bit (read_by word turn reader_delay punch_delay (Some byte) p) ≡ 1)
+    × (reader_error_bit (read_by word turn reader_delay punch_delay (Some byte) p) ≡ 0)
     × (busy_bit (read_by word turn reader_delay punch_delay (Some byte) p) ≡ 0)
     × (pc_value ReaderBuffer (read_by word turn reader_delay punch_delay (Some byte) p) ≡ byte)
 
 -- no byte was left: error, and not done
 abbrev pub ReadingPastTheEndSetsError : Type 0
 ReadingPastTheEndSetsError = (word turn reader_delay punch_delay : ℕ) (p : Pc) → BeginsToRead word p
-    → (error_bit (read_by word turn reader_delay punch_delay None p) ≡ 1)
-    × (done_bit (read_by word turn reader_delay punch_delay None p) ≡ 0)
+    → (reader_error_bit (read_by word turn reader_delay punch_delay None p) ≡ 1)
+    × (reader_done_bit (read_by word turn reader_delay punch_delay None p) ≡ 0)
     × (busy_bit (read_by word turn reader_delay punch_delay None p) ≡ 0)
     × (pc_value ReaderBuffer (read_by word turn reader_delay punch_delay None p) ≡ 0)

@@ -1,3 +1,4 @@
+pub mod Bits
 pub mod Laws
 pub mod Pc
 pub mod Reader

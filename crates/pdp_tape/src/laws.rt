@@ -1,30 +1,35 @@
-ghost use Rattle.pdp_tape.specs.Laws.{BusyGoChangesNothingButEnable, ConditionIsShown, GoWithErrorRequests, ReadingGivesTheNextByte};
-ghost use Rattle.pdp_tape.specs.Laws.{ReadingPastTheEndSetsError, RequestsAppearOnARise, RequestsGoWithTheCondition, ServedRequestsStayAway};
+ghost use Rattle.pdp_tape.specs.Laws.{BusyGoChangesNothingButEnable, ReaderConditionIsShown};
+ghost use Rattle.pdp_tape.specs.Laws.{GoWithErrorRequests, ReadingGivesTheNextByte};
+ghost use Rattle.pdp_tape.specs.Laws.{ReadingPastTheEndSetsError, ReaderRequestsAppearOnARise};
+ghost use Rattle.pdp_tape.specs.Laws.{ReaderRequestsGoWithTheCondition};
+ghost use Rattle.pdp_tape.specs.Laws.{ServedReaderRequestsStayAway};
 
-/// A law and no code: whichever register is read or written, and at a completion, a request of the reader appears
-/// exactly where its condition, enable and one of error and done, goes from false to true, but for one case: a go that
-/// finds error requests exactly where it sets enable, and keeps the rest. A request that is there goes exactly where
-/// the condition does. One that was served stays away while the condition holds and no go finds error.
+/// A law and no code: whichever register is read or written, and at a completion, a request of the
+/// reader appears exactly where its condition, enable and one of error and done, goes from false to
+/// true, but for one case: a go that finds error requests exactly where it sets enable, and keeps
+/// the rest. A request that is there goes exactly where the condition does. One that was served
+/// stays away while the condition holds and no go finds error.
 ///
 /// Source: this project's profile.
 pub fn reader_requests_appear_on_a_rise()
-    ensures condition { ConditionIsShown }
-    ensures appear { RequestsAppearOnARise }
-    ensures go { RequestsGoWithTheCondition }
+    ensures condition { ReaderConditionIsShown }
+    ensures appear { ReaderRequestsAppearOnARise }
+    ensures go { ReaderRequestsGoWithTheCondition }
     ensures error { GoWithErrorRequests }
-    ensures served { ServedRequestsStayAway }
+    ensures served { ServedReaderRequestsStayAway }
 {}
 
-/// A law and no code: while a byte is being read, a write of the reader's status changes enable, and the request by it,
-/// and nothing else, whether its go is set or not.
+/// A law and no code: while a byte is being read, a write of the reader's status changes enable,
+/// and the request by it, and nothing else, whether its go is set or not.
 ///
 /// Source: this project's profile.
 pub fn go_while_busy_changes_nothing_but_enable()
     ensures { BusyGoChangesNothingButEnable }
 {}
 
-/// A law and no code: go, with no error and nothing under way, and then a completion with the tape's next byte, sets
-/// done and has the byte in the buffer; past the tape's end it sets error and not done, and the buffer is 0.
+/// A law and no code: go, with no error and nothing under way, and then a completion with the
+/// tape's next byte, sets done and has the byte in the buffer; past the tape's end it sets error
+/// and not done, and the buffer is 0.
 ///
 /// Source: PDP-11 Peripherals Handbook, PC11.
 pub fn a_tape_is_read_to_its_end()

@@ -16,6 +16,7 @@
 //! completes, and which request is served are left to pdp_unibus.
 #![tactic(auto)]
 
+mod bits;
 mod laws;
 mod pc;
 mod reader;

@@ -1,21 +1,24 @@
 ghost use Rattle.std.specs.Prelude.{◌≡◌};
 
 use super::Reader;
-use pdp_device::{Outlet, OutletRegister};
+use pdp_device::{Transmitter, TransmitterRegister};
 
 /// A register of the paper tape's reader and punch.
 ///
 /// PDP-11 Peripherals Handbook, PC11.
 #[derive(Clone, Copy, Debug, PartialEq, Eq)]
 pub enum PcRegister {
-    /// PRS: bit 15 error, bit 11 busy, bit 7 done, bit 6 enable, bit 0 go. Enable and go alone are written.
+    /// PRS: bit 15 error, bit 11 busy, bit 7 done, bit 6 enable, bit 0 go. Enable and go alone are
+    /// written.
     ReaderStatus,
-    /// PRB: the last byte read, or 0 once go has begun a new one. A read clears done; a write does nothing (this
-    /// project's profile).
+    /// PRB: the last byte read, or 0 once go has begun a new one. A read clears done; a write does
+    /// nothing (this project's profile).
     ReaderBuffer,
-    /// PPS: bit 7 ready, bit 6 enable, which alone is written. Bit 15, error, is always 0 (this project's profile).
+    /// PPS: bit 7 ready, bit 6 enable, which alone is written. Bit 15, error, is always 0 (this
+    /// project's profile).
     PunchStatus,
-    /// PPB: a write clears ready and begins to punch its low byte. Reads 0 (this project's profile).
+    /// PPB: a write clears ready and begins to punch its low byte. Reads 0 (this project's
+    /// profile).
     PunchBuffer,
 }
 
@@ -44,20 +47,21 @@ pub struct Pc {
     /// What reads the tape.
     pub reader: Reader,
     /// What punches another.
-    pub punch: Outlet,
+    pub punch: Transmitter,
 }
 
 impl Pc {
-    ghost use Rattle.pdp_tape.specs.Pc.{pc_punch_completed, pc_punched, pc_read, pc_reader_completed, pc_reset};
-    ghost use Rattle.pdp_tape.specs.Pc.{pc_value, pc_written, punch_served, quiet_pc, reader_served};
+    ghost use Rattle.pdp_tape.specs.Pc.{pc_punch_completed, pc_punched, pc_read};
+    ghost use Rattle.pdp_tape.specs.Pc.{pc_reader_completed, pc_reset};
+    ghost use Rattle.pdp_tape.specs.Pc.{pc_value, pc_written, punch_served, init_pc, reader_served};
 
     /// Reader and punch at power-up: as after RESET, with both buffers 0 (this project's profile).
-    pub fn quiet() -> Pc
-        ensures { result ≡ quiet_pc }
+    pub fn init() -> Pc
+        ensures { result ≡ init_pc }
     {
         Pc {
-            reader: Reader::quiet(),
-            punch: Outlet::quiet(),
+            reader: Reader::init(),
+            punch: Transmitter::init(),
         }
     }
 
@@ -68,8 +72,8 @@ impl Pc {
         match register {
             PcRegister::ReaderStatus => self.reader.status(),
             PcRegister::ReaderBuffer => u16::from(self.reader.byte),
-            PcRegister::PunchStatus => self.punch.value(OutletRegister::Status),
-            PcRegister::PunchBuffer => self.punch.value(OutletRegister::Buffer),
+            PcRegister::PunchStatus => self.punch.value(TransmitterRegister::Status),
+            PcRegister::PunchBuffer => self.punch.value(TransmitterRegister::Buffer),
         }
     }
 
@@ -84,8 +88,8 @@ impl Pc {
         }
     }
 
-    /// A write of a word to the register in this turn; reading and punching a byte take so many turns, with 0 until its
-    /// event (this project's profile).
+    /// A write of a word to the register in this turn; reading and punching a byte take so many
+    /// turns, with 0 until its event (this project's profile).
     pub fn write_reg(
         &mut self,
         register: PcRegister,
@@ -101,23 +105,24 @@ impl Pc {
             PcRegister::ReaderBuffer => {}
             PcRegister::PunchStatus => self
                 .punch
-                .write_reg(OutletRegister::Status, word, turn, punch_delay),
+                .write_reg(TransmitterRegister::Status, word, turn, punch_delay),
             PcRegister::PunchBuffer => self
                 .punch
-                .write_reg(OutletRegister::Buffer, word, turn, punch_delay),
+                .write_reg(TransmitterRegister::Buffer, word, turn, punch_delay),
         }
     }
 
-    /// The read that is under way is over, with the next byte of the tape, where there is one: the byte is in the
-    /// buffer and done is set, else error is set. Where none is under way, nothing happens (this project's profile).
+    /// The read that is under way is over, with the next byte of the tape, where there is one: the
+    /// byte is in the buffer and done is set, else error is set. Where none is under way, nothing
+    /// happens (this project's profile).
     pub fn complete_reader(&mut self, next: Option<u8>)
         ensures { self.new ≡ pc_reader_completed next self.old }
     {
         self.reader.complete(next);
     }
 
-    /// The byte that is being punched is out, and the punch is ready again. Gives the byte; where none is being
-    /// punched, nothing happens (this project's profile).
+    /// The byte that is being punched is out, and the punch is ready again. Gives the byte; where
+    /// none is being punched, nothing happens (this project's profile).
     pub fn complete_punch(&mut self) -> Option<u8>
         ensures byte { result ≡ pc_punched self.old }
         ensures after { self.new ≡ pc_punch_completed self.old }
@@ -125,24 +130,26 @@ impl Pc {
         self.punch.complete()
     }
 
-    /// The reader's request is served: it goes, and nothing else changes. The next one appears where its condition has
-    /// become false and true again, or at a go that finds error (this project's profile).
+    /// The reader's request is served: it goes, and nothing else changes. The next one appears
+    /// where its condition has become false and true again, or at a go that finds error (this
+    /// project's profile).
     pub fn serve_reader(&mut self)
         ensures { self.new ≡ reader_served self.old }
     {
         self.reader.serve();
     }
 
-    /// The punch's request is served: it goes, and nothing else changes. The next one appears where ready or enable was
-    /// cleared and both are set again (this project's profile).
+    /// The punch's request is served: it goes, and nothing else changes. The next one appears where
+    /// ready or enable was cleared and both are set again (this project's profile).
     pub fn serve_punch(&mut self)
         ensures { self.new ≡ punch_served self.old }
     {
         self.punch.serve();
     }
 
-    /// RESET: the reader has nothing set, error too, the punch is ready, neither is enabled or requests, and bytes that
-    /// are being read or punched are dropped. The buffers stay (this project's profile).
+    /// RESET: the reader has nothing set, error too, the punch is ready, neither is enabled or
+    /// requests, and bytes that are being read or punched are dropped. The buffers stay (this
+    /// project's profile).
     pub fn reset(&mut self)
         ensures { self.new ≡ pc_reset self.old }
     {

@@ -1,7 +1,8 @@
 ghost use Rattle.std.specs.Prelude.{◌≡◌, false};
 
-use pdp_device::Operation;
-use pdp_word::{bit_of, has_bit, request_after};
+use crate::bits::{PRS_BUSY, PRS_DONE, PRS_ENABLE, PRS_ERROR, PRS_GO};
+use pdp_device::{Operation, request_after};
+use pdp_word::{bit_of, is_set};
 
 /// The paper tape reader.
 ///
@@ -10,13 +11,14 @@ use pdp_word::{bit_of, has_bit, request_after};
 pub struct Reader {
     /// Bit 15 of the status: a read found no byte. RESET alone clears it (this project's profile).
     pub error: bool,
-    /// Bit 7 of the status: a byte has come since the buffer was last read or a read of a new one began.
+    /// Bit 7 of the status: a byte has come since the buffer was last read or a read of a new one
+    /// began.
     pub done: bool,
     /// Bit 6 of the status: its interrupts are enabled.
     pub enable: bool,
-    /// It requests an interrupt. A request appears where enable and one of error and done come to be set, and at a go
-    /// that finds error and leaves enable set; it goes when it is served or where they are not set any more
-    /// (this project's profile).
+    /// It requests an interrupt. A request appears where enable and one of error and done come to
+    /// be set, and at a go that finds error and leaves enable set; it goes when it is served or
+    /// where they are not set any more (this project's profile).
     pub request: bool,
     /// The last byte read, or 0 once a read of a new one began.
     pub byte: u8,
@@ -25,12 +27,15 @@ pub struct Reader {
 }
 
 impl Reader {
-    ghost use Rattle.pdp_tape.specs.Reader.{buffer_read, gone, is_reader_calling, quiet_reader, reader_completed};
-    ghost use Rattle.pdp_tape.specs.Reader.{reader_reset, reader_status, reader_with, status_written, takes_byte};
+    ghost use Rattle.pdp_tape.specs.Reader.{buffer_read, reader_after_go, reader_wants_interrupt};
+    ghost use Rattle.pdp_tape.specs.Reader.{init_reader, reader_completed};
+    ghost use Rattle.pdp_tape.specs.Reader.{reader_reset, reader_status, reader_with};
+    ghost use Rattle.pdp_tape.specs.Reader.{reader_status_written, takes_byte};
 
-    /// A reader at power-up: nothing set, with byte 0 and nothing under way (this project's profile).
-    pub fn quiet() -> Reader
-        ensures { result ≡ quiet_reader }
+    /// A reader at power-up: nothing set, with byte 0 and nothing under way (this project's
+    /// profile).
+    pub fn init() -> Reader
+        ensures { result ≡ init_reader }
     {
         Reader {
             error: false,
@@ -47,20 +52,21 @@ impl Reader {
         ensures { result ≡ reader_status self.now }
     {
         let busy = self.operation.is_under_way();
-        bit_of(self.error) * 0o100000
-            + bit_of(busy) * 0o4000
-            + bit_of(self.done) * 0o200
-            + bit_of(self.enable) * 0o100
+        bit_of(self.error) * PRS_ERROR
+            + bit_of(busy) * PRS_BUSY
+            + bit_of(self.done) * PRS_DONE
+            + bit_of(self.enable) * PRS_ENABLE
     }
 
-    /// A write of a word to the status in this turn: bit 6 is enable, and bit 0 is go. Go begins to read a byte, which
-    /// takes so many turns, with 0 until its event; it clears done and the byte. While busy go does nothing; with error
-    /// set it begins nothing, and requests an interrupt where bit 6 is set (this project's profile).
+    /// A write of a word to the status in this turn: bit 6 is enable, and bit 0 is go. Go begins to
+    /// read a byte, which takes so many turns, with 0 until its event; it clears done and the byte.
+    /// While busy go does nothing; with error set it begins nothing, and requests an interrupt
+    /// where bit 6 is set (this project's profile).
     pub fn write_status(&mut self, word: u16, turn: u32, delay: u32)
-        ensures { self.new ≡ status_written word turn delay self.old }
+        ensures { self.new ≡ reader_status_written word turn delay self.old }
     {
-        let enable = has_bit(6, word);
-        if self.operation.is_under_way() || !has_bit(0, word) {
+        let enable = is_set(PRS_ENABLE, word);
+        if self.operation.is_under_way() || !is_set(PRS_GO, word) {
             self.change(self.error, self.done, enable);
         } else {
             self.go(enable, turn, delay);
@@ -83,8 +89,9 @@ impl Reader {
         self.operation.is_under_way()
     }
 
-    /// The read that is under way is over, with the next byte of the tape, where there is one: the byte is in the
-    /// buffer and done is set, else error is set. Where none is under way, nothing happens (this project's profile).
+    /// The read that is under way is over, with the next byte of the tape, where there is one: the
+    /// byte is in the buffer and done is set, else error is set. Where none is under way, nothing
+    /// happens (this project's profile).
     pub fn complete(&mut self, next: Option<u8>)
         ensures { self.new ≡ reader_completed next self.old }
     {
@@ -101,14 +108,14 @@ impl Reader {
         }
     }
 
-    /// RESET: error, done and enable are cleared, a request and what is under way are dropped. The byte stays
-    /// (this project's profile).
+    /// RESET: error, done and enable are cleared, a request and what is under way are dropped. The
+    /// byte stays (this project's profile).
     pub fn reset(&mut self)
         ensures { self.new ≡ reader_reset self.old }
     {
         *self = Reader {
             byte: self.byte,
-            ..Reader::quiet()
+            ..Reader::init()
         };
     }
 
@@ -120,8 +127,8 @@ impl Reader {
     }
 
     // Whether its condition holds: enable, and one of error and done.
-    fn is_calling(&self) -> bool
-        ensures { result ≡ is_reader_calling self.now }
+    fn wants_interrupt(&self) -> bool
+        ensures { result ≡ reader_wants_interrupt self.now }
     {
         (self.error || self.done) && self.enable
     }
@@ -135,14 +142,15 @@ impl Reader {
             error,
             done,
             enable,
-            request: request_after(self.is_calling(), after, self.request),
+            request: request_after(self.wants_interrupt(), after, self.request),
             ..*self
         };
     }
 
-    // Go, where nothing is under way: with error set it requests where the write sets enable, else it begins to read.
+    // Go, where nothing is under way: with error set it requests where the write sets enable, else
+    // it begins to read.
     fn go(&mut self, enable: bool, turn: u32, delay: u32)
-        ensures { self.new ≡ gone enable turn delay self.old }
+        ensures { self.new ≡ reader_after_go enable turn delay self.old }
     {
         if self.error {
             self.request = enable;

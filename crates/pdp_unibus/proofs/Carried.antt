@@ -4,21 +4,19 @@ use Rattle.std.proofs.Common.{◌≡◌, ℕ, Bool, true, false, List, [], ◌�
 use Rattle.std.proofs.Common.{refl, sym, ap, ap₂, ◌∙◌}
 use Rattle.pdp_device.specs.Operation.{is_due}
 use Rattle.pdp_store.specs.Firsts.{Firsts, firsts_after}
-use Rattle.pdp_store.specs.Touch.{Touch}
+use Rattle.pdp_store.specs.TracedAccess.{TracedAccess}
 use Rattle.pdp_store.proofs.FirstTouches.{firsts_after-append}
 use Rattle.pdp_unibus.specs.Beginning.{Progress, after_event, after_events, at_start, before_disk}
-use Rattle.pdp_unibus.specs.Beginning.{begun, disk_done, disk_due, in_turn, where_due}
+use Rattle.pdp_unibus.specs.Beginning.{after_beginning, disk_done, disk_due, in_turn, where_due}
 use Rattle.pdp_unibus.specs.BusWorld.{BusWorld, with_firsts}
 use Rattle.pdp_unibus.specs.Trace.{begun_touches, disk_touches, due_touches, event_touches}
 use Rattle.pdp_unibus.specs.Trace.{events_touches}
 use Rattle.pdp_unibus.specs.declared.event.Event.{Event}
-use Rattle.pdp_unibus.specs.declared.event.Event.TheVariants.{Key, Tick, PrinterDone, ReaderDone}
-use Rattle.pdp_unibus.specs.declared.event.Event.TheVariants.{PunchDone, DiskDone, Switches}
-use Rattle.pdp_unibus.specs.declared.event.Event.TheVariants.{Continue}
+use Rattle.pdp_unibus.specs.declared.event.Event.TheVariants.{DiskDone}
 use Rattle.pdp_unibus.proofs.Beginnings.{dues, dues_are_quiet, holding}
 
 -- a step, and the same over other first touches: the trace changes these, and nothing else
-pub record Carried (p q : Progress) (xs ys : List Touch) (firsts : Firsts) : Type 0 where
+pub record Carried (p q : Progress) (xs ys : List TracedAccess) (firsts : Firsts) : Type 0 where
   pub is : q ≡ holding p (firsts_after xs firsts)
   pub trace : ys ≡ xs
 
@@ -27,13 +25,7 @@ carried_event : (e : Event) (p : Progress) (firsts : Firsts)
     (event_touches e p.bus) (event_touches e (holding p firsts).bus) firsts
 unfolding firsts_after
 carried_event DiskDone p firsts = record { is = refl; trace = refl }
-carried_event (Key key) p firsts = record { is = refl; trace = refl }
-carried_event Tick p firsts = record { is = refl; trace = refl }
-carried_event PrinterDone p firsts = record { is = refl; trace = refl }
-carried_event ReaderDone p firsts = record { is = refl; trace = refl }
-carried_event PunchDone p firsts = record { is = refl; trace = refl }
-carried_event (Switches word) p firsts = record { is = refl; trace = refl }
-carried_event Continue p firsts = record { is = refl; trace = refl }
+carried_event _ p firsts = record { is = refl; trace = refl }
 
 none_carried : (p : Progress) (firsts : Firsts) → Carried p (holding p firsts) [] [] firsts
 unfolding firsts_after
@@ -77,13 +69,13 @@ carried_before t es w firsts =
     }
 
 pub begun_carried : (t : ℕ) (es : List Event) (w : BusWorld) (firsts : Firsts)
-    → Carried (begun t es w) (begun t es (with_firsts w firsts))
+    → Carried (after_beginning t es w) (after_beginning t es (with_firsts w firsts))
     (begun_touches t es w) (begun_touches t es (with_firsts w firsts)) firsts
-unfolding begun begun_touches
+unfolding after_beginning begun_touches
 begun_carried t es w firsts =
     let xs = events_touches es (at_start (in_turn t w)) in
     let before = before_disk t es w in
-    let due = is_due before.bus.turn before.bus.board.disk.operation in
+    let due = is_due before.bus.turn before.bus.io_page.disk.operation in
     let first = carried_before t es w firsts in
     let last = carried_due due before (firsts_after xs firsts) in
     let ys = if due then disk_touches before.bus else [] in

@@ -2,6 +2,7 @@ pub mod Beginnings
 pub mod Carried
 pub mod CompletionLaws
 pub mod Devices
+pub mod Frame
 pub mod KeyLaws
 pub mod OutputLaws
 pub mod RequestLaws

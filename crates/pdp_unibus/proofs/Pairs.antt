@@ -4,48 +4,43 @@ use Rattle.pdp_device.specs.Operation.{is_due}
 use Rattle.pdp_rk11.proofs.CompletionPairs.{completions_alike}
 use Rattle.pdp_store.proofs.Traces.{Avoids-first, Avoids-second}
 use Rattle.pdp_store.specs.Parts.{AlikeWords}
-use Rattle.pdp_store.specs.Touch.{Avoids, Part, Touch}
-use Rattle.pdp_unibus.specs.Beginning.{Progress, after_event, after_events, at_start, before_disk, begun, disk_done, disk_due, in_turn, where_due}
+use Rattle.pdp_store.specs.TracedAccess.{Avoids, Part, TracedAccess}
+use Rattle.pdp_unibus.specs.Beginning.{Progress, after_event, after_events, at_start, before_disk, after_beginning, disk_done, disk_due, in_turn, where_due}
 use Rattle.pdp_unibus.specs.BusWorld.{BusWorld, disk_world_of, with_disk_world, with_firsts}
 use Rattle.pdp_store.specs.Firsts.{firsts_after}
-use Rattle.pdp_unibus.specs.Page.{words_of, with_words}
+use Rattle.pdp_unibus.specs.Page.{words_of_part, bus_with_words}
 use Rattle.pdp_unibus.specs.Trace.{begun_touches, disk_touches, due_touches, event_touches, events_touches}
 use Rattle.pdp_unibus.specs.declared.event.Event.{Event}
-use Rattle.pdp_unibus.specs.declared.event.Event.TheVariants.{Key, Tick, PrinterDone, ReaderDone, PunchDone, DiskDone, Switches, Continue}
+use Rattle.pdp_unibus.specs.declared.event.Event.TheVariants.{DiskDone}
 use Rattle.pdp_unibus.proofs.Beginnings.{Quiet, dues, dues_are_quiet, over}
 
 -- what a step makes of each, with its touches
-pub record Paired (part : Part) (page : ℕ) (p q : Progress) (xs ys : List Touch) : Type 0 where
+pub record Paired (part : Part) (page : ℕ) (p q : Progress) (xs ys : List TracedAccess) : Type 0 where
   pub words : List ℕ
   pub is : q ≡ over part words p
-  pub alike : AlikeWords page (words_of part p.bus) words
+  pub alike : AlikeWords page (words_of_part part p.bus) words
   pub trace : ys ≡ xs
 
-paired_disk : (part : Part) (page : ℕ) (p : Progress) (words : List ℕ) → AlikeWords page (words_of part p.bus) words
+paired_disk : (part : Part) (page : ℕ) (p : Progress) (words : List ℕ) → AlikeWords page (words_of_part part p.bus) words
     → Avoids part page (disk_touches p.bus)
     → Paired part page (disk_done p) (disk_done (over part words p)) (disk_touches p.bus) (disk_touches (over part words p).bus)
 paired_disk part page p words alike avoids =
     let pair = completions_alike part page p.bus.turn (disk_world_of p.bus) words alike avoids in
     record {
       words = pair.left;
-      is = ap₂ (λ d xs. record p { bus = with_firsts (with_disk_world (with_words part words p.bus) d) (firsts_after xs p.bus.firsts) }) pair.is pair.trace;
+      is = ap₂ (λ d xs. record p { bus = with_firsts (with_disk_world (bus_with_words part words p.bus) d) (firsts_after xs p.bus.firsts) }) pair.is pair.trace;
       alike = pair.alike;
       trace = pair.trace;
     }
 
-paired_event : (part : Part) (page : ℕ) (e : Event) (p : Progress) (words : List ℕ) → AlikeWords page (words_of part p.bus) words
+paired_event : (part : Part) (page : ℕ) (e : Event) (p : Progress) (words : List ℕ) → AlikeWords page (words_of_part part p.bus) words
     → Avoids part page (event_touches e p.bus)
     → Paired part page (after_event e p) (after_event e (over part words p)) (event_touches e p.bus) (event_touches e (over part words p).bus)
 paired_event part page DiskDone p words alike avoids = paired_disk part page p words alike avoids
-paired_event part page (Key key) p words alike avoids = record { words = words; is = refl; alike = alike; trace = refl }
-paired_event part page Tick p words alike avoids = record { words = words; is = refl; alike = alike; trace = refl }
-paired_event part page PrinterDone p words alike avoids = record { words = words; is = refl; alike = alike; trace = refl }
-paired_event part page ReaderDone p words alike avoids = record { words = words; is = refl; alike = alike; trace = refl }
-paired_event part page PunchDone p words alike avoids = record { words = words; is = refl; alike = alike; trace = refl }
-paired_event part page (Switches word) p words alike avoids = record { words = words; is = refl; alike = alike; trace = refl }
-paired_event part page Continue p words alike avoids = record { words = words; is = refl; alike = alike; trace = refl }
+paired_event part page _ p words alike avoids =
+    record { words = words; is = refl; alike = alike; trace = refl }
 
-paired_events : (part : Part) (page : ℕ) (es : List Event) (p : Progress) (words : List ℕ) → AlikeWords page (words_of part p.bus) words
+paired_events : (part : Part) (page : ℕ) (es : List Event) (p : Progress) (words : List ℕ) → AlikeWords page (words_of_part part p.bus) words
     → Avoids part page (events_touches es p)
     → Paired part page (after_events es p) (after_events es (over part words p)) (events_touches es p) (events_touches es (over part words p))
 paired_events part page [] p words alike avoids = record { words = words; is = refl; alike = alike; trace = refl }
@@ -59,7 +54,7 @@ paired_events part page (e ∷ es) p words alike avoids =
       trace = ap₂ ◌++◌ first.trace (ap (events_touches es) first.is ∙ rest.trace);
     }
 
-paired_due : (part : Part) (page : ℕ) (due : Bool) (p : Progress) (words : List ℕ) → AlikeWords page (words_of part p.bus) words
+paired_due : (part : Part) (page : ℕ) (due : Bool) (p : Progress) (words : List ℕ) → AlikeWords page (words_of_part part p.bus) words
     → Avoids part page (if due then disk_touches p.bus else [])
     → Paired part page (where_due due disk_done p) (where_due due disk_done (over part words p))
     (if due then disk_touches p.bus else []) (if due then disk_touches (over part words p).bus else [])
@@ -68,13 +63,13 @@ paired_due part page false p words alike avoids = record { words = words; is = r
 
 -- what is alike before a quiet step is alike after it
 alike_after : (part : Part) (page : ℕ) (f : Progress → Progress) (p : Progress) (words : List ℕ) → Quiet f
-    → AlikeWords page (words_of part p.bus) words → AlikeWords page (words_of part (f p).bus) words
-alike_after part page f p words quiet alike = rw (ap (words_of part) (quiet.leaves p)) alike
+    → AlikeWords page (words_of_part part p.bus) words → AlikeWords page (words_of_part part (f p).bus) words
+alike_after part page f p words quiet alike = rw (ap (words_of_part part) (quiet.leaves p)) alike
 
-paired_before : (part : Part) (page t : ℕ) (es : List Event) (w : BusWorld) (words : List ℕ) → AlikeWords page (words_of part w) words
+paired_before : (part : Part) (page t : ℕ) (es : List Event) (w : BusWorld) (words : List ℕ) → AlikeWords page (words_of_part part w) words
     → Avoids part page (events_touches es (at_start (in_turn t w)))
-    → Paired part page (before_disk t es w) (before_disk t es (with_words part words w))
-    (events_touches es (at_start (in_turn t w))) (events_touches es (at_start (in_turn t (with_words part words w))))
+    → Paired part page (before_disk t es w) (before_disk t es (bus_with_words part words w))
+    (events_touches es (at_start (in_turn t w))) (events_touches es (at_start (in_turn t (bus_with_words part words w))))
 unfolding before_disk dues
 paired_before part page t es w words alike avoids =
     let events = after_events es (at_start (in_turn t w)) in
@@ -86,14 +81,14 @@ paired_before part page t es w words alike avoids =
       trace = pair.trace;
     }
 
-pub begun_alike : (part : Part) (page t : ℕ) (es : List Event) (w : BusWorld) (words : List ℕ) → AlikeWords page (words_of part w) words
+pub begun_alike : (part : Part) (page t : ℕ) (es : List Event) (w : BusWorld) (words : List ℕ) → AlikeWords page (words_of_part part w) words
     → Avoids part page (begun_touches t es w)
-    → Paired part page (begun t es w) (begun t es (with_words part words w)) (begun_touches t es w) (begun_touches t es (with_words part words w))
-unfolding begun begun_touches
+    → Paired part page (after_beginning t es w) (after_beginning t es (bus_with_words part words w)) (begun_touches t es w) (begun_touches t es (bus_with_words part words w))
+unfolding after_beginning begun_touches
 begun_alike part page t es w words alike avoids =
     let touches = events_touches es (at_start (in_turn t w)) in
     let before = before_disk t es w in
-    let due = is_due before.bus.turn before.bus.board.disk.operation in
+    let due = is_due before.bus.turn before.bus.io_page.disk.operation in
     let first = paired_before part page t es w words alike (Avoids-first part page touches _ avoids) in
     let last = paired_due part page due before first.words first.alike (Avoids-second part page touches _ avoids) in
     record {

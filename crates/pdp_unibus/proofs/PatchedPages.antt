@@ -7,28 +7,28 @@ use Rattle.pdp_store.specs.Pieces.{piece}
 use Rattle.pdp_store.specs.Stored.{HasLastOfEachOrNone}
 use Rattle.pdp_store.specs.declared.Stamp.{Stamp}
 use Rattle.pdp_store.proofs.PageLists.{IsChanged, lasts_with_page, there_within, words_with_page}
-use Rattle.pdp_unibus.specs.BusContent.{BusContent, HasWord}
+use Rattle.pdp_unibus.specs.SavedBusData.{SavedBusData, SavedBusHasWord}
 use Rattle.pdp_unibus.specs.PatchedPages.{IsPageWith, IsPatchIn, saved_lasts, saved_words}
 use Rattle.pdp_unibus.specs.SavedDrives.{AreUnstamped, PageList, pages_lasts, pages_words}
 use Rattle.pdp_unibus.proofs.SavedDrives.{words_there}
 use Rattle.pdp_unibus.specs.declared.saved_bus.patched_page.PatchedPage.{PatchedPage}
 
--- a patch of core, or of the drive of a number, in a content that is the other
-pub core_patch : (v c : BusContent) (p : PatchedPage) → v ≡ c → p.drive ≡ None → IsPatchIn c p
+-- a patch of core, or of the drive of a number, in a saved bus that is the other
+pub core_patch : (v c : SavedBusData) (p : PatchedPage) → v ≡ c → p.drive ≡ None → IsPatchIn c p
     → (p.word < length v.core) × IsPageWith p.word p.value v.core v.lasts p.page
-unfolding HasWord
+unfolding SavedBusHasWord
 core_patch v c p view is patch =
-    let there = subst (λ d. HasWord d p.word c) is patch.there in
+    let there = subst (λ d. SavedBusHasWord d p.word c) is patch.there in
     let page = subst (λ d. IsPageWith p.word p.value (saved_words d c) (saved_lasts d c) p.page) is patch.page in
-    subst (λ (x : BusContent). (p.word < length x.core) × IsPageWith p.word p.value x.core x.lasts p.page) (sym view) (there, page)
+    subst (λ (x : SavedBusData). (p.word < length x.core) × IsPageWith p.word p.value x.core x.lasts p.page) (sym view) (there, page)
 
-pub drive_patch : (v c : BusContent) (p : PatchedPage) (number : ℕ) → v ≡ c → p.drive ≡ Some number → IsPatchIn c p
+pub drive_patch : (v c : SavedBusData) (p : PatchedPage) (number : ℕ) → v ≡ c → p.drive ≡ Some number → IsPatchIn c p
     → (p.word < length (slice_index_or v.drives number [])) × IsPageWith p.word p.value (slice_index_or v.drives number []) [] p.page
-unfolding HasWord
+unfolding SavedBusHasWord
 drive_patch v c p number view is patch =
-    let there = subst (λ d. HasWord d p.word c) is patch.there in
+    let there = subst (λ d. SavedBusHasWord d p.word c) is patch.there in
     let page = subst (λ d. IsPageWith p.word p.value (saved_words d c) (saved_lasts d c) p.page) is patch.page in
-    subst (λ (x : BusContent). (p.word < length (slice_index_or x.drives number [])) × IsPageWith p.word p.value (slice_index_or x.drives number []) [] p.page)
+    subst (λ (x : SavedBusData). (p.word < length (slice_index_or x.drives number [])) × IsPageWith p.word p.value (slice_index_or x.drives number []) [] p.page)
     (sym view) (there, page)
 
 -- a list of pages with the patched page at its place

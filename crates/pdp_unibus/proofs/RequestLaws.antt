@@ -3,11 +3,11 @@ use Rattle.std.proofs.Common.{◌≡◌, ◌⊎◌, inl, inr, Bool, true, false,
 use Rattle.std.specs.List.{find, list_any}
 use Rattle.std.specs.Option.{option_or}
 use Rattle.std.proofs.lemmas.Bool.{and_parts, and_from, or_parts}
-use Rattle.pdp_unibus.specs.BusWorld.{board_reset}
+use Rattle.pdp_unibus.specs.BusWorld.{io_page_reset}
 use Rattle.pdp_unibus.specs.RequestLaws.{NoneIsChosenWhereNoneIsAbove, OthersGoOnRequesting, RequestsAreTold, ResetDropsRequests, ServedSourcesAreSilent, TheFirstIsChosen, goes_before}
-use Rattle.pdp_unibus.specs.Source.{alone_above, chosen, first_above, has_request, level_of, order, requests, served}
+use Rattle.pdp_unibus.specs.Source.{alone_above, chosen_source, first_above, has_request, level_of, order, requests, io_page_served}
 use Rattle.pdp_unibus.specs.Status.{is_above}
-use Rattle.pdp_unibus.specs.declared.board.Board.{Board}
+use Rattle.pdp_unibus.specs.declared.io_page.IoPage.{IoPage}
 use Rattle.pdp_unibus.specs.declared.priority.Priority.{Priority}
 use Rattle.pdp_unibus.specs.declared.source.Source.{Source}
 use Rattle.pdp_unibus.specs.declared.source.Source.TheVariants.{Keyboard, Printer, Reader, Punch, Clock, Disk}
@@ -196,13 +196,13 @@ first_of_all is_requesting priority =
       first false false false false false false = refl
 
 -- where no source requests none is chosen
-pub quiet_boards_choose_none : (priority : Priority) (b : Board) → has_request b ≡ false → chosen priority b ≡ None
-unfolding chosen
-quiet_boards_choose_none priority b quiet =
+pub without_requests_none_is_chosen : (priority : Priority) (b : IoPage) → has_request b ≡ false → chosen_source priority b ≡ None
+unfolding chosen_source
+without_requests_none_is_chosen priority b quiet =
     (none_is_chosen (requests b) priority).1 (λ s (asks, high). let no = (requests_are_told b).0 quiet s in cc)
 
 pub served_sources_are_silent : ServedSourcesAreSilent
-unfolding requests served
+unfolding requests io_page_served
 served_sources_are_silent Clock b = refl
 served_sources_are_silent Disk b = refl
 served_sources_are_silent Keyboard b = refl
@@ -211,7 +211,7 @@ served_sources_are_silent Reader b = refl
 served_sources_are_silent Punch b = refl
 
 pub others_go_on : OthersGoOnRequesting
-unfolding requests served
+unfolding requests io_page_served
 others_go_on Clock Clock b other = absurd (other refl)
 others_go_on Clock _ b other = refl
 others_go_on Keyboard Keyboard b other = absurd (other refl)
@@ -226,5 +226,5 @@ others_go_on Disk Disk b other = absurd (other refl)
 others_go_on Disk _ b other = refl
 
 pub reset_drops_requests : ResetDropsRequests
-unfolding board_reset requests
+unfolding io_page_reset requests
 reset_drops_requests b = refl

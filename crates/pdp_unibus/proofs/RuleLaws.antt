@@ -1,237 +1,175 @@
--- The one rule of requests, of each channel of the board.
-use Rattle.std.proofs.Common.{◌≡◌, Bool, true, false, ◌&&◌, ◌||◌, not, ℕ, refl, if◌then◌else◌}
+-- The one rule of requests, of each ready/enable pair of the I/O page.
+use Rattle.std.proofs.Common.{◌≡◌, Bool, true, false, ◌&&◌, ◌||◌, not, ℕ, refl, sym, subst, ap, if◌then◌else◌}
 use Rattle.std.proofs.lemmas.Bool.{and_parts}
-use Rattle.pdp_word.specs.Request.{request_after}
+use Rattle.pdp_device.specs.Request.{request_after}
 use Rattle.pdp_console.specs.declared.kl.KlRegister.TheVariants.{KeyboardStatus, KeyboardBuffer, PrinterStatus, PrinterBuffer}
-use Rattle.pdp_device.specs.Channel.{channel_with, enable_written, is_calling}
+use Rattle.pdp_device.specs.ReadyEnable.{ready_enable_with, enable_written, wants_interrupt}
 use Rattle.pdp_device.specs.Operation.{is_under_way}
-use Rattle.pdp_device.specs.Outlet.{byte_written, outlet_completed}
-use Rattle.pdp_device.specs.declared.channel.Channel.{Channel}
-use Rattle.pdp_device.specs.declared.outlet.Outlet.{Outlet}
-use Rattle.pdp_rk11.proofs.Readiness.{completed_channel, completed_idle}
-use Rattle.pdp_rk11.specs.Completion.{completed as completion}
-use Rattle.pdp_rk11.specs.Rk.{commanded, function_of, gone_with, rk_written}
+use Rattle.pdp_device.specs.Transmitter.{byte_written, transmitter_completed}
+use Rattle.pdp_device.specs.declared.ready_enable.ReadyEnable.{ReadyEnable}
+use Rattle.pdp_device.specs.declared.transmitter.Transmitter.{Transmitter}
+use Rattle.pdp_rk11.proofs.Readiness.{completed_ready_enable, completed_idle}
+use Rattle.pdp_rk11.specs.Completion.{rk_completed as completion}
+use Rattle.pdp_rk11.specs.Rk.{rk_commanded, function_of, gone_with, rk_written}
 use Rattle.pdp_rk11.specs.declared.function.Function.{Function}
 use Rattle.pdp_rk11.specs.declared.function.Function.TheVariants.{ControlReset, Write, Read, WriteCheck, Seek, ReadCheck, DriveReset, WriteLock}
 use Rattle.pdp_rk11.specs.declared.register.RkRegister.TheVariants as rk
 use Rattle.pdp_rk11.specs.declared.rk.Rk.{Rk}
-use Rattle.pdp_tape.specs.declared.pc.PcRegister.TheVariants.{ReaderStatus, ReaderBuffer, PunchStatus, PunchBuffer}
+use Rattle.pdp_tape.specs.declared.pc.PcRegister.TheVariants.{ReaderBuffer, PunchStatus, PunchBuffer}
+use Rattle.pdp_unibus.proofs.Frame.{event_leaves, use_leaves}
 use Rattle.pdp_unibus.specs.Beginning.{Progress, after_event}
 use Rattle.pdp_unibus.specs.BusWorld.{disk_world_of}
-use Rattle.pdp_word.specs.Bits.{field, has_bit}
-use Rattle.pdp_unibus.specs.Laws.{Use, Reading, Writing, after_use}
+use Rattle.pdp_word.specs.Bits.{field}
+use Rattle.pdp_word.specs.Mask.{is_set}
+use Rattle.pdp_rk11.specs.Bits.{rkcs_enable, rkcs_go}
+use Rattle.pdp_unibus.specs.Laws.{RegisterUse, Reading, Writing, io_page_after_use}
 use Rattle.pdp_unibus.specs.Register.{after_read, after_write}
-use Rattle.pdp_unibus.specs.RuleLaws.{GoesByTheRule, IsSound, RequestsGoByTheRule, disk_channel, keyboard_channel, printer_channel, punch_channel}
-use Rattle.pdp_unibus.specs.declared.board.Board.{Board}
+use Rattle.pdp_unibus.specs.RuleLaws.{GoesByTheRule, IsSound, RequestsGoByTheRule, disk_ready_enable, keyboard_ready_enable, printer_ready_enable, punch_ready_enable}
+use Rattle.pdp_unibus.specs.declared.io_page.IoPage.{IoPage}
 use Rattle.pdp_unibus.specs.declared.event.Event.{Event}
-use Rattle.pdp_unibus.specs.declared.event.Event.TheVariants.{Key, Tick, PrinterDone, ReaderDone, PunchDone, DiskDone, Switches, Continue}
+use Rattle.pdp_unibus.specs.declared.event.Event.TheVariants.{Key, PrinterDone, ReaderDone, PunchDone, DiskDone}
 use Rattle.pdp_unibus.specs.declared.register.Register.TheVariants as register
-use Rattle.pdp_unibus.specs.declared.register.Register.TheVariants.{Clock, Console, PaperTape, ProgramStatus}
+use Rattle.pdp_unibus.specs.declared.register.Register.TheVariants.{Console, PaperTape}
 
--- a channel that isn't changed
+-- a ready/enable pair that isn't changed
 same_request : (calls request : Bool) → (request ≡ true → calls ≡ true) → request ≡ request_after calls calls request
 same_request true true sound = refl
 same_request true false sound = refl
 same_request false false sound = refl
 same_request false true sound = absurd (cc (sound refl))
 
-unchanged : (c : Channel) → IsSound c → GoesByTheRule c c
-unchanged c sound = record { request = same_request (is_calling c) c.request sound; sound = sound }
+unchanged : (c : ReadyEnable) → IsSound c → GoesByTheRule c c
+unchanged c sound = record { request = same_request (wants_interrupt c) c.request sound; sound = sound }
+
+-- so is one of a device that is left
+left : (before after : ReadyEnable) → after ≡ before → IsSound before → GoesByTheRule before after
+left before after same sound = subst (GoesByTheRule before) (sym same) (unchanged before sound)
 
 -- one change of ready and enable
-changed : (ready enable : Bool) (c : Channel) → GoesByTheRule c (channel_with ready enable c)
+changed : (ready enable : Bool) (c : ReadyEnable) → GoesByTheRule c (ready_enable_with ready enable c)
 changed ready enable c = record {
   request = refl;
-  sound = λ asks. (and_parts (ready && enable) (c.request || not (is_calling c)) asks).0;
+  sound = λ asks. (and_parts (ready && enable) (c.request || not (wants_interrupt c)) asks).0;
 }
 
--- a byte is written, and a completion, of an outlet that is busy or isn't
-written : (byte turn delay : ℕ) (o : Outlet) (busy : Bool) → is_under_way o.operation ≡ busy → IsSound o.channel
-    → GoesByTheRule o.channel (byte_written byte turn delay o).channel
-written byte turn delay o true busy sound = rw busy (unchanged o.channel sound)
-written byte turn delay o false idle sound = rw idle (changed false o.channel.enable o.channel)
+-- a byte is written, and a completion, of a transmitter that is busy or isn't
+written : (byte turn delay : ℕ) (o : Transmitter) (busy : Bool) → is_under_way o.operation ≡ busy → IsSound o.ready_enable
+    → GoesByTheRule o.ready_enable (byte_written byte turn delay o).ready_enable
+written byte turn delay o true busy sound = rw busy (unchanged o.ready_enable sound)
+written byte turn delay o false idle sound = rw idle (changed false o.ready_enable.enable o.ready_enable)
 
-completed : (o : Outlet) (busy : Bool) → is_under_way o.operation ≡ busy → IsSound o.channel
-    → GoesByTheRule o.channel (outlet_completed o).channel
-completed o true busy sound = rw busy (changed true o.channel.enable o.channel)
-completed o false idle sound = rw idle (unchanged o.channel sound)
+completed : (o : Transmitter) (busy : Bool) → is_under_way o.operation ≡ busy → IsSound o.ready_enable
+    → GoesByTheRule o.ready_enable (transmitter_completed o).ready_enable
+completed o true busy sound = rw busy (changed true o.ready_enable.enable o.ready_enable)
+completed o false idle sound = rw idle (unchanged o.ready_enable sound)
 
-keyboard_uses : (u : Use) (b : Board) → IsSound (keyboard_channel b) → GoesByTheRule (keyboard_channel b) (keyboard_channel (after_use u b))
+keyboard_uses : (u : RegisterUse) (b : IoPage) → IsSound (keyboard_ready_enable b) → GoesByTheRule (keyboard_ready_enable b) (keyboard_ready_enable (io_page_after_use u b))
 unfolding after_read after_write
-keyboard_uses (Reading (Console KeyboardBuffer)) b sound = changed false (keyboard_channel b).enable (keyboard_channel b)
-keyboard_uses (Reading (Console KeyboardStatus)) b sound = unchanged (keyboard_channel b) sound
-keyboard_uses (Reading (Console PrinterStatus)) b sound = unchanged (keyboard_channel b) sound
-keyboard_uses (Reading (Console PrinterBuffer)) b sound = unchanged (keyboard_channel b) sound
-keyboard_uses (Reading Clock) b sound = unchanged (keyboard_channel b) sound
-keyboard_uses (Reading (PaperTape r)) b sound = unchanged (keyboard_channel b) sound
-keyboard_uses (Reading (register.Disk r)) b sound = unchanged (keyboard_channel b) sound
-keyboard_uses (Reading register.Switches) b sound = unchanged (keyboard_channel b) sound
-keyboard_uses (Reading (register.Mapping r)) b sound = unchanged (keyboard_channel b) sound
-keyboard_uses (Reading ProgramStatus) b sound = unchanged (keyboard_channel b) sound
-keyboard_uses (Writing (Console KeyboardStatus) word turn) b sound = changed (keyboard_channel b).ready _ (keyboard_channel b)
-keyboard_uses (Writing (Console KeyboardBuffer) word turn) b sound = unchanged (keyboard_channel b) sound
-keyboard_uses (Writing (Console PrinterStatus) word turn) b sound = unchanged (keyboard_channel b) sound
-keyboard_uses (Writing (Console PrinterBuffer) word turn) b sound = unchanged (keyboard_channel b) sound
-keyboard_uses (Writing Clock word turn) b sound = unchanged (keyboard_channel b) sound
-keyboard_uses (Writing (PaperTape r) word turn) b sound = unchanged (keyboard_channel b) sound
-keyboard_uses (Writing (register.Disk r) word turn) b sound = unchanged (keyboard_channel b) sound
-keyboard_uses (Writing register.Switches word turn) b sound = unchanged (keyboard_channel b) sound
-keyboard_uses (Writing (register.Mapping r) word turn) b sound = unchanged (keyboard_channel b) sound
-keyboard_uses (Writing ProgramStatus word turn) b sound = unchanged (keyboard_channel b) sound
+keyboard_uses (Reading (Console KeyboardBuffer)) b sound = changed false (keyboard_ready_enable b).enable (keyboard_ready_enable b)
+keyboard_uses (Reading (Console r)) b sound = unchanged (keyboard_ready_enable b) sound
+keyboard_uses (Writing (Console KeyboardStatus) word turn) b sound = changed (keyboard_ready_enable b).ready _ (keyboard_ready_enable b)
+keyboard_uses (Writing (Console r) word turn) b sound = unchanged (keyboard_ready_enable b) sound
+keyboard_uses u b sound =
+    left _ _ (ap (λ d. d.keyboard.ready_enable) ((use_leaves u b).console (λ is. cc is))) sound
 
-keyboard_events : (e : Event) (p : Progress) → IsSound (keyboard_channel p.bus.board)
-    → GoesByTheRule (keyboard_channel p.bus.board) (keyboard_channel (after_event e p).bus.board)
-keyboard_events (Key key) p sound = changed true (keyboard_channel p.bus.board).enable (keyboard_channel p.bus.board)
-keyboard_events Tick p sound = unchanged (keyboard_channel p.bus.board) sound
-keyboard_events PrinterDone p sound = unchanged (keyboard_channel p.bus.board) sound
-keyboard_events ReaderDone p sound = unchanged (keyboard_channel p.bus.board) sound
-keyboard_events PunchDone p sound = unchanged (keyboard_channel p.bus.board) sound
-keyboard_events DiskDone p sound = unchanged (keyboard_channel p.bus.board) sound
-keyboard_events (Switches word) p sound = unchanged (keyboard_channel p.bus.board) sound
-keyboard_events Continue p sound = unchanged (keyboard_channel p.bus.board) sound
+keyboard_events : (e : Event) (p : Progress) → IsSound (keyboard_ready_enable p.bus.io_page)
+    → GoesByTheRule (keyboard_ready_enable p.bus.io_page) (keyboard_ready_enable (after_event e p).bus.io_page)
+keyboard_events (Key key) p sound = changed true (keyboard_ready_enable p.bus.io_page).enable (keyboard_ready_enable p.bus.io_page)
+keyboard_events PrinterDone p sound = unchanged (keyboard_ready_enable p.bus.io_page) sound
+keyboard_events e p sound =
+    left _ _ (ap (λ d. d.keyboard.ready_enable) ((event_leaves e p).io_page.console (λ is. cc is))) sound
 
-printer_uses : (u : Use) (b : Board) → IsSound (printer_channel b) → GoesByTheRule (printer_channel b) (printer_channel (after_use u b))
+printer_uses : (u : RegisterUse) (b : IoPage) → IsSound (printer_ready_enable b) → GoesByTheRule (printer_ready_enable b) (printer_ready_enable (io_page_after_use u b))
 unfolding after_read after_write
-printer_uses (Reading (Console KeyboardStatus)) b sound = unchanged (printer_channel b) sound
-printer_uses (Reading (Console KeyboardBuffer)) b sound = unchanged (printer_channel b) sound
-printer_uses (Reading (Console PrinterStatus)) b sound = unchanged (printer_channel b) sound
-printer_uses (Reading (Console PrinterBuffer)) b sound = unchanged (printer_channel b) sound
-printer_uses (Reading Clock) b sound = unchanged (printer_channel b) sound
-printer_uses (Reading (PaperTape r)) b sound = unchanged (printer_channel b) sound
-printer_uses (Reading (register.Disk r)) b sound = unchanged (printer_channel b) sound
-printer_uses (Reading register.Switches) b sound = unchanged (printer_channel b) sound
-printer_uses (Reading (register.Mapping r)) b sound = unchanged (printer_channel b) sound
-printer_uses (Reading ProgramStatus) b sound = unchanged (printer_channel b) sound
-printer_uses (Writing (Console PrinterStatus) word turn) b sound = changed (printer_channel b).ready _ (printer_channel b)
+printer_uses (Reading (Console KeyboardBuffer)) b sound = unchanged (printer_ready_enable b) sound
+printer_uses (Reading (Console r)) b sound = unchanged (printer_ready_enable b) sound
+printer_uses (Writing (Console PrinterStatus) word turn) b sound = changed (printer_ready_enable b).ready _ (printer_ready_enable b)
 printer_uses (Writing (Console PrinterBuffer) word turn) b sound = written _ turn b.delays.printer b.console.printer (is_under_way b.console.printer.operation) refl sound
-printer_uses (Writing (Console KeyboardStatus) word turn) b sound = unchanged (printer_channel b) sound
-printer_uses (Writing (Console KeyboardBuffer) word turn) b sound = unchanged (printer_channel b) sound
-printer_uses (Writing Clock word turn) b sound = unchanged (printer_channel b) sound
-printer_uses (Writing (PaperTape r) word turn) b sound = unchanged (printer_channel b) sound
-printer_uses (Writing (register.Disk r) word turn) b sound = unchanged (printer_channel b) sound
-printer_uses (Writing register.Switches word turn) b sound = unchanged (printer_channel b) sound
-printer_uses (Writing (register.Mapping r) word turn) b sound = unchanged (printer_channel b) sound
-printer_uses (Writing ProgramStatus word turn) b sound = unchanged (printer_channel b) sound
+printer_uses (Writing (Console r) word turn) b sound = unchanged (printer_ready_enable b) sound
+printer_uses u b sound =
+    left _ _ (ap (λ d. d.printer.ready_enable) ((use_leaves u b).console (λ is. cc is))) sound
 
-printer_events : (e : Event) (p : Progress) → IsSound (printer_channel p.bus.board)
-    → GoesByTheRule (printer_channel p.bus.board) (printer_channel (after_event e p).bus.board)
-printer_events PrinterDone p sound = completed p.bus.board.console.printer (is_under_way p.bus.board.console.printer.operation) refl sound
-printer_events (Key key) p sound = unchanged (printer_channel p.bus.board) sound
-printer_events Tick p sound = unchanged (printer_channel p.bus.board) sound
-printer_events ReaderDone p sound = unchanged (printer_channel p.bus.board) sound
-printer_events PunchDone p sound = unchanged (printer_channel p.bus.board) sound
-printer_events DiskDone p sound = unchanged (printer_channel p.bus.board) sound
-printer_events (Switches word) p sound = unchanged (printer_channel p.bus.board) sound
-printer_events Continue p sound = unchanged (printer_channel p.bus.board) sound
+printer_events : (e : Event) (p : Progress) → IsSound (printer_ready_enable p.bus.io_page)
+    → GoesByTheRule (printer_ready_enable p.bus.io_page) (printer_ready_enable (after_event e p).bus.io_page)
+printer_events PrinterDone p sound = completed p.bus.io_page.console.printer (is_under_way p.bus.io_page.console.printer.operation) refl sound
+printer_events (Key key) p sound = unchanged (printer_ready_enable p.bus.io_page) sound
+printer_events e p sound =
+    left _ _ (ap (λ d. d.printer.ready_enable) ((event_leaves e p).io_page.console (λ is. cc is))) sound
 
-punch_uses : (u : Use) (b : Board) → IsSound (punch_channel b) → GoesByTheRule (punch_channel b) (punch_channel (after_use u b))
+punch_uses : (u : RegisterUse) (b : IoPage) → IsSound (punch_ready_enable b) → GoesByTheRule (punch_ready_enable b) (punch_ready_enable (io_page_after_use u b))
 unfolding after_read after_write
-punch_uses (Reading (PaperTape ReaderStatus)) b sound = unchanged (punch_channel b) sound
-punch_uses (Reading (PaperTape ReaderBuffer)) b sound = unchanged (punch_channel b) sound
-punch_uses (Reading (PaperTape PunchStatus)) b sound = unchanged (punch_channel b) sound
-punch_uses (Reading (PaperTape PunchBuffer)) b sound = unchanged (punch_channel b) sound
-punch_uses (Reading Clock) b sound = unchanged (punch_channel b) sound
-punch_uses (Reading (Console r)) b sound = unchanged (punch_channel b) sound
-punch_uses (Reading (register.Disk r)) b sound = unchanged (punch_channel b) sound
-punch_uses (Reading register.Switches) b sound = unchanged (punch_channel b) sound
-punch_uses (Reading (register.Mapping r)) b sound = unchanged (punch_channel b) sound
-punch_uses (Reading ProgramStatus) b sound = unchanged (punch_channel b) sound
-punch_uses (Writing (PaperTape PunchStatus) word turn) b sound = changed (punch_channel b).ready _ (punch_channel b)
+punch_uses (Reading (PaperTape ReaderBuffer)) b sound = unchanged (punch_ready_enable b) sound
+punch_uses (Reading (PaperTape r)) b sound = unchanged (punch_ready_enable b) sound
+punch_uses (Writing (PaperTape PunchStatus) word turn) b sound = changed (punch_ready_enable b).ready _ (punch_ready_enable b)
 punch_uses (Writing (PaperTape PunchBuffer) word turn) b sound = written _ turn b.delays.punch b.paper_tape.punch (is_under_way b.paper_tape.punch.operation) refl sound
-punch_uses (Writing (PaperTape ReaderStatus) word turn) b sound = unchanged (punch_channel b) sound
-punch_uses (Writing (PaperTape ReaderBuffer) word turn) b sound = unchanged (punch_channel b) sound
-punch_uses (Writing Clock word turn) b sound = unchanged (punch_channel b) sound
-punch_uses (Writing (Console r) word turn) b sound = unchanged (punch_channel b) sound
-punch_uses (Writing (register.Disk r) word turn) b sound = unchanged (punch_channel b) sound
-punch_uses (Writing register.Switches word turn) b sound = unchanged (punch_channel b) sound
-punch_uses (Writing (register.Mapping r) word turn) b sound = unchanged (punch_channel b) sound
-punch_uses (Writing ProgramStatus word turn) b sound = unchanged (punch_channel b) sound
+punch_uses (Writing (PaperTape r) word turn) b sound = unchanged (punch_ready_enable b) sound
+punch_uses u b sound =
+    left _ _ (ap (λ d. d.punch.ready_enable) ((use_leaves u b).paper_tape (λ is. cc is))) sound
 
-punch_events : (e : Event) (p : Progress) → IsSound (punch_channel p.bus.board)
-    → GoesByTheRule (punch_channel p.bus.board) (punch_channel (after_event e p).bus.board)
-punch_events PunchDone p sound = completed p.bus.board.paper_tape.punch (is_under_way p.bus.board.paper_tape.punch.operation) refl sound
-punch_events (Key key) p sound = unchanged (punch_channel p.bus.board) sound
-punch_events Tick p sound = unchanged (punch_channel p.bus.board) sound
-punch_events PrinterDone p sound = unchanged (punch_channel p.bus.board) sound
-punch_events ReaderDone p sound = unchanged (punch_channel p.bus.board) sound
-punch_events DiskDone p sound = unchanged (punch_channel p.bus.board) sound
-punch_events (Switches word) p sound = unchanged (punch_channel p.bus.board) sound
-punch_events Continue p sound = unchanged (punch_channel p.bus.board) sound
+punch_events : (e : Event) (p : Progress) → IsSound (punch_ready_enable p.bus.io_page)
+    → GoesByTheRule (punch_ready_enable p.bus.io_page) (punch_ready_enable (after_event e p).bus.io_page)
+punch_events PunchDone p sound = completed p.bus.io_page.paper_tape.punch (is_under_way p.bus.io_page.paper_tape.punch.operation) refl sound
+punch_events ReaderDone p sound = unchanged (punch_ready_enable p.bus.io_page) sound
+punch_events e p sound =
+    left _ _ (ap (λ d. d.punch.ready_enable) ((event_leaves e p).io_page.paper_tape (λ is. cc is))) sound
 
-pub keyboard_goes : RequestsGoByTheRule keyboard_channel
+pub keyboard_goes : RequestsGoByTheRule keyboard_ready_enable
 keyboard_goes = record { uses = keyboard_uses; events = keyboard_events; power = λ delays asks. absurd (cc asks) }
 
-pub printer_goes : RequestsGoByTheRule printer_channel
+pub printer_goes : RequestsGoByTheRule printer_ready_enable
 printer_goes = record { uses = printer_uses; events = printer_events; power = λ delays asks. absurd (cc asks) }
 
-pub punch_goes : RequestsGoByTheRule punch_channel
+pub punch_goes : RequestsGoByTheRule punch_ready_enable
 punch_goes = record { uses = punch_uses; events = punch_events; power = λ delays asks. absurd (cc asks) }
 
 -- go with a function, while ready
-gone : (function : Function) (word turn delay : ℕ) (disk : Rk) → GoesByTheRule disk.channel (gone_with function word turn delay disk).channel
-gone ControlReset word turn delay disk = changed true false disk.channel
-gone Write word turn delay disk = changed false (has_bit 6 word) disk.channel
-gone Read word turn delay disk = changed false (has_bit 6 word) disk.channel
-gone WriteCheck word turn delay disk = changed false (has_bit 6 word) disk.channel
-gone Seek word turn delay disk = changed false (has_bit 6 word) disk.channel
-gone ReadCheck word turn delay disk = changed false (has_bit 6 word) disk.channel
-gone DriveReset word turn delay disk = changed false (has_bit 6 word) disk.channel
-gone WriteLock word turn delay disk = changed false (has_bit 6 word) disk.channel
+gone : (function : Function) (word turn delay : ℕ) (disk : Rk) → GoesByTheRule disk.ready_enable (gone_with function word turn delay disk).ready_enable
+gone ControlReset word turn delay disk = changed true false disk.ready_enable
+gone Write word turn delay disk = changed false (is_set rkcs_enable word) disk.ready_enable
+gone Read word turn delay disk = changed false (is_set rkcs_enable word) disk.ready_enable
+gone WriteCheck word turn delay disk = changed false (is_set rkcs_enable word) disk.ready_enable
+gone Seek word turn delay disk = changed false (is_set rkcs_enable word) disk.ready_enable
+gone ReadCheck word turn delay disk = changed false (is_set rkcs_enable word) disk.ready_enable
+gone DriveReset word turn delay disk = changed false (is_set rkcs_enable word) disk.ready_enable
+gone WriteLock word turn delay disk = changed false (is_set rkcs_enable word) disk.ready_enable
 
-with_go : (goes : Bool) (word turn delay : ℕ) (disk : Rk) → has_bit 0 word ≡ goes
-    → GoesByTheRule disk.channel (commanded word turn delay disk).channel
+with_go : (goes : Bool) (word turn delay : ℕ) (disk : Rk) → is_set rkcs_go word ≡ goes
+    → GoesByTheRule disk.ready_enable (rk_commanded word turn delay disk).ready_enable
 with_go true word turn delay disk is = rw is (gone (function_of (field 1 3 word)) word turn delay disk)
-with_go false word turn delay disk is = rw is (changed disk.channel.ready (has_bit 6 word) disk.channel)
+with_go false word turn delay disk is = rw is (changed disk.ready_enable.ready (is_set rkcs_enable word) disk.ready_enable)
 
 controlled : (ready : Bool) (word turn delay : ℕ) (disk : Rk)
-    → GoesByTheRule disk.channel (if ready then commanded word turn delay disk else record disk { channel = enable_written word disk.channel }).channel
-controlled true word turn delay disk = with_go (has_bit 0 word) word turn delay disk refl
-controlled false word turn delay disk = changed disk.channel.ready (has_bit 6 word) disk.channel
+    → GoesByTheRule disk.ready_enable (if ready then rk_commanded word turn delay disk else record disk { ready_enable = enable_written word disk.ready_enable }).ready_enable
+controlled true word turn delay disk = with_go (is_set rkcs_go word) word turn delay disk refl
+controlled false word turn delay disk = changed disk.ready_enable.ready (is_set rkcs_enable word) disk.ready_enable
 
--- a register that is written while ready alone, and leaves the channel
-written_while : (ready : Bool) (disk after : Rk) → after.channel ≡ disk.channel → IsSound disk.channel
-    → GoesByTheRule disk.channel (if ready then after else disk).channel
-written_while true disk after same sound = rw same (unchanged disk.channel sound)
-written_while false disk after same sound = unchanged disk.channel sound
+-- a register that is written while ready alone, and leaves the ready/enable pair
+written_while : (ready : Bool) (disk after : Rk) → after.ready_enable ≡ disk.ready_enable → IsSound disk.ready_enable
+    → GoesByTheRule disk.ready_enable (if ready then after else disk).ready_enable
+written_while true disk after same sound = rw same (unchanged disk.ready_enable sound)
+written_while false disk after same sound = unchanged disk.ready_enable sound
 
-disk_uses : (u : Use) (b : Board) → IsSound (disk_channel b) → GoesByTheRule (disk_channel b) (disk_channel (after_use u b))
+disk_uses : (u : RegisterUse) (b : IoPage) → IsSound (disk_ready_enable b) → GoesByTheRule (disk_ready_enable b) (disk_ready_enable (io_page_after_use u b))
 unfolding after_read after_write rk_written
-disk_uses (Writing (register.Disk rk.DriveStatus) word turn) b sound = unchanged (disk_channel b) sound
-disk_uses (Writing (register.Disk rk.Error) word turn) b sound = unchanged (disk_channel b) sound
-disk_uses (Writing (register.Disk rk.Control) word turn) b sound = controlled b.disk.channel.ready word turn b.delays.disk b.disk
-disk_uses (Writing (register.Disk rk.WordCount) word turn) b sound = written_while b.disk.channel.ready b.disk _ refl sound
-disk_uses (Writing (register.Disk rk.BusAddress) word turn) b sound = written_while b.disk.channel.ready b.disk _ refl sound
-disk_uses (Writing (register.Disk rk.DiskAddress) word turn) b sound = written_while b.disk.channel.ready b.disk _ refl sound
-disk_uses (Writing (Console r) word turn) b sound = unchanged (disk_channel b) sound
-disk_uses (Writing Clock word turn) b sound = unchanged (disk_channel b) sound
-disk_uses (Writing (PaperTape r) word turn) b sound = unchanged (disk_channel b) sound
-disk_uses (Writing register.Switches word turn) b sound = unchanged (disk_channel b) sound
-disk_uses (Writing (register.Mapping r) word turn) b sound = unchanged (disk_channel b) sound
-disk_uses (Writing ProgramStatus word turn) b sound = unchanged (disk_channel b) sound
-disk_uses (Reading (register.Disk r)) b sound = unchanged (disk_channel b) sound
-disk_uses (Reading (Console r)) b sound = unchanged (disk_channel b) sound
-disk_uses (Reading Clock) b sound = unchanged (disk_channel b) sound
-disk_uses (Reading (PaperTape r)) b sound = unchanged (disk_channel b) sound
-disk_uses (Reading register.Switches) b sound = unchanged (disk_channel b) sound
-disk_uses (Reading (register.Mapping r)) b sound = unchanged (disk_channel b) sound
-disk_uses (Reading ProgramStatus) b sound = unchanged (disk_channel b) sound
+disk_uses (Reading (register.Disk r)) b sound = unchanged (disk_ready_enable b) sound
+disk_uses (Writing (register.Disk rk.DriveStatus) word turn) b sound = unchanged (disk_ready_enable b) sound
+disk_uses (Writing (register.Disk rk.Error) word turn) b sound = unchanged (disk_ready_enable b) sound
+disk_uses (Writing (register.Disk rk.Control) word turn) b sound = controlled b.disk.ready_enable.ready word turn b.delays.disk b.disk
+disk_uses (Writing (register.Disk r) word turn) b sound = written_while b.disk.ready_enable.ready b.disk _ refl sound
+disk_uses u b sound =
+    left _ _ (ap (λ d. d.ready_enable) ((use_leaves u b).disk (λ is. cc is))) sound
 
-disk_completed : (busy : Bool) (p : Progress) → is_under_way p.bus.board.disk.operation ≡ busy → IsSound (disk_channel p.bus.board)
-    → GoesByTheRule (disk_channel p.bus.board) (completion p.bus.turn (disk_world_of p.bus)).rk.channel
+disk_completed : (busy : Bool) (p : Progress) → is_under_way p.bus.io_page.disk.operation ≡ busy → IsSound (disk_ready_enable p.bus.io_page)
+    → GoesByTheRule (disk_ready_enable p.bus.io_page) (completion p.bus.turn (disk_world_of p.bus)).rk.ready_enable
 disk_completed true p is sound =
-    rw (completed_channel p.bus.turn (disk_world_of p.bus) is) (changed true (disk_channel p.bus.board).enable (disk_channel p.bus.board))
-disk_completed false p is sound = rw (completed_idle p.bus.turn (disk_world_of p.bus) is) (unchanged (disk_channel p.bus.board) sound)
+    rw (completed_ready_enable p.bus.turn (disk_world_of p.bus) is) (changed true (disk_ready_enable p.bus.io_page).enable (disk_ready_enable p.bus.io_page))
+disk_completed false p is sound = rw (completed_idle p.bus.turn (disk_world_of p.bus) is) (unchanged (disk_ready_enable p.bus.io_page) sound)
 
-disk_events : (e : Event) (p : Progress) → IsSound (disk_channel p.bus.board)
-    → GoesByTheRule (disk_channel p.bus.board) (disk_channel (after_event e p).bus.board)
-disk_events DiskDone p sound = disk_completed (is_under_way p.bus.board.disk.operation) p refl sound
-disk_events (Key key) p sound = unchanged (disk_channel p.bus.board) sound
-disk_events Tick p sound = unchanged (disk_channel p.bus.board) sound
-disk_events PrinterDone p sound = unchanged (disk_channel p.bus.board) sound
-disk_events ReaderDone p sound = unchanged (disk_channel p.bus.board) sound
-disk_events PunchDone p sound = unchanged (disk_channel p.bus.board) sound
-disk_events (Switches word) p sound = unchanged (disk_channel p.bus.board) sound
-disk_events Continue p sound = unchanged (disk_channel p.bus.board) sound
+disk_events : (e : Event) (p : Progress) → IsSound (disk_ready_enable p.bus.io_page)
+    → GoesByTheRule (disk_ready_enable p.bus.io_page) (disk_ready_enable (after_event e p).bus.io_page)
+disk_events DiskDone p sound = disk_completed (is_under_way p.bus.io_page.disk.operation) p refl sound
+disk_events e p sound =
+    left _ _ (ap (λ d. d.ready_enable) ((event_leaves e p).io_page.disk (λ is. cc is))) sound
 
-pub disk_goes : RequestsGoByTheRule disk_channel
+pub disk_goes : RequestsGoByTheRule disk_ready_enable
 disk_goes = record { uses = disk_uses; events = disk_events; power = λ delays asks. absurd (cc asks) }

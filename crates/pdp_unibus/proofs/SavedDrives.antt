@@ -5,7 +5,7 @@ use Rattle.std.proofs.Math.ListN.{drop_of_length-le}
 use Rattle.std.proofs.lemmas.List.{get_or-map, take_all, length-map, length-take-le, map-append, map-set}
 use Rattle.std.specs.Prelude.{Option, slice_index_or}
 use Rattle.pdp_store.specs.declared.Stamp.{Stamp}
-use Rattle.pdp_unibus.specs.BusContent.{BusContent}
+use Rattle.pdp_unibus.specs.SavedBusData.{SavedBusData}
 use Rattle.pdp_unibus.specs.SavedDrives.{AreUnstamped, PageList, pages_lasts, pages_words}
 
 -- what is seen of the drive of a number
@@ -127,14 +127,14 @@ list_there f (x ∷ xs) (suc k) word below = let rest = list_there f xs k word b
 pub words_there : (xs : List PageList) (k : ℕ) (pages : PageList) → pages ≡ get_or xs k pages → k < length xs → pages_words pages ≡ slice_index_or (map pages_words xs) k []
 words_there xs k pages there below = ap pages_words there ∙ sym (get_or-map pages_words xs k pages [] below)
 
--- contents that are alike
-pub alike_contents : (c d : BusContent) → c.board ≡ d.board → c.core ≡ d.core → c.lasts ≡ d.lasts → c.drives ≡ d.drives → c.bytes_read ≡ d.bytes_read
+-- saved buses that are alike
+pub alike_saved_buses : (c d : SavedBusData) → c.io_page ≡ d.io_page → c.core ≡ d.core → c.lasts ≡ d.lasts → c.drives ≡ d.drives → c.bytes_read ≡ d.bytes_read
     → c.turn ≡ d.turn → c ≡ d
-alike_contents c d board core lasts drives bytes_read turn =
-    ap (λ x. record c { board = x }) board
-    ∙ ap (λ x. record c { board = d.board; core = x }) core
-    ∙ ap (λ x. record c { board = d.board; core = d.core; lasts = x }) lasts
-    ∙ ap (λ x. record c { board = d.board; core = d.core; lasts = d.lasts; drives = x }) drives
+alike_saved_buses c d io_page core lasts drives bytes_read turn =
+    ap (λ x. record c { io_page = x }) io_page
+    ∙ ap (λ x. record c { io_page = d.io_page; core = x }) core
+    ∙ ap (λ x. record c { io_page = d.io_page; core = d.core; lasts = x }) lasts
+    ∙ ap (λ x. record c { io_page = d.io_page; core = d.core; lasts = d.lasts; drives = x }) drives
     ∙ ap (λ x. record d { bytes_read = x; turn = c.turn }) bytes_read
     ∙ ap (λ x. record d { turn = x }) turn
 

@@ -6,8 +6,8 @@ use Rattle.pdp_kt11.specs.declared.mode.Mode.TheVariants.{Kernel, Bad1, Bad2, Us
 use Rattle.pdp_word.specs.Bits.{bit_of}
 use Rattle.pdp_unibus.specs.Laws.{status_part, writable_part}
 use Rattle.pdp_unibus.specs.Register.{after_write, value_in}
-use Rattle.pdp_unibus.specs.Status.{priority_bits, priority_of, status_of, status_word, status_written}
-use Rattle.pdp_unibus.specs.declared.board.Board.{Board}
+use Rattle.pdp_unibus.specs.Status.{priority_bits, priority_of, status_of_word, status_word, status_written}
+use Rattle.pdp_unibus.specs.declared.io_page.IoPage.{IoPage}
 use Rattle.pdp_unibus.specs.declared.priority.Priority.{Priority}
 use Rattle.pdp_unibus.specs.declared.priority.Priority.TheVariants.{Level0, Level1, Level2, Level3, Level4, Level5, Level6, Level7}
 use Rattle.pdp_unibus.specs.declared.register.Register.TheVariants.{ProgramStatus}
@@ -47,18 +47,18 @@ parts word mode previous priority n z v c t fits mode_is previous_is priority_is
 
 pub written_status : (s : Status) (word : ℕ) → word < 0o200000
     → status_word (status_written word s) ≡ writable_part word + bit_of s.trace_bit * 0o20
-unfolding status_written status_of
+unfolding status_written status_of_word
 written_status s word fits =
     parts word _ _ _ _ _ _ _ (bit_of s.trace_bit) fits
     (bits_of_mode (word / 0o40000 % 4) (omega arith)) (bits_of_mode (word / 0o10000 % 4) (omega arith))
     (bits_of_priority (word / 0o40 % 8) (omega arith)) (bit_of_flag (word / 8 % 2) (omega arith))
     (bit_of_flag (word / 4 % 2) (omega arith)) (bit_of_flag (word / 2 % 2) (omega arith)) (bit_of_flag (word / 1 % 2) (omega arith))
 
-pub whole_status : (word : ℕ) → word < 0o200000 → status_word (status_of word) ≡ status_part word
-unfolding status_of
+pub whole_status : (word : ℕ) → word < 0o200000 → status_word (status_of_word word) ≡ status_part word
+unfolding status_of_word
 whole_status word fits =
     let t : bit_of (word / 0o20 % 2 == 1) ≡ word / 0o20 % 2 = bit_of_flag (word / 0o20 % 2) (omega arith) in
-    let all : status_word (status_of word) ≡ writable_part word + bit_of (word / 0o20 % 2 == 1) * 0o20 =
+    let all : status_word (status_of_word word) ≡ writable_part word + bit_of (word / 0o20 % 2 == 1) * 0o20 =
     parts word _ _ _ _ _ _ _ (bit_of (word / 0o20 % 2 == 1)) fits
     (bits_of_mode (word / 0o40000 % 4) (omega arith)) (bits_of_mode (word / 0o10000 % 4) (omega arith))
     (bits_of_priority (word / 0o40 % 8) (omega arith)) (bit_of_flag (word / 8 % 2) (omega arith))
@@ -66,7 +66,7 @@ whole_status word fits =
     in
     all ∙ omega arith
 
-pub written_register : (b : Board) (word turn drives : ℕ) → word < 0o200000
+pub written_register : (b : IoPage) (word turn drives : ℕ) → word < 0o200000
     → value_in ProgramStatus drives (after_write ProgramStatus word turn b) ≡ writable_part word + bit_of b.status.trace_bit * 0o20
 unfolding value_in after_write
 written_register b word turn drives fits = written_status b.status word fits
@@ -122,8 +122,8 @@ fields : (mode previous priority t n z v c word : ℕ) → mode < 4 → previous
 fields mode previous priority t n z v c word mode_fits previous_fits priority_fits t_fits n_fits z_fits v_fits c_fits is =
     (omega arith, omega arith, omega arith, omega arith, omega arith, omega arith, omega arith, omega arith)
 
-pub status_back : (s : Status) → status_of (status_word s) ≡ s
-unfolding status_of
+pub status_back : (s : Status) → status_of_word (status_word s) ≡ s
+unfolding status_of_word
 status_back s = λ i. record {
   mode = (ap mode_of part.0 ∙ mode_back s.mode) i;
   previous = (ap mode_of part.1 ∙ mode_back s.previous) i;

@@ -4,11 +4,12 @@ use Rattle.pdp_device.specs.Operation.{is_due, is_under_way}
 use Rattle.pdp_device.specs.declared.operation.Operation.TheVariants.{Idle}
 use Rattle.pdp_tape.specs.Reader.{read_over}
 use Rattle.pdp_tape.specs.declared.reader.Reader.{Reader}
-use Rattle.pdp_unibus.specs.Beginning.{Progress, after_event, after_events, at_start, before_disk, begun, clock_ticked, disk_done, disk_due, in_turn, is_tick, printer_done, printer_due, punch_done, punch_due, reader_done, reader_due, tick_due, where_due}
+use Rattle.pdp_unibus.proofs.Frame.{event_leaves}
+use Rattle.pdp_unibus.specs.Beginning.{Progress, after_event, after_events, at_start, before_disk, after_beginning, clock_ticked, disk_done, disk_due, in_turn, is_tick, printer_done, printer_due, punch_done, punch_due, reader_done, reader_due, tick_due, where_due}
 use Rattle.pdp_unibus.specs.ByteLaws.{ReadsTakeTheNextByte, has_ended, reader_of}
 use Rattle.pdp_unibus.specs.Tape.{next_byte, read_on}
 use Rattle.pdp_unibus.specs.declared.event.Event.{Event}
-use Rattle.pdp_unibus.specs.declared.event.Event.TheVariants.{Key, Tick, PrinterDone, ReaderDone, PunchDone, DiskDone, Switches, Continue}
+use Rattle.pdp_unibus.specs.declared.event.Event.TheVariants.{ReaderDone, PunchDone}
 
 -- what became of the reader and of how far the tape is read since the turn began: nothing, or one read is over
 data Since (r : Reader) (tape : List ℕ) (start : ℕ) (now : Reader) (there : List ℕ) (far : ℕ) : Type 0 where
@@ -47,15 +48,19 @@ reading_done r tape start p (Over busy idle read rest) =
     let on : (reader_done p).bus.bytes_read ≡ p.bus.bytes_read = rw now refl in
     Over busy (ap (λ x. x.operation) stays ∙ idle) (stays ∙ read) (on ∙ rest)
 
+-- the reader and the tape as they were
+same : (r : Reader) (tape : List ℕ) (start : ℕ) (p q : Progress) → reader_of q.bus ≡ reader_of p.bus
+    → q.bus.tape ≡ p.bus.tape → q.bus.bytes_read ≡ p.bus.bytes_read → SinceAt r tape start p → SinceAt r tape start q
+same r tape start p q reader there far (Still still bytes on) = Still (reader ∙ still) (there ∙ bytes) (far ∙ on)
+same r tape start p q reader there far (Over busy idle read on) =
+    Over busy (ap (λ x. x.operation) reader ∙ idle) (reader ∙ read) (far ∙ on)
+
 after_one : (r : Reader) (tape : List ℕ) (start : ℕ) (e : Event) (p : Progress) → SinceAt r tape start p → SinceAt r tape start (after_event e p)
 after_one r tape start ReaderDone p since = reading_done r tape start p since
-after_one r tape start (Key key) p since = since
-after_one r tape start Tick p since = since
-after_one r tape start PrinterDone p since = since
 after_one r tape start PunchDone p since = since
-after_one r tape start DiskDone p since = since
-after_one r tape start (Switches word) p since = since
-after_one r tape start Continue p since = since
+after_one r tape start e p since =
+    let left = event_leaves e p in
+    same r tape start p (after_event e p) (ap (λ d. d.reader) (left.io_page.paper_tape (λ is. cc is))) left.tape (left.bytes_read (λ is. cc is)) since
 
 after_each : (r : Reader) (tape : List ℕ) (start : ℕ) (es : List Event) (p : Progress) → SinceAt r tape start p → SinceAt r tape start (after_events es p)
 after_each r tape start [] p since = since
@@ -74,11 +79,11 @@ after_all r tape start es p since =
     let printed = printer_due ticked in
     let read = reader_due printed in
     let punched = punch_due read in
-    after_due r tape start disk_done punched (λ s. s) (is_due punched.bus.turn punched.bus.board.disk.operation)
-    (after_due r tape start punch_done read (λ s. s) (is_due read.bus.turn read.bus.board.paper_tape.punch.operation)
-    (after_due r tape start reader_done printed (reading_done r tape start printed) (is_due printed.bus.turn printed.bus.board.paper_tape.reader.operation)
-    (after_due r tape start printer_done ticked (λ s. s) (is_due ticked.bus.turn ticked.bus.board.console.printer.operation)
-    (after_due r tape start clock_ticked events (λ s. s) (is_tick events.bus.turn events.bus.board.delays.clock)
+    after_due r tape start disk_done punched (λ s. s) (is_due punched.bus.turn punched.bus.io_page.disk.operation)
+    (after_due r tape start punch_done read (λ s. s) (is_due read.bus.turn read.bus.io_page.paper_tape.punch.operation)
+    (after_due r tape start reader_done printed (reading_done r tape start printed) (is_due printed.bus.turn printed.bus.io_page.paper_tape.reader.operation)
+    (after_due r tape start printer_done ticked (λ s. s) (is_due ticked.bus.turn ticked.bus.io_page.console.printer.operation)
+    (after_due r tape start clock_ticked events (λ s. s) (is_tick events.bus.turn events.bus.io_page.delays.clock)
     (after_each r tape start es p since)))))
 
 not_both : (busy : Bool) → (busy && not busy) ≡ true → ⊥
@@ -97,7 +102,7 @@ told r now tape there start far (Over busy idle read rest) = (λ _. (read, rest)
   never goes_on = let ended : has_ended r.operation now.operation ≡ true = rw (busy, idle) refl in cc
 
 pub reads_take_the_next : ReadsTakeTheNextByte
-unfolding begun before_disk
+unfolding after_beginning before_disk
 reads_take_the_next t events w =
     told (reader_of w) _ w.tape _ w.bytes_read _
     (after_all (reader_of w) w.tape w.bytes_read events (at_start (in_turn t w)) (Still refl refl refl))

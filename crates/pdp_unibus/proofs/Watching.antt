@@ -6,11 +6,11 @@ use Rattle.std.proofs.lemmas.Bool.Decides.{nat_tests}
 use Rattle.pdp_device.specs.Operation.{due_after, is_due}
 use Rattle.pdp_device.specs.declared.operation.Operation.{Operation}
 use Rattle.pdp_device.specs.declared.operation.Operation.TheVariants.{Idle, ByEvent, At}
-use Rattle.pdp_unibus.specs.Beginning.{Progress, at_start, before_disk, begun, clock_ticked, disk_done, disk_due, in_turn, is_tick, printer_done, printer_due, punch_done, punch_due, reader_done, reader_due, where_due}
+use Rattle.pdp_unibus.specs.Beginning.{Progress, at_start, before_disk, after_beginning, clock_ticked, disk_done, disk_due, in_turn, is_tick, printer_done, printer_due, punch_done, punch_due, reader_done, reader_due, where_due}
 use Rattle.pdp_unibus.specs.BusWorld.{BusWorld}
 use Rattle.pdp_unibus.specs.Source.{has_request}
 use Rattle.pdp_unibus.specs.Watch.{IsQuiet, IsWatched}
-use Rattle.pdp_unibus.specs.declared.board.Board.{Board}
+use Rattle.pdp_unibus.specs.declared.io_page.IoPage.{IoPage}
 use Rattle.pdp_unibus.specs.declared.watch.Watch.{Watch}
 
 -- an operation isn't due before the turn that is told
@@ -20,7 +20,7 @@ due_later turn most t ByEvent after before = refl
 due_later turn most t (At due) after before = grind (arith, nat_tests)
 
 -- the pieces of a watch
-pub board_is_watched : (b : Board) (turn tick most : ℕ) (requested : Bool)
+pub io_page_is_watched : (b : IoPage) (turn tick most : ℕ) (requested : Bool)
     → ((t : ℕ) → turn < t → t < tick → is_tick t b.delays.clock ≡ false) → requested ≡ has_request b
     → IsWatched turn b (record {
       wake = min (min (min (min tick (unwrap_or (due_after turn b.console.printer.operation) most))
@@ -29,7 +29,7 @@ pub board_is_watched : (b : Board) (turn tick most : ℕ) (requested : Bool)
           (unwrap_or (due_after turn b.disk.operation) most);
       requested = requested;
     })
-board_is_watched b turn tick most requested ticks asks = record {
+io_page_is_watched b turn tick most requested ticks asks = record {
   quiet = λ t after before. record {
     clock = ticks t after (omega (arith, before));
     printer = due_later turn most t b.console.printer.operation after (omega (arith, before));
@@ -52,8 +52,8 @@ ticks_later turn t p above after before =
       not_zero n positive = grind (arith, nat_tests, positive)
 
 -- a turn in which nothing happens but by events, and has none, begins and nothing more
-pub begun_quietly : (t : ℕ) (w : BusWorld) → IsQuiet t w.board → begun t [] w ≡ at_start (in_turn t w)
-unfolding begun before_disk
+pub begun_quietly : (t : ℕ) (w : BusWorld) → IsQuiet t w.io_page → after_beginning t [] w ≡ at_start (in_turn t w)
+unfolding after_beginning before_disk
 begun_quietly t w quiet =
     ap (λ (p : Progress). disk_due (punch_due (reader_due (printer_due p)))) (none clock_ticked quiet.clock)
     ∙ ap (λ (p : Progress). disk_due (punch_due (reader_due p))) (none printer_done quiet.printer)
@@ -66,10 +66,10 @@ begun_quietly t w quiet =
       none : (step : Progress → Progress) {due : Bool} → due ≡ false → where_due due step start ≡ start
       none step is = ap (λ holds. where_due holds step start) is
 
-pub quietly_begun : (t asked : ℕ) (v w : BusWorld) (watch : Watch) → v ≡ w → asked ≡ t → IsWatched v.turn v.board watch
-    → (nat_lt v.turn t && nat_lt asked watch.wake) ≡ true → begun t [] w ≡ at_start (in_turn t v)
+pub quietly_begun : (t asked : ℕ) (v w : BusWorld) (watch : Watch) → v ≡ w → asked ≡ t → IsWatched v.turn v.io_page watch
+    → (nat_lt v.turn t && nat_lt asked watch.wake) ≡ true → after_beginning t [] w ≡ at_start (in_turn t v)
 quietly_begun t asked v w watch same is watched quiet =
     let parts = and_parts (nat_lt v.turn t) (nat_lt asked watch.wake) quiet in
     let after : v.turn < t = grind (arith, nat_tests, parts.0) in
     let before : t < watch.wake = grind (arith, nat_tests, parts.1, is) in
-    subst (λ other. begun t [] other ≡ at_start (in_turn t v)) same (begun_quietly t v (watched.quiet t after before))
+    subst (λ other. after_beginning t [] other ≡ at_start (in_turn t v)) same (begun_quietly t v (watched.quiet t after before))

@@ -1,19 +1,24 @@
--- The beginning of a turn: its events, a tick of the clock, and the operations that are due (this project's profile).
-use Rattle.std.specs.Prelude.{ℕ, ◌%◌, ◌==◌, ◌&&◌, nat_lt, Bool, List, [], ◌∷◌, ◌++◌, option_to_list, if◌then◌else◌}
+-- The beginning of a turn: its events, a tick of the clock, and the operations that are due (this
+-- project's profile).
+use Rattle.std.specs.Prelude.{ℕ, ◌%◌, ◌==◌, ◌&&◌, nat_lt, Bool, List, [], ◌∷◌, ◌++◌, option_to_list}
+use Rattle.std.specs.Prelude.{if◌then◌else◌}
 use Rattle.pdp_device.specs.Operation.{is_due}
-use Rattle.pdp_console.specs.Kl.{kl_completed, kl_printed, struck}
-use Rattle.pdp_console.specs.Kw.{ticked}
+use Rattle.pdp_console.specs.Kl.{kl_completed, kl_printed, kl_struck}
+use Rattle.pdp_console.specs.Kw.{kw_ticked}
 use Rattle.pdp_tape.specs.Pc.{pc_punch_completed, pc_punched, pc_reader_completed}
 use Rattle.pdp_tape.specs.Reader.{takes_byte}
-use Rattle.pdp_rk11.specs.Completion.{completed}
+use Rattle.pdp_rk11.specs.Completion.{rk_completed}
 use Rattle.pdp_rk11.specs.Trace.{completion_touches}
 use Rattle.pdp_store.specs.Firsts.{firsts_after}
-use Rattle.pdp_unibus.specs.BusWorld.{BusWorld, disk_world_of, with_board, with_disk_world, with_firsts}
+use Rattle.pdp_unibus.specs.BusWorld.{BusWorld, disk_world_of, with_io_page, with_disk_world}
+use Rattle.pdp_unibus.specs.BusWorld.{with_firsts}
 use Rattle.pdp_unibus.specs.Tape.{next_byte, read_on}
 use Rattle.pdp_unibus.specs.declared.beginning.Output.{Output}
-use Rattle.pdp_unibus.specs.declared.board.Board.{Board}
+use Rattle.pdp_unibus.specs.declared.io_page.IoPage.{IoPage}
 use Rattle.pdp_unibus.specs.declared.event.Event.{Event}
-use Rattle.pdp_unibus.specs.declared.event.Event.TheVariants.{Key, Tick, PrinterDone, ReaderDone, PunchDone, DiskDone, Switches, Continue}
+use Rattle.pdp_unibus.specs.declared.event.Event.TheVariants.{Key, Tick, PrinterDone, ReaderDone}
+use Rattle.pdp_unibus.specs.declared.event.Event.TheVariants.{PunchDone, DiskDone, Switches}
+use Rattle.pdp_unibus.specs.declared.event.Event.TheVariants.{Continue}
 
 -- the bus, and the bytes that were printed and punched so far in the beginning of a turn
 pub record Progress : Type 0 where
@@ -24,7 +29,12 @@ pub record Progress : Type 0 where
 -- with what came out of it
 abbrev pub progress : BusWorld → Output → Progress
 progress w output =
-    record { bus = w; printed = option_to_list output.printed; punched = option_to_list output.punched }
+    record {
+      bus = w;
+      printed = option_to_list output.printed;
+      punched = option_to_list
+          output.punched;
+    }
 
 -- the bus as turn t begins: its cycles are those of the turn
 abbrev pub in_turn : ℕ → BusWorld → BusWorld
@@ -34,47 +44,59 @@ in_turn t w = record w { turn = t }
 abbrev pub at_start : BusWorld → Progress
 at_start w = record { bus = w; printed = []; punched = [] }
 
-abbrev pub on_board : Progress → Board → Progress
-on_board p board = record p { bus = with_board p.bus board }
+abbrev pub on_io_page : Progress → IoPage → Progress
+on_io_page p io_page = record p { bus = with_io_page p.bus io_page }
 
 -- a key is struck
 abbrev pub after_key : ℕ → Progress → Progress
-after_key key p = on_board p (record p.bus.board { console = struck p.bus.board.console key })
+after_key key p = on_io_page p (record p.bus.io_page {
+  console = kl_struck p.bus.io_page.console key;
+})
 
 -- the clock ticks
 abbrev pub clock_ticked : Progress → Progress
-clock_ticked p = on_board p (record p.bus.board { clock = ticked p.bus.board.clock })
+clock_ticked p = on_io_page p (record p.bus.io_page { clock = kw_ticked p.bus.io_page.clock })
 
 -- the printer completes: its byte joins the text
 abbrev pub printer_done : Progress → Progress
-printer_done p = record (on_board p (record p.bus.board { console = kl_completed p.bus.board.console })) {
-  printed = p.printed ++ option_to_list (kl_printed p.bus.board.console);
+printer_done p = record (on_io_page p (record p.bus.io_page {
+  console = kl_completed
+      p.bus.io_page.console;
+})) {
+  printed = p.printed ++ option_to_list (kl_printed p.bus.io_page.console);
 }
 
 -- the reader completes: where it was reading, the next byte of the tape is taken
 abbrev pub reader_done : Progress → Progress
 reader_done p = record p {
   bus = record p.bus {
-    board = record p.bus.board { paper_tape = pc_reader_completed (next_byte p.bus.tape p.bus.bytes_read) p.bus.board.paper_tape };
-    bytes_read = if takes_byte p.bus.board.paper_tape.reader then read_on p.bus.tape p.bus.bytes_read else p.bus.bytes_read;
+    io_page = record p.bus.io_page {
+      paper_tape = pc_reader_completed (next_byte p.bus.tape
+          p.bus.bytes_read) p.bus.io_page.paper_tape;
+    };
+    bytes_read = if takes_byte p.bus.io_page.paper_tape.reader then read_on p.bus.tape
+        p.bus.bytes_read else p.bus.bytes_read;
   };
 }
 
 -- the punch completes: its byte joins those punched
 abbrev pub punch_done : Progress → Progress
-punch_done p = record (on_board p (record p.bus.board { paper_tape = pc_punch_completed p.bus.board.paper_tape })) {
-  punched = p.punched ++ option_to_list (pc_punched p.bus.board.paper_tape);
+punch_done p = record (on_io_page p (record p.bus.io_page {
+  paper_tape = pc_punch_completed
+      p.bus.io_page.paper_tape;
+})) {
+  punched = p.punched ++ option_to_list (pc_punched p.bus.io_page.paper_tape);
 }
 
 -- the switches are set
 abbrev pub switches_set : ℕ → Progress → Progress
-switches_set word p = on_board p (record p.bus.board { switches = word })
+switches_set word p = on_io_page p (record p.bus.io_page { switches = word })
 
 -- the disk completes: its function is done, to core and the drives, and the pages of the words that
 -- it moves or compares are touched
 abbrev pub disk_done : Progress → Progress
 disk_done p = record p {
-  bus = with_firsts (with_disk_world p.bus (completed p.bus.turn (disk_world_of p.bus)))
+  bus = with_firsts (with_disk_world p.bus (rk_completed p.bus.turn (disk_world_of p.bus)))
       (firsts_after (completion_touches p.bus.turn (disk_world_of p.bus)) p.bus.firsts);
 }
 
@@ -94,7 +116,8 @@ abbrev pub after_events : List Event → Progress → Progress
 after_events [] p = p
 after_events (e ∷ es) p = after_events es (after_event e p)
 
--- whether the clock ticks by itself in turn t: in the positive multiples of its period, where that is above 0
+-- whether the clock ticks by itself in turn t: in the positive multiples of its period, where that
+-- is above 0
 abbrev pub is_tick : ℕ → ℕ → Bool
 is_tick t period = nat_lt 0 period && nat_lt 0 t && t % period == 0
 
@@ -103,26 +126,27 @@ abbrev pub where_due : Bool → (Progress → Progress) → Progress → Progres
 where_due due step p = if due then step p else p
 
 abbrev pub tick_due : Progress → Progress
-tick_due p = where_due (is_tick p.bus.turn p.bus.board.delays.clock) clock_ticked p
+tick_due p = where_due (is_tick p.bus.turn p.bus.io_page.delays.clock) clock_ticked p
 
 abbrev pub printer_due : Progress → Progress
-printer_due p = where_due (is_due p.bus.turn p.bus.board.console.printer.operation) printer_done p
+printer_due p = where_due (is_due p.bus.turn p.bus.io_page.console.printer.operation) printer_done p
 
 abbrev pub reader_due : Progress → Progress
-reader_due p = where_due (is_due p.bus.turn p.bus.board.paper_tape.reader.operation) reader_done p
+reader_due p = where_due (is_due p.bus.turn p.bus.io_page.paper_tape.reader.operation) reader_done p
 
 abbrev pub punch_due : Progress → Progress
-punch_due p = where_due (is_due p.bus.turn p.bus.board.paper_tape.punch.operation) punch_done p
+punch_due p = where_due (is_due p.bus.turn p.bus.io_page.paper_tape.punch.operation) punch_done p
 
 abbrev pub disk_due : Progress → Progress
-disk_due p = where_due (is_due p.bus.turn p.bus.board.disk.operation) disk_done p
+disk_due p = where_due (is_due p.bus.turn p.bus.io_page.disk.operation) disk_done p
 
--- the beginning of turn t until the disk's completion, if it is due: its events in their order, a tick, and the
--- completions that are due of the printer, the reader and the punch
+-- the beginning of turn t until the disk's completion, if it is due: its events in their order, a
+-- tick, and the completions that are due of the printer, the reader and the punch
 unfoldable pub before_disk : ℕ → List Event → BusWorld → Progress
-before_disk t events w = punch_due (reader_due (printer_due (tick_due (after_events events (at_start (in_turn t w))))))
+before_disk t events w = punch_due (reader_due (printer_due (tick_due (after_events events
+    (at_start (in_turn t w))))))
 
--- the beginning of turn t: its events in their order, a tick, and the completions that are due: printer, reader, punch,
--- disk
-unfoldable pub begun : ℕ → List Event → BusWorld → Progress
-begun t events w = disk_due (before_disk t events w)
+-- the beginning of turn t: its events in their order, a tick, and the completions that are due:
+-- printer, reader, punch, disk
+unfoldable pub after_beginning : ℕ → List Event → BusWorld → Progress
+after_beginning t events w = disk_due (before_disk t events w)

@@ -1,18 +1,20 @@
--- Bus cycles: PDP-11 Peripherals Handbook, Unibus (stamps, and that a timeout changes nothing, are this project's
--- profile).
-use Rattle.std.specs.Prelude.{ℕ, ◌/◌, Option, Some, None, Result, Ok, Err, length, slice_index, slice_set, nat_lt, if◌then◌else◌}
-use Rattle.pdp_decode.specs.Table.{decoded}
+-- Bus cycles: PDP-11 Peripherals Handbook, Unibus (stamps, and that a timeout changes nothing, are
+-- this project's profile).
+use Rattle.std.specs.Prelude.{ℕ, ◌/◌, Option, Some, None, Result, Ok, Err, length, slice_index}
+use Rattle.std.specs.Prelude.{slice_set, nat_lt, if◌then◌else◌}
+use Rattle.pdp_decode.specs.Table.{instr_of_word}
 use Rattle.pdp_decode.specs.declared.instruction.Instr.{Instr}
 use Rattle.pdp_icache.specs.Meaning.{meaning}
 use Rattle.pdp_icache.specs.declared.line.Decoded.{Decoded}
 use Rattle.pdp_store.specs.Firsts.{word_touched}
-use Rattle.pdp_store.specs.Touch.{Part as part}
+use Rattle.pdp_store.specs.TracedAccess.{Part as part}
 use Rattle.pdp_store.specs.declared.Agent.TheVariants.{Cpu}
 use Rattle.pdp_store.specs.declared.Stamp.{Stamp}
-use Rattle.pdp_unibus.specs.BusWorld.{BusWorld, with_board, with_firsts}
-use Rattle.pdp_unibus.specs.Register.{register_at, value_in, after_read, after_write, after_byte, word_with_byte}
+use Rattle.pdp_unibus.specs.BusWorld.{BusWorld, with_io_page, with_firsts}
+use Rattle.pdp_unibus.specs.Register.{register_at, value_in, after_read, after_write, after_byte}
+use Rattle.pdp_unibus.specs.Register.{word_with_byte}
 use Rattle.pdp_unibus.specs.declared.register.Register.{Register}
-use Rattle.pdp_unibus.specs.declared.board.Board.{Board}
+use Rattle.pdp_unibus.specs.declared.io_page.IoPage.{IoPage}
 use Rattle.pdp_unibus.specs.declared.bus.Timeout.{Timeout}
 
 -- one bus cycle: what the master asks for, at a physical byte address
@@ -62,19 +64,35 @@ timed_out w = record { value = Err (record {}); after = w }
 
 abbrev pub read_from : Slave → BusWorld → Answer
 read_from (Core k) w = record { value = Ok (slice_index w.core k); after = core_read w k }
-read_from (Device r) w = record { value = Ok (value_in r (length w.drives) w.board); after = with_board w (after_read r w.board) }
+read_from (Device r) w = record {
+  value = Ok (value_in r (length w.drives) w.io_page);
+  after =
+      with_io_page w (after_read r w.io_page);
+}
 read_from Nobody w = timed_out w
 
 abbrev pub write_to : Slave → ℕ → BusWorld → Answer
 write_to (Core k) word w = record { value = Ok 0; after = core_written w k word }
-write_to (Device r) word w = record { value = Ok 0; after = with_board w (after_write r word w.turn w.board) }
+write_to (Device r) word w = record {
+  value = Ok 0;
+  after = with_io_page w
+      (after_write r word w.turn w.io_page);
+}
 write_to Nobody word w = timed_out w
 
 abbrev pub write_byte_to : Slave → ℕ → ℕ → BusWorld → Answer
 write_byte_to (Core k) address byte w =
-    record { value = Ok 0; after = core_written w k (word_with_byte (slice_index w.core k) address byte) }
+    record {
+      value = Ok 0;
+      after = core_written w k (word_with_byte (slice_index w.core k) address
+          byte);
+    }
 write_byte_to (Device r) address byte w =
-    record { value = Ok 0; after = with_board w (after_byte r (length w.drives) address byte w.turn w.board) }
+    record {
+      value = Ok 0;
+      after = with_io_page w (after_byte r (length w.drives) address byte
+          w.turn w.io_page);
+    }
 write_byte_to Nobody address byte w = timed_out w
 
 -- one bus cycle: who answers, and what
@@ -84,12 +102,13 @@ cycle (WriteAt address word) w = write_to (slave_at (length w.core) address) wor
 cycle (WriteByteAt address byte) w = write_byte_to (slave_at (length w.core) address) address byte w
 
 -- what a write is told, without a value
-abbrev pub done : Result ℕ Timeout → Result (Unit {0}) Timeout
-done (Ok value) = Ok tt
-done (Err timeout) = Err timeout
+abbrev pub write_result : Result ℕ Timeout → Result (Unit {0}) Timeout
+write_result (Ok value) = Ok tt
+write_result (Err timeout) = Err timeout
 
--- a cycle where no word of core answers, register by register: what the master is told, and the board after it
-abbrev pub value_at : Option Register → ℕ → Board → Result ℕ Timeout
+-- a cycle where no word of core answers, register by register: what the master is told, and the I/O
+-- page after it
+abbrev pub value_at : Option Register → ℕ → IoPage → Result ℕ Timeout
 value_at None drives b = Err (record {})
 value_at (Some r) drives b = Ok (value_in r drives b)
 
@@ -97,23 +116,24 @@ abbrev pub told_at : Option Register → Result ℕ Timeout
 told_at None = Err (record {})
 told_at (Some r) = Ok 0
 
-abbrev pub left_by_read : Option Register → Board → Board
+abbrev pub left_by_read : Option Register → IoPage → IoPage
 left_by_read None b = b
 left_by_read (Some r) b = after_read r b
 
-abbrev pub left_by_write : Option Register → ℕ → ℕ → Board → Board
+abbrev pub left_by_write : Option Register → ℕ → ℕ → IoPage → IoPage
 left_by_write None word turn b = b
 left_by_write (Some r) word turn b = after_write r word turn b
 
-abbrev pub left_by_byte : Option Register → ℕ → ℕ → ℕ → ℕ → Board → Board
+abbrev pub left_by_byte : Option Register → ℕ → ℕ → ℕ → ℕ → IoPage → IoPage
 left_by_byte None drives address byte turn b = b
 left_by_byte (Some r) drives address byte turn b = after_byte r drives address byte turn b
 
--- what a read is told, decoded: the instruction with what the processor dispatches on, and the instruction alone
+-- what a read is told, decoded: the instruction with what the processor dispatches on, and the
+-- instruction alone
 abbrev pub as_decoded : Result ℕ Timeout → Result Decoded Timeout
 as_decoded (Ok word) = Ok (meaning word)
 as_decoded (Err timeout) = Err timeout
 
 abbrev pub as_instr : Result ℕ Timeout → Result Instr Timeout
-as_instr (Ok word) = Ok (decoded word)
+as_instr (Ok word) = Ok (instr_of_word word)
 as_instr (Err timeout) = Err timeout

@@ -1,4 +1,5 @@
--- The greatest turn that an event may have and that can be asked about, and the longest delay (this project's profile).
+-- The greatest turn that an event may have and that can be asked about, and the longest delay (this
+-- project's profile).
 use Rattle.std.specs.Prelude.{ℕ}
 
 abbrev pub last_turn : ℕ

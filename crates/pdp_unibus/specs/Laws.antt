@@ -1,13 +1,14 @@
--- What the laws of the registers say: each name is the law's sentence (DEC PDP-11/40 Processor Handbook (1972),
--- Processor status word; PDP-11 Peripherals Handbook, KL11).
+-- What the laws of the registers say: each name is the law's sentence (DEC PDP-11/40 Processor
+-- Handbook (1972), Processor status word; PDP-11 Peripherals Handbook, KL11).
 use Rattle.std.specs.Prelude.{◌≡◌, ℕ, ◌+◌, ◌*◌, ◌/◌, ◌%◌, ◌<◌, ◌≢◌, List, [], ◌∷◌}
 use Rattle.pdp_word.specs.Bits.{bit_of, field}
 use Rattle.pdp_console.specs.declared.kl.KlRegister.TheVariants.{KeyboardStatus, KeyboardBuffer}
+use Rattle.pdp_unibus.specs.Bits.{ps_trace}
 use Rattle.pdp_unibus.specs.BusWorld.{BusWorld}
 use Rattle.pdp_unibus.specs.Beginning.{at_start, after_key}
 use Rattle.pdp_unibus.specs.Register.{after_read, after_write, value_in}
-use Rattle.pdp_unibus.specs.Status.{status_of, status_word, status_written}
-use Rattle.pdp_unibus.specs.declared.board.Board.{Board}
+use Rattle.pdp_unibus.specs.Status.{status_of_word, status_word, status_written}
+use Rattle.pdp_unibus.specs.declared.io_page.IoPage.{IoPage}
 use Rattle.pdp_unibus.specs.declared.register.Register.{Register}
 use Rattle.pdp_unibus.specs.declared.register.Register.TheVariants.{Console, ProgramStatus}
 use Rattle.pdp_unibus.specs.declared.status.Status.{Status}
@@ -22,52 +23,59 @@ status_part word = word / 0o10000 * 0o10000 + word % 0o400
 
 -- the program status that a whole word says has that word, without bits 11-8
 abbrev pub WholeStatusReadsBack : Type 0
-WholeStatusReadsBack = (word : ℕ) → word < 0o200000 → status_word (status_of word) ≡ status_part word
+WholeStatusReadsBack = (word : ℕ) → word < 0o200000 → status_word (status_of_word word)
+    ≡ status_part word
 
 -- the word of a program status says it: modes, priority, T and codes
 abbrev pub StatusIsItsWord : Type 0
-StatusIsItsWord = (s : Status) → status_of (status_word s) ≡ s
+StatusIsItsWord = (s : Status) → status_of_word (status_word s) ≡ s
 
 -- the program status word reads back what was written to it, without bits 11-8 and with T as it was
 abbrev pub WrittenStatusReadsBack : Type 0
 WrittenStatusReadsBack = (s : Status) (word : ℕ) → word < 0o200000
-    → status_word (status_written word s) ≡ writable_part word + bit_of s.trace_bit * 0o20
+    → status_word (status_written word s) ≡ writable_part word + bit_of s.trace_bit * ps_trace
 
 -- the same through its register
 abbrev pub WrittenRegisterReadsBack : Type 0
-WrittenRegisterReadsBack = (b : Board) (word turn drives : ℕ) → word < 0o200000
-    → value_in ProgramStatus drives (after_write ProgramStatus word turn b) ≡ writable_part word + bit_of b.status.trace_bit * 0o20
+WrittenRegisterReadsBack = (b : IoPage) (word turn drives : ℕ) → word < 0o200000
+    → value_in ProgramStatus drives (after_write ProgramStatus word turn b)
+    ≡ writable_part word + bit_of b.status.trace_bit * ps_trace
 
 -- what was read from the program status word changes nothing when it is written
 abbrev pub ReadStatusWritesBack : Type 0
 ReadStatusWritesBack = (s : Status) → status_written (status_word s) s ≡ s
 
 -- a register that is read, or written with a word in a turn
-pub data Use : Type 0 where
-  Reading : Register → Use
-  Writing : Register → ℕ → ℕ → Use
+pub data RegisterUse : Type 0 where
+  Reading : Register → RegisterUse
+  Writing : Register → ℕ → ℕ → RegisterUse
 
-abbrev pub after_use : Use → Board → Board
-after_use (Reading register) b = after_read register b
-after_use (Writing register word turn) b = after_write register word turn b
+abbrev pub io_page_after_use : RegisterUse → IoPage → IoPage
+io_page_after_use (Reading register) b = after_read register b
+io_page_after_use (Writing register word turn) b = after_write register word turn b
 
--- the board after registers were used, in their order
-abbrev pub after_uses : List Use → Board → Board
-after_uses [] b = b
-after_uses (use_of ∷ uses) b = after_uses uses (after_use use_of b)
+-- the I/O page after registers were used, in their order
+abbrev pub io_page_after_uses : List RegisterUse → IoPage → IoPage
+io_page_after_uses [] b = b
+io_page_after_uses (use_of ∷ uses) b = io_page_after_uses uses (io_page_after_use use_of b)
 
-abbrev pub NeverReading : Register → List Use → Type 0
+abbrev pub NeverReading : Register → List RegisterUse → Type 0
 NeverReading register [] = Unit {0}
 NeverReading register (Reading other ∷ uses) = (other ≢ register) × NeverReading register uses
 NeverReading register (Writing other word turn ∷ uses) = NeverReading register uses
 
--- a key that was struck waits until the buffer is read: done, bit 7 of the status, is set, and the buffer holds the key
+-- a key that was struck waits until the buffer is read: done, bit 7 of the status, is set, and the
+-- buffer holds the key
 abbrev pub KeysWaitUntilRead : Type 0
-KeysWaitUntilRead = (w : BusWorld) (key drives : ℕ) (uses : List Use) → NeverReading (Console KeyboardBuffer) uses
-    → (field 7 1 (value_in (Console KeyboardStatus) drives (after_uses uses (after_key key (at_start w)).bus.board)) ≡ 1)
-    × (value_in (Console KeyboardBuffer) drives (after_uses uses (after_key key (at_start w)).bus.board) ≡ key)
+KeysWaitUntilRead = (w : BusWorld) (key drives : ℕ) (uses : List RegisterUse) → NeverReading
+    (Console KeyboardBuffer) uses
+    → (field 7 1 (value_in (Console KeyboardStatus) drives (io_page_after_uses uses (after_key key
+    (at_start w)).bus.io_page)) ≡ 1)
+    × (value_in (Console KeyboardBuffer) drives (io_page_after_uses uses (after_key key
+    (at_start w)).bus.io_page) ≡ key)
 
 -- a read of the buffer clears done, and no register that is then read or written sets it
 abbrev pub KeysAreReadOnce : Type 0
-KeysAreReadOnce = (b : Board) (drives : ℕ) (uses : List Use)
-    → field 7 1 (value_in (Console KeyboardStatus) drives (after_uses uses (after_read (Console KeyboardBuffer) b))) ≡ 0
+KeysAreReadOnce = (b : IoPage) (drives : ℕ) (uses : List RegisterUse)
+    → field 7 1 (value_in (Console KeyboardStatus) drives (io_page_after_uses uses (after_read
+    (Console KeyboardBuffer) b))) ≡ 0

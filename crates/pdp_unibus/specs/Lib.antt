@@ -1,7 +1,9 @@
+pub mod Bits
 pub mod Status
 pub mod Source
 pub mod BusWorld
 pub mod Register
+pub mod Shown
 pub mod Cycle
 pub mod Fetch
 pub mod Delays
@@ -13,6 +15,7 @@ pub mod Direct
 pub mod Calm
 pub mod LastTurn
 pub mod Laws
+pub mod Frame
 pub mod Placed
 pub mod RequestLaws
 pub mod RuleLaws
@@ -20,7 +23,7 @@ pub mod ByteLaws
 pub mod Trace
 pub mod Page
 pub mod Touched
-pub mod BusContent
+pub mod SavedBusData
 pub mod PatchedPages
 pub mod SavedDrives
 pub mod Drives

@@ -1,26 +1,28 @@
 -- A page of 256 words with one word changed, put into each saved bus that has this page alike (this
 -- project's profile).
-use Rattle.std.specs.Prelude.{ℕ, ◌≡◌, ◌/◌, ◌%◌, List, [], Option, Some, None, slice_index_or, slice_set}
+use Rattle.std.specs.Prelude.{ℕ, ◌≡◌, ◌/◌, ◌%◌, List, [], Option, Some, None, slice_index_or}
+use Rattle.std.specs.Prelude.{slice_set}
+use Rattle.pdp_store.specs.Parts.{words_of_drive}
 use Rattle.pdp_store.specs.Pages.{SharedPage, page_lasts, page_words}
 use Rattle.pdp_store.specs.Pieces.{piece}
 use Rattle.pdp_store.specs.declared.Stamp.{Stamp}
-use Rattle.pdp_unibus.specs.BusContent.{BusContent, HasWord}
+use Rattle.pdp_unibus.specs.SavedBusData.{SavedBusData, SavedBusHasWord}
 use Rattle.pdp_unibus.specs.SavedDrives.{PageList, pages_lasts, pages_words}
 use Rattle.pdp_unibus.specs.declared.saved_bus.patched_page.PatchedPage.{PatchedPage}
 use Rattle.pdp_unibus.specs.declared.saved_bus.patched_page.NewPages.{NewPages}
 use Rattle.pdp_unibus.specs.declared.saved_bus.patched_page.NewPages.TheVariants.{Core, Drive}
 
 -- the words of core, or of the drive of this number; and their last stamps: a drive has none
-abbrev pub saved_words : Option ℕ → BusContent → List ℕ
+abbrev pub saved_words : Option ℕ → SavedBusData → List ℕ
 saved_words None c = c.core
-saved_words (Some number) c = slice_index_or c.drives number []
+saved_words (Some number) c = words_of_drive c.drives number
 
-abbrev pub saved_lasts : Option ℕ → BusContent → List (Option Stamp)
+abbrev pub saved_lasts : Option ℕ → SavedBusData → List (Option Stamp)
 saved_lasts None c = c.lasts
 saved_lasts (Some number) c = []
 
--- in the page of this word, this content has the words and the last stamps of the other
-pub record HasPageOf (drive : Option ℕ) (word : ℕ) (other c : BusContent) : Type 0 where
+-- in the page of this word, this saved bus has the words and the last stamps of the other
+pub record HasPageOf (drive : Option ℕ) (word : ℕ) (other c : SavedBusData) : Type 0 where
   pub words : piece (word / 256) (saved_words drive c)
       ≡ piece (word / 256) (saved_words drive other)
   pub lasts : piece (word / 256) (saved_lasts drive c)
@@ -38,25 +40,27 @@ pub record IsPatchOf (drive : Option ℕ) (word value : ℕ) (p : PatchedPage) :
   pub word_is : p.word ≡ word
   pub value_is : p.value ≡ value
 
--- but for its word, it is the page of this content
-pub record IsPatchIn (c : BusContent) (p : PatchedPage) : Type 0 where
-  pub there : HasWord p.drive p.word c
+-- but for its word, it is the page of this saved bus
+pub record IsPatchIn (c : SavedBusData) (p : PatchedPage) : Type 0 where
+  pub there : SavedBusHasWord p.drive p.word c
   pub page : IsPageWith p.word p.value (saved_words p.drive c) (saved_lasts p.drive c) p.page
 
--- another owner of the patched page, for this content's core
-pub record IsNewPage (p : PatchedPage) (c : BusContent) (page : SharedPage) : Type 0 where
+-- another owner of the patched page, for this saved bus's core
+pub record IsNewPage (p : PatchedPage) (c : SavedBusData) (page : SharedPage) : Type 0 where
   pub drive_is : p.drive ≡ None
   pub patch : IsPatchIn c p
   pub same : page.value ≡ p.page.value
 
--- a list of pages for this drive of the content: its words but for the one of the patch, and no stamps
-pub record IsNewList (p : PatchedPage) (c : BusContent) (number : ℕ) (pages : PageList) : Type 0 where
-  pub drive_is : p.drive ≡ Some number
-  pub patch : IsPatchIn c p
-  pub words : pages_words pages ≡ slice_set (slice_index_or c.drives number []) p.word p.value
-  pub lasts : pages_lasts pages ≡ []
+-- a list of pages for this drive of the saved bus: its words but for the one of the patch, and no
+-- stamps
+pub record IsNewList (p : PatchedPage) (c : SavedBusData) (number : ℕ) (pages : PageList) : Type 0
+  where
+    pub drive_is : p.drive ≡ Some number
+    pub patch : IsPatchIn c p
+    pub words : pages_words pages ≡ slice_set (words_of_drive c.drives number) p.word p.value
+    pub lasts : pages_lasts pages ≡ []
 
--- what takes the place of the patched page in this content
-unfoldable pub AreNewPages : PatchedPage → BusContent → NewPages → Type 0
+-- what takes the place of the patched page in this saved bus
+unfoldable pub AreNewPages : PatchedPage → SavedBusData → NewPages → Type 0
 AreNewPages p c (Core page) = IsNewPage p c page
 AreNewPages p c (Drive number pages) = IsNewList p c number pages

@@ -1,7 +1,8 @@
--- Registers on the bus, and who owns them: PDP-11 Peripherals Handbook, KL11, KW11-L, PC11 and RK11; DEC PDP-11/40 Processor
--- Handbook (1972), Switch register, Processor status word and Memory management. How bytes are written is this
--- project's profile.
-use Rattle.std.specs.Prelude.{ℕ, ◌+◌, ◌-◌, ◌*◌, ◌%◌, ◌==◌, ◌&&◌, nat_le, Bool, true, Option, Some, option_map, if◌then◌else◌}
+-- Registers on the bus, and who owns them: PDP-11 Peripherals Handbook, KL11, KW11-L, PC11 and
+-- RK11; DEC PDP-11/40 Processor Handbook (1972), Switch register, Processor status word and Memory
+-- management. How bytes are written is this project's profile.
+use Rattle.std.specs.Prelude.{ℕ, ◌+◌, ◌-◌, ◌*◌, ◌%◌, ◌==◌, ◌&&◌, nat_le, Bool, true, Option, Some}
+use Rattle.std.specs.Prelude.{option_map, if◌then◌else◌}
 use Rattle.pdp_kt11.specs.Kt.{kt_register_at, kt_value, kt_written}
 use Rattle.pdp_console.specs.Kl.{kl_read, kl_register_at, kl_value, kl_written}
 use Rattle.pdp_console.specs.Kw.{kw_value, kw_written}
@@ -10,17 +11,22 @@ use Rattle.pdp_tape.specs.Pc.{pc_read, pc_register_at, pc_value, pc_written}
 use Rattle.pdp_tape.specs.declared.pc.PcRegister.TheVariants.{PunchBuffer}
 use Rattle.pdp_rk11.specs.Rk.{rk_register_at, rk_value, rk_written}
 use Rattle.pdp_unibus.specs.Status.{status_word, status_written}
-use Rattle.pdp_unibus.specs.declared.board.Board.{Board}
+use Rattle.pdp_unibus.specs.declared.io_page.IoPage.{IoPage}
 use Rattle.pdp_unibus.specs.declared.register.Register.{Register}
-use Rattle.pdp_unibus.specs.declared.register.Register.TheVariants.{Clock, Console, Disk, Mapping, PaperTape, Switches, ProgramStatus}
+use Rattle.pdp_unibus.specs.declared.register.Register.TheVariants.{Clock, Console, Disk, Mapping}
+use Rattle.pdp_unibus.specs.declared.register.Register.TheVariants.{PaperTape, Switches}
+use Rattle.pdp_unibus.specs.declared.register.Register.TheVariants.{ProgramStatus}
 
 -- the owners: a device has its registers from its first address on
 abbrev pub register_of_word : ℕ → Option Register
 register_of_word address = (
-    if nat_le 0o777400 address && nat_le address 0o777412 then option_map Disk (rk_register_at (address - 0o777400)) else
+    if nat_le 0o777400 address && nat_le address 0o777412 then option_map Disk (rk_register_at
+    (address - 0o777400)) else
     if address == 0o777546 then Some Clock else
-    if nat_le 0o777550 address && nat_le address 0o777556 then option_map PaperTape (pc_register_at (address - 0o777550)) else
-    if nat_le 0o777560 address && nat_le address 0o777566 then option_map Console (kl_register_at (address - 0o777560)) else
+    if nat_le 0o777550 address && nat_le address 0o777556 then option_map PaperTape (pc_register_at
+    (address - 0o777550)) else
+    if nat_le 0o777560 address && nat_le address 0o777566 then option_map Console (kl_register_at
+    (address - 0o777560)) else
     if address == 0o777570 then Some Switches else
     if address == 0o777776 then Some ProgramStatus else option_map Mapping (kt_register_at address))
 
@@ -29,7 +35,7 @@ unfoldable pub register_at : ℕ → Option Register
 register_at address = register_of_word (address - address % 2)
 
 -- what a read gives, with so many drives
-unfoldable pub value_in : Register → ℕ → Board → ℕ
+unfoldable pub value_in : Register → ℕ → IoPage → ℕ
 value_in (Console r) drives b = kl_value r b.console
 value_in Clock drives b = kw_value b.clock
 value_in (PaperTape r) drives b = pc_value r b.paper_tape
@@ -39,7 +45,7 @@ value_in (Mapping r) drives b = kt_value r b.mapping
 value_in ProgramStatus drives b = status_word b.status
 
 -- what a read does
-unfoldable pub after_read : Register → Board → Board
+unfoldable pub after_read : Register → IoPage → IoPage
 after_read (Console r) b = record b { console = kl_read r b.console }
 after_read Clock b = b
 after_read (PaperTape r) b = record b { paper_tape = pc_read r b.paper_tape }
@@ -49,8 +55,11 @@ after_read (Mapping r) b = b
 after_read ProgramStatus b = b
 
 -- what a write of a word does in a turn; the switches can't be written
-unfoldable pub after_write : Register → ℕ → ℕ → Board → Board
-after_write (Console r) word turn b = record b { console = kl_written r word turn b.delays.printer b.console }
+unfoldable pub after_write : Register → ℕ → ℕ → IoPage → IoPage
+after_write (Console r) word turn b = record b {
+  console = kl_written r word turn b.delays.printer
+      b.console;
+}
 after_write Clock word turn b = record b { clock = kw_written word b.clock }
 after_write (PaperTape r) word turn b =
     record b { paper_tape = pc_written r word turn b.delays.reader b.delays.punch b.paper_tape }
@@ -64,15 +73,16 @@ abbrev pub word_with_byte : ℕ → ℕ → ℕ → ℕ
 word_with_byte word address byte =
     (if address % 2 == 0 then word - word % 256 + byte else byte * 256 + word % 256)
 
--- whether a write of a byte at an address does anything: at the odd address of the printer's and the punch's buffer it
--- does nothing
+-- whether a write of a byte at an address does anything: at the odd address of the printer's and
+-- the punch's buffer it does nothing
 abbrev pub is_byte_written : Register → ℕ → Bool
 is_byte_written (Console PrinterBuffer) address = address % 2 == 0
 is_byte_written (PaperTape PunchBuffer) address = address % 2 == 0
 is_byte_written _ address = true
 
--- what a write of a byte does: the word is written with the other half as a read would give it, without the effect of a
--- read, with so many drives
-unfoldable pub after_byte : Register → ℕ → ℕ → ℕ → ℕ → Board → Board
+-- what a write of a byte does: the word is written with the other half as a read would give it,
+-- without the effect of a read, with so many drives
+unfoldable pub after_byte : Register → ℕ → ℕ → ℕ → ℕ → IoPage → IoPage
 after_byte register drives address byte turn b =
-    if is_byte_written register address then after_write register (word_with_byte (value_in register drives b) address byte) turn b else b
+    if is_byte_written register address then after_write register (word_with_byte
+    (value_in register drives b) address byte) turn b else b

@@ -1,5 +1,5 @@
--- What can interrupt the processor: PDP-11 Peripherals Handbook, KL11, KW11-L, PC11 and RK11 (which of two at one level
--- goes first is this project's profile).
+-- What can interrupt the processor: PDP-11 Peripherals Handbook, KL11, KW11-L, PC11 and RK11 (which
+-- of two at one level goes first is this project's profile).
 use Rattle.std.specs.Prelude.{ℕ, Bool, ◌&&◌, Option, Some, None, List, [], ◌∷◌, if◌then◌else◌}
 use Rattle.std.specs.List.{find, list_any}
 use Rattle.pdp_console.specs.Kl.{keyboard_served, printer_served}
@@ -7,11 +7,12 @@ use Rattle.pdp_console.specs.Kw.{kw_served}
 use Rattle.pdp_tape.specs.Pc.{punch_served, reader_served}
 use Rattle.pdp_rk11.specs.Rk.{rk_served}
 use Rattle.pdp_unibus.specs.Status.{is_above}
-use Rattle.pdp_unibus.specs.declared.board.Board.{Board}
+use Rattle.pdp_unibus.specs.declared.io_page.IoPage.{IoPage}
 use Rattle.pdp_unibus.specs.declared.priority.Priority.{Priority}
 use Rattle.pdp_unibus.specs.declared.priority.Priority.TheVariants.{Level4, Level5, Level6}
 use Rattle.pdp_unibus.specs.declared.source.Source.{Source}
-use Rattle.pdp_unibus.specs.declared.source.Source.TheVariants.{Keyboard, Printer, Reader, Punch, Clock, Disk}
+use Rattle.pdp_unibus.specs.declared.source.Source.TheVariants.{Keyboard, Printer, Reader, Punch}
+use Rattle.pdp_unibus.specs.declared.source.Source.TheVariants.{Clock, Disk}
 
 -- the level at which a source requests
 abbrev pub level_of : Source → Priority
@@ -34,34 +35,36 @@ order = Clock ∷ Disk ∷ Keyboard ∷ Printer ∷ Reader ∷ Punch ∷ []
 
 -- a source, where it requests with a level above the priority
 abbrev pub alone_above : (Source → Bool) → Priority → Source → Option Source
-alone_above is_requesting priority s = if is_requesting s && is_above (level_of s) priority then Some s else None
+alone_above is_requesting priority s = if is_requesting s && is_above (level_of s) priority then
+    Some s else None
 
 -- of those that request, the first with a level above the priority
 abbrev pub first_above : (Source → Bool) → Priority → Option Source
-first_above is_requesting priority = find (λ s. is_requesting s && is_above (level_of s) priority) order
+first_above is_requesting priority = find (λ s. is_requesting s && is_above
+    (level_of s) priority) order
 
 -- whether a source requests
-unfoldable pub requests : Board → Source → Bool
+unfoldable pub requests : IoPage → Source → Bool
 requests b Clock = b.clock.request
-requests b Disk = b.disk.channel.request
-requests b Keyboard = b.console.keyboard.channel.request
-requests b Printer = b.console.printer.channel.request
+requests b Disk = b.disk.ready_enable.request
+requests b Keyboard = b.console.keyboard.ready_enable.request
+requests b Printer = b.console.printer.ready_enable.request
 requests b Reader = b.paper_tape.reader.request
-requests b Punch = b.paper_tape.punch.channel.request
+requests b Punch = b.paper_tape.punch.ready_enable.request
 
 -- whether any does
-abbrev pub has_request : Board → Bool
+abbrev pub has_request : IoPage → Bool
 has_request b = list_any (requests b) order
 
 -- the source that interrupts a processor of this priority
-unfoldable pub chosen : Priority → Board → Option Source
-chosen priority b = first_above (requests b) priority
+unfoldable pub chosen_source : Priority → IoPage → Option Source
+chosen_source priority b = first_above (requests b) priority
 
 -- the source's request is served: that request goes, and nothing else changes
-unfoldable pub served : Source → Board → Board
-served Clock b = record b { clock = kw_served b.clock }
-served Disk b = record b { disk = rk_served b.disk }
-served Keyboard b = record b { console = keyboard_served b.console }
-served Printer b = record b { console = printer_served b.console }
-served Reader b = record b { paper_tape = reader_served b.paper_tape }
-served Punch b = record b { paper_tape = punch_served b.paper_tape }
+unfoldable pub io_page_served : Source → IoPage → IoPage
+io_page_served Clock b = record b { clock = kw_served b.clock }
+io_page_served Disk b = record b { disk = rk_served b.disk }
+io_page_served Keyboard b = record b { console = keyboard_served b.console }
+io_page_served Printer b = record b { console = printer_served b.console }
+io_page_served Reader b = record b { paper_tape = reader_served b.paper_tape }
+io_page_served Punch b = record b { paper_tape = punch_served b.paper_tape }

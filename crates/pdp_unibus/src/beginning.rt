@@ -1,8 +1,11 @@
 //! The beginning of a turn: its events, a tick of the clock, and the operations that are due.
 
 ghost use Rattle.std.specs.Prelude.{◌≡◌, true, false, []};
-ghost use Rattle.pdp_unibus.specs.Beginning.{after_event, after_events, at_start, begun, disk_done, disk_due, printer_done, printer_due, progress, punch_done, punch_due, reader_done, reader_due, tick_due};
-ghost use Rattle.pdp_unibus.specs.SingleBytes.{IsSingle};
+ghost use Rattle.pdp_unibus.specs.Beginning.{after_event, after_events, at_start, after_beginning};
+ghost use Rattle.pdp_unibus.specs.Beginning.{disk_done, disk_due, printer_done, printer_due};
+ghost use Rattle.pdp_unibus.specs.Beginning.{progress, punch_done, punch_due, reader_done};
+ghost use Rattle.pdp_unibus.specs.Beginning.{reader_due, tick_due};
+ghost use Rattle.pdp_unibus.specs.SingleBytes.{IsSingle, StaysSingle};
 ghost use Rattle.pdp_unibus.specs.declared.beginning.Output.{Output};
 
 use crate::bus::Bus;
@@ -10,8 +13,8 @@ use crate::event::Event;
 use crate::watch::Watch;
 use pdp_store::Store;
 
-/// The byte that was printed on the console and the byte that was punched in the beginning of a turn, if any
-/// (this project's profile).
+/// The byte that was printed on the console and the byte that was punched in the beginning of a
+/// turn, if any (this project's profile).
 #[derive(Clone, Copy, Debug, PartialEq, Eq, Default)]
 pub struct Output {
     pub printed: Option<u8>,
@@ -19,17 +22,18 @@ pub struct Output {
 }
 
 impl<S: Store, D: Store> Bus<S, D> {
-    /// A turn begins: its events in their order, a tick where the clock's period is above 0 and the turn is a positive
-    /// multiple of it, and the completions that are due, of the printer, the reader, the punch and the disk in this
-    /// order. The cycles from now on are those of the turn, and so are the stamps of words that the disk reads into
-    /// core. It answers the byte that was printed and the byte that was punched.
+    /// A turn begins: its events in their order, a tick where the clock's period is above 0 and the
+    /// turn is a positive multiple of it, and the completions that are due, of the printer, the
+    /// reader, the punch and the disk in this order. The cycles from now on are those of the turn,
+    /// and so are the stamps of words that the disk reads into core. It answers the byte that was
+    /// printed and the byte that was punched.
     ///
     /// `Continue` is the processor's and does nothing here. An event for an operation that isn't under way does nothing.
     /// (This project's profile.)
     #[inline(never)]
-    #[tactic(auto, unfolding(crate::specs::Beginning::begun, crate::specs::Beginning::before_disk))]
+    #[tactic(auto, unfolding(crate::specs::Beginning::after_beginning, crate::specs::Beginning::before_disk))]
     pub fn events(&mut self, turn: u32, events: &[Event]) -> Output
-        ensures { progress self.new result ≡ begun turn events.now self.old }
+        ensures { progress self.new result ≡ after_beginning turn events.now self.old }
     {
         self.watch = Watch::unknown();
         self.turn = turn;
@@ -40,16 +44,17 @@ impl<S: Store, D: Store> Bus<S, D> {
         self.take_reader();
         self.take_punch(&mut output);
         self.take_disk();
-        self.watch = self.board.watch(self.turn);
+        self.watch = self.io_page.watch(self.turn);
         self.look();
         output
     }
 
-    /// Begins this turn without events where the bus knows that nothing happens in its beginning, and answers true.
-    /// Else it does nothing and answers false, also where it only doesn't know. (This project's profile.)
+    /// Begins this turn without events where the bus knows that nothing happens in its beginning,
+    /// and answers true. Else it does nothing and answers false, also where it only doesn't know.
+    /// (This project's profile.)
     #[inline(always)]
     pub fn begin_quietly(&mut self, turn: u32) -> bool
-        ensures begun { result ≡ true → begun turn [] self.old ≡ at_start self.new }
+        ensures begun { result ≡ true → after_beginning turn [] self.old ≡ at_start self.new }
         ensures left { result ≡ false → self.new ≡ self.old }
     {
         let quiet = (self.turn < turn) & (u64::from(turn) < self.watch.wake);
@@ -61,9 +66,10 @@ impl<S: Store, D: Store> Bus<S, D> {
 
     #[tactic(auto, using(crate::proofs::Beginnings::after_more_events))]
     fn take_events(&mut self, events: &[Event], output: &mut Output)
-        requires { IsSingle self.old.board output.old }
-        ensures after { progress self.new output.new ≡ after_events events.now (progress self.old output.old) }
-        ensures single { IsSingle self.new.board output.new }
+        requires { IsSingle self.old.io_page output.old }
+        ensures after { progress self.new output.new ≡ after_events events.now
+            (progress self.old output.old) }
+        ensures single { IsSingle self.new.io_page output.new }
     {
         for event in events {
             self.take_event(*event, output);
@@ -71,19 +77,20 @@ impl<S: Store, D: Store> Bus<S, D> {
     }
 
     fn take_event(&mut self, event: Event, output: &mut Output)
-        requires { IsSingle self.old.board output.old }
-        ensures after { progress self.new output.new ≡ after_event event (progress self.old output.old) }
-        ensures single { IsSingle self.new.board output.new }
+        requires { IsSingle self.old.io_page output.old }
+        ensures after { progress self.new output.new ≡ after_event event
+            (progress self.old output.old) }
+        ensures single { IsSingle self.new.io_page output.new }
     {
         self.watch = Watch::unknown();
         match event {
-            Event::Key(key) => self.board.console.key(key),
-            Event::Tick => self.board.clock.tick(),
+            Event::Key(key) => self.io_page.console.key(key),
+            Event::Tick => self.io_page.clock.tick(),
             Event::PrinterDone => self.print(output),
             Event::ReaderDone => self.read_tape(),
             Event::PunchDone => self.punch(output),
             Event::DiskDone => self.complete_disk(),
-            Event::Switches(word) => self.board.switches = word,
+            Event::Switches(word) => self.io_page.switches = word,
             Event::Continue => {}
         }
     }
@@ -91,22 +98,22 @@ impl<S: Store, D: Store> Bus<S, D> {
     // The clock ticks by itself, where it is to in this turn.
     fn take_tick(&mut self)
         ensures after { (o : Output) → progress self.new o ≡ tick_due (progress self.old o) }
-        ensures single { (o : Output) → IsSingle self.old.board o → IsSingle self.new.board o }
+        ensures single { StaysSingle self.old.io_page self.new.io_page }
     {
-        let period = self.board.delays.clock;
+        let period = self.io_page.delays.clock;
         if period > 0 && self.turn > 0 && self.turn % period == 0 {
             self.watch = Watch::unknown();
-            self.board.clock.tick();
+            self.io_page.clock.tick();
         }
     }
 
     // The printer completes, where it is due.
     fn take_printer(&mut self, output: &mut Output)
-        requires { IsSingle self.old.board output.old }
+        requires { IsSingle self.old.io_page output.old }
         ensures after { progress self.new output.new ≡ printer_due (progress self.old output.old) }
-        ensures single { IsSingle self.new.board output.new }
+        ensures single { IsSingle self.new.io_page output.new }
     {
-        if self.board.console.printer.operation.is_due(self.turn) {
+        if self.io_page.console.printer.operation.is_due(self.turn) {
             self.print(output);
         }
     }
@@ -114,20 +121,20 @@ impl<S: Store, D: Store> Bus<S, D> {
     // The reader completes, where it is due.
     fn take_reader(&mut self)
         ensures after { (o : Output) → progress self.new o ≡ reader_due (progress self.old o) }
-        ensures single { (o : Output) → IsSingle self.old.board o → IsSingle self.new.board o }
+        ensures single { StaysSingle self.old.io_page self.new.io_page }
     {
-        if self.board.paper_tape.reader.operation.is_due(self.turn) {
+        if self.io_page.paper_tape.reader.operation.is_due(self.turn) {
             self.read_tape();
         }
     }
 
     // The punch completes, where it is due.
     fn take_punch(&mut self, output: &mut Output)
-        requires { IsSingle self.old.board output.old }
+        requires { IsSingle self.old.io_page output.old }
         ensures after { progress self.new output.new ≡ punch_due (progress self.old output.old) }
-        ensures single { IsSingle self.new.board output.new }
+        ensures single { IsSingle self.new.io_page output.new }
     {
-        if self.board.paper_tape.punch.operation.is_due(self.turn) {
+        if self.io_page.paper_tape.punch.operation.is_due(self.turn) {
             self.punch(output);
         }
     }
@@ -135,33 +142,33 @@ impl<S: Store, D: Store> Bus<S, D> {
     // The disk completes, where it is due.
     fn take_disk(&mut self)
         ensures after { (o : Output) → progress self.new o ≡ disk_due (progress self.old o) }
-        ensures single { (o : Output) → IsSingle self.old.board o → IsSingle self.new.board o }
+        ensures single { StaysSingle self.old.io_page self.new.io_page }
     {
-        if self.board.disk.operation.is_due(self.turn) {
+        if self.io_page.disk.operation.is_due(self.turn) {
             self.complete_disk();
         }
     }
 
     // The printer completes.
     fn print(&mut self, output: &mut Output)
-        requires { IsSingle self.old.board output.old }
+        requires { IsSingle self.old.io_page output.old }
         ensures after { progress self.new output.new ≡ printer_done (progress self.old output.old) }
-        ensures single { IsSingle self.new.board output.new }
+        ensures single { IsSingle self.new.io_page output.new }
     {
         self.watch = Watch::unknown();
-        if let Some(byte) = self.board.console.complete() {
+        if let Some(byte) = self.io_page.console.complete() {
             output.printed = Some(byte);
         }
     }
 
     // The punch completes.
     fn punch(&mut self, output: &mut Output)
-        requires { IsSingle self.old.board output.old }
+        requires { IsSingle self.old.io_page output.old }
         ensures after { progress self.new output.new ≡ punch_done (progress self.old output.old) }
-        ensures single { IsSingle self.new.board output.new }
+        ensures single { IsSingle self.new.io_page output.new }
     {
         self.watch = Watch::unknown();
-        if let Some(byte) = self.board.paper_tape.complete_punch() {
+        if let Some(byte) = self.io_page.paper_tape.complete_punch() {
             output.punched = Some(byte);
         }
     }
@@ -169,11 +176,11 @@ impl<S: Store, D: Store> Bus<S, D> {
     // The disk completes: its function is done, to core and the drives.
     fn complete_disk(&mut self)
         ensures after { (o : Output) → progress self.new o ≡ disk_done (progress self.old o) }
-        ensures single { (o : Output) → IsSingle self.old.board o → IsSingle self.new.board o }
+        ensures single { StaysSingle self.old.io_page self.new.io_page }
     {
         self.watch = Watch::unknown();
         self.direct = 0;
-        self.board
+        self.io_page
             .disk
             .complete(&mut self.words, &mut self.drives, self.turn);
         self.lines.clear();
@@ -182,12 +189,12 @@ impl<S: Store, D: Store> Bus<S, D> {
     // The reader completes: where it was reading, the next byte of the tape is taken.
     fn read_tape(&mut self)
         ensures after { (o : Output) → progress self.new o ≡ reader_done (progress self.old o) }
-        ensures single { (o : Output) → IsSingle self.old.board o → IsSingle self.new.board o }
+        ensures single { StaysSingle self.old.io_page self.new.io_page }
     {
         self.watch = Watch::unknown();
-        if self.board.paper_tape.reader.operation.is_under_way() {
+        if self.io_page.paper_tape.reader.operation.is_under_way() {
             let next = self.tape.take_byte();
-            self.board.paper_tape.complete_reader(next);
+            self.io_page.paper_tape.complete_reader(next);
         }
     }
 }

@@ -1,9 +1,9 @@
 ghost use Rattle.std.specs.Prelude.{◌≡◌};
 ghost use Rattle.pdp_unibus.specs.Delays.{standard_delays, with_delay};
 
-/// A line of the machine to the outside whose delay can be set (this project's profile).
+/// A device whose delay can be set (this project's profile).
 #[derive(Clone, Copy, Debug, PartialEq, Eq)]
-pub enum Line {
+pub enum DelayedDevice {
     /// The console terminal's printer.
     Printer,
     /// The paper tape reader.
@@ -16,8 +16,9 @@ pub enum Line {
     Clock,
 }
 
-/// How many turns after it began an operation of each device completes: 0 says by an event alone. Of the clock it is
-/// the period: with p above 0 it ticks in the turns p, 2p and so on, with 0 by events alone (this project's profile).
+/// How many turns after it began an operation of each device completes: 0 says by an event alone.
+/// Of the clock it is the period: with p above 0 it ticks in the turns p, 2p and so on, with 0 by
+/// events alone (this project's profile).
 #[derive(Clone, Copy, Debug, PartialEq, Eq)]
 pub struct Delays {
     pub printer: u32,
@@ -29,8 +30,8 @@ pub struct Delays {
 }
 
 impl Delays {
-    /// The delays of a machine for which none is given: printer 1, reader 4, punch 4, disk 10, and no tick of the clock
-    /// but by events (this project's profile).
+    /// The delays of a machine for which none is given: printer 1, reader 4, punch 4, disk 10, and
+    /// no tick of the clock but by events (this project's profile).
     pub fn standard() -> Delays
         ensures { result ≡ standard_delays }
     {
@@ -43,28 +44,28 @@ impl Delays {
         }
     }
 
-    /// These delays with that of one line set, in turns.
-    pub fn with(self, line: Line, delay: u32) -> Delays
-        ensures { result ≡ with_delay line delay self }
+    /// These delays with that of one device set, in turns.
+    pub fn with(self, device: DelayedDevice, delay: u32) -> Delays
+        ensures { result ≡ with_delay device delay self }
     {
-        match line {
-            Line::Printer => Delays {
+        match device {
+            DelayedDevice::Printer => Delays {
                 printer: delay,
                 ..self
             },
-            Line::Reader => Delays {
+            DelayedDevice::Reader => Delays {
                 reader: delay,
                 ..self
             },
-            Line::Punch => Delays {
+            DelayedDevice::Punch => Delays {
                 punch: delay,
                 ..self
             },
-            Line::Disk => Delays {
+            DelayedDevice::Disk => Delays {
                 disk: delay,
                 ..self
             },
-            Line::Clock => Delays {
+            DelayedDevice::Clock => Delays {
                 clock: delay,
                 ..self
             },

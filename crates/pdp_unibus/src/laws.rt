@@ -1,29 +1,51 @@
 ghost use Rattle.std.specs.Prelude.{◌≡◌, ◌≤◌, Err};
 ghost use Rattle.pdp_unibus.specs.BusWorld.{BusWorld};
 ghost use Rattle.pdp_unibus.specs.Cycle.{Cycle, cycle};
+ghost use Rattle.pdp_unibus.specs.Frame.{EventsLeaveOthers, UsesLeaveOthers};
 ghost use Rattle.pdp_unibus.specs.Laws.{KeysAreReadOnce, KeysWaitUntilRead};
-ghost use Rattle.pdp_unibus.specs.Laws.{ReadStatusWritesBack, WrittenRegisterReadsBack, WrittenStatusReadsBack};
+ghost use Rattle.pdp_unibus.specs.Laws.{ReadStatusWritesBack, WrittenRegisterReadsBack};
+ghost use Rattle.pdp_unibus.specs.Laws.{WrittenStatusReadsBack};
 ghost use Rattle.pdp_unibus.specs.Laws.{StatusIsItsWord, WholeStatusReadsBack};
-ghost use Rattle.pdp_unibus.specs.RequestLaws.{NoneIsChosenWhereNoneIsAbove, RequestsAreTold, TheFirstIsChosen};
-ghost use Rattle.pdp_unibus.specs.RequestLaws.{OthersGoOnRequesting, ResetDropsRequests, ServedSourcesAreSilent};
-ghost use Rattle.pdp_unibus.specs.RuleLaws.{RequestsGoByTheRule, disk_channel, keyboard_channel, printer_channel, punch_channel};
-ghost use Rattle.pdp_unibus.specs.ByteLaws.{BytesArePrintedAsOperationsEnd, BytesArePunchedAsOperationsEnd, ReadsTakeTheNextByte, TapesStay};
-ghost use Rattle.pdp_unibus.specs.ByteLaws.{DiskEndsWhenDue, DiskOutlivesUses, PrintingEndsWhenDue, PunchingEndsWhenDue, ReadingEndsWhenDue};
-ghost use Rattle.pdp_unibus.specs.ByteLaws.{PrintingOutlivesUses, PunchingOutlivesUses, ReadingOutlivesUses};
+ghost use Rattle.pdp_unibus.specs.RequestLaws.{NoneIsChosenWhereNoneIsAbove, RequestsAreTold};
+ghost use Rattle.pdp_unibus.specs.RequestLaws.{TheFirstIsChosen};
+ghost use Rattle.pdp_unibus.specs.RequestLaws.{OthersGoOnRequesting, ResetDropsRequests};
+ghost use Rattle.pdp_unibus.specs.RequestLaws.{ServedSourcesAreSilent};
+ghost use Rattle.pdp_unibus.specs.RuleLaws.{RequestsGoByTheRule, disk_ready_enable};
+ghost use Rattle.pdp_unibus.specs.RuleLaws.{keyboard_ready_enable, printer_ready_enable};
+ghost use Rattle.pdp_unibus.specs.RuleLaws.{punch_ready_enable};
+ghost use Rattle.pdp_unibus.specs.ByteLaws.{BytesArePrintedAsOperationsEnd};
+ghost use Rattle.pdp_unibus.specs.ByteLaws.{BytesArePunchedAsOperationsEnd, ReadsTakeTheNextByte};
+ghost use Rattle.pdp_unibus.specs.ByteLaws.{TapesStay};
+ghost use Rattle.pdp_unibus.specs.ByteLaws.{DiskEndsWhenDue, DiskOutlivesUses, PrintingEndsWhenDue};
+ghost use Rattle.pdp_unibus.specs.ByteLaws.{PunchingEndsWhenDue, ReadingEndsWhenDue};
+ghost use Rattle.pdp_unibus.specs.ByteLaws.{PrintingOutlivesUses, PunchingOutlivesUses};
+ghost use Rattle.pdp_unibus.specs.ByteLaws.{ReadingOutlivesUses};
 ghost use Rattle.pdp_unibus.specs.declared.bus.Timeout.{Timeout};
 
-/// A law of the bus: a cycle that times out leaves core, its stamps, the drives, the board, the tape and the turn as
-/// they were.
+/// A law of the bus: a cycle that times out leaves core, its stamps, the drives, the I/O page, the
+/// tape and the turn as they were.
 ///
 /// This project's profile.
 pub fn timeouts_change_nothing()
-    ensures { (c : Cycle) (w : BusWorld) (t : Timeout) → (cycle c w).value ≡ Err t → (cycle c w).after ≡ w }
+    ensures { (c : Cycle) (w : BusWorld) (t : Timeout) → (cycle c w).value ≡ Err t →
+        (cycle c w).after ≡ w }
 {}
 
-/// A law of the program status word: a word that is written to it reads back without bits 11-8, and with T as it was.
-/// What was read from it changes nothing when it is written. A whole word, as a trap loads it, sets T too.
+/// A law of devices: a register that is read or written leaves every device but its own, and an
+/// event every device but the one to which it happens.
 ///
-/// DEC PDP-11/40 Processor Handbook (1972), Processor status word; bits 11-8 and T are this project's profile.
+/// This project's profile.
+pub fn devices_change_alone()
+    ensures uses { UsesLeaveOthers }
+    ensures events { EventsLeaveOthers }
+{}
+
+/// A law of the program status word: a word that is written to it reads back without bits 11-8, and
+/// with T as it was. What was read from it changes nothing when it is written. A whole word, as a
+/// trap loads it, sets T too.
+///
+/// DEC PDP-11/40 Processor Handbook (1972), Processor status word; bits 11-8 and T are this
+/// project's profile.
 pub fn status_reads_back()
     ensures word { WrittenStatusReadsBack }
     ensures register { WrittenRegisterReadsBack }
@@ -40,9 +62,9 @@ pub fn keys_wait_and_are_read_once()
     ensures once { KeysAreReadOnce }
 {}
 
-/// A law of interrupts: whichever sources request, the one that is chosen requests with a level above the priority,
-/// and no other that does goes before it, by its level or at the same level by its place. None is chosen exactly where
-/// none does.
+/// A law of interrupts: whichever sources request, the one that is chosen requests with a level
+/// above the priority, and no other that does goes before it, by its level or at the same level by
+/// its place. None is chosen exactly where none does.
 ///
 /// PDP-11 Peripherals Handbook, Unibus; the order at one level is this project's profile.
 pub fn the_first_request_is_chosen()
@@ -50,21 +72,21 @@ pub fn the_first_request_is_chosen()
     ensures none { NoneIsChosenWhereNoneIsAbove }
 {}
 
-/// A law of the one rule of requests, of the keyboard, the printer, the punch and the disk: whichever register is read
-/// or written and whatever event happens, where a request stands on its condition, as at power-up, it does so
-/// afterwards, and is there exactly where the condition holds and it was there, or the condition has just come to hold.
-/// So none is lost, and none comes twice.
+/// A law of the one rule of requests, of the keyboard, the printer, the punch and the disk:
+/// whichever register is read or written and whatever event happens, where a request stands on its
+/// condition, as at power-up, it does so afterwards, and is there exactly where the condition holds
+/// and it was there, or the condition has just come to hold. So none is lost, and none comes twice.
 ///
 /// This project's profile.
 pub fn requests_go_by_the_rule()
-    ensures keyboard { RequestsGoByTheRule keyboard_channel }
-    ensures printer { RequestsGoByTheRule printer_channel }
-    ensures punch { RequestsGoByTheRule punch_channel }
-    ensures disk { RequestsGoByTheRule disk_channel }
+    ensures keyboard { RequestsGoByTheRule keyboard_ready_enable }
+    ensures printer { RequestsGoByTheRule printer_ready_enable }
+    ensures punch { RequestsGoByTheRule punch_ready_enable }
+    ensures disk { RequestsGoByTheRule disk_ready_enable }
 {}
 
-/// A law of requests: whether there is any is told, a source that was served doesn't request, the others go on as
-/// before, and after RESET none does.
+/// A law of requests: whether there is any is told, a source that was served doesn't request, the
+/// others go on as before, and after RESET none does.
 ///
 /// PDP-11 Peripherals Handbook, Unibus; RESET is this project's profile.
 pub fn requests_go_one_by_one_or_by_reset()
@@ -74,8 +96,8 @@ pub fn requests_go_one_by_one_or_by_reset()
     ensures reset { ResetDropsRequests }
 {}
 
-/// A law of the printer and the punch: in the beginning of a turn a byte comes out exactly where its operation ends
-/// there, once, as it is then; and nothing else comes out.
+/// A law of the printer and the punch: in the beginning of a turn a byte comes out exactly where
+/// its operation ends there, once, as it is then; and nothing else comes out.
 ///
 /// PDP-11 Peripherals Handbook, KL11 and PC11; when an operation ends is this project's profile.
 pub fn bytes_come_out_as_operations_end()
@@ -83,9 +105,10 @@ pub fn bytes_come_out_as_operations_end()
     ensures punched { BytesArePunchedAsOperationsEnd }
 {}
 
-/// A law of completions: without its event an operation of the printer, the reader, the punch or the disk ends in the
-/// beginning of the turn in which it is due, and of no other; and whichever registers are read and written meanwhile, it
-/// stays as it was begun, the disk's where its controller isn't ready.
+/// A law of completions: without its event an operation of the printer, the reader, the punch or
+/// the disk ends in the beginning of the turn in which it is due, and of no other; and whichever
+/// registers are read and written meanwhile, it stays as it was begun, the disk's where its
+/// controller isn't ready.
 ///
 /// This project's profile.
 pub fn operations_end_when_due()
@@ -99,8 +122,8 @@ pub fn operations_end_when_due()
     ensures disk_outlives { DiskOutlivesUses }
 {}
 
-/// A law of the paper tape: in the beginning of a turn a read that ends takes the tape's next byte, or finds its end,
-/// and nothing else moves the tape; the bytes on it stay.
+/// A law of the paper tape: in the beginning of a turn a read that ends takes the tape's next byte,
+/// or finds its end, and nothing else moves the tape; the bytes on it stay.
 ///
 /// PDP-11 Peripherals Handbook, PC11; when an operation ends is this project's profile.
 pub fn reads_take_the_next_byte()

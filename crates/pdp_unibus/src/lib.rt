@@ -18,8 +18,11 @@
 //!   request is chosen, and what serving it and RESET leave (`Bus::choose`, `serve`, `reset`,
 //!   `the_first_request_is_chosen`, `requests_go_by_the_rule`,
 //!   `requests_go_one_by_one_or_by_reset`).
+//! - A register that is read or written leaves every device but its own, and an event every device
+//!   but the one to which it happens (`devices_change_alone`).
 //! - The program status word, what a write of it leaves, and that a word written to it reads back
 //!   (`Status::word`, `of_word`, `written`, `status_reads_back`).
+//! - What is read of the registers without the effect of a read (`Bus::devices`, `pages`).
 //! - The address of a reference by the mapping registers (`Bus::place`, `fetched`).
 //! - What is fetched as an instruction is the decoding of what a read gives, with the effects of
 //!   the read (`Bus::instr`, `decoded`). That each kept line is the decoding of core now is an
@@ -30,12 +33,13 @@
 //!   (`Bus::first_of_core`, `first_of_drive`, `forget`).
 //! - An access that goes to core and changes no mapping register: a read gives the word or byte and
 //!   leaves the bus, as its page was touched before; a write leaves what a bus cycle leaves. One
-//!   that isn't so does nothing (`Bus::core_word`, `core_byte`, `write_core`, `write_core_byte`).
+//!   that isn't so does nothing (`Bus::core_word`, `core_byte`, `write_core`, `write_core_byte`,
+//!   and `write_core_pair` for two words).
 //! - Up to which turn the bus is calm, so that nothing comes between instructions (`calm_until`).
 //! - What is saved of a bus is all of it except the tape's bytes and the first touches; a load
 //!   makes the bus that again, with the tape and the first touches that it then has (`Bus::save`,
-//!   `load`, `set_tape`, `SavedBus::set_delays`). A page with one word changed is made for all saved
-//!   buses that have it alike, and put into each (`patched_page`, `new_pages`, `put_pages`).
+//!   `load`, `set_tape`, `SavedBus::set_delays`). A page with one word changed is made for all
+//!   saved buses that have it alike, and put into each (`patched_page`, `new_pages`, `put_pages`).
 //! - Drives are added after those of the bus, with their first touches, or the last ones removed,
 //!   and all else stays (`Bus::add_drives`, `keep_drives`).
 //!
@@ -45,14 +49,17 @@
 #![tactic(auto)]
 
 mod beginning;
-mod board;
+mod bits;
 mod bus;
 mod delays;
+mod device_registers;
 mod direct;
 mod drives;
 mod event;
+mod io_page;
 mod last_turn;
 mod laws;
+mod page_registers;
 mod priority;
 mod register;
 mod requests;
@@ -65,16 +72,20 @@ mod touched_pages;
 mod watch;
 
 pub use beginning::Output;
-pub use board::Board;
 pub use bus::{Aborted, Bus, Timeout};
-pub use delays::{Delays, Line};
+pub use delays::{DelayedDevice, Delays};
+pub use device_registers::DeviceRegisters;
+pub use direct::AddressedWord;
 pub use event::Event;
+pub use io_page::IoPage;
 pub use last_turn::LAST_TURN;
 pub use laws::{
-    bytes_come_out_as_operations_end, keys_wait_and_are_read_once, operations_end_when_due,
-    reads_take_the_next_byte, requests_go_by_the_rule, requests_go_one_by_one_or_by_reset,
-    status_reads_back, the_first_request_is_chosen, timeouts_change_nothing,
+    bytes_come_out_as_operations_end, devices_change_alone, keys_wait_and_are_read_once,
+    operations_end_when_due, reads_take_the_next_byte, requests_go_by_the_rule,
+    requests_go_one_by_one_or_by_reset, status_reads_back, the_first_request_is_chosen,
+    timeouts_change_nothing,
 };
+pub use page_registers::PageRegisters;
 pub use priority::Priority;
 pub use register::{Register, register_at_address};
 pub use saved_bus::{NewPages, PatchedPage, SavedBus};

@@ -1,6 +1,7 @@
 ghost use Rattle.std.specs.Prelude.{◌≡◌, ◌<◌};
 
-/// The priority of the processor, as bits 7-5 of the program status word give it, or the level of a request.
+/// The priority of the processor, as bits 7-5 of the program status word give it, or the level of a
+/// request.
 ///
 /// DEC PDP-11/40 Processor Handbook (1972), Processor status word.
 #[derive(Clone, Copy, Debug, PartialEq, Eq, Default)]
@@ -55,7 +56,8 @@ impl Priority {
         }
     }
 
-    /// Whether this level is above the other: a request at this level interrupts a processor of the other's priority.
+    /// Whether this level is above the other: a request at this level interrupts a processor of the
+    /// other's priority.
     pub fn is_above(self, other: Priority) -> bool
         ensures { result ≡ is_above self other }
     {

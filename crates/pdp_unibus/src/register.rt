@@ -19,8 +19,8 @@ pub enum Register {
     Console(KlRegister),
     /// 777570
     Switches,
-    /// 772300 to 772317, 772340 to 772357, 777572 to 777577, 777600 to 777617 and 777640 to 777657: those of memory
-    /// management.
+    /// 772300 to 772317, 772340 to 772357, 777572 to 777577, 777600 to 777617 and 777640 to 777657:
+    /// those of memory management.
     Mapping(KtRegister),
     /// 777776
     ProgramStatus,
@@ -28,8 +28,8 @@ pub enum Register {
 
 /// The register whose word has this physical address (bytes), if there is one.
 ///
-/// PDP-11 Peripherals Handbook, KL11, KW11-L, PC11 and RK11; DEC PDP-11/40 Processor Handbook (1972), Switch register,
-/// Processor status word and Memory management.
+/// PDP-11 Peripherals Handbook, KL11, KW11-L, PC11 and RK11; DEC PDP-11/40 Processor Handbook
+/// (1972), Switch register, Processor status word and Memory management.
 #[tactic(auto, unfolding(crate::specs::Register::register_at))]
 pub fn register_at_address(address: u32) -> Option<Register>
     ensures { result ≡ register_at address }

@@ -1,13 +1,14 @@
-//! Requests of the devices on the board: who requests, who is chosen, and who is served.
+//! Requests of the devices on the I/O page: who requests, who is chosen, and who is served.
 
 ghost use Rattle.std.specs.Prelude.{◌≡◌};
-ghost use Rattle.pdp_unibus.specs.Source.{alone_above, chosen, has_request, requests, served};
+ghost use Rattle.pdp_unibus.specs.Source.{alone_above, chosen_source, has_request, requests};
+ghost use Rattle.pdp_unibus.specs.Source.{io_page_served};
 
-use crate::board::Board;
+use crate::io_page::IoPage;
 use crate::priority::Priority;
 use crate::source::Source;
 
-impl Board {
+impl IoPage {
     /// Whether the source requests.
     #[tactic(auto, unfolding(crate::specs::Source::requests))]
     pub(crate) fn requests(&self, source: Source) -> bool
@@ -16,10 +17,10 @@ impl Board {
         match source {
             Source::Clock => self.clock.request,
             Source::Disk => self.disk.request(),
-            Source::Keyboard => self.console.keyboard.channel.request,
-            Source::Printer => self.console.printer.channel.request,
+            Source::Keyboard => self.console.keyboard.ready_enable.request,
+            Source::Printer => self.console.printer.ready_enable.request,
             Source::Reader => self.paper_tape.reader.request,
-            Source::Punch => self.paper_tape.punch.channel.request,
+            Source::Punch => self.paper_tape.punch.ready_enable.request,
         }
     }
 
@@ -35,13 +36,13 @@ impl Board {
             || self.requests(Source::Punch)
     }
 
-    /// The first source in their order that requests with a level above the priority, if there is one: they go by
-    /// levels, and at one level by this project's profile.
+    /// The first source in their order that requests with a level above the priority, if there is
+    /// one: they go by levels, and at one level by this project's profile.
     #[cold]
     #[inline(never)]
-    #[tactic(auto, unfolding(crate::specs::Source::chosen), using(crate::proofs::RequestLaws::first_of_all))]
+    #[tactic(auto, unfolding(crate::specs::Source::chosen_source), using(crate::proofs::RequestLaws::first_of_all))]
     pub(crate) fn choose(&self, priority: Priority) -> Option<Source>
-        ensures { result ≡ chosen priority self.now }
+        ensures { result ≡ chosen_source priority self.now }
     {
         self.above(Source::Clock, priority)
             .or(self.above(Source::Disk, priority))
@@ -63,9 +64,9 @@ impl Board {
     }
 
     /// The source's request is served: that request goes.
-    #[tactic(auto, unfolding(crate::specs::Source::served))]
+    #[tactic(auto, unfolding(crate::specs::Source::io_page_served))]
     pub(crate) fn serve(&mut self, source: Source)
-        ensures { self.new ≡ served source self.old }
+        ensures { self.new ≡ io_page_served source self.old }
     {
         match source {
             Source::Clock => self.clock.serve(),

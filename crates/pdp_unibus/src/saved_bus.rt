@@ -2,12 +2,13 @@
 
 ghost use Rattle.std.specs.Prelude.{◌≡◌, IfOk};
 ghost use Rattle.pdp_unibus.specs.BusWorld.{with_firsts};
-ghost use Rattle.pdp_unibus.specs.BusContent.{HasSizesOf, bus_content, bus_of};
-ghost use Rattle.pdp_unibus.specs.BusContent.{IsCoreOf, IsCoreOfSize, with_core_of, with_delays, with_tape};
+ghost use Rattle.pdp_unibus.specs.SavedBusData.{HasSizesOf, saved_bus, bus_of};
+ghost use Rattle.pdp_unibus.specs.SavedBusData.{IsCoreOf, IsCoreOfSize, with_core_of};
+ghost use Rattle.pdp_unibus.specs.SavedBusData.{saved_bus_with_delays, bus_with_tape};
 
-use crate::board::Board;
 use crate::bus::Bus;
 use crate::delays::Delays;
+use crate::io_page::IoPage;
 use crate::saved_drives::{load_each, take_each};
 use pdp_store::{Page, Paged, PagedDrive, Pages, Store};
 use pdp_word::NoMemory;
@@ -19,14 +20,14 @@ mod patched_page;
 
 pub use patched_page::{NewPages, PatchedPage};
 
-/// A bus as it was: all of it except the bytes of its tape, which no turn changes, and the first touches of pages.
-/// Words are kept as pages that it shares with the stores of the bus. The list of core's pages is its own, and a
-/// drive's list is shared.
+/// A bus as it was: all of it except the bytes of its tape, which no turn changes, and the first
+/// touches of pages. Words are kept as pages that it shares with the stores of the bus. The list of
+/// core's pages is its own, and a drive's list is shared.
 ///
-/// A contract sees it as a `BusContent`. (This project's profile.)
+/// A contract sees it as a `SavedBusData`. (This project's profile.)
 #[derive(Drop)]
 pub struct SavedBus {
-    board: Board,
+    io_page: IoPage,
     core: Vec<Rc<Page>>,
     drives: Vec<Pages>,
 
@@ -40,13 +41,13 @@ impl Model for SavedBus {
     ghost use Rattle.std.specs.List.{All};
     ghost use Rattle.pdp_store.specs.Pages.{lasts_of, words_of};
     ghost use Rattle.pdp_store.specs.Stored.{HasLastOfEachOrNone};
-    ghost use Rattle.pdp_unibus.specs.BusContent.{BusContent};
+    ghost use Rattle.pdp_unibus.specs.SavedBusData.{SavedBusData};
     ghost use Rattle.pdp_unibus.specs.SavedDrives.{AreUnstamped, pages_words};
 
-    ghost Value = { BusContent };
+    ghost Value = { SavedBusData };
 
     ghost view = { λ s. record {
-      board = s.board;
+      io_page = s.io_page;
       core = words_of s.core.items;
       lasts = lasts_of s.core.items;
       drives = map pages_words s.drives.items;
@@ -54,15 +55,16 @@ impl Model for SavedBus {
       turn = s.turn;
     } };
 
-    ghost invariant = { λ s. AreUnstamped s.drives.items × HasLastOfEachOrNone (words_of s.core.items) (lasts_of s.core.items) };
+    ghost invariant = { λ s. AreUnstamped s.drives.items × HasLastOfEachOrNone
+        (words_of s.core.items) (lasts_of s.core.items) };
 }
 
 impl SavedBus {
-    /// The content of a bus of other delays, and the same in all else.
+    /// The saved bus with other delays, and the same in all else.
     pub fn set_delays(&mut self, delays: Delays)
-        ensures { self.new ≡ with_delays delays self.old }
+        ensures { self.new ≡ saved_bus_with_delays delays self.old }
     {
-        self.board.delays = delays;
+        self.io_page.delays = delays;
     }
 }
 
@@ -87,17 +89,18 @@ impl Bus<Paged, PagedDrive> {
         self.lines.clear();
     }
 
-    /// The bus as it is now. Words that are shared already are shared again, and only others copied.
+    /// The bus as it is now. Words that are shared already are shared again, and only others
+    /// copied.
     ///
     /// Err(NoMemory) where a growth was refused. The bus stays as it is in any case.
     pub fn save(&mut self, alloc: Global) -> Result<SavedBus, NoMemory>
         ensures same { self.new ≡ self.old }
-        ensures saved { IfOk result (λ saved. saved ≡ bus_content self.old) }
+        ensures saved { IfOk result (λ saved. saved ≡ saved_bus self.old) }
     {
         let core = self.take_core(alloc)?;
         let drives = take_each(alloc, &mut self.drives)?;
         Ok(SavedBus {
-            board: self.board.copy(),
+            io_page: self.io_page.copy(),
             core,
             drives,
             bytes_read: self.tape.taken(),
@@ -105,7 +108,8 @@ impl Bus<Paged, PagedDrive> {
         })
     }
 
-    /// Makes the bus the one that was saved, with the tape and the first touches that it has now. Takes no memory.
+    /// Makes the bus the one that was saved, with the tape and the first touches that it has now.
+    /// Takes no memory.
     pub fn load(&mut self, saved: &SavedBus)
         requires { HasSizesOf saved.now self.old }
         ensures { self.new ≡ with_firsts (bus_of self.old.tape saved.now) self.old.firsts }
@@ -113,16 +117,16 @@ impl Bus<Paged, PagedDrive> {
         self.load_core(&saved.core);
         load_each(&mut self.drives, &saved.drives);
         self.direct = 0;
-        self.board = saved.board.copy();
+        self.io_page = saved.io_page.copy();
         self.tape.go_to(saved.bytes_read);
         self.turn = saved.turn;
-        self.watch = self.board.watch(self.turn);
+        self.watch = self.io_page.watch(self.turn);
         self.look();
     }
 
     /// Puts another tape into the reader, of which as many bytes count as read. Takes no memory.
     pub fn set_tape(&mut self, tape: Vec<u8>)
-        ensures { self.new ≡ with_tape self.old tape.items }
+        ensures { self.new ≡ bus_with_tape self.old tape.items }
     {
         self.tape.replace(tape);
     }

@@ -20,8 +20,10 @@ pub(crate) fn take_each<D: SharedPaging>(
     ensures same_words { map D.words drives.new.items ≡ map D.words drives.old.items }
     ensures same_lasts { map D.lasts drives.new.items ≡ map D.lasts drives.old.items }
     ensures firsts { map D.firsts drives.new.items ≡ map D.firsts drives.old.items }
-    ensures words { IfOk result (λ pages. map pages_words pages.items ≡ map D.words drives.old.items) }
-    ensures lasts { IfOk result (λ pages. map pages_lasts pages.items ≡ map D.lasts drives.old.items) }
+    ensures words { IfOk result (λ pages. map pages_words pages.items ≡ map D.words
+        drives.old.items) }
+    ensures lasts { IfOk result (λ pages. map pages_lasts pages.items ≡ map D.lasts
+        drives.old.items) }
 {
     let mut taken = Vec::with_capacity(alloc, drives.len())?;
     for number in 0..drives.len() {
@@ -45,8 +47,10 @@ fn take_one<D: SharedPaging>(
     ensures same_words { map D.words drives.new.items ≡ map D.words drives.old.items }
     ensures same_lasts { map D.lasts drives.new.items ≡ map D.lasts drives.old.items }
     ensures firsts { map D.firsts drives.new.items ≡ map D.firsts drives.old.items }
-    ensures words { IfOk result (λ pages. pages_words pages ≡ slice_index_or (map D.words drives.old.items) number []) }
-    ensures lasts { IfOk result (λ pages. pages_lasts pages ≡ slice_index_or (map D.lasts drives.old.items) number []) }
+    ensures words { IfOk result (λ pages. pages_words pages ≡ slice_index_or
+        (map D.words drives.old.items) number []) }
+    ensures lasts { IfOk result (λ pages. pages_lasts pages ≡ slice_index_or
+        (map D.lasts drives.old.items) number []) }
 {
     drives[number].take_pages(alloc)
 }
@@ -54,8 +58,10 @@ fn take_one<D: SharedPaging>(
 /// Loads each drive from the pages of its number. Takes no memory.
 #[tactic(auto, using(crate::proofs::SavedDrives::none_loaded, crate::proofs::SavedDrives::size_at, crate::proofs::SavedDrives::one_loaded, crate::proofs::SavedDrives::all_loaded))]
 pub(crate) fn load_each<D: SharedPaging>(drives: &mut Vec<D>, pages: &Vec<Pages>)
-    requires words { map length (map pages_words pages.now.items) ≡ map length (map D.words drives.old.items) }
-    requires lasts { map length (map pages_lasts pages.now.items) ≡ map length (map D.lasts drives.old.items) }
+    requires words { map length (map pages_words pages.now.items) ≡ map length
+        (map D.words drives.old.items) }
+    requires lasts { map length (map pages_lasts pages.now.items) ≡ map length
+        (map D.lasts drives.old.items) }
     ensures words { map D.words drives.new.items ≡ map pages_words pages.now.items }
     ensures lasts { map D.lasts drives.new.items ≡ map pages_lasts pages.now.items }
     ensures firsts { map D.firsts drives.new.items ≡ map D.firsts drives.old.items }
@@ -70,18 +76,22 @@ pub(crate) fn load_each<D: SharedPaging>(drives: &mut Vec<D>, pages: &Vec<Pages>
 fn load_one<D: SharedPaging>(drives: &mut Vec<D>, pages: &Vec<Pages>, number: usize)
     requires within { number < length drives.old.items }
     requires there { number < length pages.now.items }
-    requires words { length (slice_index_or (map pages_words pages.now.items) number []) ≡ length (slice_index_or (map D.words drives.old.items) number []) }
-    requires lasts { length (slice_index_or (map pages_lasts pages.now.items) number []) ≡ length (slice_index_or (map D.lasts drives.old.items) number []) }
+    requires words { length (slice_index_or (map pages_words pages.now.items) number []) ≡ length
+        (slice_index_or (map D.words drives.old.items) number []) }
+    requires lasts { length (slice_index_or (map pages_lasts pages.now.items) number []) ≡ length
+        (slice_index_or (map D.lasts drives.old.items) number []) }
     ensures count { length drives.new.items ≡ length drives.old.items }
-    ensures words { map D.words drives.new.items ≡ slice_set (map D.words drives.old.items) number (slice_index_or (map pages_words pages.now.items) number []) }
-    ensures lasts { map D.lasts drives.new.items ≡ slice_set (map D.lasts drives.old.items) number (slice_index_or (map pages_lasts pages.now.items) number []) }
+    ensures words { map D.words drives.new.items ≡ slice_set (map D.words drives.old.items) number
+        (slice_index_or (map pages_words pages.now.items) number []) }
+    ensures lasts { map D.lasts drives.new.items ≡ slice_set (map D.lasts drives.old.items) number
+        (slice_index_or (map pages_lasts pages.now.items) number []) }
     ensures firsts { map D.firsts drives.new.items ≡ map D.firsts drives.old.items }
 {
     drives[number].load_pages(&pages[number]);
 }
 
-/// The page of a word in these pages, which are those of the drive of this number, with the word changed. The drive
-/// of this number here gives the serial of the page, and core if there is none.
+/// The page of a word in these pages, which are those of the drive of this number, with the word
+/// changed. The drive of this number here gives the serial of the page, and core if there is none.
 ///
 /// Err(NoMemory) if a growth was refused; the words of core and of the drives stay in any case.
 pub(crate) fn patch_one<S: Paging, D: Paging>(

@@ -35,8 +35,8 @@ impl Source {
         }
     }
 
-    /// The source's vector: the address in kernel space (bytes) of the new PC, with the new program status word after
-    /// it.
+    /// The source's vector: the address in kernel space (bytes) of the new PC, with the new program
+    /// status word after it.
     pub fn vector(self) -> u16
         ensures { result ≡ vector_of self }
     {

@@ -1,8 +1,9 @@
 ghost use Rattle.std.specs.Prelude.{◌≡◌};
 
+use crate::bits::{PS_C, PS_MODE, PS_N, PS_PREVIOUS, PS_PRIORITY, PS_TRACE, PS_V, PS_Z};
 use crate::priority::Priority;
 use pdp_kt11::Mode;
-use pdp_word::{Codes, bit_of, field, has_bit};
+use pdp_word::{Codes, bit_of, field, is_set};
 
 /// What the program status word says: modes, priority, the trace bit and the condition codes.
 ///
@@ -17,40 +18,41 @@ pub struct Status {
 }
 
 impl Status {
-    ghost use Rattle.pdp_unibus.specs.Status.{status_of, status_word, status_written};
+    ghost use Rattle.pdp_unibus.specs.Status.{status_of_word, status_word, status_written};
 
-    /// The program status word: bits 15-14 current mode, 13-12 previous mode, 7-5 priority, 4 T, 3 N, 2 Z, 1 V, 0 C.
-    /// Bits 11-8 are 0 (this project's profile).
+    /// The program status word: bits 15-14 current mode, 13-12 previous mode, 7-5 priority, 4 T, 3
+    /// N, 2 Z, 1 V, 0 C. Bits 11-8 are 0 (this project's profile).
     pub fn word(self) -> u16
         ensures { result ≡ status_word self }
     {
         let Codes { n, z, v, c } = self.codes;
-        let modes = self.mode.bits() * 16384 + self.previous.bits() * 4096;
-        let codes = bit_of(n) * 8 + bit_of(z) * 4 + bit_of(v) * 2 + bit_of(c);
-        modes + self.priority.bits() * 32 + bit_of(self.trace_bit) * 16 + codes
+        let modes = self.mode.bits() * PS_MODE + self.previous.bits() * PS_PREVIOUS;
+        let codes = bit_of(n) * PS_N + bit_of(z) * PS_Z + bit_of(v) * PS_V + bit_of(c);
+        modes + self.priority.bits() * PS_PRIORITY + bit_of(self.trace_bit) * PS_TRACE + codes
     }
 
-    /// What a whole program status word says, T with it. Bits 11-8 count for nothing (this project's profile).
-    #[tactic(auto, unfolding(crate::specs::Status::status_of))]
+    /// What a whole program status word says, T with it. Bits 11-8 count for nothing (this
+    /// project's profile).
+    #[tactic(auto, unfolding(crate::specs::Status::status_of_word))]
     pub fn of_word(word: u16) -> Status
-        ensures { result ≡ status_of word }
+        ensures { result ≡ status_of_word word }
     {
         Status {
             mode: Mode::of_bits(field(14, 2, word)),
             previous: Mode::of_bits(field(12, 2, word)),
             priority: Priority::of_bits(field(5, 3, word)),
-            trace_bit: has_bit(4, word),
+            trace_bit: is_set(PS_TRACE, word),
             codes: Codes {
-                n: has_bit(3, word),
-                z: has_bit(2, word),
-                v: has_bit(1, word),
-                c: has_bit(0, word),
+                n: is_set(PS_N, word),
+                z: is_set(PS_Z, word),
+                v: is_set(PS_V, word),
+                c: is_set(PS_C, word),
             },
         }
     }
 
-    /// The program status after its word was written: modes, priority and codes as the word has them. T stays, and bits
-    /// 11-8 count for nothing (this project's profile).
+    /// The program status after its word was written: modes, priority and codes as the word has
+    /// them. T stays, and bits 11-8 count for nothing (this project's profile).
     #[tactic(auto, unfolding(crate::specs::Status::status_written))]
     pub fn written(self, word: u16) -> Status
         ensures { result ≡ status_written word self }

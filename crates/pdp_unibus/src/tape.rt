@@ -3,8 +3,8 @@ ghost use Rattle.pdp_unibus.specs.Tape.{next_byte, read_on};
 
 use std::marker::Model;
 
-/// The paper tape in the reader (PDP-11 Peripherals Handbook, PC11). A contract sees all its bytes, and how many of them
-/// have been read.
+/// The paper tape in the reader (PDP-11 Peripherals Handbook, PC11). A contract sees all its bytes,
+/// and how many of them have been read.
 #[derive(Drop)]
 pub(crate) struct Tape {
     bytes: Vec<u8>,

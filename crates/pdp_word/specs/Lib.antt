@@ -1,5 +1,5 @@
 pub mod Bits
 pub mod Number
-pub mod Request
+pub mod Mask
 pub mod Size
 pub mod Word

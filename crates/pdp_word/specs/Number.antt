@@ -1,5 +1,6 @@
 -- Numbers as text: each digit by its place, the last one in place 0 (this project's profile).
-use Rattle.std.specs.Prelude.{ℕ, zero, suc, ◌+◌, ◌-◌, ◌*◌, ◌/◌, ◌%◌, ◌^◌, Bool, ◌&&◌, nat_le, nat_lt, if◌then◌else◌, Option, Some, None, List, [], ◌∷◌, length}
+use Rattle.std.specs.Prelude.{ℕ, zero, suc, ◌+◌, ◌-◌, ◌*◌, ◌/◌, ◌%◌, ◌^◌, Bool, ◌&&◌, nat_le}
+use Rattle.std.specs.Prelude.{nat_lt, if◌then◌else◌, Option, Some, None, List, [], ◌∷◌, length}
 use Rattle.std.specs.List.{list_all}
 
 -- whether a byte is a digit, 0 to base - 1
@@ -13,7 +14,8 @@ worth base (byte ∷ bytes) = (byte - 48) * base ^ length bytes + worth base byt
 
 -- whether a text is 1 to 10 digits
 abbrev pub is_number : ℕ → List ℕ → Bool
-is_number base text = nat_le 1 (length text) && nat_le (length text) 10 && list_all (is_digit base) text
+is_number base text = nat_le 1 (length text) && nat_le (length text) 10 && list_all
+    (is_digit base) text
 
 -- the number that 1 to 10 digits write
 unfoldable pub number_of : ℕ → List ℕ → Option ℕ

@@ -1,4 +1,5 @@
--- What the size of an operand says of its values: DEC PDP-11/40 Processor Handbook (1972), Addressing modes.
+-- What the size of an operand says of its values: DEC PDP-11/40 Processor Handbook (1972),
+-- Addressing modes.
 use Rattle.std.specs.Prelude.{ℕ, Bool, nat_le}
 use Rattle.pdp_word.specs.declared.size.Size.{Size}
 use Rattle.pdp_word.specs.declared.size.Size.TheVariants.{Word, Byte}

@@ -3,8 +3,8 @@
 use Rattle.std.specs.Prelude.{ℕ, ℤ, pos, ◌+◌, ◌-◌, ◌*◌, ◌/◌, ◌%◌, ◌-ℤ◌, nat_lt, if◌then◌else◌}
 
 -- a word as a signed number: less 2 ^ 16 where its top bit is set
-abbrev pub signed : ℕ → ℤ
-signed word = if nat_lt word 0o100000 then pos word else pos word -ℤ pos 0o200000
+abbrev pub signed_value : ℕ → ℤ
+signed_value word = if nat_lt word 0o100000 then pos word else pos word -ℤ pos 0o200000
 
 abbrev pub low_byte : ℕ → ℕ
 low_byte word = word % 256

@@ -22,7 +22,8 @@ pub fn field(lowest: u32, width: u32, word: u16) -> u16
     (word >> lowest) % (1 << width)
 }
 
-/// Whether a word has the bit of this number (DEC PDP-11/40 Processor Handbook (1972), Processor status word).
+/// Whether a word has the bit of this number (DEC PDP-11/40 Processor Handbook (1972), Processor
+/// status word).
 #[inline(always)]
 pub fn has_bit(place: u32, word: u16) -> bool
     requires { place < 16 }

@@ -7,23 +7,22 @@
 //!   (`write_octal6`).
 //! - A word as a signed number, its low byte, a byte with its sign extended, the word of two bytes
 //!   (`signed`, `low_byte`, `sign_extend`, `join`).
-//! - When the request of a device appears and goes (`request_after`).
 //!
 //! Sizes, condition codes and `NoMemory` are plain types here; the crates above set or return them.
 #![tactic(auto)]
 
 mod bits;
 mod codes;
+mod mask;
 mod memory;
 mod number;
-mod request;
 mod size;
 mod word;
 
 pub use bits::{bit_of, field, has_bit};
 pub use codes::Codes;
+pub use mask::is_set;
 pub use memory::NoMemory;
 pub use number::{read_decimal, read_octal, write_octal6};
-pub use request::request_after;
 pub use size::Size;
 pub use word::{join, low_byte, sign_extend, signed};

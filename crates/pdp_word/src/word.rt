@@ -1,11 +1,11 @@
 ghost use Rattle.std.specs.Prelude.{◌≡◌};
-ghost use Rattle.pdp_word.specs.Word.{signed, low_byte, high_byte, join, sign_extended};
+ghost use Rattle.pdp_word.specs.Word.{signed_value, low_byte, high_byte, join, sign_extended};
 
 /// A word read as a two's complement number of 16 bits, from -100000 to 77777 (octal)
 /// (DEC PDP-11/40 Processor Handbook (1972), Instruction set).
 #[inline]
 pub fn signed(word: u16) -> i32
-    ensures { result ≡ signed word }
+    ensures { result ≡ signed_value word }
 {
     if word < 0o100000 {
         i32::from(word)
@@ -23,8 +23,8 @@ pub fn low_byte(word: u16) -> u8
     (word & 0xff) as u8
 }
 
-/// The word with these two bytes, the low one at its even address, the high one at the odd address after it
-/// (DEC PDP-11/40 Processor Handbook (1972), Addressing modes).
+/// The word with these two bytes, the low one at its even address, the high one at the odd address
+/// after it (DEC PDP-11/40 Processor Handbook (1972), Addressing modes).
 #[inline]
 pub fn join(high: u8, low: u8) -> u16
     ensures value { result ≡ join high low }

@@ -4,21 +4,26 @@ use Rattle.pdp_unibus.specs.declared.event.Event.{Event}
 use Rattle.pdp_unibus.specs.declared.event.Event.TheVariants.{Continue}
 use Rattle.pdp_unibus.specs.BusWorld.{BusWorld}
 use Rattle.pdp_operand.specs.Laws.Count.{course_length}
-use Rattle.pdp_store.specs.Touch.{Part}
+use Rattle.pdp_store.specs.TracedAccess.{Part}
 use Rattle.pdp_unibus.specs.Page.{AlikeOutside, SamePage}
 use Rattle.pdp_operand.specs.declared.processor.Processor.{Processor}
 use Rattle.pdp_operand.specs.Phases.World.{World, world}
-use Rattle.pdp_cpu.specs.Turns.Turn.{course_at, at_turn, one_turn, printed_in, punched_in, turn_trace}
+use Rattle.pdp_cpu.specs.Turns.Turn.{course_at, at_turn, one_turn, printed_in, punched_in}
+use Rattle.pdp_cpu.specs.Turns.Turn.{turn_trace}
 
 -- how many phases turn t runs
 unfoldable pub turn_phases : ℕ → List Event → World → ℕ
 turn_phases t events w = course_length (course_at (at_turn t events w)) (at_turn t events w)
 
--- turn t with these events, of the processor p on bus b, and on bus c: it ends in the same way on both, with the same
--- trace and the same bytes printed and punched, and leaves each its own words of the page
-pub record Undisturbed (part : Part) (page t : ℕ) (events : List Event) (p : Processor) (b c : BusWorld) : Type 0 where
-  pub processor : (one_turn t events (world p b)).processor ≡ (one_turn t events (world p c)).processor
-  pub bus : AlikeOutside part page (one_turn t events (world p b)).bus (one_turn t events (world p c)).bus
+-- turn t with these events, of the processor p on bus b, and on bus c: it ends in the same way on
+-- both, with the same trace and the same bytes printed and punched, and leaves each its own words
+-- of the page
+pub record Undisturbed (part : Part) (page t : ℕ) (events : List Event) (p : Processor)
+    (b c : BusWorld) : Type 0 where
+  pub processor : (one_turn t events (world p b)).processor ≡ (one_turn t events
+      (world p c)).processor
+  pub bus : AlikeOutside part page (one_turn t events (world p b)).bus (one_turn t events
+      (world p c)).bus
   pub trace : turn_trace t events (world p b) ≡ turn_trace t events (world p c)
   pub printed : printed_in t events (world p b) ≡ printed_in t events (world p c)
   pub punched : punched_in t events (world p b) ≡ punched_in t events (world p c)
@@ -37,12 +42,13 @@ world_after events t (suc n) w = one_turn (t + n) (events (t + n)) (world_after 
 -- the processor, its status and the mapping registers are those of the first world
 pub record Stays (v w : World) : Type 0 where
   pub processor : w.processor ≡ v.processor
-  pub status : w.bus.board.status ≡ v.bus.board.status
-  pub mapping : w.bus.board.mapping ≡ v.bus.board.mapping
+  pub status : w.bus.io_page.status ≡ v.bus.io_page.status
+  pub mapping : w.bus.io_page.mapping ≡ v.bus.io_page.mapping
 
--- the disk, the words of core with their stamps, and the words of the drives are those of the first world
+-- the disk, the words of core with their stamps, and the words of the drives are those of the first
+-- world
 pub record WordsStay (v w : World) : Type 0 where
-  pub disk : w.bus.board.disk ≡ v.bus.board.disk
+  pub disk : w.bus.io_page.disk ≡ v.bus.io_page.disk
   pub core : w.bus.core ≡ v.bus.core
   pub lasts : w.bus.lasts ≡ v.bus.lasts
   pub drives : w.bus.drives ≡ v.bus.drives

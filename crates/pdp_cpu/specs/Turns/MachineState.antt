@@ -1,9 +1,9 @@
 -- A machine as a contract sees it; its state as of power-up is this project's profile.
 use Rattle.std.specs.Prelude.{ℕ, ◌+◌, ◌<◌, ◌++◌, List, [], Option, length}
 use Rattle.pdp_store.specs.declared.Stamp.{Stamp}
-use Rattle.pdp_unibus.specs.BusContent.{with_tape}
+use Rattle.pdp_unibus.specs.SavedBusData.{bus_with_tape}
 use Rattle.pdp_store.specs.Firsts.{Firsts, no_firsts}
-use Rattle.pdp_unibus.specs.BusWorld.{powered, with_firsts}
+use Rattle.pdp_unibus.specs.BusWorld.{bus_at_power_up, with_firsts}
 use Rattle.pdp_unibus.specs.declared.delays.Delays.{Delays}
 use Rattle.pdp_unibus.specs.declared.event.Event.{Event}
 use Rattle.pdp_operand.specs.Handbook.Processor.{powered_processor}
@@ -12,15 +12,16 @@ use Rattle.pdp_cpu.specs.KeptTexts.{kept_over}
 use Rattle.pdp_cpu.specs.Turns.Turn.{beginning, one_turn, printed_in, punched_in}
 use Rattle.pdp_cpu.specs.declared.kept_text.KeptByte.{KeptByte}
 
--- the turns that it has run, its world, and the bytes that were printed and punched in them, in their order
+-- the turns that it has run, its world, and the bytes that were printed and punched in them, in
+-- their order
 pub record MachineState : Type 0 where
   pub turn : ℕ
   pub world : World
   pub text : List ℕ
   pub punched : List ℕ
 
--- a machine with the printed and the punched bytes that it keeps, of which the first are those of its state, and for how
--- many more of each it has room
+-- a machine with the printed and the punched bytes that it keeps, of which the first are those of
+-- its state, and for how many more of each it has room
 pub record MachineWithTexts : Type 0 where
   pub state : MachineState
   pub kept_text : List KeptByte
@@ -37,7 +38,8 @@ world_with_firsts w firsts = world w.processor (with_firsts w.bus firsts)
 abbrev pub without_firsts : World → World
 without_firsts w = world_with_firsts w no_firsts
 
--- the world of a machine with its first touches, and the machine with these in the world of its state
+-- the world of a machine with its first touches, and the machine with these in the world of its
+-- state
 abbrev pub machine_world : MachineWithTexts → World
 machine_world m = world_with_firsts m.state.world m.firsts
 
@@ -45,12 +47,14 @@ abbrev pub touched_machine : MachineWithTexts → MachineWithTexts
 touched_machine m = record m { state = record m.state { world = machine_world m } }
 
 -- the world as of power-up
-abbrev pub powered_world : ℕ → List ℕ → List (Option Stamp) → List (List ℕ) → List ℕ → Delays → World
+abbrev pub powered_world : ℕ → List ℕ → List (Option Stamp) → List (List ℕ) → List ℕ → Delays
+    → World
 powered_world start words lasts drives tape delays =
-    world (powered_processor start) (powered words lasts drives tape delays)
+    world (powered_processor start) (bus_at_power_up words lasts drives tape delays)
 
 -- the machine as of power-up: no byte was printed or punched
-abbrev pub powered_machine : ℕ → List ℕ → List (Option Stamp) → List (List ℕ) → List ℕ → Delays → MachineState
+abbrev pub powered_machine : ℕ → List ℕ → List (Option Stamp) → List (List ℕ) → List ℕ → Delays
+    → MachineState
 powered_machine start words lasts drives tape delays = record {
   turn = 0;
   world = powered_world start words lasts drives tape delays;
@@ -82,12 +86,16 @@ after_turn events m = record {
 -- the printed and the punched bytes that are kept after the next turn, with these events
 abbrev pub printed_kept : List Event → MachineWithTexts → List KeptByte
 printed_kept events m =
-    kept_over m.state.turn (printed_in m.state.turn events m.state.world) (length m.state.text) m.kept_text
+    kept_over m.state.turn (printed_in m.state.turn events m.state.world)
+    (length m.state.text) m.kept_text
 
 abbrev pub punched_kept : List Event → MachineWithTexts → List KeptByte
 punched_kept events m =
-    kept_over m.state.turn (punched_in m.state.turn events m.state.world) (length m.state.punched) m.kept_punched
+    kept_over m.state.turn (punched_in m.state.turn events m.state.world)
+    (length m.state.punched) m.kept_punched
 
 -- the state with another tape in the reader
 abbrev pub state_with_tape : List ℕ → MachineState → MachineState
-state_with_tape tape m = record m { world = world m.world.processor (with_tape m.world.bus tape) }
+state_with_tape tape m = record m {
+  world = world m.world.processor (bus_with_tape m.world.bus tape);
+}

@@ -1,7 +1,7 @@
 //! One page with a word changed, which many saved machines share.
 
 ghost use Rattle.std.specs.Prelude.{◌≡◌, IfOk};
-ghost use Rattle.pdp_cpu.specs.Saved.{HasWord, content_with_word};
+ghost use Rattle.pdp_cpu.specs.Saved.{HasWord, saved_machine_with_word};
 ghost use Rattle.pdp_unibus.specs.PatchedPages.{AreNewPages, IsPatchIn, IsPatchOf};
 
 use super::{PagedMachine, Saved};
@@ -36,8 +36,8 @@ impl Saved {
             .patched_page(alloc, &mut machine.bus, number, word, value)
     }
 
-    /// What takes the place of the page that was patched here: all the memory that `put_pages` needs.
-    /// (This project's profile.)
+    /// What takes the place of the page that was patched here: all the memory that `put_pages`
+    /// needs. (This project's profile.)
     ///
     /// # Errors
     ///
@@ -51,10 +51,11 @@ impl Saved {
 
     /// Puts the pages that were made for it in place of its own. The machine is the same then, but
     /// for the word of the patched page. It takes no memory. (This project's profile.)
-    #[tactic(auto, unfolding(crate::specs::Saved::content_with_word))]
+    #[tactic(auto, unfolding(crate::specs::Saved::saved_machine_with_word))]
     pub fn put_pages(&mut self, page: &PatchedPage, new: NewPages)
         requires { AreNewPages page.now self.old.bus new }
-        ensures { self.new ≡ content_with_word page.now.drive page.now.word page.now.value self.old }
+        ensures { self.new ≡ saved_machine_with_word page.now.drive page.now.word page.now.value
+            self.old }
     {
         self.bus.put_pages(page, new);
     }

@@ -1,7 +1,8 @@
 // Instructions with two operands, one of them maybe a register.
 ghost use Rattle.std.specs.Prelude.{◌≡◌};
 ghost use Rattle.pdp_decode.specs.Instruction.{FieldsFit};
-ghost use Rattle.pdp_decode.specs.Table.{decoded_by, double_operands, register_operands, high_double_operands};
+ghost use Rattle.pdp_decode.specs.Table.{decoded_by, double_operands, register_operands};
+ghost use Rattle.pdp_decode.specs.Table.{high_double_operands};
 
 use crate::decoding::fields::{operand, register, source, words};
 use crate::instruction::Instr;

@@ -1,6 +1,7 @@
 // The fields of an instruction word.
 ghost use Rattle.std.specs.Prelude.{◌≡◌, ◌<◌};
-ghost use Rattle.pdp_decode.specs.Fields.{IsSpec, offset_in, source_in, operand_in, register_in, last_register_in, words_in, code_in, codes_in};
+ghost use Rattle.pdp_decode.specs.Fields.{IsSpec, offset_in, source_in, operand_in, register_in};
+ghost use Rattle.pdp_decode.specs.Fields.{last_register_in, word_count_in, code_in, codes_in};
 
 use crate::instruction::Spec;
 use pdp_word::Codes;
@@ -47,7 +48,7 @@ pub(crate) const fn last_register(word: u16) -> u8
 // NN, a count of words in the low six bits.
 #[inline(always)]
 pub(crate) const fn words(word: u16) -> u8
-    ensures value { result ≡ words_in word }
+    ensures value { result ≡ word_count_in word }
     ensures valid { result < 0o100 }
 {
     (word & 0o77) as u8

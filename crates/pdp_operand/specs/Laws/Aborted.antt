@@ -1,25 +1,31 @@
--- What a reference that memory management aborts leaves: DEC PDP-11/40 Processor Handbook (1972), Memory management; that
--- an odd address goes first is this project's profile.
+-- What a reference that memory management aborts leaves: DEC PDP-11/40 Processor Handbook (1972),
+-- Memory management; that an odd address goes first is this project's profile.
 use Rattle.std.specs.Prelude.{◌≡◌, [], Some, Err, Bool, true, false}
 use Rattle.pdp_kt11.specs.Laws.{page_used}
-use Rattle.pdp_kt11.specs.declared.page.AccessControl.TheVariants as control
-use Rattle.pdp_kt11.specs.declared.page.Page.{Page}
+use Rattle.pdp_kt11.specs.declared.apr.AccessControl.TheVariants as control
+use Rattle.pdp_kt11.specs.declared.apr.Apr.{Apr}
 use Rattle.pdp_kt11.specs.declared.place.Abort.{Abort}
 use Rattle.pdp_kt11.specs.declared.place.Access.TheVariants.{Write}
 use Rattle.pdp_kt11.specs.declared.status.MappingStatus.{MappingStatus}
 use Rattle.pdp_unibus.specs.BusWorld.{BusWorld}
-use Rattle.pdp_unibus.specs.declared.board.Board.{Board}
+use Rattle.pdp_unibus.specs.declared.io_page.IoPage.{IoPage}
 use Rattle.pdp_operand.specs.Handbook.Reference.{Reference, access_of, is_odd, perform, translation}
 use Rattle.pdp_operand.specs.Laws.Trace.{touches}
 use Rattle.pdp_operation.specs.declared.trap.Trap.{Trap}
 use Rattle.pdp_operation.specs.declared.trap.Trap.TheVariants.{MappingAbort, OddAddress}
 
--- the board with another SR0 of memory management
-abbrev pub with_mapping_status : MappingStatus → Board → Board
-with_mapping_status status board = record board { mapping = record board.mapping { status = status } }
+-- the I/O page with another SR0 of memory management
+abbrev pub with_mapping_status : MappingStatus → IoPage → IoPage
+with_mapping_status status io_page = record io_page {
+  mapping = record io_page.mapping {
+    status =
+        status;
+  };
+}
 
--- a reference fails with this trap, and leaves core, its stamps, the drives, the tape, how far it is read and the turn, and
--- all of the board but SR0 of memory management; no word of core answers it
+-- a reference fails with this trap, and leaves core, its stamps, the drives, the tape, how far it
+-- is read and the turn, and all of the I/O page but SR0 of memory management; no word of core
+-- answers it
 pub record FailsWith (trap : Trap) (r : Reference) (b : BusWorld) : Type 0 where
   pub told : (perform r b).value ≡ Err trap
   pub core : (perform r b).after.core ≡ b.core
@@ -29,17 +35,21 @@ pub record FailsWith (trap : Trap) (r : Reference) (b : BusWorld) : Type 0 where
   pub bytes_read : (perform r b).after.bytes_read ≡ b.bytes_read
   pub turn : (perform r b).after.turn ≡ b.turn
   pub firsts : (perform r b).after.firsts ≡ b.firsts
-  pub board : (perform r b).after.board ≡ with_mapping_status (perform r b).after.board.mapping.status b.board
+  pub io_page : (perform r b).after.io_page ≡ with_mapping_status (perform r
+      b).after.io_page.mapping.status b.io_page
   pub touches_none : touches r b ≡ []
 
--- each one that memory management aborts, whyever, fails with a mapping abort, unless its address is odd
+-- each one that memory management aborts, whyever, fails with a mapping abort, unless its address
+-- is odd
 abbrev pub AbortsLeaveCore : Type 0
 AbortsLeaveCore = (r : Reference) (b : BusWorld) (abort : Abort)
-    → is_odd r.kind r.address ≡ false → (translation r b).address ≡ Err abort → FailsWith MappingAbort r b
+    → is_odd r.kind r.address ≡ false → (translation r b).address ≡ Err abort
+    → FailsWith MappingAbort r b
 
 -- and so does each that is told one
 abbrev pub ToldAbortsLeaveCore : Type 0
-ToldAbortsLeaveCore = (r : Reference) (b : BusWorld) → (perform r b).value ≡ Err MappingAbort → FailsWith MappingAbort r b
+ToldAbortsLeaveCore = (r : Reference) (b : BusWorld) → (perform r b).value ≡ Err MappingAbort
+    → FailsWith MappingAbort r b
 
 -- an odd address goes before an abort
 abbrev pub refusal_of : Bool → Trap
@@ -48,7 +58,7 @@ refusal_of false = MappingAbort
 
 -- each write through a read-only page fails
 abbrev pub ReadOnlyPagesKeepTheirWords : Type 0
-ReadOnlyPagesKeepTheirWords = (r : Reference) (b : BusWorld) (page : Page)
-    → access_of r.kind ≡ Write → b.board.mapping.status.enabled ≡ true
-    → page_used r.mode r.address b.board.mapping ≡ Some page → page.access ≡ control.ReadOnly
+ReadOnlyPagesKeepTheirWords = (r : Reference) (b : BusWorld) (page : Apr)
+    → access_of r.kind ≡ Write → b.io_page.mapping.status.enabled ≡ true
+    → page_used r.mode r.address b.io_page.mapping ≡ Some page → page.access ≡ control.ReadOnly
     → FailsWith (refusal_of (is_odd r.kind r.address)) r b

@@ -1,4 +1,5 @@
--- How many phases run. One that stops is counted too, and is the last of its plan. No rule of the handbook is here.
+-- How many phases run. One that stops is counted too, and is the last of its plan. No rule of the
+-- handbook is here.
 use Rattle.std.specs.Prelude.{ℕ, ◌+◌, List, [], ◌∷◌, Result, Ok, Err}
 use Rattle.pdp_operand.specs.Phases.Phase.{Phase, State, Stop, Latch, step, inner_of}
 use Rattle.pdp_operand.specs.Phases.Plan.{phases_of, run_plan}
@@ -23,4 +24,5 @@ unfoldable pub course_length : Course → State → ℕ
 course_length End s = 0
 course_length (Go plan next caught) s =
     run_length (phases_of plan) s
-    + counted_on (λ t. course_length (next (inner_of t)) t) (λ trap t. course_length (caught trap (inner_of t)) t) s.latch (run_plan plan s)
+    + counted_on (λ t. course_length (next (inner_of t)) t) (λ trap t. course_length (caught trap
+    (inner_of t)) t) s.latch (run_plan plan s)

@@ -1,11 +1,13 @@
 -- What follows a command's name (this project's profile).
-use Rattle.std.specs.Prelude.{ℕ, min, nat_le, nat_lt, if◌then◌else◌, List, [], ◌∷◌, codes, Option, None, Some}
+use Rattle.std.specs.Prelude.{ℕ, min, nat_le, nat_lt, if◌then◌else◌, List, [], ◌∷◌, codes, Option}
+use Rattle.std.specs.Prelude.{None, Some}
 use Rattle.std.specs.Option.{option_map, option_and_then}
 use Rattle.std.specs.Str.{bytes_eq}
 use Rattle.pdp_word.specs.Number.{number_of}
 use Rattle.pdp_word.specs.Size.{span}
-use Rattle.pdp_unibus.specs.declared.delays.Line.{Line}
-use Rattle.pdp_unibus.specs.declared.delays.Line.TheVariants.{Printer, Reader, Punch, Disk, Clock}
+use Rattle.pdp_unibus.specs.declared.delays.DelayedDevice.{DelayedDevice}
+use Rattle.pdp_unibus.specs.declared.delays.DelayedDevice.TheVariants.{Printer, Reader, Punch, Disk}
+use Rattle.pdp_unibus.specs.declared.delays.DelayedDevice.TheVariants.{Clock}
 use Rattle.pdp_word.specs.declared.size.Size.TheVariants.{Word, Byte}
 use Rattle.pdp_session.specs.declared.version.Version.{Version}
 use Rattle.pdp_session.specs.declared.version.Version.TheVariants.{One, Two}
@@ -45,12 +47,13 @@ byte_named text = do
   number ← number_of 8 text
   if nat_lt number (span Byte) then Some number else None
 
--- a drive by its number, in octal: one that 8 bits can't hold stands for the largest that they hold, which no drive has
+-- a drive by its number, in octal: one that 8 bits can't hold stands for the largest that they
+-- hold, which no drive has
 abbrev pub drive_named : List ℕ → Option ℕ
 drive_named text = option_map (λ number. min number 255) (number_of 8 text)
 
--- The drive that some words are about, and the words that say what: in version 2 the first of them is its number, and
--- in version 1 they name none and are about drive 0.
+-- The drive that some words are about, and the words that say what: in version 2 the first of them
+-- is its number, and in version 1 they name none and are about drive 0.
 abbrev pub drive_first : Version → List (List ℕ) → Option (ℕ × List (List ℕ))
 drive_first One words = Some (0, words)
 drive_first Two words = do
@@ -66,9 +69,9 @@ bytes_named (word ∷ words) = do
   bytes ← bytes_named words
   Some (byte ∷ bytes)
 
--- a line of the machine that has a delay, by its name
-unfoldable pub line_named : List ℕ → Option Line
-line_named name =
+-- a device that has a delay, by its name
+unfoldable pub device_named : List ℕ → Option DelayedDevice
+device_named name =
     if bytes_eq name (codes "printer") then Some Printer
     else if bytes_eq name (codes "reader") then Some Reader
     else if bytes_eq name (codes "punch") then Some Punch
@@ -78,7 +81,8 @@ line_named name =
 
 -- an event by its number, in decimal: one that 32 bits can't hold stands for 0, which no event has
 abbrev pub event_named : List ℕ → Option ℕ
-event_named text = option_map (λ number. if nat_le number largest_number then number else 0) (number_of 10 text)
+event_named text = option_map (λ number. if nat_le number largest_number then number else 0)
+    (number_of 10 text)
 
 -- a turn, in decimal: one that 32 bits can't hold stands for the largest that they hold
 abbrev pub turn_named : List ℕ → Option ℕ

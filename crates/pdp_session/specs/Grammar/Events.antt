@@ -3,7 +3,9 @@ use Rattle.std.specs.Prelude.{ℕ, if◌then◌else◌, List, [], ◌∷◌, cod
 use Rattle.std.specs.Option.{option_map}
 use Rattle.std.specs.Str.{bytes_eq}
 use Rattle.pdp_unibus.specs.declared.event.Event.{Event}
-use Rattle.pdp_unibus.specs.declared.event.Event.TheVariants.{Key, Tick, PrinterDone, ReaderDone, PunchDone, DiskDone, Switches, Continue}
+use Rattle.pdp_unibus.specs.declared.event.Event.TheVariants.{Key, Tick, PrinterDone, ReaderDone}
+use Rattle.pdp_unibus.specs.declared.event.Event.TheVariants.{PunchDone, DiskDone, Switches}
+use Rattle.pdp_unibus.specs.declared.event.Event.TheVariants.{Continue}
 use Rattle.pdp_session.specs.Grammar.Arguments.{byte_named, word_named}
 
 -- an event that is a name alone

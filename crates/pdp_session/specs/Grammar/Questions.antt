@@ -1,12 +1,16 @@
--- The questions of the session language (this project's profile): a name, and the words that follow it.
+-- The questions of the session language (this project's profile): a name, and the words that follow
+-- it.
 use Rattle.std.specs.Prelude.{ℕ, if◌then◌else◌, List, codes, Option, None, Some}
 use Rattle.std.specs.Option.{option_map}
 use Rattle.std.specs.Str.{bytes_eq}
 use Rattle.pdp_word.specs.Number.{number_of}
-use Rattle.pdp_replay.specs.declared.question.Question.{Question}
-use Rattle.pdp_replay.specs.declared.question.Question.TheVariants.{Regs, Core, Text, Punched, Devices, Pages, Last, Trail, Disk}
+use Rattle.pdp_replay.specs.declared.ask.question.Question.{Question}
+use Rattle.pdp_replay.specs.declared.ask.question.Question.TheVariants.{Regs, Core, Text, Punched}
+use Rattle.pdp_replay.specs.declared.ask.question.Question.TheVariants.{Devices, Pages, Last, Trail}
+use Rattle.pdp_replay.specs.declared.ask.question.Question.TheVariants.{Disk}
 use Rattle.pdp_session.specs.declared.version.Version.{Version}
-use Rattle.pdp_session.specs.Grammar.Arguments.{◌>>=◌, first_of, one_of, two_of, drive_first, turn_named, count_named}
+use Rattle.pdp_session.specs.Grammar.Arguments.{◌>>=◌, first_of, one_of, two_of, drive_first}
+use Rattle.pdp_session.specs.Grammar.Arguments.{turn_named, count_named}
 
 -- the first of some words, in octal, and their count, in decimal
 abbrev pub range_named : List (List ℕ) → Option (ℕ × ℕ)
@@ -24,7 +28,8 @@ mem_form arguments = do
   (a, c) ← range_named others
   Some (Core n a c)
 
--- `dsk N I C`, in version 2 `dsk N D I C`: a turn, in decimal, a drive, and the first word by its number
+-- `dsk N I C`, in version 2 `dsk N D I C`: a turn, in decimal, a drive, and the first word by its
+-- number
 abbrev pub dsk_form : Version → List (List ℕ) → Option Question
 dsk_form version arguments = do
   (turn, others) ← first_of arguments

@@ -6,5 +6,5 @@ use Rattle.std.specs.List.{slice_split, filter}
 abbrev pub is_blank : ℕ → Bool
 is_blank byte = byte == 32 || byte == 9
 
-unfoldable pub words_of : List ℕ → List (List ℕ)
-words_of text = filter (λ word. nat_lt 0 (length word)) (slice_split is_blank text)
+unfoldable pub words_of_line : List ℕ → List (List ℕ)
+words_of_line text = filter (λ word. nat_lt 0 (length word)) (slice_split is_blank text)

@@ -1,5 +1,7 @@
--- How far a session has come, and how each part of it moves it on: a proof's own, which no public contract names.
-use Rattle.std.specs.Prelude.{◌≡◌, ℕ, ◌+◌, ◌<◌, Bool, true, false, List, ◌++◌, length, take, Option, Result, Ok, Err}
+-- How far a session has come, and how each part of it moves it on: a proof's own, which no public
+-- contract names.
+use Rattle.std.specs.Prelude.{◌≡◌, ℕ, ◌+◌, ◌<◌, Bool, true, false, List, ◌++◌, length, take, Result}
+use Rattle.std.specs.Prelude.{Ok, Err}
 use Rattle.std.specs.List.{All, concat}
 use Rattle.std.specs.Io.KnownBytes.{Appends}
 use Rattle.pdp_script.specs.declared.faults.Fault.TheVariants.{NoMemory}
@@ -8,38 +10,43 @@ use Rattle.pdp_session.specs.declared.reply.Reply.TheVariants.{Refused}
 use Rattle.pdp_session.specs.Command.{reply_to, past_after}
 use Rattle.pdp_session.specs.Lines.{longest_line, is_line_feed, ended_lines, lines_of}
 use Rattle.pdp_session.specs.Reply.{text_to}
-use Rattle.pdp_session.specs.Inside.Sends.{Sends}
+use Rattle.pdp_session.specs.Streams.{OutputData}
+use Rattle.pdp_session.specs.Inside.Sends.{Sent, Sends}
 use Rattle.pdp_session.specs.Session.{replies, OnlyForMemory, RepliesTo, BeginsReplies}
 
 -- what answering one line does
-pub record Serves {T E : Type 0} (line : List ℕ) (past now : Past) (written written_after : Option (List ℕ)) (result : Result T E) : Type 0 where
+pub record Serves {T E : Type 0} (line : List ℕ) (past now : Past)
+    (output output_after : OutputData) (result : Result T E) : Type 0 where
   pub refused : Bool
   pub only : refused ≡ true → reply_to line refused past ≡ Refused NoMemory
   pub after : now ≡ past_after line refused past
-  pub sends : Sends (text_to line refused past) written written_after result
+  pub sends : Sends (text_to line refused past) output output_after result
 
 -- two sets have the same of the first n lines
-abbrev pub Agrees : ℕ → (ℕ → Bool) → (ℕ → Bool) → Type 0
-Agrees n refused other = (k : ℕ) → k < n → other k ≡ refused k
+abbrev pub AgreesBelow : ℕ → (ℕ → Bool) → (ℕ → Bool) → Type 0
+AgreesBelow n refused other = (k : ℕ) → k < n → other k ≡ refused k
 
--- From this past, `lines` were answered with `out`, and the past is `now`. Whatever lines come next, and
--- whichever of those are refused as out of memory, the replies begin with those that were given.
-pub record Replied (past : Past) (lines : List (List ℕ)) (out : List ℕ) (now : Past) : Type 0 where
+-- From this past, `lines` were answered with `out`, and the past is `now`. Whatever lines come
+-- next, and whichever of those are refused as out of memory, the replies begin with those that were
+-- given.
+pub record Replied (past : Past) (lines : List (List ℕ)) (out : List ℕ) (now : Past)
+    : Type 0 where
   pub given : List (List ℕ)
   pub count : ℕ
   pub refused : ℕ → Bool
   pub counted : length given ≡ count
   pub only : OnlyForMemory refused given
   pub text : out ≡ concat given
-  pub goes : (other : ℕ → Bool) (next : List (List ℕ)) → Agrees count refused other →
+  pub goes : (other : ℕ → Bool) (next : List (List ℕ)) → AgreesBelow count refused other →
       replies 0 (lines ++ next) other past ≡ given ++ replies count next other now
 
--- the most bytes that are held of a line that has not ended: those of the longest line, one more, and a CR
+-- the most bytes that are held of a line that has not ended: those of the longest line, one more,
+-- and a CR
 abbrev pub most_held : ℕ
 most_held = longest_line + 2
 
--- The bytes `done` were read and `out` was written: all lines that ended were answered, and the line buffer
--- has what it holds of the line that is open.
+-- The bytes `done` were read and `out` was written: all lines that ended were answered, and the
+-- line buffer has what it holds of the line that is open.
 pub record Reached (past : Past) (done out held : List ℕ) (now : Past) : Type 0 where
   pub whole : List ℕ
   pub tail : List ℕ
@@ -52,44 +59,57 @@ pub record Reached (past : Past) (done out held : List ℕ) (now : Past) : Type 
   pub replied : Replied past lines out now
 
 -- `more` was written, and the session goes on
-pub record Goes (past : Past) (done out : List ℕ) (written written_after : Option (List ℕ)) (held : List ℕ) (now : Past) : Type 0 where
+pub record Goes (past : Past) (done out : List ℕ) (output output_after : OutputData)
+    (held : List ℕ) (now : Past) : Type 0 where
   pub more : List ℕ
-  pub writes : Appends written written_after more
+  pub sent : Sent more output output_after
   pub reached : Reached past done (out ++ more) held now
 
 -- `more` was written before the writer failed, within the replies to whatever begins with `done`
-pub record Breaks (past : Past) (done out : List ℕ) (written written_after : Option (List ℕ)) : Type 0 where
+pub record Breaks (past : Past) (done out : List ℕ) (output output_after : OutputData)
+    : Type 0 where
   pub more : List ℕ
-  pub writes : Appends written written_after more
+  pub writes : Appends output.written output_after.written more
+  pub failed : output_after.has_failed ≡ true
   pub broken : (next : List ℕ) → BeginsReplies past (lines_of (done ++ next)) (out ++ more)
 
 -- what the next bytes do, after which `done` was read
-abbrev pub Moves : {T E : Type 0} → Past → List ℕ → List ℕ → Option (List ℕ) → Option (List ℕ) → List ℕ → Past → Result T E → Type 0
-Moves past done out written written_after held now (Ok x) = Goes past done out written written_after held now
-Moves past done out written written_after held now (Err e) = Breaks past done out written written_after
+abbrev pub Moves : {T E : Type 0} → Past → List ℕ → List ℕ → OutputData → OutputData
+    → List ℕ → Past → Result T E → Type 0
+Moves past done out output output_after held now (Ok x) =
+    Goes past done out output output_after held now
+Moves past done out output output_after held now (Err e) =
+    Breaks past done out output output_after
 
 -- from wherever a session has come to, these bytes move it on
-abbrev pub Takes : {T E : Type 0} → List ℕ → List ℕ → List ℕ → Past → Past → Option (List ℕ) → Option (List ℕ) → Result T E → Type 0
-Takes bytes held held_after now now_after written written_after result =
+abbrev pub Takes : {T E : Type 0} → List ℕ → List ℕ → List ℕ → Past → Past
+    → OutputData → OutputData → Result T E → Type 0
+Takes bytes held held_after now now_after output output_after result =
     (past : Past) (done out : List ℕ) → Reached past done out held now
-    → Moves past (done ++ bytes) out written written_after held_after now_after result
+    → Moves past (done ++ bytes) out output output_after held_after now_after result
 
 -- what the end of the input does
-pub record Completes (past : Past) (done out : List ℕ) (written written_after : Option (List ℕ)) : Type 0 where
+pub record Completes (past : Past) (done out : List ℕ) (output output_after : OutputData)
+    : Type 0 where
   pub more : List ℕ
-  pub writes : Appends written written_after more
+  pub sent : Sent more output output_after
   pub answers : RepliesTo past (lines_of done) (out ++ more)
 
-pub record BreaksOff (past : Past) (done out : List ℕ) (written written_after : Option (List ℕ)) : Type 0 where
+pub record BreaksOff (past : Past) (done out : List ℕ) (output output_after : OutputData)
+    : Type 0 where
   pub more : List ℕ
-  pub writes : Appends written written_after more
+  pub writes : Appends output.written output_after.written more
+  pub failed : output_after.has_failed ≡ true
   pub begins : BeginsReplies past (lines_of done) (out ++ more)
 
-abbrev pub Finishes : {T E : Type 0} → Past → List ℕ → List ℕ → Option (List ℕ) → Option (List ℕ) → Result T E → Type 0
-Finishes past done out written written_after (Ok x) = Completes past done out written written_after
-Finishes past done out written written_after (Err e) = BreaksOff past done out written written_after
+abbrev pub Finishes : {T E : Type 0} → Past → List ℕ → List ℕ → OutputData → OutputData
+    → Result T E → Type 0
+Finishes past done out output output_after (Ok x) = Completes past done out output output_after
+Finishes past done out output output_after (Err e) = BreaksOff past done out output output_after
 
 -- from wherever a session has come to, the end of the input finishes it
-abbrev pub TakesEnd : {T E : Type 0} → List ℕ → Past → Option (List ℕ) → Option (List ℕ) → Result T E → Type 0
-TakesEnd held now written written_after result =
-    (past : Past) (done out : List ℕ) → Reached past done out held now → Finishes past done out written written_after result
+abbrev pub TakesEnd : {T E : Type 0} → List ℕ → Past → OutputData → OutputData → Result T E
+    → Type 0
+TakesEnd held now output output_after result =
+    (past : Past) (done out : List ℕ) → Reached past done out held now
+    → Finishes past done out output output_after result

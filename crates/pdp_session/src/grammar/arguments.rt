@@ -1,18 +1,21 @@
 ghost use Rattle.std.specs.Prelude.{◌≡◌, ◌≤◌, length};
 ghost use Rattle.std.specs.Option.{option_map};
-ghost use Rattle.pdp_session.specs.Grammar.Arguments.{one_of, two_of, drive_named, drive_first, word_named, byte_named, bytes_named, line_named, event_named, turn_named, count_named};
-ghost use Rattle.pdp_session.specs.Grammar.Words.{words_of};
+ghost use Rattle.pdp_session.specs.Grammar.Arguments.{one_of, two_of, drive_named, drive_first};
+ghost use Rattle.pdp_session.specs.Grammar.Arguments.{word_named, byte_named, bytes_named};
+ghost use Rattle.pdp_session.specs.Grammar.Arguments.{device_named, event_named, turn_named};
+ghost use Rattle.pdp_session.specs.Grammar.Arguments.{count_named};
+ghost use Rattle.pdp_session.specs.Grammar.Words.{words_of_line};
 ghost use Rattle.pdp_session.specs.Lines.{longest_line};
 
 use super::words::next_word;
 use crate::command::TapeBytes;
 use crate::version::Version;
-use pdp_replay::Line;
+use pdp_replay::DelayedDevice;
 use pdp_word::{read_decimal, read_octal};
 
 // The word of a text that has one.
 pub fn one_word(text: &[u8]) -> Option<&[u8]>
-    ensures { option_map (λ word. word.now) result ≡ one_of (words_of text.now) }
+    ensures { option_map (λ word. word.now) result ≡ one_of (words_of_line text.now) }
 {
     let (word, rest) = next_word(text)?;
     if next_word(rest).is_some() {
@@ -23,7 +26,8 @@ pub fn one_word(text: &[u8]) -> Option<&[u8]>
 
 // The words of a text that has two.
 pub fn two_words(text: &[u8]) -> Option<(&[u8], &[u8])>
-    ensures { option_map (λ words. (words.0.now, words.1.now)) result ≡ two_of (words_of text.now) }
+    ensures { option_map (λ words. (words.0.now, words.1.now)) result ≡ two_of
+        (words_of_line text.now) }
 {
     let (first, rest) = next_word(text)?;
     let second = one_word(rest)?;
@@ -46,7 +50,8 @@ pub fn read_byte(text: &[u8]) -> Option<u8>
     u8::try_from(number).ok()
 }
 
-// A drive by its number, in octal; one that 8 bits can't hold becomes the largest that they hold, which no drive has.
+// A drive by its number, in octal; one that 8 bits can't hold becomes the largest that they hold,
+// which no drive has.
 fn read_drive(text: &[u8]) -> Option<u8>
     ensures { result ≡ drive_named text.now }
 {
@@ -54,9 +59,11 @@ fn read_drive(text: &[u8]) -> Option<u8>
     Some(u8::try_from(number).unwrap_or(u8::MAX))
 }
 
-// The drive that a text's words are about, and the words that say what: in version 1 they name no drive.
+// The drive that a text's words are about, and the words that say what: in version 1 they name no
+// drive.
 pub fn drive_first(version: Version, text: &[u8]) -> Option<(u8, &[u8])>
-    ensures { option_map (λ found. (found.0, words_of found.1.now)) result ≡ drive_first version (words_of text.now) }
+    ensures { option_map (λ found. (found.0, words_of_line found.1.now)) result
+        ≡ drive_first version (words_of_line text.now) }
 {
     match version {
         Version::One => Some((0, text)),
@@ -71,7 +78,7 @@ pub fn drive_first(version: Version, text: &[u8]) -> Option<(u8, &[u8])>
 // The bytes that a text's words are, in octal; `None` where one of its words is no byte.
 pub fn read_bytes(text: &[u8]) -> Option<TapeBytes>
     requires { length text.now ≤ longest_line }
-    ensures { option_map (λ bytes. bytes.items) result ≡ bytes_named (words_of text.now) }
+    ensures { option_map (λ bytes. bytes.items) result ≡ bytes_named (words_of_line text.now) }
 {
     let mut bytes = TapeBytes::new();
     let mut rest = text;
@@ -82,21 +89,21 @@ pub fn read_bytes(text: &[u8]) -> Option<TapeBytes>
     Some(bytes)
 }
 
-// A line of the machine that has a delay, by its name.
-#[tactic(auto, unfolding(crate::specs::Grammar::Arguments::line_named))]
-pub fn read_line_name(name: &[u8]) -> Option<Line>
-    ensures { result ≡ line_named name.now }
+// A device that has a delay, by its name.
+#[tactic(auto, unfolding(crate::specs::Grammar::Arguments::device_named))]
+pub fn read_device_name(name: &[u8]) -> Option<DelayedDevice>
+    ensures { result ≡ device_named name.now }
 {
     if name == b"printer".as_slice() {
-        Some(Line::Printer)
+        Some(DelayedDevice::Printer)
     } else if name == b"reader".as_slice() {
-        Some(Line::Reader)
+        Some(DelayedDevice::Reader)
     } else if name == b"punch".as_slice() {
-        Some(Line::Punch)
+        Some(DelayedDevice::Punch)
     } else if name == b"disk".as_slice() {
-        Some(Line::Disk)
+        Some(DelayedDevice::Disk)
     } else if name == b"clock".as_slice() {
-        Some(Line::Clock)
+        Some(DelayedDevice::Clock)
     } else {
         None
     }
@@ -110,7 +117,8 @@ pub fn read_event_number(text: &[u8]) -> Option<u32>
     Some(u32::try_from(number).unwrap_or(0))
 }
 
-// A turn, in decimal; one that 32 bits can't hold becomes the largest that they hold, which no run reaches.
+// A turn, in decimal; one that 32 bits can't hold becomes the largest that they hold, which no run
+// reaches.
 pub fn read_turn(text: &[u8]) -> Option<u32>
     ensures { result ≡ turn_named text.now }
 {
@@ -118,7 +126,8 @@ pub fn read_turn(text: &[u8]) -> Option<u32>
     Some(u32::try_from(number).unwrap_or(u32::MAX))
 }
 
-// A count, in decimal; one that 32 bits can't hold becomes the largest that they hold, which no count may be.
+// A count, in decimal; one that 32 bits can't hold becomes the largest that they hold, which no
+// count may be.
 pub fn read_count(text: &[u8]) -> Option<u32>
     ensures { result ≡ count_named text.now }
 {

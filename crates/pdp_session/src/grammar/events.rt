@@ -1,6 +1,6 @@
 ghost use Rattle.std.specs.Prelude.{◌≡◌};
 ghost use Rattle.pdp_session.specs.Grammar.Events.{event_alone, event_with, event_of};
-ghost use Rattle.pdp_session.specs.Grammar.Words.{words_of};
+ghost use Rattle.pdp_session.specs.Grammar.Words.{words_of_line};
 
 use super::arguments::{read_byte, read_word};
 use super::words::next_word;
@@ -8,7 +8,7 @@ use pdp_replay::Event;
 
 // The event that a text's words name, where they name one.
 pub fn read_event(text: &[u8]) -> Option<Event>
-    ensures { result ≡ event_of (words_of text.now) }
+    ensures { result ≡ event_of (words_of_line text.now) }
 {
     let (name, rest) = next_word(text)?;
     match next_word(rest) {

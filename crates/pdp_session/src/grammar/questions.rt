@@ -1,6 +1,7 @@
 ghost use Rattle.std.specs.Prelude.{◌≡◌};
-ghost use Rattle.pdp_session.specs.Grammar.Questions.{only_turn, range_named, mem_form, dsk_form, last_form, trail_form, question_with};
-ghost use Rattle.pdp_session.specs.Grammar.Words.{words_of};
+ghost use Rattle.pdp_session.specs.Grammar.Questions.{only_turn, range_named, mem_form, dsk_form};
+ghost use Rattle.pdp_session.specs.Grammar.Questions.{last_form, trail_form, question_with};
+ghost use Rattle.pdp_session.specs.Grammar.Words.{words_of_line};
 
 use super::arguments::{drive_first, one_word, read_count, read_turn, two_words};
 use super::words::next_word;
@@ -11,7 +12,7 @@ use pdp_word::read_octal;
 // The question of a name, with the words that follow it.
 #[tactic(auto, unfolding(crate::specs::Grammar::Questions::question_with))]
 pub fn read_question(version: Version, name: &[u8], arguments: &[u8]) -> Option<Question>
-    ensures { result ≡ question_with version name.now (words_of arguments.now) }
+    ensures { result ≡ question_with version name.now (words_of_line arguments.now) }
 {
     if name == b"regs".as_slice() {
         Some(Question::Regs(read_only_turn(arguments)?))
@@ -38,14 +39,14 @@ pub fn read_question(version: Version, name: &[u8], arguments: &[u8]) -> Option<
 
 // A turn, and no other word.
 fn read_only_turn(arguments: &[u8]) -> Option<u32>
-    ensures { result ≡ only_turn (words_of arguments.now) }
+    ensures { result ≡ only_turn (words_of_line arguments.now) }
 {
     read_turn(one_word(arguments)?)
 }
 
 // `mem N A C`
 fn read_mem(arguments: &[u8]) -> Option<Question>
-    ensures { result ≡ mem_form (words_of arguments.now) }
+    ensures { result ≡ mem_form (words_of_line arguments.now) }
 {
     let (turn, others) = next_word(arguments)?;
     let turn = read_turn(turn)?;
@@ -55,7 +56,7 @@ fn read_mem(arguments: &[u8]) -> Option<Question>
 
 // `dsk N I C`, in version 2 `dsk N D I C`
 fn read_dsk(version: Version, arguments: &[u8]) -> Option<Question>
-    ensures { result ≡ dsk_form version (words_of arguments.now) }
+    ensures { result ≡ dsk_form version (words_of_line arguments.now) }
 {
     let (turn, others) = next_word(arguments)?;
     let turn = read_turn(turn)?;
@@ -66,7 +67,7 @@ fn read_dsk(version: Version, arguments: &[u8]) -> Option<Question>
 
 // The number of the first of some words, and how many.
 fn read_range(arguments: &[u8]) -> Option<(u32, u32)>
-    ensures { result ≡ range_named (words_of arguments.now) }
+    ensures { result ≡ range_named (words_of_line arguments.now) }
 {
     let (first, count) = two_words(arguments)?;
     let first = read_octal(first)?;
@@ -76,7 +77,7 @@ fn read_range(arguments: &[u8]) -> Option<(u32, u32)>
 
 // `last N A`
 fn read_last(arguments: &[u8]) -> Option<Question>
-    ensures { result ≡ last_form (words_of arguments.now) }
+    ensures { result ≡ last_form (words_of_line arguments.now) }
 {
     let (turn, address) = two_words(arguments)?;
     let turn = read_turn(turn)?;
@@ -86,7 +87,7 @@ fn read_last(arguments: &[u8]) -> Option<Question>
 
 // `trail N C`
 fn read_trail(arguments: &[u8]) -> Option<Question>
-    ensures { result ≡ trail_form (words_of arguments.now) }
+    ensures { result ≡ trail_form (words_of_line arguments.now) }
 {
     let (turn, turns) = two_words(arguments)?;
     let turn = read_turn(turn)?;

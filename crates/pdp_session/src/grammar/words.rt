@@ -1,11 +1,13 @@
-ghost use Rattle.std.specs.Prelude.{◌≡◌, ◌<◌, ◌≤◌, ◌||◌, ◌==◌, false, [], ◌∷◌, length, MatchOption, IfSome};
+ghost use Rattle.std.specs.Prelude.{◌≡◌, ◌<◌, ◌≤◌, ◌||◌, ◌==◌, false, [], ◌∷◌, length, MatchOption};
+ghost use Rattle.std.specs.Prelude.{IfSome};
 ghost use Rattle.std.specs.List.{position_or_len, slice_get};
-ghost use Rattle.pdp_session.specs.Grammar.Words.{is_blank, words_of};
+ghost use Rattle.pdp_session.specs.Grammar.Words.{is_blank, words_of_line};
 
 // The first word of a text, and what follows it; `None` where the text has no word.
 #[tactic(auto, using(crate::proofs::WordLists::words))]
 pub fn next_word(text: &[u8]) -> Option<(&[u8], &[u8])>
-    ensures words { MatchOption result (words_of text.now ≡ []) (λ p. words_of text.now ≡ p.0.now ∷ words_of p.1.now) }
+    ensures words { MatchOption result (words_of_line text.now ≡ [])
+        (λ p. words_of_line text.now ≡ p.0.now ∷ words_of_line p.1.now) }
     ensures shorter { IfSome result (λ p. length p.1.now < length text.now) }
 {
     let text = skip_blanks(text);
@@ -18,7 +20,7 @@ pub fn next_word(text: &[u8]) -> Option<(&[u8], &[u8])>
 // The text from its first byte on that is no blank.
 #[tactic(auto, using(crate::proofs::WordLists::words))]
 fn skip_blanks(text: &[u8]) -> &[u8]
-    ensures words { words_of result.now ≡ words_of text.now }
+    ensures words { words_of_line result.now ≡ words_of_line text.now }
     ensures first { IfSome (slice_get result.now 0) (λ byte. is_blank byte ≡ false) }
     ensures length { length result.now ≤ length text.now }
 {

@@ -1,5 +1,6 @@
-ghost use Rattle.std.specs.Prelude.{◌≡◌, ◌+◌, ◌≤◌, ◌++◌, ◌||◌, length, is_err};
-ghost use Rattle.pdp_session.specs.Reply.{stands_for_itself, byte_text, byte_texts, bytes_head, bytes_line};
+ghost use Rattle.std.specs.Prelude.{◌≡◌, ◌+◌, ◌≤◌, ◌++◌, length};
+ghost use Rattle.pdp_session.specs.Reply.{stands_for_itself, byte_text, byte_texts, bytes_head};
+ghost use Rattle.pdp_session.specs.Reply.{bytes_line};
 ghost use Rattle.pdp_session.specs.Inside.Sends.{Sends};
 
 use super::texts::{LONGEST_TEXT, Text, add, octal3};
@@ -12,20 +13,15 @@ const MOST_BYTES: usize = 64;
 // Writes bytes, in one line after their name and their count, some of them at a time.
 pub fn send_bytes<W: Drain>(name: &str, bytes: &[u8], writer: &mut W) -> Result<(), Failed>
     requires { length name.now ≤ 7 }
-    ensures sends { Sends (bytes_line name.now bytes.now) (W.written writer.old) (W.written writer.new) result }
-    ensures fails { W.has_failed writer.new ≡ (W.has_failed writer.old || is_err result) }
+    ensures { Sends (bytes_line name.now bytes.now)
+        (W.output writer.old) (W.output writer.new) result }
 {
-    match send(writer, bytes_head(name, bytes.len()).as_slice()) {
-        Ok(()) => {}
-        Err(failed) => return Err(failed),
-    }
+    send(writer, bytes_head(name, bytes.len()).as_slice())?;
     let mut rest = bytes;
     while !rest.is_empty() {
         let (front, others) = rest.split_at(rest.len().min(MOST_BYTES));
-        match send(writer, bytes_text(front).as_slice()) {
-            Ok(()) => rest = others,
-            Err(failed) => return Err(failed),
-        }
+        send(writer, bytes_text(front).as_slice())?;
+        rest = others;
     }
     send(writer, b"\n")
 }
@@ -56,7 +52,8 @@ fn bytes_text(bytes: &[u8]) -> Text
     text
 }
 
-// A printing byte but a backslash stands for itself; any other is a backslash and three octal digits.
+// A printing byte but a backslash stands for itself; any other is a backslash and three octal
+// digits.
 fn add_byte(text: &mut Text, byte: u8)
     requires { length text.old.items + 4 ≤ LONGEST_TEXT }
     ensures byte_text { text.new.items ≡ text.old.items ++ byte_text byte }

@@ -1,6 +1,7 @@
-ghost use Rattle.std.specs.Prelude.{◌≡◌, ◌+◌, ◌≤◌, ◌++◌, ◌||◌, length, codes, is_err};
+ghost use Rattle.std.specs.Prelude.{◌≡◌, ◌+◌, ◌≤◌, ◌++◌, length, codes};
 ghost use Rattle.pdp_word.specs.Number.{octal_digits};
-ghost use Rattle.pdp_session.specs.Reply.{agent_name, last_line, act_text, entry_line, line_at, trail_text};
+ghost use Rattle.pdp_session.specs.Reply.{agent_name, last_line, act_text, entry_line, line_at};
+ghost use Rattle.pdp_session.specs.Reply.{trail_text};
 ghost use Rattle.pdp_session.specs.Inside.Sends.{Sends};
 
 use super::texts::{LONGEST_TEXT, Text, add, add_word, count_text, octal3};
@@ -39,27 +40,20 @@ fn agent_name(agent: Agent) -> &'static str
 
 // Writes how many turns a trail has, and a line for each.
 pub fn send_trail<W: Drain>(trail: &Trail, writer: &mut W) -> Result<(), Failed>
-    ensures sends { Sends (trail_text trail.now) (W.written writer.old) (W.written writer.new) result }
-    ensures fails { W.has_failed writer.new ≡ (W.has_failed writer.old || is_err result) }
+    ensures { Sends (trail_text trail.now) (W.output writer.old) (W.output writer.new) result }
 {
     let count = trail.len();
-    match send(writer, count_text("trail", count).as_slice()) {
-        Ok(()) => {}
-        Err(failed) => return Err(failed),
-    }
+    send(writer, count_text("trail", count).as_slice())?;
     for index in 0..count {
-        match send_entry(trail, index, writer) {
-            Ok(()) => {}
-            Err(failed) => return Err(failed),
-        }
+        send_entry(trail, index, writer)?;
     }
     Ok(())
 }
 
 // Writes the line of the turn of this index in a trail, where there is one.
 fn send_entry<W: Drain>(trail: &Trail, index: usize, writer: &mut W) -> Result<(), Failed>
-    ensures sends { Sends (line_at entry_line trail.now index) (W.written writer.old) (W.written writer.new) result }
-    ensures fails { W.has_failed writer.new ≡ (W.has_failed writer.old || is_err result) }
+    ensures { Sends (line_at entry_line trail.now index)
+        (W.output writer.old) (W.output writer.new) result }
 {
     let text = match trail.entry(index) {
         Some(entry) => entry_text(entry),

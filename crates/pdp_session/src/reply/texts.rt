@@ -1,6 +1,9 @@
 ghost use Rattle.std.specs.Prelude.{◌≡◌, ◌+◌, ◌*◌, ◌≤◌, ◌++◌, length, codes, decimal};
 ghost use Rattle.pdp_word.specs.Number.{octal_digits};
-ghost use Rattle.pdp_session.specs.Reply.{register_text, regs_line, state_name, refusal_text, count_line, drive_text, patch_line, word_text, word_texts, named_word_text, disk_register_texts, devices_line, page_words_text, pages_line};
+ghost use Rattle.pdp_session.specs.Reply.{register_text, regs_line, state_name, refusal_text};
+ghost use Rattle.pdp_session.specs.Reply.{count_line, drive_text, patch_line, word_text};
+ghost use Rattle.pdp_session.specs.Reply.{word_texts, named_word_text, disk_register_texts};
+ghost use Rattle.pdp_session.specs.Reply.{devices_line, page_words_text, pages_line};
 
 use crate::version::Version;
 use arrayvec::ArrayVec;
@@ -8,8 +11,9 @@ use itoa::Buffer;
 use pdp_replay::{DeviceRegisters, Fault, PageRegisters, Patch, Regs, RunState};
 use pdp_word::write_octal6;
 
-// The most bytes that a text has: the reply to the question `pages`, with its LF. That is 34 words, each of six digits
-// after a space, and the names pages, SR0, SR2, KPDR, KPAR, UPDR and UPAR, a space before each but the first.
+// The most bytes that a text has: the reply to the question `pages`, with its LF. That is 34 words,
+// each of six digits after a space, and the names pages, SR0, SR2, KPDR, KPAR, UPDR and UPAR, a
+// space before each but the first.
 pub const LONGEST_TEXT: usize = 272;
 
 // A line of a reply, with its LF, or a piece of one. It takes no memory.
@@ -29,6 +33,7 @@ pub fn add(text: &mut Text, bytes: &[u8])
     requires { length text.old.items + length bytes.now ≤ LONGEST_TEXT }
     ensures { text.new.items ≡ text.old.items ++ bytes.now }
 {
+    // it never fails: there is room, as the contract requires
     let _ = text.try_extend_from_slice(bytes);
 }
 

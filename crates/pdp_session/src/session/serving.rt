@@ -1,4 +1,4 @@
-ghost use Rattle.std.specs.Prelude.{◌≡◌, ◌∷◌, [], ◌||◌, is_err};
+ghost use Rattle.std.specs.Prelude.{◌≡◌, ◌∷◌, []};
 ghost use Rattle.pdp_session.specs.Inside.Progress.{Serves, Takes, TakesEnd};
 
 use crate::command::answer_line;
@@ -15,9 +15,8 @@ fn serve_line<W: Drain>(
     line: &[u8],
     writer: &mut W,
 ) -> Result<(), Failed>
-    ensures serves { Serves line.now engine.old.past engine.new.past
-        (W.written writer.old) (W.written writer.new) result }
-    ensures fails { W.has_failed writer.new ≡ (W.has_failed writer.old || is_err result) }
+    ensures { Serves line.now engine.old.past engine.new.past
+        (W.output writer.old) (W.output writer.new) result }
 {
     let reply = answer_line(alloc, engine, line);
     send_reply(engine, reply, writer)
@@ -31,9 +30,8 @@ fn take_byte<W: Drain>(
     byte: u8,
     writer: &mut W,
 ) -> Result<(), Failed>
-    ensures moves { Takes (byte ∷ []) held.old.items held.new.items engine.old.past engine.new.past
-        (W.written writer.old) (W.written writer.new) result }
-    ensures fails { W.has_failed writer.new ≡ (W.has_failed writer.old || is_err result) }
+    ensures { Takes (byte ∷ []) held.old.items held.new.items engine.old.past engine.new.past
+        (W.output writer.old) (W.output writer.new) result }
 {
     if byte != b'\n' {
         hold(held, byte);
@@ -52,28 +50,24 @@ pub fn take_bytes<W: Drain>(
     bytes: &[u8],
     writer: &mut W,
 ) -> Result<(), Failed>
-    ensures moves { Takes bytes.now held.old.items held.new.items engine.old.past engine.new.past
-        (W.written writer.old) (W.written writer.new) result }
-    ensures fails { W.has_failed writer.new ≡ (W.has_failed writer.old || is_err result) }
+    ensures { Takes bytes.now held.old.items held.new.items engine.old.past engine.new.past
+        (W.output writer.old) (W.output writer.new) result }
 {
     for byte in bytes {
-        match take_byte(alloc, engine, held, *byte, writer) {
-            Ok(()) => {}
-            Err(failed) => return Err(failed),
-        }
+        take_byte(alloc, engine, held, *byte, writer)?;
     }
     Ok(())
 }
 
 // Answers the line that the end of the input left open, if it has a byte.
-pub fn finish<W: Drain>(
+pub fn serve_last_line<W: Drain>(
     alloc: Global,
     engine: &mut Engine,
     held: &Held,
     writer: &mut W,
 ) -> Result<(), Failed>
-    ensures finishes { TakesEnd held.now.items engine.old.past (W.written writer.old) (W.written writer.new) result }
-    ensures fails { W.has_failed writer.new ≡ (W.has_failed writer.old || is_err result) }
+    ensures { TakesEnd held.now.items engine.old.past
+        (W.output writer.old) (W.output writer.new) result }
 {
     if held.is_empty() {
         return Ok(());

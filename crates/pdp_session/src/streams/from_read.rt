@@ -16,12 +16,12 @@ pub struct FromRead<R> {
 const PULLS: u64 = 1_000_000_000_000;
 
 impl<R: Read> FromRead<R> {
-    /// A feed of what `reader` gives, with 1,000,000,000,000 pulls left. An interrupted read is made again,
-    /// within the same pull. After a failed one `reader` isn't called again.
+    /// A feed of what `reader` gives, with 1,000,000,000,000 pulls left. An interrupted read is
+    /// made again, within the same pull. After a failed one `reader` isn't called again.
     pub fn new(reader: R) -> Self
-        ensures remaining { ⟦<FromRead<R> as Feed>⟧.remaining result ≡ R.remaining reader }
-        ensures pulls { ⟦<FromRead<R> as Feed>⟧.pulls result ≡ pulls_at_first }
-        ensures sound { ⟦<FromRead<R> as Feed>⟧.has_failed result ≡ false }
+        ensures unread { (⟦<FromRead<R> as Feed>⟧.input result).unread ≡ R.remaining reader }
+        ensures pulls { (⟦<FromRead<R> as Feed>⟧.input result).pulls ≡ pulls_at_first }
+        ensures sound { (⟦<FromRead<R> as Feed>⟧.input result).has_failed ≡ false }
     {
         FromRead {
             reader,
@@ -32,11 +32,11 @@ impl<R: Read> FromRead<R> {
 }
 
 impl<R: Read> Feed for FromRead<R> {
-    ghost remaining = { λ s. R.remaining s.reader };
-
-    ghost pulls = { λ s. s.left };
-
-    ghost has_failed = { λ s. s.failed };
+    ghost input = { λ s. record {
+      unread = R.remaining s.reader;
+      pulls = s.left;
+      has_failed = s.failed;
+    } };
 
     fn pull(&mut self, buf: &mut [u8]) -> Result<usize, Failed> {
         if self.failed || self.left == 0 {

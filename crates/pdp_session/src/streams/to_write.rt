@@ -11,11 +11,11 @@ pub struct ToWrite<W> {
 }
 
 impl<W: Write> ToWrite<W> {
-    /// A drain into `writer`. An interrupted write is made again. After one that failed, or took none of some
-    /// bytes, `writer` isn't called again.
+    /// A drain into `writer`. An interrupted write is made again. After one that failed, or took
+    /// none of some bytes, `writer` isn't called again.
     pub fn new(writer: W) -> Self
-        ensures written { ⟦<ToWrite<W> as Drain>⟧.written result ≡ W.contents writer }
-        ensures sound { ⟦<ToWrite<W> as Drain>⟧.has_failed result ≡ false }
+        ensures written { (⟦<ToWrite<W> as Drain>⟧.output result).written ≡ W.contents writer }
+        ensures sound { (⟦<ToWrite<W> as Drain>⟧.output result).has_failed ≡ false }
     {
         ToWrite {
             writer,
@@ -25,9 +25,7 @@ impl<W: Write> ToWrite<W> {
 }
 
 impl<W: Write> Drain for ToWrite<W> {
-    ghost written = { λ s. W.contents s.writer };
-
-    ghost has_failed = { λ s. s.failed };
+    ghost output = { λ s. record { written = W.contents s.writer; has_failed = s.failed } };
 
     fn put(&mut self, bytes: &[u8]) -> Result<usize, Failed> {
         if self.failed {

@@ -1,8 +1,10 @@
 //! One page with a word changed, which many saved buses share.
 
 ghost use Rattle.std.specs.Prelude.{◌≡◌, ◌<◌, Some, None, [], length, slice_index_or, IfOk};
-ghost use Rattle.pdp_unibus.specs.BusContent.{HasWord, content_with_word};
-ghost use Rattle.pdp_unibus.specs.PatchedPages.{AreNewPages, IsNewList, IsNewPage, IsPatchIn, IsPatchOf};
+ghost use Rattle.pdp_store.specs.Parts.{words_of_drive};
+ghost use Rattle.pdp_unibus.specs.SavedBusData.{SavedBusHasWord, saved_bus_with_word};
+ghost use Rattle.pdp_unibus.specs.PatchedPages.{AreNewPages, IsNewList, IsNewPage, IsPatchIn};
+ghost use Rattle.pdp_unibus.specs.PatchedPages.{IsPatchOf};
 
 use super::SavedBus;
 use crate::bus::Bus;
@@ -12,8 +14,8 @@ use pdp_word::NoMemory;
 use std::alloc::Global;
 use std::rc::Rc;
 
-/// A page of 256 words with one word changed. All saved buses that have the page alike can share it.
-/// (This project's profile.)
+/// A page of 256 words with one word changed. All saved buses that have the page alike can share
+/// it. (This project's profile.)
 #[derive(Drop)]
 pub struct PatchedPage {
     /// The number of the drive, from 0; None is core.
@@ -42,7 +44,7 @@ impl SavedBus {
     /// # Errors
     ///
     /// `NoMemory` if a growth was refused.
-    #[tactic(auto, unfolding(crate::specs::BusContent::HasWord))]
+    #[tactic(auto, unfolding(crate::specs::SavedBusData::SavedBusHasWord))]
     pub fn patched_page(
         &self,
         alloc: Global,
@@ -51,7 +53,7 @@ impl SavedBus {
         word: usize,
         value: u16,
     ) -> Result<PatchedPage, NoMemory>
-        requires { HasWord drive word self.now }
+        requires { SavedBusHasWord drive word self.now }
         ensures same { bus.new ≡ bus.old }
         ensures patch { IfOk result (λ page. IsPatchOf drive word value page) }
         ensures page { IfOk result (λ page. IsPatchIn self.now page) }
@@ -65,7 +67,7 @@ impl SavedBus {
     // The page of a word of core.
     //
     // Err(NoMemory) as above.
-    #[tactic(auto, unfolding(crate::specs::BusContent::HasWord))]
+    #[tactic(auto, unfolding(crate::specs::SavedBusData::SavedBusHasWord))]
     fn page_of_core(
         &self,
         alloc: Global,
@@ -90,7 +92,7 @@ impl SavedBus {
     // The page of a word of the drive of this number.
     //
     // Err(NoMemory) as above.
-    #[tactic(auto, unfolding(crate::specs::BusContent::HasWord))]
+    #[tactic(auto, unfolding(crate::specs::SavedBusData::SavedBusHasWord))]
     fn page_of_drive(
         &self,
         alloc: Global,
@@ -99,7 +101,7 @@ impl SavedBus {
         word: usize,
         value: u16,
     ) -> Result<PatchedPage, NoMemory>
-        requires { word < length (slice_index_or self.now.drives number []) }
+        requires { word < length (words_of_drive self.now.drives number) }
         ensures same { bus.new ≡ bus.old }
         ensures patch { IfOk result (λ page. IsPatchOf (Some number) word value page) }
         ensures page { IfOk result (λ page. IsPatchIn self.now page) }
@@ -122,8 +124,8 @@ impl SavedBus {
         })
     }
 
-    /// What takes the place of the page that was patched here: all the memory that `put_pages` needs.
-    /// (This project's profile.)
+    /// What takes the place of the page that was patched here: all the memory that `put_pages`
+    /// needs. (This project's profile.)
     ///
     /// # Errors
     ///
@@ -157,12 +159,13 @@ impl SavedBus {
         Ok(NewPages::Drive(number, pages))
     }
 
-    /// Puts the pages that were made for it in place of its own. The content is the same then, but
-    /// for the word of the patched page. It takes no memory. (This project's profile.)
+    /// Puts the pages that were made for it in place of its own. The saved bus is the same then,
+    /// but for the word of the patched page. It takes no memory. (This project's profile.)
     #[tactic(auto, unfolding(crate::specs::PatchedPages::AreNewPages))]
     pub fn put_pages(&mut self, page: &PatchedPage, new: NewPages)
         requires { AreNewPages page.now self.old new }
-        ensures { self.new ≡ content_with_word page.now.drive page.now.word page.now.value self.old }
+        ensures { self.new ≡ saved_bus_with_word page.now.drive page.now.word page.now.value
+            self.old }
     {
         match new {
             NewPages::Core(shared) => self.put_page_of_core(page, shared),
@@ -171,19 +174,21 @@ impl SavedBus {
     }
 
     // Puts the patched page in place of the page of core.
-    #[tactic(auto, unfolding(crate::specs::BusContent::content_with_word))]
+    #[tactic(auto, unfolding(crate::specs::SavedBusData::saved_bus_with_word))]
     fn put_page_of_core(&mut self, page: &PatchedPage, shared: Rc<Page>)
         requires { IsNewPage page.now self.old shared }
-        ensures { self.new ≡ content_with_word page.now.drive page.now.word page.now.value self.old }
+        ensures { self.new ≡ saved_bus_with_word page.now.drive page.now.word page.now.value
+            self.old }
     {
         self.core[page.word / PAGE_WORDS] = shared;
     }
 
     // Puts this list in place of the list of the drive of this number.
-    #[tactic(auto, unfolding(crate::specs::BusContent::content_with_word))]
+    #[tactic(auto, unfolding(crate::specs::SavedBusData::saved_bus_with_word))]
     fn put_list_of_drive(&mut self, number: usize, page: &PatchedPage, pages: Pages)
         requires { IsNewList page.now self.old number pages }
-        ensures { self.new ≡ content_with_word page.now.drive page.now.word page.now.value self.old }
+        ensures { self.new ≡ saved_bus_with_word page.now.drive page.now.word page.now.value
+            self.old }
     {
         self.drives[number] = pages;
     }

@@ -5,10 +5,10 @@ use Rattle.pdp11.proofs.files.first_bytes.Given as goal
 
 abbrev pub invariant-loop-chunk : goal.invariant-loop-chunk
 invariant-loop-chunk g l = record {
-  given : Consumes (g.R.Feed.remaining l.fn.feed) (g.R.Feed.remaining l.feed) l.bytes.items;
+  given : Consumes (g.R.Feed.input l.fn.feed).unread (g.R.Feed.input l.feed).unread l.bytes.items;
   bound : length l.bytes.items ≤ l.most;
   room : length l.chunk ≡ 4096;
 }
 
 abbrev pub decreases-loop-chunk : goal.decreases-loop-chunk
-decreases-loop-chunk g l = g.R.Feed.pulls l.feed
+decreases-loop-chunk g l = (g.R.Feed.input l.feed).pulls

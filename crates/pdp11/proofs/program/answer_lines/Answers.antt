@@ -3,8 +3,8 @@ use Rattle.std.proofs.Common.{ℕ, List, Option, Bool, true, false, Result, Ok, 
 use Rattle.pdp_script.specs.declared.faults.Fault.{Fault}
 use Rattle.pdp_script.specs.declared.faults.Fault.TheVariants.{NoMemory, OutsideCore, OddAddress, OutsideDisk, NoSuchEvent, ScriptFull, TurnTooLarge, CountOutOfRange, NoSuchPatch, BadLine, LineTooLong, Input, Output, BadImage, BadSetup, NoSuchDrive}
 use Rattle.pdp_script.specs.Refusal.{result_map}
-use Rattle.pdp_replay.specs.Past.{Past, unscripted, starting_past}
-use Rattle.pdp_replay.specs.Setup.{SetupData, given, setup_checked, has_good_images, has_good_numbers}
+use Rattle.pdp_replay.specs.Past.{Past, past_without_events, starting_past}
+use Rattle.pdp_replay.specs.Past.Setup.{SetupData, given_setup, setup_checked, has_good_images, has_good_numbers}
 use Rattle.pdp_session.specs.Session.{Ends, SessionEnds}
 use Rattle.pdp11.specs.Exit.{CanEnd}
 use Rattle.pdp11.proofs.program.answer_lines.Goals as goal
@@ -29,8 +29,8 @@ ends_good p read out rest (Err LineTooLong) h = absurd h
 ends_good p read out rest (Err NoSuchDrive) h = absurd h
 
 ends_started : (b c : Bool) (s : SetupData) (read out : List ℕ) (rest : Option (List ℕ)) (r : Result (Unit {0}) Fault)
-    → Ends (result_map unscripted (if b then if c then Ok s else Err BadImage else Err BadSetup)) read out rest r → CanEnd r
-ends_started true true s read out rest r h = ends_good (unscripted s) read out rest r h
+    → Ends (result_map past_without_events (if b then if c then Ok s else Err BadImage else Err BadSetup)) read out rest r → CanEnd r
+ends_started true true s read out rest r h = ends_good (past_without_events s) read out rest r h
 ends_started true false s read out rest r h = rw h.0 tt
 ends_started false c s read out rest r h = rw h.0 tt
 
@@ -41,5 +41,5 @@ can_end s read out rest r h = ends_started (has_good_numbers s) (has_good_images
 pub returns-clause-failed : goal.returns-clause-failed
 returns-clause-failed g c =
     let session = c.run.ensures.session in
-    let ends : CanEnd c.run.result = can_end (given c.setup_of-setup.result) session.read session.out (g.R.Feed.remaining c.run.new.reader) c.run.result session.ends in
+    let ends : CanEnd c.run.result = can_end (given_setup c.setup_of-setup.result) session.read session.out (g.R.Feed.input c.run.new.reader).unread c.run.result session.ends in
     search rules

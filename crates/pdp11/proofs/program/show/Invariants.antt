@@ -5,7 +5,7 @@ use Rattle.pdp11.proofs.program.show.Given as goal
 
 abbrev pub invariant-loop-rest : goal.invariant-loop-rest
 invariant-loop-rest g l =
-    (done : List ℕ) × (l.text ≡ done ++ l.rest) × Appends (g.W.Drain.written l.fn.writer) (g.W.Drain.written l.writer) done
+    (done : List ℕ) × (l.text ≡ done ++ l.rest) × Appends (g.W.Drain.output l.fn.writer).written (g.W.Drain.output l.writer).written done
 
 abbrev pub decreases-loop-rest : goal.decreases-loop-rest
 decreases-loop-rest g l = length l.rest

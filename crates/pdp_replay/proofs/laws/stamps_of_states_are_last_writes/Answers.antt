@@ -1,4 +1,4 @@
-use Rattle.pdp_replay.proofs.LastWrites.{stamps_of_kept_states, stamps_of_states}
+use Rattle.pdp_replay.proofs.LastWrites.{stamps_of_checkpoints, stamps_of_states}
 use Rattle.pdp_replay.proofs.laws.stamps_of_states_are_last_writes.Goals as goal
 
 -- src/laws.rt
@@ -6,4 +6,4 @@ pub returns-clause-states : goal.returns-clause-states
 returns-clause-states c = stamps_of_states
 
 pub returns-clause-kept : goal.returns-clause-kept
-returns-clause-kept c = stamps_of_kept_states
+returns-clause-kept c = stamps_of_checkpoints

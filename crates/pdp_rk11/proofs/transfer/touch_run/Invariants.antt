@@ -1,6 +1,6 @@
 -- the words in the pages so far are touched
 use Rattle.std.proofs.Common.{◌≡◌, ◌-◌, ◌*◌, ◌/◌, ◌≤◌, min}
-use Rattle.pdp_rk11.specs.Touched.{run_touched, stepped}
+use Rattle.pdp_rk11.specs.Touched.{run_touched, after_steps}
 use Rattle.pdp_rk11.proofs.transfer.touch_run.Given as goal
 
 abbrev pub invariant-loop-page : goal.invariant-loop-page
@@ -9,5 +9,5 @@ invariant-loop-page g l = record {
   words : g.S.Store.words l.store ≡ g.S.Store.words l.initial.store;
   lasts : g.S.Store.lasts l.store ≡ g.S.Store.lasts l.initial.store;
   firsts : g.S.Store.firsts l.store
-      ≡ stepped (run_touched l.start l.turn) (min l.count (l.page * 256 - l.start)) (g.S.Store.firsts l.initial.store);
+      ≡ after_steps (run_touched l.start l.turn) (min l.count (l.page * 256 - l.start)) (g.S.Store.firsts l.initial.store);
 }

@@ -1,6 +1,6 @@
 use Rattle.std.proofs.Common.{◌≡◌, true, false, [], arith, rules, sym, ap, ◌∙◌}
 use Rattle.pdp_script.specs.declared.faults.Fault.TheVariants.{Input, Output}
-use Rattle.pdp_replay.specs.Setup.{given, setup_checked}
+use Rattle.pdp_replay.specs.Past.Setup.{given_setup, setup_checked}
 use Rattle.pdp_replay.specs.Timeline.{fresh}
 use Rattle.pdp_session.specs.Session.{is_told_first}
 use Rattle.pdp_session.proofs.SessionEnds.{ends_begun, ends_refused, start_refuses, starts_with}
@@ -22,7 +22,7 @@ returns-in-Err-clause-output g c = λ failed.
 
 pub returns-in-Ok-clause-session : goal.returns-in-Ok-clause-session
 returns-in-Ok-clause-session g c =
-    rw (starts_with (setup_checked (given c.args.setup)) _ c.in-Ok.engine c.in-Ok.ensures.engine) c.serve.ensures.session
+    rw (starts_with (setup_checked (given_setup c.args.setup)) _ c.in-Ok.engine c.in-Ok.ensures.engine) c.serve.ensures.session
 
 pub returns-in-Err-clause-session : goal.returns-in-Err-clause-session
 returns-in-Err-clause-session g c = record {

@@ -1,4 +1,4 @@
-use Rattle.std.proofs.Common.{◌≡◌, ◌<◌, ◌++◌, [], inl, inr, length, take, refl, arith, append-nil, rules}
+use Rattle.std.proofs.Common.{◌≡◌, ◌<◌, ◌++◌, [], inl, inr, length, take, refl, arith, append-nil, rules, ◌∙◌}
 use Rattle.std.proofs.KnownBytes.{Appends-nil, Appends-trans, Consumes-nil, Consumes-trans, Consumes-kept}
 use Rattle.pdp_session.proofs.Pulls.{some_read}
 use Rattle.pdp_session.proofs.Reaching.{nothing_reached, ended_answered}
@@ -17,29 +17,29 @@ loop-engine-init g c = record {
   drains = c.requires.writer_sound;
 }
 
-pub returns-in-Ok-finish-clause-session : goal.returns-in-Ok-finish-clause-session
-returns-in-Ok-finish-clause-session g c =
+pub returns-in-Ok-serve_last_line-clause-session : goal.returns-in-Ok-serve_last_line-clause-session
+returns-in-Ok-serve_last_line-clause-session g c =
     let before = c.loop-engine.invariant in
     let none : c.in-Ok-eq0.field-0 ≡ 0 = search rules in
     let bytes = rw none at c.in-Ok-eq0.ensures.bytes in
     let room : 0 < length c.pull.new.buf = omega arith in
-    let finished = c.in-Ok-finish.ensures.finishes c.args.engine.now.past before.read before.out before.reached in
+    let finished = c.in-Ok-serve_last_line.ensures c.args.engine.now.past before.read before.out before.reached in
     record {
       read = before.read;
       out = before.out ++ finished.more;
       takes = rw append-nil at (Consumes-trans _ _ _ before.read [] before.takes bytes.0);
-      writes = Appends-trans _ _ _ before.out finished.more before.writes finished.writes;
+      writes = Appends-trans _ _ _ before.out finished.more before.writes finished.sent.writes;
       pulled = omega (arith, c.in-Ok-eq0.ensures.lowers, before.pulled);
       ends = (bytes.1 refl room, finished.answers);
     }
 
-pub returns-in-Err-finish-clause-session : goal.returns-in-Err-finish-clause-session
-returns-in-Err-finish-clause-session g c =
+pub returns-in-Err-serve_last_line-clause-session : goal.returns-in-Err-serve_last_line-clause-session
+returns-in-Err-serve_last_line-clause-session g c =
     let before = c.loop-engine.invariant in
     let none : c.in-Ok-eq0.field-0 ≡ 0 = search rules in
     let bytes = rw none at c.in-Ok-eq0.ensures.bytes in
     let room : 0 < length c.pull.new.buf = omega arith in
-    let finished = c.in-Err-finish.ensures.finishes c.args.engine.now.past before.read before.out before.reached in
+    let finished = c.in-Err-serve_last_line.ensures c.args.engine.now.past before.read before.out before.reached in
     let out = before.out ++ finished.more in
     record {
       read = before.read;
@@ -54,24 +54,24 @@ pub loop-engine-preserved : goal.loop-engine-preserved
 loop-engine-preserved g c =
     let before = c.loop-engine.invariant in
     let some : 0 < c.in-Ok.count = search rules in
-    let goes = rw c.split_at.ensures.front at (c.in-Ok-take_bytes.ensures.moves c.args.engine.now.past before.read before.out before.reached) in
+    let goes = rw c.split_at.ensures.front at (c.in-Ok-take_bytes.ensures c.args.engine.now.past before.read before.out before.reached) in
     record {
       read = before.read ++ take c.in-Ok.count c.pull.new.buf;
       out = before.out ++ goes.more;
       takes = Consumes-trans _ _ _ before.read _ before.takes c.in-Ok.ensures.bytes.0;
-      writes = Appends-trans _ _ _ before.out goes.more before.writes goes.writes;
+      writes = Appends-trans _ _ _ before.out goes.more before.writes goes.sent.writes;
       reached = goes.reached;
       pulled = some_read _ _ _ before.read c.pull.new.buf c.in-Ok.count c.in-Ok.ensures.lowers c.in-Ok.ensures.bound some before.pulled;
       room = search rules;
       reads = search rules;
-      drains = search rules;
+      drains = goes.sent.sound ∙ before.drains;
     }
 
 pub returns-in-Err-take_bytes-clause-session : goal.returns-in-Err-take_bytes-clause-session
 returns-in-Err-take_bytes-clause-session g c =
     let before = c.loop-engine.invariant in
     let some : 0 < c.in-Ok.count = search rules in
-    let breaks = rw c.split_at.ensures.front at (c.in-Err-take_bytes.ensures.moves c.args.engine.now.past before.read before.out before.reached) in
+    let breaks = rw c.split_at.ensures.front at (c.in-Err-take_bytes.ensures c.args.engine.now.past before.read before.out before.reached) in
     let read = before.read ++ take c.in-Ok.count c.pull.new.buf in
     let out = before.out ++ breaks.more in
     record {
@@ -94,3 +94,23 @@ returns-in-Err-clause-session g c =
       pulled = omega (arith, c.in-Err.ensures.keeps, before.pulled);
       ends = ended_answered c.args.engine.now.past before.read before.out _ _ before.reached;
     }
+
+-- what the writer's failure is, comes with what was written
+
+pub returns-in-Ok-serve_last_line-clause-sound : goal.returns-in-Ok-serve_last_line-clause-sound
+returns-in-Ok-serve_last_line-clause-sound g c =
+    let before = c.loop-engine.invariant in
+    let finished = c.in-Ok-serve_last_line.ensures c.args.engine.now.past before.read before.out before.reached in
+    (search rules, finished.sent.sound ∙ before.drains)
+
+pub returns-in-Err-serve_last_line-clause-output : goal.returns-in-Err-serve_last_line-clause-output
+returns-in-Err-serve_last_line-clause-output g c = λ _.
+    let before = c.loop-engine.invariant in
+    let finished = c.in-Err-serve_last_line.ensures c.args.engine.now.past before.read before.out before.reached in
+    finished.failed
+
+pub returns-in-Err-take_bytes-clause-output : goal.returns-in-Err-take_bytes-clause-output
+returns-in-Err-take_bytes-clause-output g c = λ _.
+    let before = c.loop-engine.invariant in
+    let breaks = rw c.split_at.ensures.front at (c.in-Err-take_bytes.ensures c.args.engine.now.past before.read before.out before.reached) in
+    breaks.failed

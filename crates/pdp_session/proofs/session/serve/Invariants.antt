@@ -7,14 +7,14 @@ abbrev pub invariant-loop-engine : goal.invariant-loop-engine
 invariant-loop-engine g l = record {
   read : List ℕ;
   out : List ℕ;
-  takes : Consumes (g.R.Feed.remaining l.fn.reader) (g.R.Feed.remaining l.reader) read;
-  writes : Appends (g.W.Drain.written l.fn.writer) (g.W.Drain.written l.writer) out;
+  takes : Consumes (g.R.Feed.input l.fn.reader).unread (g.R.Feed.input l.reader).unread read;
+  writes : Appends (g.W.Drain.output l.fn.writer).written (g.W.Drain.output l.writer).written out;
   reached : Reached l.fn.engine.past read out l.held.items l.engine.past;
-  pulled : g.R.Feed.pulls l.fn.reader ≤ g.R.Feed.pulls l.reader + length read;
+  pulled : (g.R.Feed.input l.fn.reader).pulls ≤ (g.R.Feed.input l.reader).pulls + length read;
   room : length l.chunk ≡ 256;
-  reads : g.R.Feed.has_failed l.reader ≡ false;
-  drains : g.W.Drain.has_failed l.writer ≡ false;
+  reads : (g.R.Feed.input l.reader).has_failed ≡ false;
+  drains : (g.W.Drain.output l.writer).has_failed ≡ false;
 }
 
 abbrev pub decreases-loop-engine : goal.decreases-loop-engine
-decreases-loop-engine g l = g.R.Feed.pulls l.reader
+decreases-loop-engine g l = (g.R.Feed.input l.reader).pulls

@@ -1,4 +1,4 @@
-use Rattle.pdp_store.proofs.DrivePlaces.{rewrapped}
+use Rattle.pdp_store.proofs.DriveBackings.{rewrapped}
 use Rattle.pdp_store.proofs.paged_drive.put_part.Goals as goal
 
 pub returns : goal.returns

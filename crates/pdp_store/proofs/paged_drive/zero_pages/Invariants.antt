@@ -1,4 +1,4 @@
-use Rattle.pdp_store.specs.DrivePlaces.{AreZeros}
+use Rattle.pdp_store.specs.DriveBackings.{AreZeros}
 use Rattle.pdp_store.proofs.paged_drive.zero_pages.Given as goal
 
 abbrev pub invariant-loop : goal.invariant-loop

@@ -1,5 +1,5 @@
 use Rattle.pdp_checkpoint.specs.Ladder.{LadderData}
-use Rattle.pdp_checkpoint.proofs.Rungs.{IsBest, is_best}
+use Rattle.pdp_checkpoint.proofs.Checkpoints.{IsBest, is_best}
 use Rattle.pdp_checkpoint.proofs.ladder.Ladder.best.Goals as goal
 
 best : (c : goal.After-index) → IsBest c.args.self.now c.args.turn c.index.result.now

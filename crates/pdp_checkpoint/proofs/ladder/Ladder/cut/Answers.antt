@@ -1,17 +1,17 @@
 use Rattle.std.proofs.Common.{◌+◌, ◌/◌, arith, sym, ◌∙◌}
 use Rattle.pdp_checkpoint.specs.Ladder.{LadderData}
-use Rattle.pdp_checkpoint.proofs.Rungs.{rungs_cut, below_is_first}
+use Rattle.pdp_checkpoint.proofs.Checkpoints.{checkpoints_cut, below_is_first}
 use Rattle.pdp_checkpoint.proofs.ladder.Ladder.cut.Goals as goal
 
 pub invariant_of-self : goal.invariant_of-self
 invariant_of-self c =
     let l : LadderData = record { kept = c.self.inside.kept.items; stride = c.self.inside.stride } in
-    rw c.truncate.ensures.items (rungs_cut l (c.args.turn / l.stride + 1) c.self.invariant (omega arith))
+    rw c.truncate.ensures.items (checkpoints_cut l (c.args.turn / l.stride + 1) c.self.invariant (omega arith))
 
 pub returns-clause-kept : goal.returns-clause-kept
 returns-clause-kept c =
     let l : LadderData = record { kept = c.self.inside.kept.items; stride = c.self.inside.stride } in
     rw (← c.self.view_is) (c.truncate.ensures.items ∙ sym (below_is_first l c.args.turn c.self.invariant))
 
-pub returns-clause-rungs : goal.returns-clause-rungs
-returns-clause-rungs c = invariant_of-self c
+pub returns-clause-checkpoints : goal.returns-clause-checkpoints
+returns-clause-checkpoints c = invariant_of-self c

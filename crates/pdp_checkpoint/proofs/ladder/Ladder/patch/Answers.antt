@@ -6,7 +6,7 @@ use Rattle.pdp_store.proofs.PagedTakes.{rewrapped}
 use Rattle.pdp_cpu.specs.Saved.{HasWord}
 use Rattle.pdp_checkpoint.specs.declared.checkpoint.Checkpoint.{Checkpoint}
 use Rattle.pdp_checkpoint.specs.Ladder.{LadderData}
-use Rattle.pdp_checkpoint.proofs.PatchedRungs.{IsPatchedTo, first_are_low, is_patched_to, same_change}
+use Rattle.pdp_checkpoint.proofs.PatchedCheckpoints.{IsPatchedTo, first_are_low, is_patched_to, same_change}
 use Rattle.pdp_checkpoint.specs.Patched.{HavePageAlike}
 use Rattle.pdp_checkpoint.proofs.ladder.Ladder.patch.Goals as goal
 
@@ -36,10 +36,10 @@ after c =
     ∙ same_change c.in_ok-patch.patch.page c.args.drive c.args.word c.args.value c.truncate.new.self.items c.in_ok-patch.ensures.patch)
 
 pub invariant_of-self : goal.invariant_of-self
-invariant_of-self c = (after c).rungs
+invariant_of-self c = (after c).checkpoints
 
 pub returns-clause-kept : goal.returns-clause-kept
 returns-clause-kept c = rw (← c.self.view_is) (after c).is
 
-pub returns-clause-rungs : goal.returns-clause-rungs
-returns-clause-rungs c = (after c).rungs
+pub returns-clause-checkpoints : goal.returns-clause-checkpoints
+returns-clause-checkpoints c = (after c).checkpoints

@@ -1,6 +1,6 @@
 use Rattle.std.proofs.Common.{slice_set}
 use Rattle.pdp_checkpoint.specs.Ladder.{LadderData}
-use Rattle.pdp_checkpoint.proofs.DelayedRungs.{IsDelayed, is_delayed}
+use Rattle.pdp_checkpoint.proofs.DelayedCheckpoints.{IsDelayed, is_delayed}
 use Rattle.pdp_checkpoint.proofs.ladder.Ladder.set_delays.Goals as goal
 
 after : (c : goal.After-self-1)
@@ -10,10 +10,10 @@ after c =
     is_delayed l c.args.delays c.truncate.new.self.items c.index_mut.result.now c.set_delays.new.self c.self.invariant c.truncate.ensures.items (cc) c.set_delays.ensures
 
 pub invariant_of-self : goal.invariant_of-self
-invariant_of-self c = (after c).rungs
+invariant_of-self c = (after c).checkpoints
 
 pub returns-clause-kept : goal.returns-clause-kept
 returns-clause-kept c = rw (← c.self.view_is) (after c).is
 
-pub returns-clause-rungs : goal.returns-clause-rungs
-returns-clause-rungs c = (after c).rungs
+pub returns-clause-checkpoints : goal.returns-clause-checkpoints
+returns-clause-checkpoints c = (after c).checkpoints

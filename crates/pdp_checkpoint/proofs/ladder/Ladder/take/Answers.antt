@@ -1,6 +1,6 @@
 use Rattle.std.proofs.Common.{◌*◌, ap, arith}
 use Rattle.pdp_checkpoint.specs.Ladder.{LadderData, checkpoint_of}
-use Rattle.pdp_checkpoint.proofs.Rungs.{IsPushed, IsTaken, pushed_in_room, pushed_at_full}
+use Rattle.pdp_checkpoint.proofs.Checkpoints.{IsPushed, IsTaken, pushed_in_room, pushed_at_full}
 use Rattle.pdp_checkpoint.proofs.ladder.Ladder.take.Goals as goal
 
 in_room : (c : goal.Else-len-gt-MOST_KEPT)
@@ -8,7 +8,7 @@ in_room : (c : goal.Else-len-gt-MOST_KEPT)
 in_room c =
     let now : LadderData = record { kept = c.push.new.self.items; stride = c.self.inside.stride } in
     let pushed : IsPushed c.args.self.now c.args.machine.now.state now c.next-turn.result c.in_ok-saved.saved = record {
-      rungs = c.next-turn.ensures.rungs;
+      checkpoints = c.next-turn.ensures.checkpoints;
       next = c.requires.next;
       limit = c.requires.limit;
       turn_is = c.next-turn.ensures.next;
@@ -23,7 +23,7 @@ at_full : (c : goal.After-thin)
 at_full c =
     let now : LadderData = record { kept = c.push.new.self.items; stride = c.self.inside.stride } in
     let pushed : IsPushed c.args.self.now c.args.machine.now.state now c.next-turn.result c.in_ok-saved.saved = record {
-      rungs = c.next-turn.ensures.rungs;
+      checkpoints = c.next-turn.ensures.checkpoints;
       next = c.requires.next;
       limit = c.requires.limit;
       turn_is = c.next-turn.ensures.next;
@@ -34,10 +34,10 @@ at_full c =
     rw c.thin.ensures (pushed_at_full c.args.self.now c.args.machine.now.state now c.next-turn.result c.in_ok-saved.saved pushed (omega arith))
 
 pub invariant_of-self-then-len-gt-MOST_KEPT : goal.invariant_of-self-then-len-gt-MOST_KEPT
-invariant_of-self-then-len-gt-MOST_KEPT c = (at_full c).rungs
+invariant_of-self-then-len-gt-MOST_KEPT c = (at_full c).checkpoints
 
 pub invariant_of-self-else-len-gt-MOST_KEPT : goal.invariant_of-self-else-len-gt-MOST_KEPT
-invariant_of-self-else-len-gt-MOST_KEPT c = (in_room c).rungs
+invariant_of-self-else-len-gt-MOST_KEPT c = (in_room c).checkpoints
 
 pub returns-then-len-gt-MOST_KEPT-clause-kept : goal.returns-then-len-gt-MOST_KEPT-clause-kept
 returns-then-len-gt-MOST_KEPT-clause-kept c = (at_full c).is
@@ -45,11 +45,11 @@ returns-then-len-gt-MOST_KEPT-clause-kept c = (at_full c).is
 pub returns-then-len-gt-MOST_KEPT-clause-next : goal.returns-then-len-gt-MOST_KEPT-clause-next
 returns-then-len-gt-MOST_KEPT-clause-next c = (at_full c).next
 
-pub returns-then-len-gt-MOST_KEPT-clause-rungs : goal.returns-then-len-gt-MOST_KEPT-clause-rungs
-returns-then-len-gt-MOST_KEPT-clause-rungs c = (at_full c).rungs
+pub returns-then-len-gt-MOST_KEPT-clause-checkpoints : goal.returns-then-len-gt-MOST_KEPT-clause-checkpoints
+returns-then-len-gt-MOST_KEPT-clause-checkpoints c = (at_full c).checkpoints
 
 pub returns-else-len-gt-MOST_KEPT-clause-kept : goal.returns-else-len-gt-MOST_KEPT-clause-kept
 returns-else-len-gt-MOST_KEPT-clause-kept c = (in_room c).is
 
-pub returns-else-len-gt-MOST_KEPT-clause-rungs : goal.returns-else-len-gt-MOST_KEPT-clause-rungs
-returns-else-len-gt-MOST_KEPT-clause-rungs c = (in_room c).rungs
+pub returns-else-len-gt-MOST_KEPT-clause-checkpoints : goal.returns-else-len-gt-MOST_KEPT-clause-checkpoints
+returns-else-len-gt-MOST_KEPT-clause-checkpoints c = (in_room c).checkpoints

@@ -1,13 +1,13 @@
 use Rattle.std.proofs.Common.{◌≡◌, ◌∙◌, List, ap, arith, map, subst, ℕ}
 use Rattle.pdp_cpu.specs.Turns.MachineState.{MachineState}
 use Rattle.pdp_store.specs.Pages.{PagedWords}
-use Rattle.pdp_replay.specs.Edit.{with_eight_drives}
-use Rattle.pdp_replay.specs.Image.{more_drives}
-use Rattle.pdp_replay.specs.KeptRuns.{BeginsAnew}
+use Rattle.pdp_replay.specs.Past.Edit.{with_eight_drives}
+use Rattle.pdp_replay.specs.Past.Image.{more_drives}
+use Rattle.pdp_replay.specs.Run.KeptRuns.{BeginsAnew}
 use Rattle.pdp_replay.specs.Past.{Past, past_from}
-use Rattle.pdp_replay.specs.Setup.{drive_count, setup_from}
-use Rattle.pdp_replay.specs.declared.origin.DriveCount.TheVariants.{Eight}
-use Rattle.pdp_replay.specs.declared.origin.Origin.{Origin}
+use Rattle.pdp_replay.specs.Past.Setup.{drive_count, setup_from}
+use Rattle.pdp_replay.specs.declared.past.base_setup.DriveCount.TheVariants.{Eight}
+use Rattle.pdp_replay.specs.declared.past.base_setup.BaseSetup.{BaseSetup}
 use Rattle.pdp_replay.proofs.MoreDrives.{engine_begun, firsts_counted}
 use Rattle.pdp_replay.proofs.engine.Engine.eight_drives.Goals as goal
 
@@ -15,7 +15,7 @@ pub add_drives-requires-clause-firsts : goal.add_drives-requires-clause-firsts
 add_drives-requires-clause-firsts c =
     let old = c.self.inside in
     let before = c.resume.new.self in
-    let p : Past = past_from old.origin old.run.machine.state.world.bus.tape old.delays old.patches old.script in
+    let p : Past = past_from old.base_setup old.run.machine.state.world.bus.tape old.delays old.patches old.script in
     let on = c.resume.ensures.way p c.self.invariant.run in
     firsts_counted p before.known before.machine on.kept.texts ∙ ap drive_count c.in-One.is
 
@@ -24,11 +24,11 @@ invariant_of-self-in-One c =
     let old = c.self.inside in
     let before = c.resume.new.self in
     let run = c.add_drives.new.self in
-    let origin : Origin = record old.origin { drives = Eight } in
-    let p : Past = past_from old.origin old.run.machine.state.world.bus.tape old.delays old.patches old.script in
-    let q : Past = past_from origin run.machine.state.world.bus.tape old.delays old.patches old.script in
+    let base_setup : BaseSetup = record old.base_setup { drives = Eight } in
+    let p : Past = past_from old.base_setup old.run.machine.state.world.bus.tape old.delays old.patches old.script in
+    let q : Past = past_from base_setup run.machine.state.world.bus.tape old.delays old.patches old.script in
     let on = c.resume.ensures.way p c.self.invariant.run in
-    let most = c.resume.ensures.most in
+    let most = c.resume.ensures.resumed.most in
     let added = c.in_ok-add_drives-in-One.ensures in
     let drives = c.in_ok-drives-in-One.ensures in
     let firsts : List (List ℕ) = map (λ (drive : PagedWords). drive.firsts) c.in_ok-drives-in-One.drives.items in
@@ -36,6 +36,6 @@ invariant_of-self-in-One c =
     let over : BeginsAnew words firsts before run = subst (λ words. BeginsAnew words firsts before run) drives.words added.anew in
     let anew = subst (λ touches. BeginsAnew words touches before run) drives.firsts over in
     let tape = ap (λ (m : MachineState). m.world.bus.tape) anew.state ∙ on.kept.built.tape in
-    let setup : q.setup ≡ with_eight_drives p.setup = ap (λ tape. setup_from origin tape old.delays old.patches) tape in
-    engine_begun p q old.highest old.run before run c.self.invariant on (omega (arith, most)) c.resume.ensures.ladder
+    let setup : q.setup ≡ with_eight_drives p.setup = ap (λ tape. setup_from base_setup tape old.delays old.patches) tape in
+    engine_begun p q old.highest old.run before run c.self.invariant on (omega (arith, most)) c.resume.ensures.resumed.ladder
     (ap drive_count c.in-One.is) setup anew added.stride

@@ -2,7 +2,7 @@ use Rattle.std.proofs.Common.{ap, subst, sym}
 use Rattle.pdp_operand.specs.Phases.World.{World}
 use Rattle.pdp_script.specs.Refusal.{for_memory}
 use Rattle.pdp_replay.specs.Past.{Past, past_from}
-use Rattle.pdp_replay.specs.Setup.{setup_from}
+use Rattle.pdp_replay.specs.Past.Setup.{setup_from}
 use Rattle.pdp_replay.proofs.EditedEngines.{engine_edited}
 use Rattle.pdp_replay.proofs.EditedStates.{SameBefore, same_before_insertion}
 use Rattle.pdp_replay.proofs.engine.Engine.insert.Goals as goal
@@ -13,11 +13,11 @@ invariant_of-self-2 c =
     let run = c.lower.new.self in
     let script = c.insert.new.self in
     let turn = c.args.turn in
-    let p : Past = past_from old.origin old.run.machine.state.world.bus.tape old.delays old.patches old.script in
-    let q : Past = past_from old.origin run.machine.state.world.bus.tape old.delays old.patches script in
+    let p : Past = past_from old.base_setup old.run.machine.state.world.bus.tape old.delays old.patches old.script in
+    let q : Past = past_from old.base_setup run.machine.state.world.bus.tape old.delays old.patches script in
     let lower = c.lower.ensures in
     let same : SameBefore turn old.script script =
     subst (SameBefore turn old.script) (sym c.insert.ensures.after) (same_before_insertion turn c.args.event (for_memory c.insert.result) old.script) in
     engine_edited p q turn old.highest old.run run c.self.invariant
-    (ap (λ (w : World). setup_from old.origin w.bus.tape old.delays old.patches) (sym lower.world)) same lower.known lower.stride
+    (ap (λ (w : World). setup_from old.base_setup w.bus.tape old.delays old.patches) (sym lower.world)) same lower.known lower.stride
     (lower.run p c.self.invariant.run)

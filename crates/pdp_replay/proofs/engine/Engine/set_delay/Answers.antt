@@ -1,7 +1,7 @@
 use Rattle.std.proofs.Common.{ap}
 use Rattle.pdp_operand.specs.Phases.World.{World}
 use Rattle.pdp_replay.specs.Past.{Past, past_from}
-use Rattle.pdp_replay.specs.Setup.{setup_from}
+use Rattle.pdp_replay.specs.Past.Setup.{setup_from}
 use Rattle.pdp_replay.proofs.EditedDelays.{engine_delayed}
 use Rattle.pdp_replay.proofs.engine.Engine.set_delay.Goals as goal
 
@@ -10,8 +10,8 @@ invariant_of-self c =
     let old = c.self.inside in
     let run = c.set_delays.new.self in
     let delays = c.with-self-inside.result in
-    let p : Past = past_from old.origin old.run.machine.state.world.bus.tape old.delays old.patches old.script in
-    let q : Past = past_from old.origin run.machine.state.world.bus.tape delays old.patches old.script in
+    let p : Past = past_from old.base_setup old.run.machine.state.world.bus.tape old.delays old.patches old.script in
+    let q : Past = past_from old.base_setup run.machine.state.world.bus.tape delays old.patches old.script in
     let set = c.set_delays.ensures in
     engine_delayed p q delays old.highest old.run run c.self.invariant
-    (ap (λ (w : World). setup_from old.origin w.bus.tape delays old.patches) set.world) set.forgotten set.ladder set.world
+    (ap (λ (w : World). setup_from old.base_setup w.bus.tape delays old.patches) set.world) set.forgotten set.ladder set.world

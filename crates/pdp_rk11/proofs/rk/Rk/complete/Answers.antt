@@ -8,7 +8,7 @@ pub returns-then-is_under_way-clause-firsts : goal.returns-then-is_under_way-cla
 returns-then-is_under_way-clause-firsts g c =
     let drives = c.args.drives.now in
     let before = firsts_of (g.S.Store.firsts c.args.core.now) (map g.D.Store.firsts drives) in
-    c.perform.ensures.firsts
+    c.run_unless_refused.ensures.firsts
     ∙ ap (λ xs. firsts_after xs before)
     (under_way _ _ _ (sym c.is_under_way.ensures ∙ c.if-is_under_way.true) (sym (map_length g.D.Store.words drives)))
 

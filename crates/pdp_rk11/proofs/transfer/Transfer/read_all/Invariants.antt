@@ -1,12 +1,12 @@
 -- the words moved so far are in core, with their stamps
 use Rattle.std.proofs.Common.{◌≡◌, ◌+◌, Some, slice_index}
-use Rattle.pdp_rk11.specs.Moves.{moved}
+use Rattle.pdp_rk11.specs.Moves.{moved_items}
 use Rattle.pdp_rk11.proofs.transfer.Transfer.read_all.Given as goal
 
 abbrev pub invariant-loop-i : goal.invariant-loop-i
 invariant-loop-i g l = record {
   words : g.S.Store.words l.core
-      ≡ moved l.core_start l.i (λ i. slice_index (g.D.Store.words l.disk) (l.disk_start + i)) (g.S.Store.words l.initial.core);
-  lasts : g.S.Store.lasts l.core ≡ moved l.core_start l.i (λ i. Some l.stamp) (g.S.Store.lasts l.initial.core);
+      ≡ moved_items l.core_start l.i (λ i. slice_index (g.D.Store.words l.disk) (l.disk_start + i)) (g.S.Store.words l.initial.core);
+  lasts : g.S.Store.lasts l.core ≡ moved_items l.core_start l.i (λ i. Some l.stamp) (g.S.Store.lasts l.initial.core);
   firsts : g.S.Store.firsts l.core ≡ g.S.Store.firsts l.initial.core;
 }

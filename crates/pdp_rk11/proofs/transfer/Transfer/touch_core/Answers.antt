@@ -1,5 +1,5 @@
 use Rattle.std.proofs.Common.{◌∙◌, ap, refl}
-use Rattle.pdp_rk11.specs.Touched.{run_touched, stepped}
+use Rattle.pdp_rk11.specs.Touched.{run_touched, after_steps}
 use Rattle.pdp_rk11.proofs.TouchedRuns.{core_of, core_untouched}
 use Rattle.pdp_rk11.proofs.transfer.Transfer.touch_core.Goals as goal
 
@@ -8,7 +8,7 @@ pub returns-in-Read-clause-firsts : goal.returns-in-Read-clause-firsts
 returns-in-Read-clause-firsts g c =
     let before = g.S.Store.firsts c.args.core.now in
     c.touch_run.ensures.firsts
-    ∙ ap (λ n. stepped (run_touched c.args.self.core_start c.args.turn) n before) c.words_named-count.ensures
+    ∙ ap (λ n. after_steps (run_touched c.args.self.core_start c.args.turn) n before) c.words_named-count.ensures
     ∙ core_of c.args.function c.args.self c.args.turn before c.in-Read.is
 
 pub returns-in_default : goal.returns-in_default

@@ -6,8 +6,7 @@ abbrev pub invariant-loop-rest : goal.invariant-loop-rest
 invariant-loop-rest g l = record {
   front : List ℕ;
   split : l.bytes ≡ front ++ l.rest;
-  writes : IsShownTo l.name l.bytes front (g.W.Drain.written l.fn.writer) (g.W.Drain.written l.writer);
-  sound : g.W.Drain.has_failed l.writer ≡ g.W.Drain.has_failed l.fn.writer;
+  writes : IsShownTo l.name l.bytes front (g.W.Drain.output l.fn.writer) (g.W.Drain.output l.writer);
 }
 
 abbrev pub decreases-loop-rest : goal.decreases-loop-rest

@@ -1,24 +1,26 @@
-use Rattle.std.proofs.Common.{◌≤◌, length, codes, arith, rules}
+use Rattle.std.proofs.Common.{◌≤◌, length, codes, arith}
+use Rattle.std.proofs.lemmas.Result.{err_from_is_err_and}
 use Rattle.pdp_session.specs.Reply.{entry_line}
 use Rattle.pdp_session.proofs.ListedLines.{list_cut_at_count, list_cut_at_item, list_goes_on, list_is_whole}
 use Rattle.pdp_session.proofs.reply.history.send_trail.Goals as goal
 
-pub returns-in-Err-clause-sends : goal.returns-in-Err-clause-sends
-returns-in-Err-clause-sends g c =
-    let cut = rw (c.as_slice.ensures.value, c.count_text.ensures, c.len-count.ensures) at c.in-Err.ensures.sends in
-    list_cut_at_count (codes "trail") entry_line c.args.trail.now _ _ cut
+pub returns-in_err-send : goal.returns-in_err-send
+returns-in_err-send g c =
+    let cut = rw (c.as_slice.ensures.value, c.count_text.ensures, c.len-count.ensures) at c.in_err-send.ensures in
+    let (failed, is, same) = err_from_is_err_and c.from_residual.result c.from_residual.ensures.1 in
+    rw is (list_cut_at_count (codes "trail") entry_line c.args.trail.now _ _ cut)
 
-pub returns-in-Err-send_entry-clause-sends : goal.returns-in-Err-send_entry-clause-sends
-returns-in-Err-send_entry-clause-sends g c =
-    list_cut_at_item (codes "trail") entry_line c.args.trail.now c.loop-index.index _ _ _ c.loop-index.invariant.writes c.in-Err-send_entry.ensures.sends
+pub returns-in_err-send_entry : goal.returns-in_err-send_entry
+returns-in_err-send_entry g c =
+    let (failed, is, same) = err_from_is_err_and c.from_residual-in_err-send_entry.result c.from_residual-in_err-send_entry.ensures.1 in
+    rw is
+    (list_cut_at_item (codes "trail") entry_line c.args.trail.now c.loop-index.index _ _ _ c.loop-index.invariant c.in_err-send_entry.ensures)
 
 pub loop-index-preserved : goal.loop-index-preserved
-loop-index-preserved g c = record {
-  writes = list_goes_on (codes "trail") entry_line c.args.trail.now c.loop-index.index _ _ _ c.loop-index.invariant.writes c.in-Ok-send_entry.ensures.sends;
-  sound = search rules;
-}
+loop-index-preserved g c =
+    list_goes_on (codes "trail") entry_line c.args.trail.now c.loop-index.index _ _ _ c.loop-index.invariant c.in_ok-send_entry.ensures
 
-pub returns-clause-sends : goal.returns-clause-sends
-returns-clause-sends g c =
+pub returns : goal.returns
+returns g c =
     let all : length c.args.trail.now ≤ c.loop-index.index = omega (arith, c.len-count.ensures) in
-    list_is_whole (codes "trail") entry_line c.args.trail.now c.loop-index.index _ _ all c.loop-index.invariant.writes
+    list_is_whole (codes "trail") entry_line c.args.trail.now c.loop-index.index _ _ all c.loop-index.invariant

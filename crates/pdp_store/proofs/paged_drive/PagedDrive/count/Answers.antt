@@ -7,11 +7,11 @@ pub returns-clause-bases : goal.returns-clause-bases
 returns-clause-bases c =
     let s = c.self.inside in
     let bases = ap (λ (v : PagedWords). v.bases) c.self.view_is in
-    let many = count_places s.pages.value.items s.places.items _ bases in
-    omega (arith, s.places.ok.0)
+    let many = count_places s.pages.value.items s.backings.items _ bases in
+    omega (arith, s.backings.ok.0)
 
 pub returns-clause-words : goal.returns-clause-words
 returns-clause-words c =
     let s = c.self.inside in
-    let all = count_own s.pages.value.items s.places.items s.own.items _ (ap (λ (v : PagedWords). v.words) c.self.view_is) in
-    omega (arith, s.places.ok.0, c.self.invariant.words)
+    let all = count_own s.pages.value.items s.backings.items s.own.items _ (ap (λ (v : PagedWords). v.words) c.self.view_is) in
+    omega (arith, s.backings.ok.0, c.self.invariant.words)

@@ -1,5 +1,5 @@
 use Rattle.std.proofs.Common.{◌∙◌, [], ap, arith, slice_index_or, slice_set}
-use Rattle.pdp_unibus.specs.BusContent.{BusContent}
+use Rattle.pdp_unibus.specs.SavedBusData.{SavedBusData}
 use Rattle.pdp_unibus.specs.PatchedPages.{AreNewPages}
 use Rattle.pdp_unibus.specs.SavedDrives.{pages_words}
 use Rattle.pdp_unibus.proofs.PatchedPages.{drive_patch, drive_put, drive_within, none_there}
@@ -36,6 +36,6 @@ returns c =
       patch = c.requires.page;
       words =
           put.words ∙ ap (λ ws. slice_set ws p.word p.value) (words_there lists k old c.index.ensures below)
-          ∙ ap (λ (v : BusContent). slice_set (slice_index_or v.drives k []) p.word p.value) c.self.view_is;
+          ∙ ap (λ (v : SavedBusData). slice_set (slice_index_or v.drives k []) p.word p.value) c.self.view_is;
       lasts = put.lasts ∙ none_there lists k old c.self.invariant.0 c.index.ensures below;
     }

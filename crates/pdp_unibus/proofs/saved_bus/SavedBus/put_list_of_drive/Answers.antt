@@ -1,9 +1,9 @@
 use Rattle.std.proofs.Common.{◌∙◌, [], ap, arith, refl, slice_index_or, slice_set, sym}
 use Rattle.std.proofs.lemmas.List.{map-set}
-use Rattle.pdp_unibus.specs.BusContent.{BusContent, content_with_word}
+use Rattle.pdp_unibus.specs.SavedBusData.{SavedBusData, saved_bus_with_word}
 use Rattle.pdp_unibus.specs.SavedDrives.{pages_words}
 use Rattle.pdp_unibus.proofs.PatchedPages.{drive_patch}
-use Rattle.pdp_unibus.proofs.SavedDrives.{alike_contents, list_there, put_unstamped}
+use Rattle.pdp_unibus.proofs.SavedDrives.{alike_saved_buses, list_there, put_unstamped}
 use Rattle.pdp_unibus.proofs.saved_bus.SavedBus.put_list_of_drive.Goals as goal
 
 pub index_mut-requires : goal.index_mut-requires
@@ -18,12 +18,12 @@ invariant_of-self c =
     (put_unstamped c.self.inside.drives.items c.args.number c.args.pages c.self.invariant.0 c.requires.lasts, c.self.invariant.1)
 
 pub returns : goal.returns
-unfolding content_with_word
+unfolding saved_bus_with_word
 returns c =
     let p = c.args.page.now in
     let k = c.args.number in
     let drives = map-set pages_words c.self.inside.drives.items k c.args.pages
     ∙ ap (slice_set _ k) c.requires.words in
-    alike_contents _ _ refl refl refl drives refl refl
-    ∙ ap (λ (v : BusContent). record v { drives = slice_set v.drives k (slice_set (slice_index_or c.args.self.now.drives k []) p.word p.value) }) c.self.view_is
-    ∙ ap (λ d. content_with_word d p.word p.value c.args.self.now) (sym c.requires.drive_is)
+    alike_saved_buses _ _ refl refl refl drives refl refl
+    ∙ ap (λ (v : SavedBusData). record v { drives = slice_set v.drives k (slice_set (slice_index_or c.args.self.now.drives k []) p.word p.value) }) c.self.view_is
+    ∙ ap (λ d. saved_bus_with_word d p.word p.value c.args.self.now) (sym c.requires.drive_is)

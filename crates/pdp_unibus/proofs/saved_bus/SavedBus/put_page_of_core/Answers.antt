@@ -3,9 +3,9 @@ use Rattle.std.proofs.lemmas.List.{map-set}
 use Rattle.pdp_store.proofs.PageLists.{IsChanged, there_within}
 use Rattle.pdp_store.specs.PageLists.{pages_shared}
 use Rattle.pdp_store.specs.Pages.{SharedPage}
-use Rattle.pdp_unibus.specs.BusContent.{BusContent, content_with_word}
+use Rattle.pdp_unibus.specs.SavedBusData.{SavedBusData, saved_bus_with_word}
 use Rattle.pdp_unibus.proofs.PatchedPages.{core_patch, page_put, stamped_still}
-use Rattle.pdp_unibus.proofs.SavedDrives.{alike_contents}
+use Rattle.pdp_unibus.proofs.SavedDrives.{alike_saved_buses}
 use Rattle.pdp_unibus.proofs.saved_bus.SavedBus.put_page_of_core.Goals as goal
 
 pub index_mut-requires : goal.index_mut-requires
@@ -26,7 +26,7 @@ invariant_of-self c =
     (c.self.invariant.0, stamped_still ps (slice_set ps k new) p.word p.value put c.self.invariant.1)
 
 pub returns : goal.returns
-unfolding content_with_word
+unfolding saved_bus_with_word
 returns c =
     let p = c.args.page.now in
     let ps = c.self.inside.core.items in
@@ -35,6 +35,6 @@ returns c =
     let (there, page) = core_patch _ c.args.self.now p c.self.view_is c.requires.drive_is c.requires.patch in
     let is : IsChanged ps (slice_set ps k new) k p.page = map-set (λ (q : SharedPage). q.value) ps k new ∙ ap (slice_set (pages_shared ps) k) c.requires.same in
     let put = page_put ps (slice_set ps k new) p.word p.value p.page is there c.self.invariant.1 page in
-    alike_contents _ _ refl put.words put.lasts refl refl refl
-    ∙ ap (λ (v : BusContent). record v { core = slice_set v.core p.word p.value }) c.self.view_is
-    ∙ ap (λ d. content_with_word d p.word p.value c.args.self.now) (sym c.requires.drive_is)
+    alike_saved_buses _ _ refl put.words put.lasts refl refl refl
+    ∙ ap (λ (v : SavedBusData). record v { core = slice_set v.core p.word p.value }) c.self.view_is
+    ∙ ap (λ d. saved_bus_with_word d p.word p.value c.args.self.now) (sym c.requires.drive_is)

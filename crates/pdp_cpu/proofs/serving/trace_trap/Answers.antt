@@ -1,7 +1,0 @@
-use Rattle.pdp_cpu.proofs.PendingTraps.{trace_served}
-use Rattle.pdp_cpu.proofs.serving.trace_trap.Goals as goal
-
-pub returns : goal.returns
-returns g c = record {
-  follows = trace_served _ _ _ _ _ _ c.take_trace.ensures c.of-origin.ensures c.begin_sequence.ensures.follows;
-}

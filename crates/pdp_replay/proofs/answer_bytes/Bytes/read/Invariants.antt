@@ -1,6 +1,0 @@
-use Rattle.std.proofs.Common.{◌≡◌, take}
-use Rattle.pdp_cpu.specs.KeptTexts.{without_turns}
-use Rattle.pdp_replay.proofs.answer_bytes.Bytes.read.Given as goal
-
-abbrev pub invariant-loop-index : goal.invariant-loop-index
-invariant-loop-index l = l.items.items ≡ take l.index (without_turns l.kept)

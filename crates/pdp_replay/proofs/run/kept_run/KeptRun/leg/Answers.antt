@@ -1,0 +1,54 @@
+use Rattle.std.proofs.Common.{◌≡◌, arith, refl}
+use Rattle.std.proofs.lemmas.Result.{on_ok_weaker}
+use Rattle.pdp_replay.specs.Past.{Past}
+use Rattle.pdp_replay.specs.Run.KeptRuns.{Advances, IsOnWay, IsUnderWay}
+use Rattle.pdp_replay.proofs.Coming.{advances_from, arrives_from, arrives_where}
+use Rattle.pdp_replay.proofs.OnWay.{on_way_settled}
+use Rattle.pdp_replay.proofs.UnderWay.{way_of_run}
+use Rattle.pdp_replay.proofs.run.kept_run.KeptRun.leg.Goals as goal
+use Rattle.pdp_replay.proofs.run.kept_run.KeptRun.leg.Goals.{After-settle}
+
+-- the machine is on its way where it came to, before the run settles there
+came : (c : After-settle) (p : Past) → p.script ≡ c.args.script.now → IsOnWay p c.args.self.now
+    → IsUnderWay p c.args.self.now.known c.run_part-ran.new.machine
+came c p same on = c.run_part-ran.ensures.way p c.args.self.now.known same (way_of_run p c.args.self.now on)
+
+-- and once it settled it is as far on
+advanced : (c : After-settle) → Advances c.args.self.now.machine.state.turn c.args.to c.args.self.now c.settle.new.self
+advanced c =
+    let part = c.run_part-ran.ensures in
+    let before = c.replace-counting.ensures.value in
+    let ran = part.ran in
+    let counted = part.counted in
+    let most = part.most in
+    let end = c.min-end.ensures in
+    advances_from _ _ _ c.args.self.now _ c.settle.new.self refl refl (omega (arith, ran, before)) (omega (arith, counted, before)) c.settle.ensures.advances (omega (arith, most, end))
+
+pub returns-in_err-settle-clause-kept : goal.returns-in_err-settle-clause-kept
+returns-in_err-settle-clause-kept c = λ p same on. c.settle.ensures.kept p on.kept.states (came (goal.at.returns-in_err-settle-clause-kept c).After-settle p same on)
+
+pub returns-clause-kept : goal.returns-clause-kept
+returns-clause-kept c = λ p same on. c.settle.ensures.kept p on.kept.states (came (goal.at.returns-clause-kept c).After-settle p same on)
+
+pub returns-clause-way : goal.returns-clause-way
+returns-clause-way c =
+    let run = c.args.self.now in
+    let machine = c.run_part-ran.new.machine in
+    let settled = c.in_ok-settle.ensures in
+    on_ok_weaker c.run_part-ran.result
+    (λ _ p same on.
+    let way = came (goal.at.returns-clause-way c).After-settle p same on in
+    on_way_settled p run.known machine c.settle.new.self way (c.settle.ensures.kept p on.kept.states way).kept settled.machine settled.arrives.known)
+    c.run_part-ran.ensures.turn
+
+pub returns-clause-arrives : goal.returns-clause-arrives
+returns-clause-arrives c =
+    on_ok_weaker c.run_part-ran.result
+    (λ _. arrives_where _ c.args.self.now c.settle.new.self (arrives_from _ c.args.self.now _ c.settle.new.self refl c.in_ok-settle.ensures.arrives))
+    c.run_part-ran.ensures.turn
+
+pub returns-in_err-settle-clause-advances : goal.returns-in_err-settle-clause-advances
+returns-in_err-settle-clause-advances c = advanced (goal.at.returns-in_err-settle-clause-advances c).After-settle
+
+pub returns-clause-advances : goal.returns-clause-advances
+returns-clause-advances c = advanced (goal.at.returns-clause-advances c).After-settle

@@ -1,0 +1,16 @@
+use Rattle.std.proofs.Common.{◌≡◌, ℕ, ◌+◌, ◌-◌, ◌≤◌}
+use Rattle.pdp_replay.specs.Run.KeptRuns.{IsUnderWay}
+use Rattle.pdp_replay.specs.Past.{Past}
+use Rattle.pdp_replay.proofs.run.turns.run_part.Given as goal
+
+abbrev pub invariant-loop-machine : goal.invariant-loop-machine
+invariant-loop-machine l = record {
+  way : (p : Past) (known : ℕ) → p.script ≡ l.script → IsUnderWay p known l.fn.machine → IsUnderWay p known l.machine;
+  begun : l.fn.machine.state.turn ≤ l.machine.state.turn;
+  within : l.machine.state.turn ≤ l.to;
+  ran : l.meter + l.fn.machine.state.turn ≤ l.fn.meter + l.machine.state.turn;
+  counted : l.fn.meter ≤ l.meter;
+}
+
+abbrev pub decreases-loop-machine : goal.decreases-loop-machine
+decreases-loop-machine l = l.to - l.machine.state.turn

@@ -1,0 +1,5 @@
+-- What questions about a run must be answered, and what they leave known (this project's profile).
+pub mod LastWrites
+pub mod Trails
+pub mod Answer
+pub mod Known

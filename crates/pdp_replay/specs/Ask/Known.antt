@@ -1,0 +1,85 @@
+-- What is known of a run, and how many turns a question may run (this project's profile).
+use Rattle.std.specs.Prelude.{ℕ, ◌≡◌, ◌+◌, ◌-◌, ◌*◌, ◌/◌, ◌<◌, ◌≤◌, length, true, min, max}
+use Rattle.pdp_script.specs.Script.{ScriptData}
+use Rattle.pdp_unibus.specs.LastTurn.{last_turn}
+use Rattle.pdp_replay.specs.Ask.Answer.{turn_asked, first_turn_needed, AreDrives, IsWithin}
+use Rattle.pdp_replay.specs.Run.KeptRuns.{CanGoOn, IsKeptRun, resumed_at}
+use Rattle.pdp_replay.specs.Past.{Past}
+use Rattle.pdp_replay.specs.Past.Setup.{core_size}
+use Rattle.pdp_replay.specs.declared.run.kept_run.KeptRun.{KeptRun}
+use Rattle.pdp_replay.specs.Timeline.{Timeline}
+use Rattle.pdp_replay.specs.Run.Strides.{IsStride}
+use Rattle.pdp_replay.specs.declared.ask.question.Answer.{Answer}
+use Rattle.pdp_replay.specs.declared.ask.question.Question.{Question}
+
+-- the known turn after an answered question
+abbrev pub known_after : Question → ℕ → ℕ
+known_after q known = max known (turn_asked q)
+
+-- A question about this timeline ran at most one stride of turns more than those that a trail lists
+-- or that are past what was known, where `turns` is the count of turns after it.
+abbrev pub IsWithinBound : Question → Timeline → ℕ → Type 0
+IsWithinBound q t turns = turns + min (first_turn_needed q) t.known + 1
+    ≤ t.turns + turn_asked q + t.stride
+
+-- where a question about this timeline goes on from, to this turn: from the machine or from the
+-- best checkpoint of the lesser of that turn and the known one, the later of the two
+abbrev pub resumed_from : Timeline → ℕ → ℕ
+resumed_from t to = resumed_at t.current t.turn (min to t.known / t.stride * t.stride) to
+
+-- the turn of the next state to keep
+abbrev pub next_kept : Timeline → ℕ
+next_kept t = (t.known / t.stride + 1) * t.stride
+
+-- A question came to the machine's turn, answered or refused for memory. The known turn is the one
+-- before, or the greatest for which the bytes that came out and the states at multiples of the
+-- stride can be kept: that of the machine, or one less if the state of the machine's turn is to be
+-- kept and isn't.
+pub record IsCome (before after : Timeline) : Type 0 where
+  pub within : after.turn ≤ next_kept after
+  pub known : after.known ≡ max before.known (min after.turn (next_kept after - 1))
+  pub current : after.turn < next_kept after → after.current ≡ true
+
+-- A question that may be asked went on from the machine, if that was in a state of the run, or from
+-- a checkpoint, and came to the turn that was asked about, or to an earlier one if memory was
+-- refused: what was come to stays known.
+pub record RunsFor (q : Question) (before after : Timeline) : Type 0 where
+  pub resumed : after.turns + resumed_from before (first_turn_needed q) ≤ before.turns + after.turn
+  pub come : IsCome before after
+
+-- What every question leaves, answered or refused: the past stays, the known turn never falls and
+-- rises to the turn asked about at most, and the stride is that of the highest turn known.
+pub record LeavesPast (q : Question) (before after : Timeline) : Type 0 where
+  pub past : after.past ≡ before.past
+  pub counted : before.turns ≤ after.turns
+  pub known_least : before.known ≤ after.known
+  pub known_most : after.known ≤ known_after q before.known
+  pub highest : after.highest ≡ max before.highest after.known
+  pub doubled : IsStride after.past.setup.stride after.highest after.stride
+
+-- An answer, with what is told beside its value: how many turns were run for it, the known turn and
+-- the stride after it. The machine is at the turn that was asked about, which is known now.
+pub record IsAnswered (q : Question) (a : Answer) (before after : Timeline) : Type 0 where
+  pub ran : after.turns ≡ before.turns + a.ran
+  pub there : after.turn ≡ turn_asked q
+  pub known : after.known ≡ known_after q before.known
+  pub known_told : a.known ≡ after.known
+  pub stride : a.stride ≡ after.stride
+
+-- a question can be answered from what is kept of a run with this script: what it asks for is there
+pub record CanAnswer (q : Question) (script : ScriptData) (r : KeptRun) : Type 0 where
+  pub past : Past
+  pub same : past.script ≡ script
+  pub run : IsKeptRun past r
+  pub within : IsWithin q (core_size past.setup) past.setup.drives
+  pub limit : turn_asked q ≤ last_turn
+
+-- what a question asks for is there in a run whose machine is before the first turn that its answer
+-- needs, and can go on
+pub record CanRead (q : Question) (r : KeptRun) : Type 0 where
+  pub within : IsWithin q (length r.machine.state.world.bus.core) (length
+      r.machine.state.world.bus.drives)
+  pub drives : AreDrives r.machine.state.world.bus.drives
+  pub here : r.machine.state.turn ≡ first_turn_needed q
+  pub limit : turn_asked q ≤ last_turn
+  pub ready : CanGoOn r

@@ -1,0 +1,6 @@
+-- The states of a run, and what an engine keeps of it (this project's profile).
+pub mod States
+pub mod FirstTouches
+pub mod Checkpoints
+pub mod Strides
+pub mod KeptRuns

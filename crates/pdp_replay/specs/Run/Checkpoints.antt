@@ -1,0 +1,70 @@
+-- What an engine keeps of a run: the bytes that came out of it, with their turns, and some of its
+-- states (this project's profile).
+use Rattle.std.specs.Prelude.{ℕ, zero, suc, ◌≡◌, ◌≤◌, ◌+◌, ◌/◌, ◌++◌, List, [], length, map}
+use Rattle.std.specs.Prelude.{replicate}
+use Rattle.std.specs.List.{All}
+use Rattle.pdp_checkpoint.specs.Ladder.{AreCheckpoints, LadderData}
+use Rattle.pdp_cpu.specs.Saved.{saved_machine}
+use Rattle.pdp_cpu.specs.KeptTexts.{without_turns}
+use Rattle.pdp_cpu.specs.Turns.MachineState.{MachineWithTexts}
+use Rattle.pdp_cpu.specs.Turns.Turn.{printed_in, punched_in}
+use Rattle.pdp_cpu.specs.declared.kept_text.KeptByte.{KeptByte}
+use Rattle.pdp_script.specs.Entries.{events_at}
+use Rattle.pdp_replay.specs.Run.FirstTouches.{firsts_at}
+use Rattle.pdp_replay.specs.Past.{Past}
+use Rattle.pdp_replay.specs.Past.Setup.{SetupData, core_size, drive_words}
+use Rattle.pdp_replay.specs.Run.States.{at, punched_at, state_at, text_at}
+
+-- these bytes, with the turn in which they came out
+abbrev pub with_turn : ℕ → List ℕ → List KeptByte
+with_turn turn bytes = map (λ byte. record { byte = byte; turn = turn }) bytes
+
+-- the bytes that were printed before turn n, with their turns
+unfoldable pub text_kept_at : Past → ℕ → List KeptByte
+text_kept_at p zero = []
+text_kept_at p (suc n) = text_kept_at p n ++ with_turn n (printed_in n (events_at p.script.entries
+    n) (state_at p n))
+
+-- and those that were punched
+unfoldable pub punched_kept_at : Past → ℕ → List KeptByte
+punched_kept_at p zero = []
+punched_kept_at p (suc n) = punched_kept_at p n ++ with_turn n (punched_in n
+    (events_at p.script.entries n) (state_at p n))
+
+-- the machine has what no turn changes: the tape of this setup, and the sizes of its core and its
+-- stamps, and as many drives as there are, each with its words
+pub record IsBuiltFrom (s : SetupData) (m : MachineWithTexts) : Type 0 where
+  pub tape : m.state.world.bus.tape ≡ s.tape
+  pub core : length m.state.world.bus.core ≡ core_size s
+  pub lasts : length m.state.world.bus.lasts ≡ core_size s
+  pub drives : map length m.state.world.bus.drives ≡ replicate s.drives drive_words
+
+-- the machine keeps what was printed and punched before the known turn, and the first touches of
+-- the turns before it
+pub record KeepsTexts (p : Past) (known : ℕ) (m : MachineWithTexts) : Type 0 where
+  pub text : m.kept_text ≡ text_kept_at p known
+  pub punched : m.kept_punched ≡ punched_kept_at p known
+  pub firsts : m.firsts ≡ firsts_at p known
+
+-- these bytes, without their turns, are what was printed and punched before the known turn
+pub record ShowsTexts (p : Past) (known : ℕ) (m : MachineWithTexts) : Type 0 where
+  pub text : without_turns m.kept_text ≡ text_at p known
+  pub punched : without_turns m.kept_punched ≡ punched_at p known
+
+-- the machine is in the run's state of its turn, which is not above the known one
+pub record IsInRun (p : Past) (known : ℕ) (m : MachineWithTexts) : Type 0 where
+  pub here : m.state ≡ at p m.state.turn
+  pub reached : m.state.turn ≤ known
+
+-- the checkpoints are those of the run at turn 0 and at each multiple of the stride up to the known
+-- turn
+pub record AreStatesOf (p : Past) (known : ℕ) (l : LadderData) : Type 0 where
+  pub states : All (λ c. c.saved ≡ saved_machine (at p c.turn)) l.kept
+  pub checkpoints : AreCheckpoints l
+  pub count : length l.kept ≡ known / l.stride + 1
+
+-- what an engine keeps of a run up to the known turn: states, texts, and what no turn changes
+pub record AreKept (p : Past) (known : ℕ) (m : MachineWithTexts) (l : LadderData) : Type 0 where
+  pub states : AreStatesOf p known l
+  pub texts : KeepsTexts p known m
+  pub built : IsBuiltFrom p.setup m

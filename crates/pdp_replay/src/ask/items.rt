@@ -1,0 +1,116 @@
+ghost use Rattle.std.specs.Prelude.{◌≡◌, ◌+◌, ◌≤◌, length, IfOk};
+ghost use Rattle.std.specs.Cmp.Lexicographic.{lists_equiv, lists_per, pointwise};
+ghost use Rattle.pdp_cpu.specs.KeptTexts.{without_turns};
+ghost use Rattle.pdp_replay.specs.Ask.Answer.{words_from};
+ghost use Rattle.pdp_replay.specs.Run.States.{disk_of};
+
+use pdp_cpu::{KeptByte, PagedMachine};
+use pdp_word::NoMemory;
+use std::alloc::Global;
+use std::marker::Model;
+
+/// Words or bytes of an answer, one after another (this project's profile). A contract sees the
+/// list of them.
+#[derive(Debug, Drop)]
+pub struct Items<T> {
+    items: Vec<T>,
+}
+
+/// Words of core or of a drive, in the order of their addresses or numbers.
+pub type Words = Items<u16>;
+
+/// Bytes that the machine printed or punched, in the order in which they came out.
+pub type Bytes = Items<u8>;
+
+impl<T> Model for Items<T> {
+    ghost use Rattle.std.specs.Prelude.{List};
+
+    ghost Value = { List T };
+
+    ghost view = { λ i. i.items.items };
+}
+
+impl<T> Items<T> {
+    /// The words or bytes, in their order (this project's profile).
+    pub fn items(&self) -> &[T]
+        ensures { result.now ≡ self.now }
+    {
+        self.items.as_slice()
+    }
+}
+
+impl<T: PartialEq> PartialEq for Items<T> {
+    ghost eq = { λ a b. pointwise T.eq a b };
+
+    ghost laws = { lists_per T.laws };
+
+    fn eq(&self, other: &Items<T>) -> bool {
+        self.items() == other.items()
+    }
+}
+
+impl<T: Eq> Eq for Items<T> {
+    ghost laws = { lists_equiv T.Eq.laws };
+}
+
+/// `count` words of the machine's core, from the word of the number `first` on.
+///
+/// Err if there is no memory for them.
+#[tactic(auto, using(crate::proofs::Lists::words_one_more))]
+pub(crate) fn read_core(
+    alloc: Global,
+    machine: &PagedMachine,
+    first: u32,
+    count: u32,
+) -> Result<Words, NoMemory>
+    requires { first + count ≤ length machine.now.state.world.bus.core }
+    ensures { IfOk result (λ words. words
+        ≡ words_from first count machine.now.state.world.bus.core) }
+{
+    let first = first as usize;
+    let count = count as usize;
+    let mut items = Vec::with_capacity(alloc, count)?;
+    for index in 0..count {
+        items.push(machine.word(first + index))?;
+    }
+    Ok(Items { items })
+}
+
+/// `count` words of a drive of the machine, from its word `first` on (both numbers from 0).
+///
+/// Err if there is no memory for them.
+#[tactic(auto, using(crate::proofs::Lists::words_one_more))]
+pub(crate) fn read_disk(
+    alloc: Global,
+    machine: &PagedMachine,
+    drive: u8,
+    first: u32,
+    count: u32,
+) -> Result<Words, NoMemory>
+    requires { first + count ≤ length (disk_of machine.now.state.world drive) }
+    ensures { IfOk result (λ words. words
+        ≡ words_from first count (disk_of machine.now.state.world drive)) }
+{
+    let drive = usize::from(drive);
+    let first = first as usize;
+    let count = count as usize;
+    let mut items = Vec::with_capacity(alloc, count)?;
+    for index in 0..count {
+        items.push(machine.disk_word(drive, first + index))?;
+    }
+    Ok(Items { items })
+}
+
+/// These bytes, without their turns.
+///
+/// Err if there is no memory for them.
+#[tactic(auto, using(crate::proofs::Lists::bytes_one_more))]
+pub(crate) fn read_bytes(alloc: Global, kept: &[KeptByte]) -> Result<Bytes, NoMemory>
+    ensures { IfOk result (λ bytes. bytes ≡ without_turns kept.now) }
+{
+    let mut items = Vec::with_capacity(alloc, kept.len())?;
+    for index in 0..kept.len() {
+        items.push(kept[index].byte)?;
+    }
+    Ok(Items { items })
+}

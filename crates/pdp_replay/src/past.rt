@@ -1,0 +1,16 @@
+//! The past that determines a run: its setup with delays and patches, its script, and their edits.
+
+mod base_setup;
+mod edits;
+mod image;
+mod patch;
+mod setup;
+mod setup_edits;
+
+pub(crate) use base_setup::{BaseSetup, DriveCount};
+pub(crate) use edits::core_word;
+pub(crate) use image::{core_store, drive_store, more_drives};
+pub use patch::Patch;
+pub(crate) use patch::PatchKey;
+pub use setup::{DEFAULT_STRIDE, Setup};
+pub(crate) use setup::{DRIVE_WORDS, MOST_DRIVES, TAPE_BYTES, UNIT_WORDS};

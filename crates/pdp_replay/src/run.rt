@@ -1,0 +1,8 @@
+//! The run as an engine keeps it: its machine, its checkpoints, its turns, and what edits leave.
+
+mod changes;
+mod kept_run;
+mod turns;
+
+pub(crate) use kept_run::KeptRun;
+pub(crate) use turns::run_part;

@@ -1,0 +1,241 @@
+ghost use Rattle.std.specs.Prelude.{◌≡◌, ◌+◌, ◌≤◌, ◌<◌, ◌&&◌, ℕ, max, min, nat_le, true, IfOk};
+ghost use Rattle.std.specs.Prelude.{OnOk};
+ghost use Rattle.pdp_checkpoint.specs.Ladder.{next_of};
+ghost use Rattle.pdp_cpu.specs.Turns.MachineState.{after_turn};
+ghost use Rattle.pdp_cpu.specs.Turns.Turn.{turn_act};
+ghost use Rattle.pdp_script.specs.Entries.{events_at};
+ghost use Rattle.pdp_replay.specs.Run.KeptRuns.{is_current_by, resumed_turn, Advances, ArrivesAt};
+ghost use Rattle.pdp_replay.specs.Run.KeptRuns.{CanGoOn, GoesOn, IsKeptRun, IsOnWay, IsResumed};
+ghost use Rattle.pdp_replay.specs.Run.KeptRuns.{IsRunOf, IsSomeRun, IsUnderWay, KeepsRun};
+ghost use Rattle.pdp_replay.specs.Run.KeptRuns.{LeavesKept};
+ghost use Rattle.pdp_replay.specs.Run.Checkpoints.{AreStatesOf};
+ghost use Rattle.pdp_replay.specs.Past.{Past, past_without_events};
+ghost use Rattle.pdp_replay.specs.Past.Setup.{first_setup, IsGood};
+ghost use Rattle.pdp_replay.specs.declared.past.base_setup.DriveCount.TheVariants.{One};
+ghost use Rattle.pdp_replay.specs.Run.States.{at};
+
+use crate::past::{BaseSetup, core_store, drive_store};
+use crate::run::run_part;
+use pdp_checkpoint::Ladder;
+use pdp_cpu::{Act, Machine, Meter, PagedMachine, WordTable};
+use pdp_icache::Lines;
+use pdp_script::Script;
+use pdp_unibus::{Delays, LAST_TURN};
+use pdp_word::NoMemory;
+use std::alloc::Global;
+use std::mem;
+
+/// The machine of a run, what each word is carried out by, the checkpoints, the count of
+/// the turns that were run, the known turn, up to which all is kept that ought to be, and whether
+/// the machine is in the run's state of its turn.
+#[derive(Drop)]
+pub(crate) struct KeptRun {
+    pub(crate) machine: PagedMachine,
+    pub(crate) words: WordTable,
+    pub(crate) ladder: Ladder,
+    pub(crate) meter: Meter,
+    pub(crate) known: u32,
+    pub(crate) is_current: bool,
+}
+
+impl KeptRun {
+    /// A run as of power-up with one drive and the standard delays and without patches, of which
+    /// the first state is kept.
+    ///
+    /// Err where a growth was refused.
+    pub(crate) fn power(
+        alloc: Global,
+        base_setup: &BaseSetup,
+        tape: Vec<u8>,
+    ) -> Result<KeptRun, NoMemory>
+        requires good { IsGood (first_setup base_setup.now tape.items) }
+        requires one { base_setup.now.drives ≡ One }
+        ensures run { IfOk result (λ run. IsKeptRun
+            (past_without_events (first_setup base_setup.now tape.items)) run) }
+        ensures known { IfOk result (λ run. run.known ≡ 0) }
+        ensures turn { IfOk result (λ run. run.machine.state.turn ≡ 0) }
+        ensures current { IfOk result (λ run. run.is_current ≡ true) }
+        ensures meter { IfOk result (λ run. run.meter ≡ 0) }
+        ensures stride { IfOk result (λ run. run.ladder.stride ≡ base_setup.now.stride) }
+    {
+        let core = core_store(alloc, base_setup)?;
+        let drives = vec![in alloc; drive_store(alloc, base_setup.image(0))?]?;
+        let delays = Delays::standard();
+        let lines = Lines::new(alloc)?;
+        let mut machine = Machine::power(
+            alloc,
+            lines,
+            base_setup.start,
+            core,
+            drives,
+            tape,
+            delays,
+        );
+        let ladder = Ladder::new(alloc, base_setup.stride, &mut machine)?;
+        let words = WordTable::new(alloc)?;
+        Ok(KeptRun {
+            machine,
+            words,
+            ladder,
+            meter: Meter::new(),
+            known: 0,
+            is_current: true,
+        })
+    }
+
+    /// Takes the machine to this turn, with the events of the script: from where it is, or from the
+    /// best checkpoint of the lesser of that turn and the known one (`resume`). All that is to be
+    /// kept on the way is kept, and the meter counts each turn.
+    ///
+    /// Err where a growth was refused; what was kept until then stays.
+    pub(crate) fn reach(
+        &mut self,
+        alloc: Global,
+        script: &Script,
+        turn: u32,
+    ) -> Result<(), NoMemory>
+        requires run { IsRunOf script.now self.old }
+        requires limit { turn ≤ LAST_TURN }
+        ensures kept { KeepsRun script.now self.old self.new }
+        ensures there { OnOk result
+            ((p : Past) → p.script ≡ script.now → IsKeptRun p self.old
+            → self.new.machine.state ≡ at p turn) }
+        ensures arrives { OnOk result (ArrivesAt turn self.old self.new) }
+        ensures advances { Advances (resumed_turn self.old turn) turn self.old self.new }
+        ensures bound { self.new.meter + min turn self.old.known + 1
+            ≤ self.old.meter + turn + self.old.ladder.stride }
+    {
+        self.resume(turn);
+        self.forward(alloc, script, turn)
+    }
+
+    /// Makes the machine the best checkpoint of the lesser of this turn and the known one. If the
+    /// machine is in a later state of the run that is not above this turn, it stays there.
+    pub(crate) fn resume(&mut self, turn: u32)
+        requires run { IsSomeRun self.old }
+        ensures way { (p : Past) → IsKeptRun p self.old → IsOnWay p self.new }
+        ensures resumed { IsResumed turn self.old self.new }
+        ensures ready { CanGoOn self.new }
+    {
+        let stays = self.is_current_by(turn);
+        let here = self.machine.turns();
+        let best = self.ladder.best(turn.min(self.known));
+        if is_later(stays, here, best.turn) {
+            return;
+        }
+        self.machine.load(&best.saved);
+        self.is_current = true;
+    }
+
+    /// Whether the machine is in a state of the run, of a turn up to this one.
+    pub(crate) fn is_current_by(&self, turn: u32) -> bool
+        ensures { result ≡ is_current_by self.now turn }
+    {
+        self.is_current && self.machine.turns() <= turn
+    }
+
+    /// Runs the machine on to this turn, with the events of the script.
+    ///
+    /// Err where a growth was refused; what was kept until then stays.
+    fn forward(&mut self, alloc: Global, script: &Script, to: u32) -> Result<(), NoMemory>
+        requires ready { CanGoOn self.old }
+        requires forward { self.old.machine.state.turn ≤ to }
+        requires limit { to ≤ LAST_TURN }
+        ensures kept { LeavesKept script.now self.old self.new }
+        ensures way { OnOk result (GoesOn script.now self.old self.new) }
+        ensures arrives { OnOk result (ArrivesAt to self.old self.new) }
+        ensures advances { Advances self.old.machine.state.turn to self.old self.new }
+    {
+        while self.machine.turns() < to {
+            self.leg(alloc, script, to)?;
+        }
+        Ok(())
+    }
+
+    /// Runs the machine to this turn, but not beyond the next turn whose state is to be kept, and
+    /// settles there.
+    ///
+    /// Err where a growth was refused; what was kept until then stays.
+    fn leg(&mut self, alloc: Global, script: &Script, to: u32) -> Result<(), NoMemory>
+        requires ready { CanGoOn self.old }
+        requires forward { self.old.machine.state.turn < to }
+        requires limit { to ≤ LAST_TURN }
+        ensures kept { LeavesKept script.now self.old self.new }
+        ensures way { OnOk result (GoesOn script.now self.old self.new) }
+        ensures on { OnOk result (self.old.machine.state.turn < self.new.machine.state.turn) }
+        ensures arrives { OnOk result (ArrivesAt self.new.machine.state.turn self.old self.new) }
+        ensures advances { Advances self.old.machine.state.turn to self.old self.new }
+    {
+        let end = self.ladder.next().min(to);
+        // While the meter is apart from the machine, the loop counts in a register.
+        let mut counting = mem::replace(&mut self.meter, Meter::new());
+        let ran = run_part(&mut self.machine, &self.words, script, &mut counting, end);
+        self.meter = counting;
+        self.settle(alloc)?;
+        ran
+    }
+
+    /// Runs one turn with the events of the script, settles after it, and tells its act.
+    ///
+    /// Err where a growth was refused; what was kept until then stays.
+    pub(crate) fn step(&mut self, alloc: Global, script: &Script) -> Result<Act, NoMemory>
+        requires ready { CanGoOn self.old }
+        requires limit { self.old.machine.state.turn < LAST_TURN }
+        ensures act { IfOk result (λ act. act ≡ turn_act self.old.machine.state.turn
+            (events_at script.now.entries self.old.machine.state.turn)
+            self.old.machine.state.world) }
+        ensures machine { OnOk result (self.new.machine.state ≡ after_turn
+            (events_at script.now.entries self.old.machine.state.turn) self.old.machine.state) }
+        ensures kept { LeavesKept script.now self.old self.new }
+        ensures way { OnOk result (GoesOn script.now self.old self.new) }
+        ensures arrives { OnOk result
+            (ArrivesAt (self.old.machine.state.turn + 1) self.old self.new) }
+        ensures advances { Advances self.old.machine.state.turn (self.old.machine.state.turn + 1)
+            self.old self.new }
+    {
+        self.machine.ready()?;
+        let turn = self.machine.turns();
+        let act = self.machine.turn(&mut self.meter, script.at(turn));
+        self.settle(alloc)?;
+        Ok(act)
+    }
+
+    /// The machine came to a turn, at the latest the next one whose state is to be kept: keeps its
+    /// state there, and raises the known turn to it.
+    ///
+    /// Err where a growth was refused: the known turn is then at least the one before, up to which
+    /// texts are kept, and the machine is in no state of the run.
+    fn settle(&mut self, alloc: Global) -> Result<(), NoMemory>
+        requires within { self.old.machine.state.turn ≤ next_of self.old.ladder }
+        requires current { self.old.is_current ≡ true }
+        requires limit { self.old.machine.state.turn ≤ LAST_TURN }
+        ensures kept { (p : Past) → AreStatesOf p self.old.known self.old.ladder
+            → IsUnderWay p self.old.known self.old.machine → IsKeptRun p self.new }
+        ensures machine { OnOk result (self.new.machine ≡ self.old.machine) }
+        ensures arrives { OnOk result (ArrivesAt self.old.machine.state.turn self.old self.new) }
+        ensures advances { Advances self.old.machine.state.turn self.old.machine.state.turn
+            self.old self.new }
+        ensures meter { self.new.meter ≡ self.old.meter }
+    {
+        let turn = self.machine.turns();
+        if turn == self.ladder.next() {
+            if let Err(refused) = self.ladder.take(alloc, &mut self.machine) {
+                self.machine.keep_text(turn - 1);
+                self.machine.forget(turn - 1);
+                self.known = self.known.max(turn - 1);
+                self.is_current = false;
+                return Err(refused);
+            }
+        }
+        self.known = self.known.max(turn);
+        Ok(())
+    }
+}
+
+/// Whether a run goes on from its machine, which may stay or not and is at turn `here`, and not
+/// from the state that is kept of this turn.
+fn is_later(stays: bool, here: u32, kept: u32) -> bool
+    ensures { result ≡ (nat_le kept here && stays) }
+{
+    kept <= here && stays
+}

@@ -1,0 +1,24 @@
+//! Tests of the engine, and of the session as a call: what no reply tells. That is how many turns
+//! are run for a question, the known turn, the stride, which states are kept, which turns begin
+//! quietly, a machine without decoded lines, a full script, and streams that fail.
+//!
+//! They stand in a crate of their own, since a crate that has tests is proved once more for them.
+//! What lines make of an engine is in the rows and tables of sessions.
+#![tactic(auto)]
+
+#[cfg(test)]
+mod cut_streams;
+#[cfg(test)]
+mod dropped_lines;
+#[cfg(test)]
+mod failing_streams;
+#[cfg(test)]
+mod kept_states;
+#[cfg(test)]
+mod quiet_turns;
+#[cfg(test)]
+mod script;
+#[cfg(test)]
+mod steps;
+#[cfg(test)]
+mod turns;

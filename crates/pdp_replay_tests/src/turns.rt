@@ -1,0 +1,134 @@
+//! How many turns are run for a question, and how far back each edit lowers the known turn.
+
+use crate::steps::{Edit, Step, WIDEST, engine_of, follow};
+use pdp_replay::*;
+use std::alloc::Global;
+use std::process::Abort;
+use std::test::Fail;
+
+// A branch to itself.
+const BRANCH: [u16; 1] = [0o777];
+
+// MOV #5,R0; HALT
+const FIVE: [u16; 3] = [0o12700, 5, 0];
+
+// One word is read from the disk over the branch that waits for it. The transfer is done in turn
+// 12.
+const READS_DISK_OVER_ITSELF: [u16; 10] = [
+    0o012737, 0o177777, 0o177406, 0o012737, 0o001022, 0o177410, 0o012737, 0o000005, 0o177404,
+    0o000777,
+];
+
+const POWER_UP: Question = Question::Regs(0);
+
+// No state but that of turn 0 is kept. The machine stays where the last question left it, until an
+// edit reaches back before that turn.
+const QUESTIONS: [Step; 16] = [
+    Step::Ran(Question::Regs(300), 300, 300),
+    Step::Ran(Question::Regs(5), 5, 300),
+    Step::Ran(Question::Regs(0), 0, 300),
+    Step::Ran(Question::Regs(301), 301, 301),
+    Step::Ran(Question::Pages(301), 0, 301),
+    Step::Ran(Question::Devices(301), 0, 301),
+    Step::Ran(Question::Core(301, 0o1000, 4), 0, 301),
+    Step::Ran(Question::Disk(301, 0, 0, 256), 0, 301),
+    Step::Ran(Question::Last(301, 0o1000), 0, 301),
+    Step::Ran(Question::Trail(310, 9), 9, 310),
+    Step::Ran(Question::Text(310), 0, 310),
+    Step::Edit(Edit::Insert(310, Event::Tick), Ok(1)),
+    Step::Ran(Question::Regs(312), 2, 312),
+    Step::Edit(Edit::Alter(1, 311, Event::Tick), Ok(0)),
+    Step::Ran(Question::Regs(310), 310, 310),
+    Step::Ran(Question::Regs(309), 309, 310),
+];
+
+#[test]
+fn turns_run(rt: HostRuntime) -> Result<(), Fail> {
+    let mut engine = engine_of(rt.alloc(), &BRANCH, WIDEST)?;
+    follow(&rt, rt.alloc(), &mut engine, WIDEST, &QUESTIONS)
+}
+
+// An event lowers it to its turn, or to its old turn if that is lower. What no turn has come to
+// yet stays as it is.
+const SCRIPT_EDITS: [Step; 15] = [
+    Step::Ran(Question::Regs(300), 300, 300),
+    Step::Edit(Edit::Insert(500, Event::Tick), Ok(1)),
+    Step::Ran(POWER_UP, 0, 300),
+    Step::Edit(Edit::Insert(200, Event::Tick), Ok(2)),
+    Step::Ran(POWER_UP, 0, 200),
+    Step::Edit(Edit::Alter(1, 150, Event::Tick), Ok(0)),
+    Step::Ran(POWER_UP, 0, 150),
+    Step::Edit(Edit::Alter(1, 400, Event::Tick), Ok(0)),
+    Step::Ran(POWER_UP, 0, 150),
+    Step::Edit(Edit::Alter(1, 100, Event::Tick), Ok(0)),
+    Step::Ran(POWER_UP, 0, 100),
+    Step::Edit(Edit::Drop(2), Ok(0)),
+    Step::Ran(POWER_UP, 0, 100),
+    Step::Edit(Edit::Drop(1), Ok(0)),
+    Step::Ran(POWER_UP, 0, 100),
+];
+
+// A delay, a tape and more drives are as of power-up. A refused edit lowers nothing.
+const SETUP_EDITS: [Step; 16] = [
+    Step::Ran(Question::Regs(10), 10, 100),
+    Step::Edit(
+        Edit::Delay(DelayedDevice::Clock, 1_000_000_001),
+        Err(Fault::TurnTooLarge),
+    ),
+    Step::Edit(Edit::Tape(1_048_577), Err(Fault::BadImage)),
+    Step::Ran(POWER_UP, 0, 100),
+    Step::Edit(Edit::Delay(DelayedDevice::Clock, 1_000_000_000), Ok(0)),
+    Step::Ran(POWER_UP, 0, 0),
+    Step::Ran(Question::Regs(10), 10, 10),
+    Step::Edit(Edit::Tape(1), Ok(0)),
+    Step::Ran(POWER_UP, 0, 0),
+    Step::Edit(Edit::Tape(1_048_576), Ok(0)),
+    Step::Edit(Edit::Tape(0), Ok(0)),
+    Step::Ran(Question::Regs(10), 10, 10),
+    Step::Edit(Edit::EightDrives, Ok(0)),
+    Step::Ran(POWER_UP, 0, 0),
+    Step::Edit(Edit::EightDrives, Ok(0)),
+    Step::Ran(POWER_UP, 0, 0),
+];
+
+fn follow_edits(rt: &impl Abort, alloc: Global, engine: &mut Engine) -> Result<(), Fail> {
+    follow(rt, alloc, engine, WIDEST, &SCRIPT_EDITS)?;
+    follow(rt, alloc, engine, WIDEST, &SETUP_EDITS)
+}
+
+#[test]
+fn known_turns(rt: HostRuntime) -> Result<(), Fail> {
+    let mut engine = engine_of(rt.alloc(), &BRANCH, WIDEST)?;
+    follow_edits(&rt, rt.alloc(), &mut engine)
+}
+
+// A patch of a page that no turn touched leaves all known, and the word is in each checkpoint.
+const PATCHES_OF_CORE: [Step; 6] = [
+    Step::Ran(Question::Regs(100), 100, 100),
+    Step::Edit(Edit::Patch(0o4000, 7), Ok(0)),
+    Step::Ran(Question::Core(100, 0o4000, 1), 0, 100),
+    Step::Edit(Edit::Patch(0o1002, 6), Ok(0)),
+    Step::Ran(POWER_UP, 0, 0),
+    Step::Ran(Question::Regs(100), 100, 100),
+];
+
+const PATCHES_OF_THE_DRIVE: [Step; 6] = [
+    Step::Ran(Question::Regs(20), 20, 20),
+    Step::Edit(Edit::Disk(0o400, 5), Ok(0)),
+    Step::Ran(Question::Regs(20), 0, 20),
+    Step::Edit(Edit::Disk(0, 0o777), Ok(0)),
+    Step::Ran(POWER_UP, 0, 12),
+    Step::Ran(Question::Regs(13), 1, 13),
+];
+
+#[test]
+fn known_turns_of_patches_of_core(rt: HostRuntime) -> Result<(), Fail> {
+    let mut engine = engine_of(rt.alloc(), &FIVE, 1)?;
+    follow(&rt, rt.alloc(), &mut engine, 1, &PATCHES_OF_CORE)
+}
+
+#[test]
+fn known_turns_of_patches_of_the_drive(rt: HostRuntime) -> Result<(), Fail> {
+    let mut engine = engine_of(rt.alloc(), &READS_DISK_OVER_ITSELF, 1)?;
+    follow(&rt, rt.alloc(), &mut engine, 1, &PATCHES_OF_THE_DRIVE)
+}

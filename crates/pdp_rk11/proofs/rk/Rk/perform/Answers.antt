@@ -1,6 +1,0 @@
-use Rattle.std.proofs.Common.{sym}
-use Rattle.pdp_rk11.proofs.FirstTouches.{none_performed}
-use Rattle.pdp_rk11.proofs.rk.Rk.perform.Goals as goal
-
-pub returns-in-Some-clause-firsts : goal.returns-in-Some-clause-firsts
-returns-in-Some-clause-firsts g c = none_performed _ _ _ _ _ (sym c.in-Some.ensures.value)

@@ -1,0 +1,67 @@
+-- The registers as a person reads them: PDP-11 Peripherals Handbook, KL11, KW11-L, PC11 and RK11;
+-- DEC PDP-11/40 Processor Handbook (1972), Memory management.
+use Rattle.std.specs.Prelude.{ℕ, List, [], ◌∷◌, length}
+use Rattle.pdp_console.specs.declared.kl.KlRegister.TheVariants.{KeyboardStatus, KeyboardBuffer}
+use Rattle.pdp_console.specs.declared.kl.KlRegister.TheVariants.{PrinterStatus}
+use Rattle.pdp_kt11.specs.declared.apr.PageNumber.{PageNumber}
+use Rattle.pdp_kt11.specs.declared.apr.PageNumber.TheVariants.{P0, P1, P2, P3, P4, P5, P6, P7}
+use Rattle.pdp_kt11.specs.declared.apr.Space.TheVariants.{Kernel, User}
+use Rattle.pdp_kt11.specs.declared.register.KtRegister.{KtRegister}
+use Rattle.pdp_kt11.specs.declared.register.KtRegister.TheVariants.{Status0, Status2, Descriptor}
+use Rattle.pdp_kt11.specs.declared.register.KtRegister.TheVariants.{Address}
+use Rattle.pdp_rk11.specs.declared.register.RkRegister.TheVariants.{DriveStatus, Error, Control}
+use Rattle.pdp_rk11.specs.declared.register.RkRegister.TheVariants.{WordCount, BusAddress}
+use Rattle.pdp_rk11.specs.declared.register.RkRegister.TheVariants.{DiskAddress}
+use Rattle.pdp_tape.specs.declared.pc.PcRegister.TheVariants.{ReaderStatus, ReaderBuffer}
+use Rattle.pdp_tape.specs.declared.pc.PcRegister.TheVariants.{PunchStatus}
+use Rattle.pdp_unibus.specs.BusWorld.{BusWorld}
+use Rattle.pdp_unibus.specs.Register.{value_in}
+use Rattle.pdp_unibus.specs.declared.io_page.IoPage.{IoPage}
+use Rattle.pdp_unibus.specs.declared.device_registers.DeviceRegisters.{DeviceRegisters}
+use Rattle.pdp_unibus.specs.declared.page_registers.PageRegisters.{PageRegisters}
+use Rattle.pdp_unibus.specs.declared.register.Register.TheVariants.{Clock, Console, Disk, Mapping}
+use Rattle.pdp_unibus.specs.declared.register.Register.TheVariants.{PaperTape, Switches}
+
+-- what reads of them would give, without the effect of a read
+unfoldable pub devices_of : BusWorld → DeviceRegisters
+devices_of w =
+    let b = w.io_page in
+    let drives = length w.drives in
+    record {
+      keyboard_status = value_in (Console KeyboardStatus) drives b;
+      keyboard_buffer = value_in (Console KeyboardBuffer) drives b;
+      printer_status = value_in (Console PrinterStatus) drives b;
+      clock_status = value_in Clock drives b;
+      reader_status = value_in (PaperTape ReaderStatus) drives b;
+      reader_buffer = value_in (PaperTape ReaderBuffer) drives b;
+      punch_status = value_in (PaperTape PunchStatus) drives b;
+      drive_status = value_in (Disk DriveStatus) drives b;
+      disk_error = value_in (Disk Error) drives b;
+      disk_control = value_in (Disk Control) drives b;
+      disk_word_count = value_in (Disk WordCount) drives b;
+      disk_bus_address = value_in (Disk BusAddress) drives b;
+      disk_address = value_in (Disk DiskAddress) drives b;
+      switches = value_in Switches drives b;
+    }
+
+-- the registers of pages 0 to 7, on a bus with so many drives
+abbrev pub of_each_page : (PageNumber → KtRegister) → ℕ → IoPage → List ℕ
+of_each_page register drives b =
+    value_in (Mapping (register P0)) drives b ∷ value_in (Mapping (register P1)) drives b
+    ∷ value_in (Mapping (register P2)) drives b ∷ value_in (Mapping (register P3)) drives b
+    ∷ value_in (Mapping (register P4)) drives b ∷ value_in (Mapping (register P5)) drives b
+    ∷ value_in (Mapping (register P6)) drives b ∷ value_in (Mapping (register P7)) drives b ∷ []
+
+-- what reads of them would give
+unfoldable pub page_registers_of : BusWorld → PageRegisters
+page_registers_of w =
+    let b = w.io_page in
+    let drives = length w.drives in
+    record {
+      status0 = value_in (Mapping Status0) drives b;
+      status2 = value_in (Mapping Status2) drives b;
+      kernel_descriptors = of_each_page (Descriptor Kernel) drives b;
+      kernel_addresses = of_each_page (Address Kernel) drives b;
+      user_descriptors = of_each_page (Descriptor User) drives b;
+      user_addresses = of_each_page (Address User) drives b;
+    }
