@@ -48,7 +48,7 @@ fn octal_digit(number: u32) -> u8
     b'0' + (number % 8) as u8
 }
 
-#[tactic(auto, using(crate::proofs::Digits::number_below), unfolding(crate::specs::Number::number_of))]
+#[tactic(auto, using(crate::proofs::Rules::digits), unfolding(crate::specs::Number::number_of))]
 fn read_digits(text: &[u8], base: u8) -> Option<u64>
     requires some { 0 < base }
     requires ten { base ≤ 10 }
@@ -83,7 +83,7 @@ fn is_digit(byte: u8, base: u8) -> bool
     b'0' <= byte && byte < b'0' + base
 }
 
-#[tactic(auto, using(crate::proofs::Digits::worth_next, crate::proofs::Digits::next_small), unfolding(crate::specs::Number::worth))]
+#[tactic(auto, using(crate::proofs::Rules::digits), unfolding(crate::specs::Number::worth))]
 fn value_of(text: &[u8], base: u8) -> u64
     requires ten { base ≤ 10 }
     requires length { length text.now ≤ 10 }
