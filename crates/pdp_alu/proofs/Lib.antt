@@ -3,6 +3,7 @@ pub mod Divisions
 pub mod EffectLaws
 pub mod Iterations
 pub mod Products
+pub mod Rules
 pub mod ShiftCodes
 pub mod ShiftLaws
 pub mod WordDivisions

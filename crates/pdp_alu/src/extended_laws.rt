@@ -37,7 +37,7 @@ pub fn divisions_are_exact()
 /// and 0 moves nothing.
 ///
 /// Source: DEC PDP-11/40 Processor Handbook (1972), Extended instruction set, ASH and ASHC.
-#[tactic(auto, using(crate::proofs::ShiftLaws::word_to_the_left, crate::proofs::ShiftLaws::long_to_the_left, crate::proofs::ShiftCodes::word_overflow, crate::proofs::ShiftCodes::long_overflow, crate::proofs::ShiftCodes::word_carry, crate::proofs::ShiftCodes::long_carry), unfolding(crate::specs::ArithmeticShifts::ash_effect, crate::specs::ArithmeticShifts::ashc_effect))]
+#[tactic(auto, using(crate::proofs::Rules::left), unfolding(crate::proofs::Rules::shift_effects))]
 pub fn shifts_to_the_left_multiply()
     ensures word { WordShiftsMultiply }
     ensures long { LongShiftsMultiply }
@@ -53,7 +53,7 @@ pub fn shifts_to_the_left_multiply()
 /// down. C is the last bit that was moved out, and V is clear.
 ///
 /// Source: DEC PDP-11/40 Processor Handbook (1972), Extended instruction set, ASH and ASHC.
-#[tactic(auto, using(crate::proofs::ShiftLaws::word_to_the_right, crate::proofs::ShiftLaws::long_to_the_right, crate::proofs::ShiftCodes::word_right_carry, crate::proofs::ShiftCodes::long_right_carry))]
+#[tactic(auto, using(crate::proofs::Rules::right))]
 pub fn shifts_to_the_right_divide()
     ensures word { WordShiftsDivide }
     ensures long { LongShiftsDivide }
@@ -66,7 +66,7 @@ pub fn shifts_to_the_right_divide()
 /// word alone is. C is set exactly where the product is no signed word, and V is clear.
 ///
 /// Source: DEC PDP-11/40 Processor Handbook (1972), Extended instruction set, MUL.
-#[tactic(auto, using(crate::proofs::Products::signed_product, crate::proofs::Products::signed_low_product), unfolding(crate::specs::Multiplication::mul_effect))]
+#[tactic(auto, using(crate::proofs::Rules::products), unfolding(crate::specs::mul_effect))]
 pub fn products_are_exact()
     ensures long { ProductsAreExact }
     ensures word { LowProductsAreExact }

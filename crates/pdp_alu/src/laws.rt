@@ -49,7 +49,7 @@ pub fn differences_are_exact()
 /// is set exactly where the signed difference does not fit.
 ///
 /// Source: DEC PDP-11/40 Processor Handbook (1972), Instruction set, CMP.
-#[tactic(auto, using(crate::proofs::EffectLaws::less_after_cmp), unfolding(crate::specs::Arithmetic::cmp_effect))]
+#[tactic(auto, using(crate::proofs::Rules::signs), unfolding(crate::specs::cmp_effect))]
 pub fn comparisons_order_operands()
     ensures equal { ComparisonsTellEqual }
     ensures below { ComparisonsTellBelow }
@@ -60,7 +60,7 @@ pub fn comparisons_order_operands()
 /// A law and no code: COM and NEG undo themselves, and NEG is COM and then INC.
 ///
 /// Source: DEC PDP-11/40 Processor Handbook (1972), Instruction set, COM, NEG and INC.
-#[tactic(auto, using(crate::proofs::EffectLaws::negated_twice, crate::proofs::EffectLaws::complement_plus_one), unfolding(crate::specs::SingleOperand::com_effect))]
+#[tactic(auto, using(crate::proofs::Rules::signs), unfolding(crate::specs::com_effect))]
 pub fn complements_and_negatives_undo_themselves()
     ensures complement { ComplementsUndoThemselves }
     ensures negative { NegativesUndoThemselves }
@@ -71,7 +71,7 @@ pub fn complements_and_negatives_undo_themselves()
 /// say, and V is set exactly where that result does not fit.
 ///
 /// Source: DEC PDP-11/40 Processor Handbook (1972), Instruction set, INC, DEC and NEG.
-#[tactic(auto, unfolding(crate::specs::SingleOperand::inc_effect, crate::specs::SingleOperand::dec_effect, crate::specs::SingleOperand::neg_effect))]
+#[tactic(auto, unfolding(crate::proofs::Rules::signed_effects))]
 pub fn overflow_marks_wrong_signed_results()
     ensures increment { IncrementsAddOne }
     ensures increment_overflow { OverflowMarksIncrements }
@@ -86,7 +86,7 @@ pub fn overflow_marks_wrong_signed_results()
 /// V is set exactly where the signed result does not fit.
 ///
 /// Source: DEC PDP-11/40 Processor Handbook (1972), Instruction set, ADC and SBC.
-#[tactic(auto, unfolding(crate::specs::SingleOperand::adc_effect, crate::specs::SingleOperand::sbc_effect))]
+#[tactic(auto, unfolding(crate::specs::adc_effect, crate::specs::sbc_effect))]
 pub fn carries_run_on()
     ensures carry { CarriesRunOn }
     ensures carry_overflow { OverflowMarksCarries }
@@ -119,7 +119,7 @@ pub fn shifts_halve_and_double()
 /// and Z tell of the value, V is clear, C is kept.
 ///
 /// Source: DEC PDP-11/40 Processor Handbook (1972), Instruction set, BIT, BIC, BIS and XOR.
-#[tactic(auto, using(crate::proofs::BitLaws::tested_bits, crate::proofs::BitLaws::cleared_bits, crate::proofs::BitLaws::set_bits, crate::proofs::BitLaws::flipped_bits))]
+#[tactic(auto, using(crate::proofs::Rules::bits))]
 pub fn logic_goes_bit_by_bit()
     ensures tested { BitsAreTested }
     ensures cleared { BitsAreCleared }
@@ -132,7 +132,7 @@ pub fn logic_goes_bit_by_bit()
 /// N and Z tell of the value and V is clear; CLR and TST clear C, MOV and SXT keep it.
 ///
 /// Source: DEC PDP-11/40 Processor Handbook (1972), Instruction set, CLR, TST, MOV and SXT.
-#[tactic(auto, using(crate::proofs::BitLaws::sign_tells), unfolding(crate::specs::SingleOperand::clr_effect, crate::specs::Effect::tst_effect, crate::specs::Effect::mov_effect, crate::specs::Bytes::sxt_effect))]
+#[tactic(auto, using(crate::proofs::Rules::signs), unfolding(crate::proofs::Rules::plain_effects))]
 pub fn codes_tell_of_the_value()
     ensures clear { ClearingLeavesZero }
     ensures test { TestsTellOfTheOperand }
