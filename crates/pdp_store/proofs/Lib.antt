@@ -9,3 +9,4 @@ pub mod PagedTakes
 pub mod SerialLaws
 pub mod PageLists
 pub mod BlankDrives
+pub mod Rules

@@ -28,7 +28,11 @@ impl Model for Flat {
 
     ghost Value = { Stored };
 
-    ghost view = { λ s. record { words = s.words.items; lasts = s.stamps.items; firsts = s.touches } };
+    ghost view = { λ s. record {
+      words = s.words.items;
+      lasts = s.stamps.items;
+      firsts = s.touches;
+    } };
 
     ghost invariant = { λ s. HasLastOfEachOrNone s.words.items s.stamps.items };
 }

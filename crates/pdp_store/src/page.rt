@@ -66,8 +66,10 @@ impl Page {
     ) -> Result<Page, NoMemory>
         requires { i < 256 }
         ensures serial { IfOk result (λ page. page.serial ≡ serial) }
-        ensures words { IfOk result (λ page. page.words.items ≡ slice_set self.now.words.items i w) }
-        ensures stamps { IfOk result (λ page. page.stamps.value.items ≡ self.now.stamps.value.items) }
+        ensures words { IfOk result (λ page. page.words.items
+            ≡ slice_set self.now.words.items i w) }
+        ensures stamps { IfOk result (λ page. page.stamps.value.items
+            ≡ self.now.stamps.value.items) }
     {
         let mut words = self.words.to_vec(alloc)?;
         words[i] = w;

@@ -18,8 +18,8 @@ use std::rc::Rc;
 ///
 /// # Errors
 ///
-/// `NoMemory` if a growth was refused. The words, last stamps, first touches and bases of the store stay in any
-/// case.
+/// `NoMemory` if a growth was refused. The words, last stamps, first touches and bases of the store
+/// stay in any case.
 pub fn page_with_word<S: Paging>(
     store: &mut S,
     alloc: Global,

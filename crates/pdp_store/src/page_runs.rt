@@ -25,7 +25,7 @@ pub(crate) fn piece_at<T>(items: &[T], place: usize) -> &[T]
 }
 
 // Puts the words of these pages, one page after the other, in place of the words that are there.
-#[tactic(auto, unfolding(crate::specs::Pages::words_of), using(crate::proofs::PageRuns::has_room, crate::proofs::PageRuns::put_all))]
+#[tactic(auto, unfolding(crate::specs::Pages::words_of), using(crate::proofs::Rules::item_runs))]
 pub(crate) fn put_words(words: &mut [u16], pages: &[Rc<Page>])
     requires { length (words_of pages.now) ≡ length words.old }
     ensures { words.new ≡ words_of pages.now }
@@ -38,7 +38,7 @@ pub(crate) fn put_words(words: &mut [u16], pages: &[Rc<Page>])
 
 // Puts the last stamps of these pages, one page after the other, in place of the stamps that are
 // there.
-#[tactic(auto, unfolding(crate::specs::Pages::lasts_of), using(crate::proofs::PageRuns::has_room, crate::proofs::PageRuns::put_all))]
+#[tactic(auto, unfolding(crate::specs::Pages::lasts_of), using(crate::proofs::Rules::item_runs))]
 pub(crate) fn put_stamps(stamps: &mut [Option<Stamp>], pages: &[Rc<Page>])
     requires { length (lasts_of pages.now) ≡ length stamps.old }
     ensures { stamps.new ≡ lasts_of pages.now }

@@ -51,7 +51,8 @@ pub trait SharedPaging: Paging {
     /// the store is then as before.
     fn take_pages(&mut self, alloc: Global) -> Result<Pages, NoMemory>
         ensures same { SameStored (Self.words self.new) (Self.words self.old)
-            (Self.lasts self.new) (Self.lasts self.old) (Self.firsts self.new) (Self.firsts self.old) }
+            (Self.lasts self.new) (Self.lasts self.old) (Self.firsts self.new)
+            (Self.firsts self.old) }
         ensures pages_words { IfOk result (λ pages. words_of pages.value.items
             ≡ Self.words self.old) }
         ensures pages_lasts { IfOk result (λ pages. lasts_of pages.value.items
