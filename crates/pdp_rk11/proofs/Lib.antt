@@ -14,5 +14,6 @@ pub mod Moves
 pub mod Names
 pub mod ReadLaws
 pub mod Readiness
+pub mod Rules
 pub mod StatusLaws
 pub mod WriteLaws

@@ -7,3 +7,5 @@ pub mod Transfer
 pub mod Completion
 pub mod Trace
 pub mod Touched
+-- what attributes open, by a shorter path
+unfoldable pub use Rattle.pdp_rk11.specs.Completion.{rk_transferred}

@@ -49,7 +49,7 @@ impl Rk {
     ///
     /// PDP-11 Peripherals Handbook, RK11; that it is one act, the order of the tests, the fill, and
     /// where the registers are left, are this project's profile.
-    #[tactic(auto, unfolding(crate::specs::Completion::rk_completed, crate::specs::Completion::stamps_completed), using(crate::proofs::Names::map_length))]
+    #[tactic(auto, unfolding(crate::proofs::Rules::completions), using(crate::proofs::Rules::maps))]
     pub fn complete<S: Store, D: Store>(&mut self, core: &mut S, drives: &mut [D], turn: u32)
         ensures world { disk_world self.new (S.words core.new) (S.lasts core.new)
             (map D.words drives.new)
@@ -158,7 +158,7 @@ impl Rk {
     }
 
     // Words are moved or compared.
-    #[tactic(auto, unfolding(crate::specs::Completion::rk_transferred), using(crate::proofs::Names::map_get))]
+    #[tactic(auto, unfolding(crate::specs::rk_transferred), using(crate::proofs::Rules::maps))]
     fn transfer<S: Store, D: Store>(&mut self, core: &mut S, drives: &mut [D], turn: u32)
         requires drive { drive_in self.old.disk_address < length drives.old }
         requires sector { sector_number self.old.disk_address < sectors_of_drive }
@@ -289,7 +289,8 @@ impl Rk {
         ensures different { result
             ≡ (is_write_check self.now.function
             && is_different transfer (S.words core.old)
-            (drive_of (disk_world self.now (S.words core.old) (S.lasts core.old) (map D.words drives.old)))) }
+            (drive_of (disk_world self.now (S.words core.old) (S.lasts core.old)
+            (map D.words drives.old)))) }
     {
         let drive = self.drive();
         match self.function {

@@ -50,7 +50,7 @@ impl Transfer {
     }
 
     // Each word goes to a word of its own.
-    #[tactic(auto, using(crate::proofs::Moves::moved_none, crate::proofs::Moves::moved_more, crate::proofs::Names::moved_length))]
+    #[tactic(auto, using(crate::proofs::Rules::memory_moves))]
     fn read_all<S: Store, D: Store>(self, core: &mut S, disk: &D, stamp: Stamp)
         requires on_disk { (i : ℕ) → i < self.count → self.disk_start + i < length
             (D.words disk.now) }
@@ -71,7 +71,7 @@ impl Transfer {
     }
 
     // All words go to one word of core, where the last stays.
-    #[tactic(auto, using(crate::proofs::Moves::moved_to_one_none, crate::proofs::Moves::moved_to_one_last))]
+    #[tactic(auto, using(crate::proofs::Rules::moves_to_one))]
     fn read_last<S: Store, D: Store>(self, core: &mut S, disk: &D, stamp: Stamp)
         requires on_disk { (i : ℕ) → i < self.count → self.disk_start + i < length
             (D.words disk.now) }
@@ -102,7 +102,7 @@ impl Transfer {
     }
 
     // Words of core go to the drive.
-    #[tactic(auto, using(crate::proofs::Moves::moved_none, crate::proofs::Moves::moved_more, crate::proofs::Names::moved_length))]
+    #[tactic(auto, using(crate::proofs::Rules::memory_moves))]
     fn write_all<S: Store, D: Store>(self, core: &S, disk: &mut D)
         requires on_disk { (i : ℕ) → i < self.count → disk_word self i < length (D.words disk.old) }
         requires in_core { (i : ℕ) → i < self.count → core_word self i < length (S.words core.now) }
@@ -119,7 +119,7 @@ impl Transfer {
     }
 
     // Zeros go to the rest of the last sector.
-    #[tactic(auto, using(crate::proofs::Moves::moved_none, crate::proofs::Moves::moved_more, crate::proofs::Names::moved_length))]
+    #[tactic(auto, using(crate::proofs::Rules::memory_moves))]
     fn fill_sector<D: Store>(self, disk: &mut D)
         ensures words { D.words disk.new
             ≡ moved_items (disk_word self self.count) (rest_of_sector self) (λ i. 0)
