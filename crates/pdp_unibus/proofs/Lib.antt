@@ -17,3 +17,4 @@ pub mod Pairs
 mod SavedDrives
 mod PatchedPages
 pub mod FewerDrives
+pub mod Rules

@@ -27,3 +27,6 @@ pub mod SavedBusData
 pub mod PatchedPages
 pub mod SavedDrives
 pub mod Drives
+-- what attributes open, by a shorter path
+unfoldable pub use Rattle.pdp_unibus.specs.Beginning.{after_beginning, before_disk}
+unfoldable pub use Rattle.pdp_unibus.specs.Source.{chosen_source, requests}

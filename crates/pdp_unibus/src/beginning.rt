@@ -28,10 +28,10 @@ impl<S: Store, D: Store> Bus<S, D> {
     /// and so are the stamps of words that the disk reads into core. It answers the byte that was
     /// printed and the byte that was punched.
     ///
-    /// `Continue` is the processor's and does nothing here. An event for an operation that isn't under way does nothing.
-    /// (This project's profile.)
+    /// `Continue` is the processor's and does nothing here. An event for an operation that isn't
+    /// under way does nothing. (This project's profile.)
     #[inline(never)]
-    #[tactic(auto, unfolding(crate::specs::Beginning::after_beginning, crate::specs::Beginning::before_disk))]
+    #[tactic(auto, unfolding(crate::specs::after_beginning, crate::specs::before_disk))]
     pub fn events(&mut self, turn: u32, events: &[Event]) -> Output
         ensures { progress self.new result ≡ after_beginning turn events.now self.old }
     {

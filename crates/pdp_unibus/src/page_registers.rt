@@ -53,7 +53,8 @@ impl<S: Store, D: Store> Bus<S, D> {
 
     // The page descriptor registers of a space.
     fn descriptors(&self, space: Space) -> [u16; 8]
-        ensures { result ≡ of_each_page (Descriptor space) (length self.now.drives) self.now.io_page }
+        ensures { result ≡ of_each_page (Descriptor space) (length self.now.drives)
+            self.now.io_page }
     {
         [
             self.mapping(KtRegister::Descriptor(space, PageNumber::P0)),

@@ -40,7 +40,7 @@ impl IoPage {
     /// one: they go by levels, and at one level by this project's profile.
     #[cold]
     #[inline(never)]
-    #[tactic(auto, unfolding(crate::specs::Source::chosen_source), using(crate::proofs::RequestLaws::first_of_all))]
+    #[tactic(auto, unfolding(crate::specs::chosen_source), using(crate::proofs::Rules::choices))]
     pub(crate) fn choose(&self, priority: Priority) -> Option<Source>
         ensures { result ≡ chosen_source priority self.now }
     {

@@ -56,7 +56,7 @@ fn take_one<D: SharedPaging>(
 }
 
 /// Loads each drive from the pages of its number. Takes no memory.
-#[tactic(auto, using(crate::proofs::SavedDrives::none_loaded, crate::proofs::SavedDrives::size_at, crate::proofs::SavedDrives::one_loaded, crate::proofs::SavedDrives::all_loaded))]
+#[tactic(auto, using(crate::proofs::Rules::drive_loads))]
 pub(crate) fn load_each<D: SharedPaging>(drives: &mut Vec<D>, pages: &Vec<Pages>)
     requires words { map length (map pages_words pages.now.items) ≡ map length
         (map D.words drives.old.items) }
@@ -72,7 +72,7 @@ pub(crate) fn load_each<D: SharedPaging>(drives: &mut Vec<D>, pages: &Vec<Pages>
 }
 
 /// Loads the drive of this number from the pages of this number. Takes no memory.
-#[tactic(auto, using(crate::proofs::SavedDrives::seen, crate::proofs::SavedDrives::put_one, crate::proofs::SavedDrives::same_for_one))]
+#[tactic(auto, using(crate::proofs::Rules::one_drive))]
 fn load_one<D: SharedPaging>(drives: &mut Vec<D>, pages: &Vec<Pages>, number: usize)
     requires within { number < length drives.old.items }
     requires there { number < length pages.now.items }

@@ -1,0 +1,27 @@
+-- What attributes cite: lemmas by their subject, and definitions that are opened together, as an
+-- `unfolding` of a name opens all that stands on the name's own line.
+use Rattle.pdp_kt11.specs.Kt.{kt_fetched}
+use Rattle.pdp_unibus.proofs.Directs.{fetched_status, written_both}
+use Rattle.pdp_unibus.proofs.RequestLaws.{first_of_all, without_requests_none_is_chosen}
+use Rattle.pdp_unibus.proofs.SavedDrives.{none_loaded, size_at, one_loaded, all_loaded}
+use Rattle.pdp_unibus.proofs.SavedDrives.{seen, put_one, same_for_one}
+use Rattle.pdp_unibus.proofs.Watching.{begun_quietly}
+use Rattle.pdp_unibus.specs.Calm.{IsCalm}
+use Rattle.pdp_unibus.specs.Source.{requests}
+
+-- for goals on the bus after a fetch, after a pair of writes and as a calm turn begins
+pub ruleset bus_steps = (fetched_status, written_both, begun_quietly)
+
+-- for goals on the source that is chosen
+pub ruleset choices = (first_of_all, without_requests_none_is_chosen)
+
+-- for goals on drives that are loaded one after the other
+pub ruleset drive_loads = (none_loaded, size_at, one_loaded, all_loaded)
+
+-- for goals on a list of drives of which one is changed
+pub ruleset one_drive = (seen, put_one, same_for_one)
+
+-- opens what a fetch on a calm bus leaves as it was, and what it doesn't
+unfoldable pub calm_fetch : Type 0
+unfolding requests IsCalm kt_fetched
+calm_fetch = Unit {0}
