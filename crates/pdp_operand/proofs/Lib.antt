@@ -13,3 +13,4 @@ pub mod Bound
 pub mod Outside
 pub mod Aborts
 pub mod Decodings
+pub mod Rules

@@ -4,3 +4,8 @@ pub mod Phases
 pub mod Contract
 pub mod Laws
 pub mod CoreOperand
+-- what attributes open, by a shorter path
+unfoldable pub use Rattle.pdp_operand.specs.Handbook.Operand.{find}
+unfoldable pub use Rattle.pdp_operand.specs.Handbook.Processor.{IsRunning, register_of}
+unfoldable pub use Rattle.pdp_operand.specs.Handbook.Reference.{perform}
+unfoldable pub use Rattle.pdp_operand.specs.Phases.Phase.{run}

@@ -136,7 +136,7 @@ fn indexed<S: Store, D: Store>(
 
 /// The cell whose address is the word in this one.
 #[inline(always)]
-#[tactic(auto, unfolding(crate::specs::Phases::Phase::run, crate::specs::Handbook::Operand::indirect))]
+#[tactic(auto, unfolding(crate::specs::run, crate::specs::Handbook::Operand::indirect))]
 fn deferred<S: Store, D: Store>(
     processor: &mut Processor,
     bus: &mut Bus<S, D>,
@@ -171,7 +171,7 @@ fn step(size: Size, register: u8) -> u16
 /// Err where a reference to memory faults, or where -(SP) or @-(SP) is past the limit of the
 /// kernel's stack, as [`lower`] has it.
 #[inline(always)]
-#[tactic(auto, unfolding(crate::specs::Handbook::Operand::find), using(crate::proofs::Steps::run_name_register))]
+#[tactic(auto, unfolding(crate::specs::find), using(crate::proofs::Steps::run_name_register))]
 pub fn address<S: Store, D: Store>(
     processor: &mut Processor,
     bus: &mut Bus<S, D>,
@@ -222,7 +222,7 @@ fn register_operand(processor: &Processor, id: RegisterId, size: Size) -> u16
 ///
 /// Err where the reference to memory faults; no stack trap is pending by it then.
 #[inline(always)]
-#[tactic(auto, unfolding(crate::specs::Phases::Phase::run, crate::specs::Handbook::Operand::read_operand))]
+#[tactic(auto, unfolding(crate::specs::run, crate::specs::Handbook::Operand::read_operand))]
 pub fn fetch<S: Store, D: Store>(
     processor: &mut Processor,
     bus: &mut Bus<S, D>,
@@ -256,7 +256,7 @@ pub fn fetch<S: Store, D: Store>(
 ///
 /// Err where the reference to memory faults.
 #[inline(always)]
-#[tactic(auto, unfolding(crate::specs::Phases::Phase::run, crate::specs::Handbook::Operand::read_before_write))]
+#[tactic(auto, unfolding(crate::specs::run, crate::specs::Handbook::Operand::read_before_write))]
 pub fn fetch_before_store<S: Store, D: Store>(
     processor: &Processor,
     bus: &mut Bus<S, D>,
@@ -285,7 +285,7 @@ pub fn fetch_before_store<S: Store, D: Store>(
 /// Err where the reference to memory faults; nothing is written then, and no stack trap is pending
 /// by it.
 #[inline(always)]
-#[tactic(auto, unfolding(crate::specs::Phases::Phase::run, crate::specs::Handbook::Operand::write_operand))]
+#[tactic(auto, unfolding(crate::specs::run, crate::specs::Handbook::Operand::write_operand))]
 pub fn store<S: Store, D: Store>(
     processor: &mut Processor,
     bus: &mut Bus<S, D>,
