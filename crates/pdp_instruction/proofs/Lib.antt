@@ -4,3 +4,4 @@ pub mod PlanSizes
 pub mod StatusKept
 pub mod PlansKeepStatus
 pub mod Fetches
+pub mod Rules

@@ -10,7 +10,7 @@ use pdp_unibus::Bus;
 
 /// BR and the branches on a condition.
 #[inline(always)]
-#[tactic(auto, using(crate::proofs::Steps::run_branch), unfolding(crate::specs::Handbook::Branch::branch_plan))]
+#[tactic(auto, using(crate::proofs::Steps::run_branch), unfolding(crate::specs::branch_plan))]
 pub fn branch<S: Store, D: Store>(
     processor: &mut Processor,
     bus: &Bus<S, D>,
@@ -36,7 +36,7 @@ fn go_to(processor: &mut Processor, offset: i8)
 
 /// SOB.
 #[inline(always)]
-#[tactic(auto, using(crate::proofs::Steps::run_subtract_one), unfolding(crate::specs::Handbook::Branch::sob_plan))]
+#[tactic(auto, using(crate::proofs::Steps::run_subtract_one), unfolding(crate::specs::sob_plan))]
 pub fn subtract_one<S: Store, D: Store>(
     processor: &mut Processor,
     bus: &Bus<S, D>,

@@ -9,7 +9,7 @@ use pdp_word::Codes;
 
 /// CLN, CLZ, CLV, CLC and their sums.
 #[inline(never)]
-#[tactic(auto, using(crate::proofs::Steps::run_clear_codes), unfolding(crate::specs::Handbook::ChangeCodes::clear_plan))]
+#[tactic(auto, using(crate::proofs::Steps::run_clear_codes), unfolding(crate::specs::clear_plan))]
 pub fn clear_codes<S: Store, D: Store>(bus: &mut Bus<S, D>, mask: Codes)
     ensures runs { (p : Processor) → Runs (clear_plan mask) p bus.old (Ok tt) p bus.new }
 {
@@ -24,7 +24,7 @@ pub fn clear_codes<S: Store, D: Store>(bus: &mut Bus<S, D>, mask: Codes)
 
 /// SEN, SEZ, SEV, SEC and their sums.
 #[inline(never)]
-#[tactic(auto, using(crate::proofs::Steps::run_set_codes), unfolding(crate::specs::Handbook::ChangeCodes::set_plan))]
+#[tactic(auto, using(crate::proofs::Steps::run_set_codes), unfolding(crate::specs::set_plan))]
 pub fn set_codes<S: Store, D: Store>(bus: &mut Bus<S, D>, mask: Codes)
     ensures runs { (p : Processor) → Runs (set_plan mask) p bus.old (Ok tt) p bus.new }
 {

@@ -13,7 +13,7 @@ use pdp_unibus::Bus;
 ///
 /// Err(Reserved) in user mode.
 #[inline(never)]
-#[tactic(auto, unfolding(crate::specs::Handbook::Control::halt_plan, crate::specs::Handbook::Control::halt, pdp_operand::specs::Phases::Phase::run))]
+#[tactic(auto, unfolding(crate::proofs::Rules::control_plans))]
 pub fn halt<S: Store, D: Store>(processor: &mut Processor, bus: &Bus<S, D>) -> Result<(), Trap>
     ensures runs { Runs halt_plan processor.old bus.now result processor.new bus.now }
 {
@@ -26,7 +26,7 @@ pub fn halt<S: Store, D: Store>(processor: &mut Processor, bus: &Bus<S, D>) -> R
 
 /// WAIT.
 #[inline(never)]
-#[tactic(auto, unfolding(crate::specs::Handbook::Control::wait_plan, crate::specs::Handbook::Control::wait, pdp_operand::specs::Phases::Phase::run))]
+#[tactic(auto, unfolding(crate::proofs::Rules::control_plans))]
 pub fn wait(processor: &mut Processor)
     ensures runs { (bus : BusWorld) → Runs wait_plan processor.old bus (Ok tt) processor.new bus }
 {
@@ -35,7 +35,7 @@ pub fn wait(processor: &mut Processor)
 
 /// RESET.
 #[inline(never)]
-#[tactic(auto, unfolding(crate::specs::Handbook::Control::reset_plan, crate::specs::Handbook::Control::reset, pdp_operand::specs::Phases::Phase::run))]
+#[tactic(auto, unfolding(crate::proofs::Rules::control_plans))]
 pub fn reset<S: Store, D: Store>(bus: &mut Bus<S, D>)
     ensures runs { (p : Processor) → Runs reset_plan p bus.old (Ok tt) p bus.new }
 {

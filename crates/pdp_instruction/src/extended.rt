@@ -14,7 +14,7 @@ use pdp_word::{Codes, Size};
 
 /// MUL.
 #[inline(never)]
-#[tactic(auto, using(crate::proofs::Steps::run_multiplication), unfolding(crate::specs::Handbook::Extended::mul_plan))]
+#[tactic(auto, using(crate::proofs::Steps::run_multiplication), unfolding(crate::specs::mul_plan))]
 pub fn multiply<S: Store, D: Store>(
     processor: &mut Processor,
     bus: &mut Bus<S, D>,
@@ -35,7 +35,7 @@ pub fn multiply<S: Store, D: Store>(
 
 /// DIV.
 #[inline(never)]
-#[tactic(auto, using(crate::proofs::Steps::run_division), unfolding(crate::specs::Handbook::Extended::div_plan))]
+#[tactic(auto, using(crate::proofs::Steps::run_division), unfolding(crate::specs::div_plan))]
 pub fn divide<S: Store, D: Store>(
     processor: &mut Processor,
     bus: &mut Bus<S, D>,
@@ -70,7 +70,7 @@ fn set_quotient(processor: &mut Processor, pair: Pair, effect: Div) -> Codes
 
 /// ASH.
 #[inline(never)]
-#[tactic(auto, using(crate::proofs::Steps::run_shift), unfolding(crate::specs::Handbook::Extended::ash_plan))]
+#[tactic(auto, using(crate::proofs::Steps::run_shift), unfolding(crate::specs::ash_plan))]
 pub fn shift<S: Store, D: Store>(
     processor: &mut Processor,
     bus: &mut Bus<S, D>,
@@ -91,7 +91,7 @@ pub fn shift<S: Store, D: Store>(
 
 /// ASHC.
 #[inline(never)]
-#[tactic(auto, using(crate::proofs::Steps::run_pair_shift), unfolding(crate::specs::Handbook::Extended::ashc_plan))]
+#[tactic(auto, using(crate::proofs::Steps::run_pair_shift), unfolding(crate::specs::ashc_plan))]
 pub fn shift_pair<S: Store, D: Store>(
     processor: &mut Processor,
     bus: &mut Bus<S, D>,

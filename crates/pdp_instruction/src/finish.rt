@@ -12,7 +12,7 @@ use pdp_unibus::Bus;
 /// Writes the value of an effect to its place, and then stores its codes, but where the program
 /// status word was written. Where the write faults the codes stay.
 #[inline(always)]
-#[tactic(auto, using(crate::proofs::Steps::run_store_codes, crate::proofs::Steps::run_store_none), unfolding(crate::specs::Handbook::Execute::finish_plan))]
+#[tactic(auto, using(crate::proofs::Rules::code_stores), unfolding(crate::specs::finish_plan))]
 pub fn finish<S: Store, D: Store>(
     processor: &mut Processor,
     bus: &mut Bus<S, D>,

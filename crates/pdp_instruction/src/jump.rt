@@ -24,7 +24,7 @@ pub const POP: Spec = Spec { mode: 2, reg: 6 };
 ///
 /// Err(JumpToRegister) where the operand is a register.
 #[inline(always)]
-#[tactic(auto, unfolding(crate::specs::Handbook::Jump::aim, pdp_operand::specs::Phases::Phase::run))]
+#[tactic(auto, unfolding(crate::specs::Handbook::Jump::aim, pdp_operand::specs::run))]
 fn aim(processor: &mut Processor, place: Place) -> Result<u16, Trap>
     ensures gives { (b : BusWorld) → GivesWhere (IsAt place) in_value (one aim_phase)
         processor.old b result processor.new b }
@@ -40,7 +40,7 @@ fn aim(processor: &mut Processor, place: Place) -> Result<u16, Trap>
 
 /// JMP.
 #[inline(never)]
-#[tactic(auto, using(crate::proofs::Steps::run_jump), unfolding(crate::specs::Handbook::Jump::jmp_plan))]
+#[tactic(auto, using(crate::proofs::Steps::run_jump), unfolding(crate::specs::jmp_plan))]
 pub fn jump<S: Store, D: Store>(
     processor: &mut Processor,
     bus: &mut Bus<S, D>,
@@ -56,7 +56,7 @@ pub fn jump<S: Store, D: Store>(
 
 /// JSR.
 #[inline(never)]
-#[tactic(auto, using(crate::proofs::Steps::run_take_link, crate::proofs::Steps::run_link), unfolding(crate::specs::Handbook::Jump::jsr_plan))]
+#[tactic(auto, using(crate::proofs::Rules::links), unfolding(crate::specs::jsr_plan))]
 pub fn jump_to_subroutine<S: Store, D: Store>(
     processor: &mut Processor,
     bus: &mut Bus<S, D>,
@@ -91,7 +91,7 @@ fn link(processor: &mut Processor, id: RegisterId, address: u16)
 
 /// Pops the register.
 #[inline(always)]
-#[tactic(auto, using(crate::proofs::Steps::run_set_register), unfolding(crate::specs::Handbook::Jump::pop_register))]
+#[tactic(auto, using(crate::proofs::Rules::returns), unfolding(crate::specs::pop_register))]
 fn pop_register<S: Store, D: Store>(
     processor: &mut Processor,
     bus: &mut Bus<S, D>,
@@ -107,7 +107,7 @@ fn pop_register<S: Store, D: Store>(
 
 /// RTS.
 #[inline(never)]
-#[tactic(auto, using(crate::proofs::Steps::run_return_by), unfolding(crate::specs::Handbook::Jump::rts_plan))]
+#[tactic(auto, using(crate::proofs::Rules::returns), unfolding(crate::specs::rts_plan))]
 pub fn return_from_subroutine<S: Store, D: Store>(
     processor: &mut Processor,
     bus: &mut Bus<S, D>,
@@ -122,7 +122,7 @@ pub fn return_from_subroutine<S: Store, D: Store>(
 
 /// MARK.
 #[inline(never)]
-#[tactic(auto, using(crate::proofs::Steps::run_take_mark), unfolding(crate::specs::Handbook::Jump::mark_plan))]
+#[tactic(auto, using(crate::proofs::Steps::run_take_mark), unfolding(crate::specs::mark_plan))]
 pub fn mark<S: Store, D: Store>(
     processor: &mut Processor,
     bus: &mut Bus<S, D>,

@@ -12,7 +12,7 @@ use pdp_word::Size;
 
 /// MOV.
 #[inline(never)]
-#[tactic(auto, using(crate::proofs::Steps::run_execute_mov), unfolding(crate::specs::Handbook::Moves::mov_plan))]
+#[tactic(auto, using(crate::proofs::Steps::run_execute_mov), unfolding(crate::specs::mov_plan))]
 pub fn mov_word<S: Store, D: Store>(
     processor: &mut Processor,
     bus: &mut Bus<S, D>,
@@ -29,7 +29,7 @@ pub fn mov_word<S: Store, D: Store>(
 
 /// MOVB: a byte that goes to a register fills it with its sign.
 #[inline(never)]
-#[tactic(auto, using(crate::proofs::Steps::run_execute_mov), unfolding(crate::specs::Handbook::Moves::movb_plan))]
+#[tactic(auto, using(crate::proofs::Steps::run_execute_mov), unfolding(crate::specs::movb_plan))]
 pub fn mov_byte<S: Store, D: Store>(
     processor: &mut Processor,
     bus: &mut Bus<S, D>,

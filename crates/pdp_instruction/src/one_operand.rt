@@ -13,7 +13,7 @@ use pdp_word::Size;
 
 /// TST and TSTB.
 #[inline(never)]
-#[tactic(auto, using(crate::proofs::Steps::run_execute_tst, crate::proofs::Steps::run_store_codes), unfolding(crate::specs::Handbook::OneOperand::tst_plan))]
+#[tactic(auto, using(crate::proofs::Rules::unary_steps), unfolding(crate::specs::tst_plan))]
 pub fn test<S: Store, D: Store>(
     processor: &mut Processor,
     bus: &mut Bus<S, D>,
@@ -31,7 +31,7 @@ pub fn test<S: Store, D: Store>(
 
 /// COM, INC, DEC, NEG, ADC, SBC, ROR, ROL, ASR, ASL and SWAB.
 #[inline(never)]
-#[tactic(auto, using(crate::proofs::Steps::run_execute_modification), unfolding(crate::specs::Handbook::OneOperand::modify_plan))]
+#[tactic(auto, using(crate::proofs::Rules::unary_steps), unfolding(crate::specs::modify_plan))]
 pub fn modify<S: Store, D: Store>(
     processor: &mut Processor,
     bus: &mut Bus<S, D>,
@@ -50,7 +50,7 @@ pub fn modify<S: Store, D: Store>(
 
 /// CLR and SXT.
 #[inline(never)]
-#[tactic(auto, using(crate::proofs::Steps::run_execute_replacement), unfolding(crate::specs::Handbook::OneOperand::replace_plan))]
+#[tactic(auto, using(crate::proofs::Rules::unary_steps), unfolding(crate::specs::replace_plan))]
 pub fn replace<S: Store, D: Store>(
     processor: &mut Processor,
     bus: &mut Bus<S, D>,

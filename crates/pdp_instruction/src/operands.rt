@@ -37,7 +37,7 @@ pub fn operands<S: Store, D: Store>(
 
 /// Both operands are registers: no reference is made.
 #[inline(always)]
-#[tactic(auto, using(crate::proofs::Steps::run_keep_source, pdp_operand::proofs::Steps::run_name_register), unfolding(crate::specs::Handbook::Operands::source_first, pdp_operand::specs::Handbook::Operand::find, pdp_operand::specs::Handbook::Operand::read_operand, pdp_operand::specs::Phases::Phase::run))]
+#[tactic(auto, using(crate::proofs::Rules::sources), unfolding(crate::proofs::Rules::source_read))]
 fn read_registers<S: Store, D: Store>(
     processor: &Processor,
     bus: &Bus<S, D>,
@@ -55,7 +55,7 @@ fn read_registers<S: Store, D: Store>(
 }
 
 #[inline(never)]
-#[tactic(auto, using(crate::proofs::Steps::run_keep_source), unfolding(crate::specs::Handbook::Operands::source_first))]
+#[tactic(auto, using(crate::proofs::Rules::sources), unfolding(crate::specs::source_first))]
 fn read_first<S: Store, D: Store>(
     processor: &mut Processor,
     bus: &mut Bus<S, D>,
@@ -73,7 +73,7 @@ fn read_first<S: Store, D: Store>(
 }
 
 #[inline(always)]
-#[tactic(auto, using(crate::proofs::Steps::run_take_register), unfolding(crate::specs::Handbook::Operands::place_first))]
+#[tactic(auto, using(crate::proofs::Rules::sources), unfolding(crate::specs::place_first))]
 fn read_late<S: Store, D: Store>(
     processor: &mut Processor,
     bus: &mut Bus<S, D>,

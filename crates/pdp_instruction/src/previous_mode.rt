@@ -21,7 +21,7 @@ use pdp_word::Size;
 ///
 /// Err where the operand can't be found or read, or the push can't be made; the codes then stay.
 #[inline(never)]
-#[tactic(auto, using(crate::proofs::Steps::run_cross, crate::proofs::Steps::run_keep_source, crate::proofs::Steps::run_execute_mov), unfolding(crate::specs::Handbook::PreviousMode::mfpi_plan))]
+#[tactic(auto, using(crate::proofs::Rules::crossings), unfolding(crate::specs::mfpi_plan))]
 pub fn move_from_previous<S: Store, D: Store>(
     processor: &mut Processor,
     bus: &mut Bus<S, D>,
@@ -47,7 +47,7 @@ pub fn move_from_previous<S: Store, D: Store>(
 /// Err where the word can't be popped, or the destination can't be found or written; the codes then
 /// stay.
 #[inline(never)]
-#[tactic(auto, using(crate::proofs::Steps::run_cross, crate::proofs::Steps::run_keep_source, crate::proofs::Steps::run_execute_mov), unfolding(crate::specs::Handbook::PreviousMode::mtpi_plan))]
+#[tactic(auto, using(crate::proofs::Rules::crossings), unfolding(crate::specs::mtpi_plan))]
 pub fn move_to_previous<S: Store, D: Store>(
     processor: &mut Processor,
     bus: &mut Bus<S, D>,

@@ -45,7 +45,7 @@ pub fn returned(old: Status, word: u16) -> Status
 
 /// RTI and RTT.
 #[inline(never)]
-#[tactic(auto, using(crate::proofs::Steps::run_keep_counter, crate::proofs::Steps::run_return_from_trap), unfolding(crate::specs::Handbook::ReturnFromTrap::return_plan))]
+#[tactic(auto, using(crate::proofs::Rules::trap_returns), unfolding(crate::specs::return_plan))]
 pub fn return_from_trap<S: Store, D: Store>(
     processor: &mut Processor,
     bus: &mut Bus<S, D>,

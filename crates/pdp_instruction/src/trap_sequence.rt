@@ -23,7 +23,7 @@ use pdp_unibus::{Bus, Status};
 
 /// The new PC of a trap, at its vector in kernel space.
 #[inline(always)]
-#[tactic(auto, unfolding(crate::specs::Handbook::TrapSequence::vector_counter, pdp_operand::specs::Phases::Phase::run))]
+#[tactic(auto, unfolding(crate::specs::vector_counter, pdp_operand::specs::run))]
 fn read_counter<S: Store, D: Store>(bus: &mut Bus<S, D>, vector: u16) -> Result<u16, Trap>
     ensures gives { (p : Processor) → Gives in_counter (one (vector_counter vector)) p bus.old
         result p bus.new }
@@ -33,7 +33,7 @@ fn read_counter<S: Store, D: Store>(bus: &mut Bus<S, D>, vector: u16) -> Result<
 
 /// The new program status word of a trap, after its new PC.
 #[inline(always)]
-#[tactic(auto, unfolding(crate::specs::Handbook::TrapSequence::vector_status, pdp_operand::specs::Phases::Phase::run))]
+#[tactic(auto, unfolding(crate::specs::vector_status, pdp_operand::specs::run))]
 fn read_status<S: Store, D: Store>(bus: &mut Bus<S, D>, vector: u16) -> Result<u16, Trap>
     requires { vector < 0o1000 }
     ensures gives { (p : Processor) → Gives in_status (one (vector_status vector)) p bus.old result
@@ -44,7 +44,7 @@ fn read_status<S: Store, D: Store>(bus: &mut Bus<S, D>, vector: u16) -> Result<u
 
 /// Pushes a word on the stack of the new mode, and answers the cell that it went to.
 #[inline(always)]
-#[tactic(auto, unfolding(crate::specs::Handbook::TrapSequence::push_plan, crate::specs::Handbook::TrapSequence::put_word, pdp_operand::specs::Handbook::Operand::lower, pdp_operand::specs::Phases::Phase::run))]
+#[tactic(auto, unfolding(crate::proofs::Rules::trap_pushes))]
 fn push<S: Store, D: Store>(
     processor: &mut Processor,
     bus: &mut Bus<S, D>,
@@ -65,7 +65,7 @@ fn push<S: Store, D: Store>(
 
 /// PC and the program status become the new ones, and the previous mode the old one.
 #[inline(always)]
-#[tactic(auto, unfolding(crate::specs::Handbook::TrapSequence::enter, pdp_operand::specs::Phases::Phase::run))]
+#[tactic(auto, unfolding(crate::specs::Handbook::TrapSequence::enter, pdp_operand::specs::run))]
 fn enter<S: Store, D: Store>(
     processor: &mut Processor,
     bus: &mut Bus<S, D>,
@@ -112,7 +112,7 @@ fn trap<S: Store, D: Store>(
 
 /// Writes a word in kernel space.
 #[inline(always)]
-#[tactic(auto, unfolding(crate::specs::Handbook::TrapSequence::save, pdp_operand::specs::Phases::Phase::run))]
+#[tactic(auto, unfolding(crate::specs::Handbook::TrapSequence::save, pdp_operand::specs::run))]
 fn save<S: Store, D: Store>(bus: &mut Bus<S, D>, address: u16, word: u16) -> Result<(), Trap>
     ensures gives { (p : Processor) → Gives nowhere (one (save_phase address word)) p bus.old result
         p bus.new }
@@ -123,7 +123,7 @@ fn save<S: Store, D: Store>(bus: &mut Bus<S, D>, address: u16, word: u16) -> Res
 
 /// The same as `enter`, with kernel R6 0 and no trap of the processor pending.
 #[inline(always)]
-#[tactic(auto, unfolding(crate::specs::Handbook::TrapSequence::enter_red, pdp_operand::specs::Phases::Phase::run))]
+#[tactic(auto, unfolding(crate::specs::Handbook::TrapSequence::enter_red, pdp_operand::specs::run))]
 fn enter_red<S: Store, D: Store>(
     processor: &mut Processor,
     bus: &mut Bus<S, D>,
@@ -148,7 +148,7 @@ fn enter_red<S: Store, D: Store>(
 ///
 /// Err where it can't go on; PC and the program status are then as before.
 #[inline(never)]
-#[tactic(auto, using(crate::proofs::Steps::run_bare_stack), unfolding(crate::specs::Handbook::TrapSequence::red_plan))]
+#[tactic(auto, using(crate::proofs::Steps::run_bare_stack), unfolding(crate::specs::red_plan))]
 fn red_trap<S: Store, D: Store>(
     processor: &mut Processor,
     bus: &mut Bus<S, D>,
@@ -183,7 +183,7 @@ fn give_up<S: Store, D: Store>(
 
 /// The red sequence; where it can't go on the processor halts.
 #[inline(never)]
-#[tactic(auto, using(crate::proofs::Endings::after_done, crate::proofs::Endings::after_caught), unfolding(crate::specs::Handbook::TrapSequence::red, pdp_operand::specs::Phases::Course::follow))]
+#[tactic(auto, using(crate::proofs::Rules::endings), unfolding(crate::proofs::Rules::red_course))]
 fn red<S: Store, D: Store>(processor: &mut Processor, bus: &mut Bus<S, D>, context: SavedContext)
     ensures follows { Follows (red_course context) processor.old bus.old processor.new bus.new }
 {
@@ -202,7 +202,7 @@ fn red<S: Store, D: Store>(processor: &mut Processor, bus: &mut Bus<S, D>, conte
 /// violations; that the vector is read before the pushes, and how the red sequence ends, are this
 /// project's profile.
 #[inline(never)]
-#[tactic(auto, using(crate::proofs::Endings::after_done, crate::proofs::Endings::after_caught), unfolding(crate::specs::Handbook::TrapSequence::sequence, pdp_operand::specs::Phases::Course::follow))]
+#[tactic(auto, using(crate::proofs::Rules::endings), unfolding(crate::proofs::Rules::sequences))]
 pub fn begin_sequence<S: Store, D: Store>(
     processor: &mut Processor,
     bus: &mut Bus<S, D>,

@@ -12,7 +12,7 @@ use pdp_unibus::Bus;
 
 /// CMP and BIT.
 #[inline(never)]
-#[tactic(auto, using(crate::proofs::Steps::run_comparison), unfolding(crate::specs::Handbook::TwoOperands::compare_plan))]
+#[tactic(auto, using(crate::proofs::Rules::binary_steps), unfolding(crate::specs::compare_plan))]
 pub fn compare<S: Store, D: Store>(
     processor: &mut Processor,
     bus: &mut Bus<S, D>,
@@ -33,7 +33,7 @@ pub fn compare<S: Store, D: Store>(
 
 /// BIC, BIS, ADD, SUB and XOR.
 #[inline(never)]
-#[tactic(auto, using(crate::proofs::Steps::run_execute_combination), unfolding(crate::specs::Handbook::TwoOperands::combine_plan))]
+#[tactic(auto, using(crate::proofs::Rules::binary_steps), unfolding(crate::specs::combine_plan))]
 pub fn combine<S: Store, D: Store>(
     processor: &mut Processor,
     bus: &mut Bus<S, D>,
