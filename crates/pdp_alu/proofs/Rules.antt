@@ -22,15 +22,27 @@ pub ruleset signs = (sign_tells, less_after_cmp, negated_twice, complement_plus_
 pub ruleset products = (signed_product, signed_low_product)
 
 -- for goals on the value and the codes that ASH and ASHC to the left leave
-pub ruleset left = (word_to_the_left, long_to_the_left, word_overflow, long_overflow, word_carry, long_carry)
+pub ruleset left_shifts = (
+  word_to_the_left,
+  long_to_the_left,
+  word_overflow,
+  long_overflow,
+  word_carry,
+  long_carry,
+)
 
 -- for goals on the value and the codes that ASH and ASHC to the right leave
-pub ruleset right = (word_to_the_right, long_to_the_right, word_right_carry, long_right_carry)
+pub ruleset right_shifts = (
+  word_to_the_right,
+  long_to_the_right,
+  word_right_carry,
+  long_right_carry,
+)
 
 -- opens the effects of ASH and ASHC
-unfoldable pub shift_effects : Type 0
+unfoldable pub shifts : Type 0
 unfolding ash_effect ashc_effect
-shift_effects = Unit {0}
+shifts = Unit {0}
 
 -- opens the effects of INC, DEC and NEG
 unfoldable pub signed_effects : Type 0

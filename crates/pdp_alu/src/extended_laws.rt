@@ -37,7 +37,7 @@ pub fn divisions_are_exact()
 /// and 0 moves nothing.
 ///
 /// Source: DEC PDP-11/40 Processor Handbook (1972), Extended instruction set, ASH and ASHC.
-#[tactic(auto, using(crate::proofs::Rules::left), unfolding(crate::proofs::Rules::shift_effects))]
+#[tactic(auto, using(crate::proofs::Rules::left_shifts), unfolding(crate::proofs::Rules::shifts))]
 pub fn shifts_to_the_left_multiply()
     ensures word { WordShiftsMultiply }
     ensures long { LongShiftsMultiply }
@@ -53,7 +53,7 @@ pub fn shifts_to_the_left_multiply()
 /// down. C is the last bit that was moved out, and V is clear.
 ///
 /// Source: DEC PDP-11/40 Processor Handbook (1972), Extended instruction set, ASH and ASHC.
-#[tactic(auto, using(crate::proofs::Rules::right))]
+#[tactic(auto, using(crate::proofs::Rules::right_shifts))]
 pub fn shifts_to_the_right_divide()
     ensures word { WordShiftsDivide }
     ensures long { LongShiftsDivide }

@@ -22,7 +22,12 @@ use Rattle.pdp_instruction.specs.Handbook.TrapSequence.{push_plan, put_word, red
 pub ruleset sources = (run_keep_source, run_take_register, run_name_register)
 
 -- for goals on an instruction of one operand
-pub ruleset unary_steps = (run_execute_tst, run_execute_modification, run_execute_replacement, run_store_codes)
+pub ruleset unary_steps = (
+  run_execute_tst,
+  run_execute_modification,
+  run_execute_replacement,
+  run_store_codes,
+)
 
 -- for goals on an instruction of two operands
 pub ruleset binary_steps = (run_comparison, run_execute_combination)

@@ -19,7 +19,7 @@ pub ruleset choices = (first_of_all, without_requests_none_is_chosen)
 pub ruleset drive_loads = (none_loaded, size_at, one_loaded, all_loaded)
 
 -- for goals on a list of drives of which one is changed
-pub ruleset one_drive = (seen, put_one, same_for_one)
+pub ruleset changed_drive = (seen, put_one, same_for_one)
 
 -- opens what a fetch on a calm bus leaves as it was, and what it doesn't
 unfoldable pub calm_fetch : Type 0

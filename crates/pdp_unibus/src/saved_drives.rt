@@ -72,7 +72,7 @@ pub(crate) fn load_each<D: SharedPaging>(drives: &mut Vec<D>, pages: &Vec<Pages>
 }
 
 /// Loads the drive of this number from the pages of this number. Takes no memory.
-#[tactic(auto, using(crate::proofs::Rules::one_drive))]
+#[tactic(auto, using(crate::proofs::Rules::changed_drive))]
 fn load_one<D: SharedPaging>(drives: &mut Vec<D>, pages: &Vec<Pages>, number: usize)
     requires within { number < length drives.old.items }
     requires there { number < length pages.now.items }

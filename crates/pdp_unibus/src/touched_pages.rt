@@ -51,7 +51,7 @@ fn forget_each<D: Store>(drives: &mut Vec<D>, turn: u32)
 }
 
 // Drops them on the drive of this number.
-#[tactic(auto, using(crate::proofs::Rules::one_drive))]
+#[tactic(auto, using(crate::proofs::Rules::changed_drive))]
 fn forget_one<D: Store>(drives: &mut Vec<D>, turn: u32, number: usize)
     requires { number < length drives.old.items }
     ensures count { length drives.new.items ≡ length drives.old.items }
