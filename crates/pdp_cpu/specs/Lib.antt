@@ -3,3 +3,5 @@ pub mod Turns
 pub mod Saved
 pub mod Laws
 pub mod Drives
+-- what a meter of turns counts
+pub mod Meters

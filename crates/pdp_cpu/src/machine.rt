@@ -1,9 +1,10 @@
-ghost use Rattle.std.specs.Prelude.{◌≡◌, ◌+◌, ◌-◌, ◌^◌, ◌<◌, ◌≤◌, length, map, min};
+ghost use Rattle.std.specs.Prelude.{◌≡◌, ◌<◌, length, map};
 ghost use Rattle.std.specs.Prelude.{slice_index, slice_index_or, take, [], None, Ok, OnOk};
 ghost use Rattle.pdp_store.specs.Firsts.{firsts_after, firsts_of, no_firsts};
 ghost use Rattle.pdp_unibus.specs.BusWorld.{bus_at_power_up};
 ghost use Rattle.pdp_operand.specs.Phases.Phase.{inner_of};
 ghost use Rattle.pdp_cpu.specs.KeptTexts.{without_turns};
+ghost use Rattle.pdp_cpu.specs.Meters.{Counts};
 ghost use Rattle.pdp_cpu.specs.Turns.Due.{act_of, due_of};
 ghost use Rattle.pdp_cpu.specs.Turns.MachineState.{IsReady, powered_machine, after_turn};
 ghost use Rattle.pdp_cpu.specs.Turns.MachineState.{machine_world, printed_kept, punched_kept};
@@ -148,8 +149,7 @@ impl<S: Store, D: Store> Machine<S, D> {
         ensures kept_punched { self.new.kept_punched ≡ punched_kept events.now self.old }
         ensures firsts { self.new.firsts ≡ firsts_after
             (turn_trace self.old.state.turn events.now self.old.state.world) self.old.firsts }
-        ensures counted { meter.new ≡ min (meter.old + 1) (2 ^ 64 - 1) }
-        ensures grows { meter.old ≤ meter.new }
+        ensures counted { Counts 1 meter.old meter.new }
     {
         let _turn = self.turn;
         self.turn_whole(meter, events)
@@ -169,8 +169,7 @@ impl<S: Store, D: Store> Machine<S, D> {
             (touched_machine self.old) }
         ensures kept_punched { self.new.kept_punched
             ≡ punched_kept events.now (touched_machine self.old) }
-        ensures counted { meter.new ≡ min (meter.old + 1) (2 ^ 64 - 1) }
-        ensures grows { meter.old ≤ meter.new }
+        ensures counted { Counts 1 meter.old meter.new }
     {
         self.begin_any(events);
         let act = self.act();

@@ -1,4 +1,5 @@
-ghost use Rattle.std.specs.Prelude.{◌≡◌, ◌+◌, ◌-◌, ◌^◌, ◌<◌, ◌≤◌, ℕ, min};
+ghost use Rattle.std.specs.Prelude.{◌≡◌, ◌^◌, ◌<◌, ℕ};
+ghost use Rattle.pdp_cpu.specs.Meters.{Counts};
 
 use std::marker::Model;
 
@@ -33,16 +34,14 @@ impl Meter {
     /// Counts a turn; at 18,446,744,073,709,551,615 it stays there.
     #[inline(always)]
     pub(crate) fn tick(&mut self)
-        ensures counted { self.new ≡ min (self.old + 1) (2 ^ 64 - 1) }
-        ensures grows { self.old ≤ self.new }
+        ensures { Counts 1 self.old self.new }
     {
         self.turns = self.turns.saturating_add(1);
     }
 
     /// Counts `turns` turns; at 18,446,744,073,709,551,615 it stays there.
     pub(crate) fn add(&mut self, turns: u32)
-        ensures counted { self.new ≡ min (self.old + turns) (2 ^ 64 - 1) }
-        ensures grows { self.old ≤ self.new }
+        ensures { Counts turns self.old self.new }
     {
         self.turns = self.turns.saturating_add(u64::from(turns));
     }

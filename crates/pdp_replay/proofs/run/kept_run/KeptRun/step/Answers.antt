@@ -28,8 +28,8 @@ advanced : (c : After-settle)
     → Advances c.args.self.now.machine.state.turn (c.args.self.now.machine.state.turn + 1) c.args.self.now c.settle.new.self
 advanced c =
     let turn = turn_on c in
-    let counted = c.turn-act.ensures.counted in
-    let grows = c.turn-act.ensures.grows in
+    let counted = c.turn-act.ensures.counted.0 in
+    let grows = c.turn-act.ensures.counted.1 in
     advances_from _ _ _ c.args.self.now _ c.settle.new.self refl refl (omega (arith, turn, counted)) grows c.settle.ensures.advances (omega (arith, turn))
 
 pub returns-in_err-settle-clause-kept : goal.returns-in_err-settle-clause-kept
