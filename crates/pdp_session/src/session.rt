@@ -48,10 +48,8 @@ pub fn run<R: Feed, W: Drain>(
     ensures sound { OnOk result (((R.input reader.new).has_failed ≡ false)
         × ((W.output writer.new).has_failed ≡ false)) }
 {
-    match Engine::new(alloc, setup) {
-        Ok(mut engine) => serve(alloc, &mut engine, reader, writer),
-        Err(fault) => Err(fault),
-    }
+    let mut engine = Engine::new(alloc, setup)?;
+    serve(alloc, &mut engine, reader, writer)
 }
 
 // Runs a session on an engine.
