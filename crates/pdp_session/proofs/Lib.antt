@@ -5,6 +5,7 @@ pub mod HeldLines
 pub mod ImageWords
 pub mod LineLists
 pub mod NamedBytes
+pub mod NamedWords
 pub mod ListedLines
 pub mod Pieces
 pub mod Pulls

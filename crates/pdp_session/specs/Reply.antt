@@ -11,6 +11,7 @@ use Rattle.pdp_store.specs.declared.Agent.TheVariants.{Cpu as ByProcessor, Disk 
 use Rattle.pdp_cpu.specs.declared.act.Act.{Act}
 use Rattle.pdp_cpu.specs.declared.act.Act.TheVariants.{Instr, Trace, Stack, Irq, Idle}
 use Rattle.pdp_cpu.specs.declared.regs.Regs.{Regs}
+use Rattle.pdp_unibus.specs.Shown.{shown_names}
 use Rattle.pdp_unibus.specs.declared.device_registers.DeviceRegisters.{DeviceRegisters}
 use Rattle.pdp_unibus.specs.declared.page_registers.PageRegisters.{PageRegisters}
 use Rattle.pdp_operand.specs.declared.processor.RunState.{RunState}
@@ -139,30 +140,17 @@ bytes_line name bytes = bytes_head name (length bytes) ++ byte_texts bytes ++ co
 abbrev pub named_word_text : List ℕ → ℕ → List ℕ
 named_word_text name word = codes " " ++ name ++ word_text word
 
--- the registers of the disk
-abbrev pub disk_register_texts : DeviceRegisters → List ℕ
-disk_register_texts devices =
-    named_word_text (codes "RKDS") devices.drive_status
-    ++ named_word_text (codes "RKER") devices.disk_error
-    ++ named_word_text (codes "RKCS") devices.disk_control
-    ++ named_word_text (codes "RKWC") devices.disk_word_count
-    ++ named_word_text (codes "RKBA") devices.disk_bus_address
-    ++ named_word_text (codes "RKDA") devices.disk_address
+-- names, each with its word
+abbrev pub named_word_texts : List (List ℕ) → List ℕ → List ℕ
+named_word_texts [] words = []
+named_word_texts (name ∷ names) [] = []
+named_word_texts (name ∷ names) (word ∷ words) =
+    named_word_text name word ++ named_word_texts names words
 
 -- the registers of the devices, in one line
 unfoldable pub devices_line : DeviceRegisters → List ℕ
 devices_line devices =
-    codes "devices"
-    ++ named_word_text (codes "TKS") devices.keyboard_status
-    ++ named_word_text (codes "TKB") devices.keyboard_buffer
-    ++ named_word_text (codes "TPS") devices.printer_status
-    ++ named_word_text (codes "LKS") devices.clock_status
-    ++ named_word_text (codes "PRS") devices.reader_status
-    ++ named_word_text (codes "PRB") devices.reader_buffer
-    ++ named_word_text (codes "PPS") devices.punch_status
-    ++ disk_register_texts devices
-    ++ named_word_text (codes "SWR") devices.switches
-    ++ codes "\n"
+    codes "devices" ++ named_word_texts shown_names devices.words ++ codes "\n"
 
 -- a name and the words of the eight pages, each after a space
 abbrev pub page_words_text : List ℕ → List ℕ → List ℕ

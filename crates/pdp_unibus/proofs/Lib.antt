@@ -18,3 +18,4 @@ mod SavedDrives
 mod PatchedPages
 pub mod FewerDrives
 pub mod Rules
+pub mod ShownWords

@@ -1,6 +1,6 @@
 -- The registers as a person reads them: PDP-11 Peripherals Handbook, KL11, KW11-L, PC11 and RK11;
 -- DEC PDP-11/40 Processor Handbook (1972), Memory management.
-use Rattle.std.specs.Prelude.{ℕ, List, [], ◌∷◌, length}
+use Rattle.std.specs.Prelude.{ℕ, List, [], ◌∷◌, codes, length, map}
 use Rattle.pdp_console.specs.declared.kl.KlRegister.TheVariants.{KeyboardStatus, KeyboardBuffer}
 use Rattle.pdp_console.specs.declared.kl.KlRegister.TheVariants.{PrinterStatus}
 use Rattle.pdp_kt11.specs.declared.apr.PageNumber.{PageNumber}
@@ -19,30 +19,38 @@ use Rattle.pdp_unibus.specs.Register.{value_in}
 use Rattle.pdp_unibus.specs.declared.io_page.IoPage.{IoPage}
 use Rattle.pdp_unibus.specs.declared.device_registers.DeviceRegisters.{DeviceRegisters}
 use Rattle.pdp_unibus.specs.declared.page_registers.PageRegisters.{PageRegisters}
+use Rattle.pdp_unibus.specs.declared.register.Register.{Register}
 use Rattle.pdp_unibus.specs.declared.register.Register.TheVariants.{Clock, Console, Disk, Mapping}
 use Rattle.pdp_unibus.specs.declared.register.Register.TheVariants.{PaperTape, Switches}
 
+-- the registers of the devices that are shown, in their order, each after its name
+abbrev pub shown_registers : List (List ℕ × Register)
+shown_registers =
+    (codes "TKS", Console KeyboardStatus)
+    ∷ (codes "TKB", Console KeyboardBuffer)
+    ∷ (codes "TPS", Console PrinterStatus)
+    ∷ (codes "LKS", Clock)
+    ∷ (codes "PRS", PaperTape ReaderStatus)
+    ∷ (codes "PRB", PaperTape ReaderBuffer)
+    ∷ (codes "PPS", PaperTape PunchStatus)
+    ∷ (codes "RKDS", Disk DriveStatus)
+    ∷ (codes "RKER", Disk Error)
+    ∷ (codes "RKCS", Disk Control)
+    ∷ (codes "RKWC", Disk WordCount)
+    ∷ (codes "RKBA", Disk BusAddress)
+    ∷ (codes "RKDA", Disk DiskAddress)
+    ∷ (codes "SWR", Switches)
+    ∷ []
+
+-- their names
+abbrev pub shown_names : List (List ℕ)
+shown_names = map (λ shown. shown.0) shown_registers
+
 -- what reads of them would give, without the effect of a read
 unfoldable pub devices_of : BusWorld → DeviceRegisters
-devices_of w =
-    let b = w.io_page in
-    let drives = length w.drives in
-    record {
-      keyboard_status = value_in (Console KeyboardStatus) drives b;
-      keyboard_buffer = value_in (Console KeyboardBuffer) drives b;
-      printer_status = value_in (Console PrinterStatus) drives b;
-      clock_status = value_in Clock drives b;
-      reader_status = value_in (PaperTape ReaderStatus) drives b;
-      reader_buffer = value_in (PaperTape ReaderBuffer) drives b;
-      punch_status = value_in (PaperTape PunchStatus) drives b;
-      drive_status = value_in (Disk DriveStatus) drives b;
-      disk_error = value_in (Disk Error) drives b;
-      disk_control = value_in (Disk Control) drives b;
-      disk_word_count = value_in (Disk WordCount) drives b;
-      disk_bus_address = value_in (Disk BusAddress) drives b;
-      disk_address = value_in (Disk DiskAddress) drives b;
-      switches = value_in Switches drives b;
-    }
+devices_of w = record {
+  words = map (λ shown. value_in shown.1 (length w.drives) w.io_page) shown_registers;
+}
 
 -- the registers of pages 0 to 7, on a bus with so many drives
 abbrev pub of_each_page : (PageNumber → KtRegister) → ℕ → IoPage → List ℕ

@@ -1,5 +1,5 @@
-ghost use Rattle.std.specs.Prelude.{◌≡◌};
-ghost use Rattle.pdp_unibus.specs.Shown.{devices_of};
+ghost use Rattle.std.specs.Prelude.{◌≡◌, ◌≤◌, ◌<◌, length, map, slice_get, Some};
+ghost use Rattle.pdp_unibus.specs.Shown.{devices_of, shown_names, shown_registers};
 
 use crate::bus::Bus;
 use crate::register::Register;
@@ -8,39 +8,70 @@ use pdp_rk11::RkRegister;
 use pdp_store::Store;
 use pdp_tape::PcRegister;
 
+/// How many registers of the devices are shown.
+pub const SHOWN_REGISTERS: usize = 14;
+
+// The registers of the devices that are shown, in their order, each after its name (PDP-11
+// Peripherals Handbook, KL11, KW11-L, PC11 and RK11; DEC PDP-11/40 Processor Handbook (1972),
+// Switch register).
+const SHOWN: [(&str, Register); SHOWN_REGISTERS] = [
+    // 777560
+    ("TKS", Register::Console(KlRegister::KeyboardStatus)),
+    // 777562
+    ("TKB", Register::Console(KlRegister::KeyboardBuffer)),
+    // 777564
+    ("TPS", Register::Console(KlRegister::PrinterStatus)),
+    // 777546
+    ("LKS", Register::Clock),
+    // 777550
+    ("PRS", Register::PaperTape(PcRegister::ReaderStatus)),
+    // 777552
+    ("PRB", Register::PaperTape(PcRegister::ReaderBuffer)),
+    // 777554
+    ("PPS", Register::PaperTape(PcRegister::PunchStatus)),
+    // 777400
+    ("RKDS", Register::Disk(RkRegister::DriveStatus)),
+    // 777402
+    ("RKER", Register::Disk(RkRegister::Error)),
+    // 777404
+    ("RKCS", Register::Disk(RkRegister::Control)),
+    // 777406
+    ("RKWC", Register::Disk(RkRegister::WordCount)),
+    // 777410
+    ("RKBA", Register::Disk(RkRegister::BusAddress)),
+    // 777412
+    ("RKDA", Register::Disk(RkRegister::DiskAddress)),
+    // 777570
+    ("SWR", Register::Switches),
+];
+
 /// The registers of the devices, as reads would give them without the effect of a read (PDP-11
 /// Peripherals Handbook, KL11, KW11-L, PC11 and RK11; DEC PDP-11/40 Processor Handbook (1972),
 /// Switch register).
 #[derive(Clone, Copy, Debug, PartialEq, Eq)]
 pub struct DeviceRegisters {
-    /// TKS, 777560.
-    pub keyboard_status: u16,
-    /// TKB, 777562.
-    pub keyboard_buffer: u16,
-    /// TPS, 777564.
-    pub printer_status: u16,
-    /// LKS, 777546.
-    pub clock_status: u16,
-    /// PRS, 777550.
-    pub reader_status: u16,
-    /// PRB, 777552.
-    pub reader_buffer: u16,
-    /// PPS, 777554.
-    pub punch_status: u16,
-    /// RKDS, 777400.
-    pub drive_status: u16,
-    /// RKER, 777402.
-    pub disk_error: u16,
-    /// RKCS, 777404.
-    pub disk_control: u16,
-    /// RKWC, 777406.
-    pub disk_word_count: u16,
-    /// RKBA, 777410.
-    pub disk_bus_address: u16,
-    /// RKDA, 777412.
-    pub disk_address: u16,
-    /// The switch register, 777570.
-    pub switches: u16,
+    /// TKS, TKB, TPS, LKS, PRS, PRB, PPS, RKDS, RKER, RKCS, RKWC, RKBA, RKDA and the switch
+    /// register SWR: the words of the registers that `name` names, by the same index.
+    pub words: [u16; SHOWN_REGISTERS],
+}
+
+impl DeviceRegisters {
+    /// The name of the register whose word has this index, in the handbook of its device.
+    pub fn name(index: usize) -> &'static str
+        requires { index < SHOWN_REGISTERS }
+        ensures name { slice_get shown_names index ≡ Some result.now }
+        ensures short { length result.now ≤ 4 }
+    {
+        SHOWN[index].0
+    }
+}
+
+// The register whose word has this index.
+fn shown_register(index: usize) -> Register
+    requires { index < SHOWN_REGISTERS }
+    ensures { slice_get (map (λ shown. shown.1) shown_registers) index ≡ Some result }
+{
+    SHOWN[index].1
 }
 
 impl<S: Store, D: Store> Bus<S, D> {
@@ -50,21 +81,10 @@ impl<S: Store, D: Store> Bus<S, D> {
     pub fn devices(&self) -> DeviceRegisters
         ensures { result ≡ devices_of self.now }
     {
-        DeviceRegisters {
-            keyboard_status: self.value(Register::Console(KlRegister::KeyboardStatus)),
-            keyboard_buffer: self.value(Register::Console(KlRegister::KeyboardBuffer)),
-            printer_status: self.value(Register::Console(KlRegister::PrinterStatus)),
-            clock_status: self.value(Register::Clock),
-            reader_status: self.value(Register::PaperTape(PcRegister::ReaderStatus)),
-            reader_buffer: self.value(Register::PaperTape(PcRegister::ReaderBuffer)),
-            punch_status: self.value(Register::PaperTape(PcRegister::PunchStatus)),
-            drive_status: self.value(Register::Disk(RkRegister::DriveStatus)),
-            disk_error: self.value(Register::Disk(RkRegister::Error)),
-            disk_control: self.value(Register::Disk(RkRegister::Control)),
-            disk_word_count: self.value(Register::Disk(RkRegister::WordCount)),
-            disk_bus_address: self.value(Register::Disk(RkRegister::BusAddress)),
-            disk_address: self.value(Register::Disk(RkRegister::DiskAddress)),
-            switches: self.value(Register::Switches),
+        let mut words = [0; SHOWN_REGISTERS];
+        for index in 0..SHOWN_REGISTERS {
+            words[index] = self.value(shown_register(index));
         }
+        DeviceRegisters { words }
     }
 }

@@ -22,7 +22,8 @@
 //!   but the one to which it happens (`devices_change_alone`).
 //! - The program status word, what a write of it leaves, and that a word written to it reads back
 //!   (`Status::word`, `of_word`, `written`, `status_reads_back`).
-//! - What is read of the registers without the effect of a read (`Bus::devices`, `pages`).
+//! - What is read of the registers without the effect of a read (`Bus::devices`, `pages`), and by
+//!   which name each one of a device is shown (`DeviceRegisters::name`).
 //! - The address of a reference by the mapping registers (`Bus::place`, `fetched`).
 //! - What is fetched as an instruction is the decoding of what a read gives, with the effects of
 //!   the read (`Bus::instr`, `decoded`). That each kept line is the decoding of core now is an
@@ -74,7 +75,7 @@ mod watch;
 pub use beginning::Output;
 pub use bus::{Aborted, Bus, Timeout};
 pub use delays::{DelayedDevice, Delays};
-pub use device_registers::DeviceRegisters;
+pub use device_registers::{DeviceRegisters, SHOWN_REGISTERS};
 pub use direct::AddressedWord;
 pub use event::Event;
 pub use io_page::IoPage;

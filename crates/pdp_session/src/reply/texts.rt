@@ -1,14 +1,16 @@
 ghost use Rattle.std.specs.Prelude.{◌≡◌, ◌+◌, ◌*◌, ◌≤◌, ◌++◌, length, codes, decimal};
 ghost use Rattle.pdp_word.specs.Number.{octal_digits};
+ghost use Rattle.pdp_unibus.specs.Shown.{shown_names};
 ghost use Rattle.pdp_session.specs.Reply.{register_text, regs_line, state_name, refusal_text};
 ghost use Rattle.pdp_session.specs.Reply.{count_line, drive_text, patch_line, word_text};
-ghost use Rattle.pdp_session.specs.Reply.{word_texts, named_word_text, disk_register_texts};
+ghost use Rattle.pdp_session.specs.Reply.{word_texts, named_word_text, named_word_texts};
 ghost use Rattle.pdp_session.specs.Reply.{devices_line, page_words_text, pages_line};
 
 use crate::version::Version;
 use arrayvec::ArrayVec;
 use itoa::Buffer;
 use pdp_replay::{DeviceRegisters, Fault, PageRegisters, Patch, Regs, RunState};
+use pdp_unibus::SHOWN_REGISTERS;
 use pdp_word::write_octal6;
 
 // The most bytes that a text has: the reply to the question `pages`, with its LF. That is 34 words,
@@ -171,31 +173,22 @@ pub fn devices_text(devices: DeviceRegisters) -> Text
 {
     let mut text = Text::new();
     add(&mut text, b"devices");
-    add_named_word(&mut text, "TKS", devices.keyboard_status);
-    add_named_word(&mut text, "TKB", devices.keyboard_buffer);
-    add_named_word(&mut text, "TPS", devices.printer_status);
-    add_named_word(&mut text, "LKS", devices.clock_status);
-    add_named_word(&mut text, "PRS", devices.reader_status);
-    add_named_word(&mut text, "PRB", devices.reader_buffer);
-    add_named_word(&mut text, "PPS", devices.punch_status);
-    add_disk(&mut text, devices);
-    add_named_word(&mut text, "SWR", devices.switches);
+    add_registers(&mut text, devices);
     add(&mut text, b"\n");
     text
 }
 
-// The registers of the disk.
-fn add_disk(text: &mut Text, devices: DeviceRegisters)
-    requires { length text.old.items + 72 ≤ LONGEST_TEXT }
-    ensures disk_register_texts { text.new.items ≡ text.old.items ++ disk_register_texts devices }
-    ensures length { length text.new.items ≡ length text.old.items + 72 }
+// The names and the words of the registers of the devices.
+#[tactic(auto, using(crate::proofs::NamedWords::one_more_named_word))]
+fn add_registers(text: &mut Text, devices: DeviceRegisters)
+    requires { length text.old.items + 12 * SHOWN_REGISTERS ≤ LONGEST_TEXT }
+    ensures named_word_texts { text.new.items
+        ≡ text.old.items ++ named_word_texts shown_names devices.words }
+    ensures length { length text.new.items ≤ length text.old.items + 12 * SHOWN_REGISTERS }
 {
-    add_named_word(text, "RKDS", devices.drive_status);
-    add_named_word(text, "RKER", devices.disk_error);
-    add_named_word(text, "RKCS", devices.disk_control);
-    add_named_word(text, "RKWC", devices.disk_word_count);
-    add_named_word(text, "RKBA", devices.disk_bus_address);
-    add_named_word(text, "RKDA", devices.disk_address);
+    for (index, word) in devices.words.iter().enumerate() {
+        add_named_word(text, DeviceRegisters::name(index), *word);
+    }
 }
 
 // Words in six octal digits, each after a space.
