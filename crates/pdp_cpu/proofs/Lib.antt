@@ -7,3 +7,4 @@ pub mod Halted
 pub mod Dues
 mod KeptTexts
 pub mod CalmTurns
+pub mod Rules

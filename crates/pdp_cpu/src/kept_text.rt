@@ -78,7 +78,7 @@ impl KeptText {
 
     /// Keeps the byte that came out in this turn, if any: over the one that is kept in its place,
     /// where there is one.
-    #[tactic(auto, using(crate::proofs::KeptTexts::kept_one, crate::proofs::KeptTexts::text_and_one))]
+    #[tactic(auto, using(crate::proofs::Rules::longer_texts))]
     pub fn keep(&mut self, turn: u32, byte: Option<u8>)
         requires { 0 < self.old.room }
         ensures bytes { self.new.bytes ≡ kept_over turn (option_to_list byte)
@@ -119,7 +119,7 @@ impl KeptText {
     }
 
     /// Drops the bytes at the end that came out in this turn or later.
-    #[tactic(auto, using(crate::proofs::KeptTexts::text_before, crate::proofs::KeptTexts::length_before))]
+    #[tactic(auto, using(crate::proofs::Rules::shorter_texts))]
     pub fn keep_before(&mut self, turn: u32)
         ensures bytes { self.new.bytes ≡ kept_before turn self.old.bytes }
         ensures text { self.new.text ≡ take (length self.new.bytes) self.old.text }

@@ -38,7 +38,7 @@ pub fn touches_are_of_their_turn()
 {}
 
 /// A law of turns: core and its stamps keep their lengths.
-#[tactic(auto, using(crate::proofs::TurnLaws::turn_keeps_words, crate::proofs::TurnLaws::turn_keeps_lasts))]
+#[tactic(auto, using(crate::proofs::Rules::sizes))]
 pub fn turns_keep_the_size_of_core()
     ensures words { (t : ℕ) (events : List Event) (w : World) →
         length (one_turn t events w).bus.core ≡ length w.bus.core }

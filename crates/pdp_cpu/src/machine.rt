@@ -157,7 +157,7 @@ impl<S: Store, D: Store> Machine<S, D> {
 
     // One whole turn of the machine with the first touches in its world.
     #[inline(always)]
-    #[tactic(auto, unfolding(crate::specs::Turns::Turn::one_turn, crate::specs::Turns::Turn::turn_act, crate::specs::Turns::Turn::printed_in, crate::specs::Turns::Turn::punched_in))]
+    #[tactic(auto, unfolding(crate::proofs::Rules::whole_turn))]
     fn turn_whole(&mut self, meter: &mut Meter, events: &[Event]) -> Act
         requires ready { IsReady self.old }
         requires limit { self.old.state.turn < LAST_TURN }
@@ -180,7 +180,7 @@ impl<S: Store, D: Store> Machine<S, D> {
 
     // A turn begins, with or without events.
     #[inline(always)]
-    #[tactic(auto, unfolding(crate::specs::Turns::Turn::printed_in, crate::specs::Turns::Turn::punched_in))]
+    #[tactic(auto, unfolding(crate::proofs::Rules::texts_of_turn))]
     fn begin_any(&mut self, events: &[Event])
         requires ready { IsReady self.old }
         ensures state { (touched_machine self.new).state
@@ -274,7 +274,8 @@ impl<S: Store, D: Store> Machine<S, D> {
     /// The word of this number on the drive of this number, both from 0 on, without a transfer.
     pub fn disk_word(&self, drive: usize, number: usize) -> u16
         requires { number < length (words_of_drive self.now.state.world.bus.drives drive) }
-        ensures { result ≡ slice_index (words_of_drive self.now.state.world.bus.drives drive) number }
+        ensures { result ≡ slice_index (words_of_drive self.now.state.world.bus.drives
+            drive) number }
     {
         self.bus.disk_word(drive, number)
     }
@@ -318,7 +319,7 @@ impl<S: Store, D: Store> Machine<S, D> {
     // A turn begins that has events, or in which something comes of the devices.
     #[cold]
     #[inline(never)]
-    #[tactic(auto, unfolding(crate::specs::Turns::Turn::printed_in, crate::specs::Turns::Turn::punched_in))]
+    #[tactic(auto, unfolding(crate::proofs::Rules::texts_of_turn))]
     fn begin_turn(&mut self, events: &[Event])
         requires ready { IsReady self.old }
         ensures state { (touched_machine self.new).state

@@ -33,7 +33,7 @@ fn take_stack(processor: &mut Processor)
 /// The trace trap.
 #[cold]
 #[inline(never)]
-#[tactic(auto, unfolding(crate::specs::Turns::Due::serving, crate::specs::Turns::Due::take_trace, pdp_operand::specs::Phases::Phase::run, pdp_operand::specs::Phases::Course::follow))]
+#[tactic(auto, unfolding(crate::proofs::Rules::what_is_due))]
 fn trace_trap<S: Store, D: Store>(processor: &mut Processor, bus: &mut Bus<S, D>)
     ensures follows { Follows (serving trace_taken true 0o14) processor.old bus.old processor.new
         bus.new }
@@ -46,7 +46,7 @@ fn trace_trap<S: Store, D: Store>(processor: &mut Processor, bus: &mut Bus<S, D>
 /// The stack trap, whose own pushes leave none pending.
 #[cold]
 #[inline(never)]
-#[tactic(auto, unfolding(crate::specs::Turns::Due::serving, crate::specs::Turns::Due::take_stack, pdp_operand::specs::Phases::Phase::run, pdp_operand::specs::Phases::Course::follow))]
+#[tactic(auto, unfolding(crate::proofs::Rules::what_is_due))]
 fn stack_trap<S: Store, D: Store>(processor: &mut Processor, bus: &mut Bus<S, D>)
     ensures follows { Follows (serving stack_taken false 0o4) processor.old bus.old processor.new
         bus.new }
@@ -59,7 +59,7 @@ fn stack_trap<S: Store, D: Store>(processor: &mut Processor, bus: &mut Bus<S, D>
 /// The interrupt of a source.
 #[cold]
 #[inline(never)]
-#[tactic(auto, unfolding(crate::specs::Turns::Due::serving, crate::specs::Turns::Due::serve, pdp_operand::specs::Phases::Phase::run, pdp_operand::specs::Phases::Course::follow))]
+#[tactic(auto, unfolding(crate::proofs::Rules::what_is_due))]
 fn interrupt<S: Store, D: Store>(processor: &mut Processor, bus: &mut Bus<S, D>, source: Source)
     ensures follows { Follows (serving (serve source) true (vector_of source))
         processor.old bus.old processor.new bus.new }

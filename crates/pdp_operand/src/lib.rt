@@ -30,7 +30,7 @@ mod processor;
 mod reference;
 
 pub use core_operand::{
-    MemoryOperand, fetch_core, find_core, give_back, is_far_from_limit, pushed, read_core,
+    MemoryOperand, Route, fetch_core, find_core, give_back, is_far_from_limit, pushed, read_core,
     store_core,
 };
 pub use laws::{

@@ -140,7 +140,8 @@ impl Script {
     /// has this number. The script is then as it was.
     pub fn alter(&mut self, number: u32, turn: u32, event: Event) -> Result<(), Fault>
         ensures answer { result ≡ edit_answer (alter_edit number turn event self.old) false tt }
-        ensures after { self.new ≡ past_left (alter_edit number turn event self.old) false self.old }
+        ensures after { self.new
+            ≡ past_left (alter_edit number turn event self.old) false self.old }
     {
         if turn > LAST_TURN {
             return Err(Fault::TurnTooLarge);

@@ -1,0 +1,36 @@
+-- What attributes cite: lemmas by their subject, and definitions that are opened together, as an
+-- `unfolding` of a name opens all that stands on the name's own line.
+use Rattle.pdp_operand.specs.Phases.Course.{follow}
+use Rattle.pdp_operand.specs.Phases.Phase.{run}
+use Rattle.pdp_cpu.proofs.CalmTurns.{calm_later, calm_start}
+use Rattle.pdp_cpu.proofs.KeptTexts.{kept_one, length_before, text_and_one, text_before}
+use Rattle.pdp_cpu.proofs.TurnLaws.{turn_keeps_lasts, turn_keeps_words}
+use Rattle.pdp_cpu.specs.Turns.Due.{serve, serving, take_stack, take_trace}
+use Rattle.pdp_cpu.specs.Turns.Turn.{one_turn, printed_in, punched_in, turn_act}
+
+-- for goals on a burst, before its first turn and after each
+pub ruleset bursts = (calm_start, calm_later)
+
+-- for goals on a text with a byte more
+pub ruleset longer_texts = (kept_one, text_and_one)
+
+-- for goals on a text without its later bytes
+pub ruleset shorter_texts = (text_before, length_before)
+
+-- for goals on how many words and stamps a turn leaves
+pub ruleset sizes = (turn_keeps_words, turn_keeps_lasts)
+
+-- opens what a turn prints and punches
+unfoldable pub texts_of_turn : Type 0
+unfolding printed_in punched_in
+texts_of_turn = Unit {0}
+
+-- opens a turn
+unfoldable pub whole_turn : Type 0
+unfolding one_turn turn_act printed_in punched_in
+whole_turn = Unit {0}
+
+-- opens what is due in a turn
+unfoldable pub what_is_due : Type 0
+unfolding serving take_trace take_stack serve run follow
+what_is_due = Unit {0}
