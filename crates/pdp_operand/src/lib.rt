@@ -28,11 +28,9 @@ mod operand;
 mod place;
 mod processor;
 mod reference;
+mod route;
 
-pub use core_operand::{
-    MemoryOperand, Route, fetch_core, find_core, give_back, is_far_from_limit, pushed, read_core,
-    store_core,
-};
+pub use core_operand::{MemoryOperand, find_core, give_back, is_far_from_limit, pushed};
 pub use laws::{
     aborts_change_no_core_word, courses_leave_what_they_never_touch, plan_is_its_phases,
     stamps_of_courses_are_last_writes, touches_of_courses_are_of_their_turn,
@@ -42,3 +40,4 @@ pub use pdp_operation::Trap;
 pub use place::{Cell, Fill, Place};
 pub use processor::{GeneralRegister, Processor, RegisterId, RunState};
 pub use reference::{read_byte, read_decoded, read_word, write_byte, write_word};
+pub use route::{Route, fetch_core, read_core, store_core};

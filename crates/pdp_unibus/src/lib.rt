@@ -63,6 +63,7 @@ mod laws;
 mod page_registers;
 mod priority;
 mod register;
+mod register_cycles;
 mod requests;
 mod saved_bus;
 mod saved_drives;
