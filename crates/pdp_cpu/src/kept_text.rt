@@ -140,6 +140,7 @@ fn put(bytes: &mut Vec<KeptByte>, place: usize, byte: KeptByte)
     match bytes.get_mut(place) {
         Some(old) => *old = byte,
         None => {
+            // it never fails: there is room, as the contract requires
             let _ = bytes.push(byte);
         }
     }

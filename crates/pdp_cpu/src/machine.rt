@@ -151,6 +151,7 @@ impl<S: Store, D: Store> Machine<S, D> {
             (turn_trace self.old.state.turn events.now self.old.state.world) self.old.firsts }
         ensures counted { Counts 1 meter.old meter.new }
     {
+        // This read gives the prover the range of the turn.
         let _turn = self.turn;
         self.turn_whole(meter, events)
     }

@@ -180,6 +180,7 @@ impl Store for PagedDrive {
 
     #[inline(always)]
     fn last(&self, i: usize) -> Option<Stamp> {
+        // This read gives the prover the range of the field.
         let _given = self.given;
         None
     }
@@ -307,6 +308,7 @@ impl PagedDrive {
         ensures bases { result ≡ length self.now.bases }
         ensures words { result * 256 ≡ length self.now.words }
     {
+        // This read gives the prover the length of the words of its own.
         let _own = self.own.len();
         self.backings.len()
     }
@@ -435,6 +437,7 @@ impl PagedDrive {
         requires lasts { lasts_of pages.now ≡ [] }
         ensures { self.new ≡ drive_from_pages pages.now self.old.given self.old.firsts }
     {
+        // This read gives the prover the range of the field.
         let _given = self.given;
         self.changed = true;
         copy_each(&mut self.own, &mut self.backings, pages);

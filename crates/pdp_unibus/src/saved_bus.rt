@@ -76,6 +76,7 @@ impl Bus<Paged, PagedDrive> {
         ensures same { self.new ≡ self.old }
         ensures taken { IfOk result (λ pages. IsCoreOf pages.items self.old) }
     {
+        // This read gives the prover how many words core has.
         let _words = self.words.len();
         self.words.take_pages(alloc)
     }
