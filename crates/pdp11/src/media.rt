@@ -40,8 +40,8 @@ const WORD_BYTES: usize = 2;
 /// word more than core or a drive has room for, and of the tape one byte more than its limit: the
 /// setup is refused with that.
 ///
-/// All files are read before an image is looked at: a file that can't be read is told before an
-/// image of an odd number of bytes. `NoMemory` as soon as it is out of memory.
+/// All files are read before an image is looked at: if a file can't be read and an image has an odd
+/// number of bytes, the file is what the exit reports. `NoMemory` as soon as memory is refused.
 pub fn read_media<F: Files>(
     alloc: Global,
     units: u8,

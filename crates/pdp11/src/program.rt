@@ -26,8 +26,8 @@ use std::convert::AsStr;
 /// | 5 | `pdp11: refused 14 BadImage` | an image has an odd length, or it or the tape is too long |
 /// | 5 | `pdp11: refused 15 BadSetup` | units, start address or stride are out of range |
 ///
-/// Out of memory is told as soon as it is met; of several other causes the first in the order of
-/// docs/LANGUAGE.md.
+/// If memory is refused, that is reported at once. Of several other causes the first in the order
+/// of docs/LANGUAGE.md is reported.
 pub fn outcome<R: Feed, W: Drain, F: Files, S: AsStr>(
     alloc: Global,
     words: &[S],

@@ -94,8 +94,9 @@ impl Kl {
         }
     }
 
-    /// A write of a word to the register in this turn; printing a byte takes so many turns, with 0
-    /// until its event (this project's profile).
+    /// Writes a word to the register in turn `turn`. A byte written to the printer buffer is
+    /// printed `printer_delay` turns later; with delay 0 only its event completes it (this
+    /// project's profile).
     pub fn write_reg(&mut self, register: KlRegister, word: u16, turn: u32, printer_delay: u32)
         ensures { self.new ≡ kl_written register word turn printer_delay self.old }
     {

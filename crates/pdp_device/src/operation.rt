@@ -16,8 +16,8 @@ pub enum Operation {
 impl Operation {
     ghost use Rattle.pdp_device.specs.Operation.{begun_operation, due_after, is_due, is_under_way};
 
-    /// An operation begun in this turn that takes so many turns; delay 0 means until its event
-    /// (this project's profile).
+    /// An operation begun in turn `turn` that is complete `delay` turns later; with delay 0 only
+    /// its event completes it (this project's profile).
     pub fn begin(turn: u32, delay: u32) -> Operation
         ensures { result ≡ begun_operation turn delay }
     {

@@ -42,8 +42,9 @@ impl ReadyEnable {
         self.ready && self.enable
     }
 
-    /// Sets ready and enable to what is given, as one change: the request goes by the condition
-    /// before it and after it (this project's profile).
+    /// Sets or clears ready and enable, both at once. A request appears if the condition didn't
+    /// hold before this change and holds after it; it ends if the condition doesn't hold after it
+    /// (this project's profile).
     pub fn change(&mut self, ready: bool, enable: bool)
         ensures { self.new ≡ ready_enable_with ready enable self.old }
     {
@@ -54,7 +55,7 @@ impl ReadyEnable {
         };
     }
 
-    /// Sets or clears ready, as one change.
+    /// Sets or clears ready.
     pub fn set_ready(&mut self, ready: bool)
         ensures { self.new ≡ with_ready ready self.old }
     {

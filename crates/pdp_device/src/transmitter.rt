@@ -57,8 +57,8 @@ impl Transmitter {
         }
     }
 
-    /// A write of a word to the register in this turn; a byte takes so many turns, with 0 until its
-    /// event (this project's profile).
+    /// Writes a word to the register in turn `turn`. A byte written to the buffer is out `delay`
+    /// turns later; with delay 0 only its event completes it (this project's profile).
     pub fn write_reg(&mut self, register: TransmitterRegister, word: u16, turn: u32, delay: u32)
         ensures { self.new ≡ transmitter_written register word turn delay self.old }
     {

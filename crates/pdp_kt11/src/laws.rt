@@ -58,12 +58,12 @@ pub fn aborts_leave_the_pages()
     ensures { AbortsLeaveThePages }
 {}
 
-/// A law of SR0: the first abort is told, by its flag alone, its mode and its page. While one is
-/// told, or bits 15-13 of SR0 were written, no access changes SR0, and no fetch changes SR2; until
-/// then SR2 follows the fetches. An access that passes leaves SR0.
+/// A law of SR0: the first abort sets its flag in SR0, no other flag, and its mode and its page.
+/// While one of bits 15-13 of SR0 is set, by an abort or by a write, no access changes SR0 and no
+/// fetch changes SR2; until then SR2 follows the fetches. An access that passes leaves SR0.
 ///
-/// DEC PDP-11/40 Processor Handbook (1972), Memory management; that later aborts aren't told, and
-/// that bits 15-13 which were written hold SR0 and SR2 as an abort does, are this project's
+/// DEC PDP-11/40 Processor Handbook (1972), Memory management; that SR0 doesn't show later aborts,
+/// and that bits 15-13 which were written hold SR0 and SR2 as an abort does, are this project's
 /// profile.
 pub fn the_first_abort_is_told()
     ensures first { TheFirstAbortIsTold }

@@ -99,7 +99,7 @@ impl Rk {
         }
     }
 
-    // Why the function can't be done with so many drives, if so.
+    // Why the function can't be done with this number of drives, if so.
     #[tactic(auto, unfolding(crate::specs::Completion::refusal))]
     fn refusal(&self, drives: usize) -> Option<Failure>
         ensures value { result ≡ refusal self.now drives }
@@ -182,7 +182,7 @@ impl Rk {
         self.end_transfer(size, transfer, different);
     }
 
-    // The words of a transfer, with so many words of core and with a drive of this size (words).
+    // The words of a transfer, with `words` words of core and a drive of `size` words.
     #[tactic(auto, unfolding(crate::specs::Completion::transfer_of))]
     fn transfer_of(&self, words: usize, size: usize) -> Transfer
         requires { sector_number self.now.disk_address < sectors_of_drive }
@@ -221,7 +221,7 @@ impl Rk {
         MOST_WORDS - u32::from(self.word_count)
     }
 
-    // How many of the words asked for come before an address outside a core of so many words.
+    // How many of the words asked for come before an address outside a core of `words` words.
     fn within_core(&self, words: usize) -> usize
         ensures { result ≡ within_core self.now words }
     {

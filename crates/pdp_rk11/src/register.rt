@@ -25,7 +25,7 @@ pub enum RkRegister {
 impl RkRegister {
     ghost use Rattle.pdp_rk11.specs.Rk.{rk_register_at};
 
-    /// The register so many bytes from the first one, RKDS, if there is one.
+    /// The register `offset` bytes after the first one, RKDS, if there is one.
     pub fn at(offset: u32) -> Option<RkRegister>
         ensures { result ≡ rk_register_at offset }
     {

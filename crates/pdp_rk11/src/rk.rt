@@ -26,7 +26,7 @@ pub struct Rk {
     pub search_complete: bool,
     /// Bit 0 of RKER: a write check found words that differ.
     pub write_check: bool,
-    /// The other bits of RKER: at most one failure is told.
+    /// The other bits of RKER: at most one failure is shown.
     pub failure: Option<Failure>,
     /// RKWC.
     pub word_count: u16,
@@ -67,8 +67,8 @@ impl Rk {
         }
     }
 
-    /// What a read of the register gives, where there are so many drives, numbered from 0 on. A
-    /// read has no effect.
+    /// What a read of the register gives, with `drives` drives, numbered from 0 on. A read has no
+    /// effect.
     ///
     /// PDP-11 Peripherals Handbook, RK11; that RKDS has no other bits, and is 0 for a drive that
     /// isn't there, is this project's profile.
@@ -85,9 +85,10 @@ impl Rk {
         }
     }
 
-    /// A write of a word to the register in this turn; a function takes so many turns, with 0 until
-    /// its event. While the controller isn't ready a write sets or clears enable, by RKCS, and
-    /// nothing else. Control reset acts at once, and drops the enable that is written with it.
+    /// Writes a word to the register in turn `turn`. A function is complete `delay` turns later;
+    /// with delay 0 only its event completes it. While the controller isn't ready, a write to RKCS
+    /// sets or clears enable, and no write does anything else. Control reset acts at once, and
+    /// drops the enable that is written with it.
     ///
     /// PDP-11 Peripherals Handbook, RK11; how long a function takes, what a write does while the
     /// controller isn't ready, and that control reset acts at once, are this project's profile.

@@ -10,8 +10,8 @@ use crate::Function;
 use crate::geometry::WORDS_OF_SECTOR;
 use pdp_store::{PAGE_WORDS, Stamp, Store};
 
-/// The words that a transfer moves or compares: so many, one by one from a first word of core and
-/// of the drive on.
+/// The words that a transfer moves or compares: `count` words, starting at `core_start` in core and
+/// at its first word on the drive.
 #[derive(Clone, Copy, Debug, PartialEq, Eq)]
 pub struct Transfer {
     /// The bus address isn't incremented: each move is of the first word of core.

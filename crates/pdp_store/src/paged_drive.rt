@@ -362,7 +362,7 @@ impl PagedDrive {
         new_page(alloc, serial_for(held, given), part(&self.own, place), &[])
     }
 
-    // How many serials are given after this place, where so many were before it.
+    // How many serials are given after this place, with `given` serials given before it.
     fn given_past(&self, place: usize, given: u64) -> u64
         requires { place < length self.now.bases }
         ensures { result ≡ given_there (slice_index_or self.now.bases place None) given }
@@ -415,7 +415,7 @@ fn serial_for(held: Backing, given: u64) -> u64
     }
 }
 
-// The serial that is given after so many.
+// The serial that is given next, after `given` serials.
 fn next_serial(given: u64) -> u64
     ensures { result ≡ next_serial given }
 {

@@ -88,9 +88,9 @@ impl Paged {
     }
 }
 
-// The stamps of so many words that weren't written yet, or none, where not `stamped`.
+// The stamps of a number of words that weren't written yet; none if not `stamped`.
 //
-// Err(NoMemory) where a growth was refused.
+// Err(NoMemory) if a growth was refused.
 fn no_stamps(alloc: Global, len: usize, stamped: bool) -> Result<Vec<Option<Stamp>>, NoMemory>
     ensures { IfOk result (λ stamps. stamps.items ≡ (if stamped then replicate len None else [])) }
 {
@@ -219,7 +219,7 @@ impl Store for Paged {
     }
 }
 
-// The serial that is given after so many.
+// The serial that is given next, after `given` serials.
 fn next_serial(given: u64) -> u64
     ensures { result ≡ next_serial given }
 {
@@ -241,10 +241,10 @@ struct Taken {
 }
 
 impl Paged {
-    // The page of this place, where so many serials are given before it: its base, or where it has
-    // none a new page.
+    // The page of this place, with `given` serials given before it: its base, or a new page if it
+    // has none.
     //
-    // Err(NoMemory) where a growth was refused.
+    // Err(NoMemory) if a growth was refused.
     fn page_at(&self, alloc: Global, place: usize, given: u64) -> Result<Rc<Page>, NoMemory>
         requires { place * 256 < length self.now.words }
         ensures { IfOk result (λ page. IsPageOf page (piece place self.now.words)
@@ -260,7 +260,7 @@ impl Paged {
         }
     }
 
-    // How many serials are given with that of the page of this place, where so many are given
+    // How many serials are given with that of the page of this place, with `given` serials given
     // before it.
     fn given_with(&self, place: usize, given: u64) -> u64
         requires { place * 256 < length self.now.words }

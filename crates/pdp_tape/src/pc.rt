@@ -25,7 +25,7 @@ pub enum PcRegister {
 impl PcRegister {
     ghost use Rattle.pdp_tape.specs.Pc.{pc_register_at};
 
-    /// The register so many bytes from the first one, if there is one.
+    /// The register `offset` bytes after the first one, if there is one.
     pub fn at(offset: u32) -> Option<PcRegister>
         ensures { result ≡ pc_register_at offset }
     {
@@ -88,8 +88,9 @@ impl Pc {
         }
     }
 
-    /// A write of a word to the register in this turn; reading and punching a byte take so many
-    /// turns, with 0 until its event (this project's profile).
+    /// Writes a word to the register in turn `turn`. A byte is read `reader_delay` turns later, or
+    /// punched `punch_delay` turns later; with delay 0 only its event completes it (this project's
+    /// profile).
     pub fn write_reg(
         &mut self,
         register: PcRegister,

@@ -58,10 +58,10 @@ impl Reader {
             + bit_of(self.enable) * PRS_ENABLE
     }
 
-    /// A write of a word to the status in this turn: bit 6 is enable, and bit 0 is go. Go begins to
-    /// read a byte, which takes so many turns, with 0 until its event; it clears done and the byte.
-    /// While busy go does nothing; with error set it begins nothing, and requests an interrupt
-    /// where bit 6 is set (this project's profile).
+    /// Writes a word to the status in turn `turn`: bit 6 is enable, and bit 0 is go. Go clears done
+    /// and the byte, and begins to read a byte, which is there `delay` turns later; with delay 0
+    /// only its event completes it. While busy go does nothing. With error set it begins nothing,
+    /// and requests an interrupt if bit 6 is set (this project's profile).
     pub fn write_status(&mut self, word: u16, turn: u32, delay: u32)
         ensures { self.new ≡ reader_status_written word turn delay self.old }
     {
@@ -133,7 +133,8 @@ impl Reader {
         (self.error || self.done) && self.enable
     }
 
-    // Sets the three flags as one change: the request goes by the condition before it and after it.
+    // Sets the three flags at once. A request appears if the condition didn't hold before and holds
+    // after; it ends if the condition doesn't hold after.
     fn change(&mut self, error: bool, done: bool, enable: bool)
         ensures { self.new ≡ reader_with error done enable self.old }
     {

@@ -36,8 +36,8 @@ impl IoPage {
             || self.requests(Source::Punch)
     }
 
-    /// The first source in their order that requests with a level above the priority, if there is
-    /// one: they go by levels, and at one level by this project's profile.
+    /// The source that is served first, of those that request with a level above the priority, if
+    /// there is one: the highest level, and at one level the order of this project's profile.
     #[cold]
     #[inline(never)]
     #[tactic(auto, unfolding(crate::specs::chosen_source), using(crate::proofs::Rules::choices))]

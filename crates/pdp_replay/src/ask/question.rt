@@ -30,8 +30,8 @@ const MOST_TURNS_LISTED: u32 = 64;
 pub enum Question {
     /// The registers before this turn, counted from 0 at power-up.
     Regs(u32),
-    /// Words of core before this turn: from this address (octal, bytes, even) on, so many (1 to
-    /// 256).
+    /// Words of core before this turn: the address of the first (octal, bytes, even), and how many
+    /// words (1 to 256).
     Core(u32, u32, u32),
     /// Words of a drive before this turn: the drive and its first word that is asked for (both
     /// counted from 0), and how many words (1 to 256).
@@ -46,7 +46,7 @@ pub enum Question {
     Pages(u32),
     /// The last write before this turn to the word of core at this address (octal, bytes, even).
     Last(u32, u32),
-    /// The last turns before this turn: so many (1 to 64, and no more than there were).
+    /// The last turns before this turn, and how many (1 to 64, and no more than there were).
     Trail(u32, u32),
 }
 
@@ -176,7 +176,7 @@ impl Question {
     }
 }
 
-/// Whether so many words from this address (octal, bytes) on can be asked for, of a core of so many
+/// Whether `count` words from this address (octal, bytes) on can be asked for, of a core of `units`
 /// units.
 ///
 /// Err(CountOutOfRange) where the count is not 1 to 256; else Err(OutsideCore) where a word of the
@@ -224,7 +224,7 @@ fn check_disk_range(drives: usize, drive: u8, first: u32, count: u32) -> Result<
     Ok(())
 }
 
-/// Whether so many turns before this turn can be listed.
+/// Whether the last `count` turns before this turn can be listed.
 ///
 /// Err(CountOutOfRange) where the count is not 1 to 64, or is above the turn.
 fn check_trail(turn: u32, count: u32) -> Result<(), Fault>

@@ -59,8 +59,8 @@ impl Trail {
         self.entries.get(index).copied()
     }
 
-    /// The trail of the next turns of the run, so many, which it runs with the events of the
-    /// script; what is to be kept of them is kept.
+    /// Runs the next turns of the run with the events of the script, and returns their trail. Keeps
+    /// what is to be kept of them.
     ///
     /// Err where a growth was refused; what was kept until then stays.
     #[tactic(auto, using(crate::proofs::Trails::trail_none))]
@@ -89,7 +89,8 @@ impl Trail {
     }
 }
 
-/// Runs one turn with the events of the script, and tells of it; what is to be kept of it is kept.
+/// Runs one turn with the events of the script, and returns its entry of the trail. Keeps what is
+/// to be kept of the turn.
 ///
 /// Err where a growth was refused; what was kept until then stays.
 fn record_turn(alloc: Global, run: &mut KeptRun, script: &Script) -> Result<TrailEntry, NoMemory>

@@ -171,7 +171,7 @@ fn make_room(patches: &mut IndexMap<PatchKey, u16>, key: PatchKey) -> Result<(),
     Ok(())
 }
 
-/// The number of the core word at this address (octal, bytes), of a core of so many units.
+/// The number of the core word at this address (octal, bytes), of a core of `units` units.
 ///
 /// Err(OutsideCore) where the address is not in core; else Err(OddAddress) where it is odd.
 #[tactic(auto, unfolding(crate::specs::Past::Edit::core_word_at))]
