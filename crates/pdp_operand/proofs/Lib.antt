@@ -1,6 +1,7 @@
 pub mod Steps
 pub mod RegisterIds
 pub mod Stacks
+pub mod Deferred
 pub mod Found
 pub mod CoreReferences
 pub mod Flattening

@@ -23,6 +23,7 @@
 #![tactic(auto)]
 
 mod core_operand;
+mod deferred_operand;
 mod laws;
 mod operand;
 mod place;
