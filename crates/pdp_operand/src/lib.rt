@@ -41,4 +41,4 @@ pub use pdp_operation::Trap;
 pub use place::{Cell, Fill, Place};
 pub use processor::{GeneralRegister, Processor, RegisterId, RunState};
 pub use reference::{read_byte, read_decoded, read_word, write_byte, write_word};
-pub use route::{Route, fetch_core, read_core, store_core};
+pub use route::{Route, fetch_core, read_core, read_index, store_core};
