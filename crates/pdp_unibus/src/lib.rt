@@ -34,8 +34,8 @@
 //!   (`Bus::first_of_core`, `first_of_drive`, `forget`).
 //! - An access that goes to core and changes no mapping register: a read gives the word or byte and
 //!   leaves the bus, as its page was touched before; a write leaves what a bus cycle leaves. One
-//!   that isn't so does nothing (`Bus::core_word`, `core_byte`, `write_core`, `write_core_byte`,
-//!   and `write_core_pair` for two words).
+//!   that isn't so does nothing (`Bus::core_word`, `core_index`, `core_byte`, `write_core`,
+//!   `write_core_byte`, and `write_core_pair` for two words).
 //! - Up to which turn the bus is calm, so that nothing comes between instructions (`calm_until`).
 //! - What is saved of a bus is all of it except the tape's bytes and the first touches; a load
 //!   makes the bus that again, with the tape and the first touches that it then has (`Bus::save`,
