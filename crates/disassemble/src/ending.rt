@@ -8,7 +8,7 @@ use std::alloc::AllocError;
 use std::io::{Error, ErrorKind};
 
 /// How a run of the program ends (this project's profile).
-#[derive(Clone, Copy, Debug, PartialEq, Eq)]
+#[derive(Clone, Copy)]
 pub enum Ending {
     /// All lines were answered, or help was written.
     Done,

@@ -6,14 +6,14 @@ use pdp_word::read_octal;
 use std::alloc::{AllocError, Global};
 
 /// An instruction's address, its word, and the two words that follow.
-#[derive(Clone, Copy, Debug, PartialEq, Eq)]
+#[derive(Clone, Copy)]
 pub struct Code {
     pub address: u16,
     pub words: [u16; 3],
 }
 
 /// Why a line holds no code.
-#[derive(Clone, Copy, Debug, PartialEq, Eq)]
+#[derive(Clone, Copy)]
 pub enum BadLine {
     /// There aren't four fields.
     FieldCount,

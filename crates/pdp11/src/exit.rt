@@ -6,7 +6,7 @@ use pdp_script::Fault;
 use std::alloc::{AllocError, AllocFailed};
 
 /// How a run of the program ends (this project's profile).
-#[derive(Clone, Copy, Debug, PartialEq, Eq)]
+#[derive(Clone, Copy)]
 pub enum Exit {
     /// All input was answered, or help was written.
     Done,

@@ -9,7 +9,7 @@ use std::fs::File;
 use std::io;
 
 /// Why a file gave no bytes.
-#[derive(Clone, Copy, Debug, PartialEq, Eq)]
+#[derive(Clone, Copy)]
 pub enum FileFailure {
     /// There was no memory for its bytes.
     NoMemory,

@@ -12,7 +12,7 @@ const START: u16 = 0o1000;
 
 /// The numbers that a run starts from, each as its field holds it: a number that its field can't
 /// hold is the field's largest one, which is out of range too.
-#[derive(Clone, Copy, Debug, PartialEq, Eq)]
+#[derive(Clone, Copy)]
 pub struct Options {
     /// The size of core, in units of 4,096 words.
     pub units: u8,

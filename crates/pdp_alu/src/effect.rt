@@ -6,7 +6,7 @@ use crate::operand::{cut, most_negative};
 use pdp_word::{Codes, Size};
 
 /// What an instruction makes of its operands: the value, below the span of its size, and the codes.
-#[derive(Clone, Copy, Debug, PartialEq, Eq)]
+#[derive(Clone, Copy)]
 pub struct Effect {
     pub value: u16,
     pub codes: Codes,

@@ -4,7 +4,7 @@ ghost use Rattle.pdp_alu.specs.Long.{high_word, join_words, long_effect, low_wor
 use pdp_word::Codes;
 
 /// What MUL and ASHC make of their operands: a number of 32 bits, and the codes.
-#[derive(Clone, Copy, Debug, PartialEq, Eq)]
+#[derive(Clone, Copy)]
 pub struct LongEffect {
     pub value: u32,
     pub codes: Codes,

@@ -1,7 +1,7 @@
 use pdp_word::Codes;
 
 /// What DIV makes of its operands.
-#[derive(Clone, Copy, Debug, PartialEq, Eq)]
+#[derive(Clone, Copy)]
 pub enum Div {
     /// The division was done: the quotient, the remainder and the codes.
     Done(u16, u16, Codes),

@@ -16,12 +16,17 @@ fn a_translation_is_kept_until_a_register_is_written(rt: HostRuntime) -> Result<
     assert!(rt; kt.held(Mode::Kernel, PageNumber::P0));
     assert!(rt; !kt.held(Mode::User, PageNumber::P0));
     let address = KtRegister::Address(Space::Kernel, PageNumber::P0);
-    for register in [address, descriptor, KtRegister::Status0] {
+    let registers = [
+        ("address", address),
+        ("descriptor", descriptor),
+        ("status", KtRegister::Status0),
+    ];
+    for (name, register) in registers {
         let _placed = kt.place(Mode::Kernel, 0o1000, Access::Read);
         assert!(rt; kt.held(Mode::Kernel, PageNumber::P0));
         let word = kt.read_reg(register);
         kt.write_reg(register, word);
-        assert!(rt; !kt.held(Mode::Kernel, PageNumber::P0), "{register:?}");
+        assert!(rt; !kt.held(Mode::Kernel, PageNumber::P0), "{name}");
     }
     Ok(())
 }

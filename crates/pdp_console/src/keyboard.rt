@@ -5,7 +5,7 @@ use pdp_device::ReadyEnable;
 /// The keyboard of the console terminal.
 ///
 /// PDP-11 Peripherals Handbook, KL11.
-#[derive(Clone, Copy, Debug, PartialEq, Eq)]
+#[derive(Clone, Copy)]
 pub struct Keyboard {
     /// Ready is the handbook's done: a key has come since the buffer was last read.
     pub ready_enable: ReadyEnable,

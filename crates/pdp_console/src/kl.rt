@@ -6,7 +6,7 @@ use pdp_device::{Transmitter, TransmitterRegister};
 /// A register of the console terminal.
 ///
 /// PDP-11 Peripherals Handbook, KL11.
-#[derive(Clone, Copy, Debug, PartialEq, Eq)]
+#[derive(Clone, Copy)]
 pub enum KlRegister {
     /// TKS: bit 7 done, bit 6 enable, which alone is written.
     KeyboardStatus,
@@ -39,7 +39,7 @@ impl KlRegister {
 /// The console terminal: its keyboard and its printer.
 ///
 /// PDP-11 Peripherals Handbook, KL11.
-#[derive(Clone, Copy, Debug, PartialEq, Eq)]
+#[derive(Clone, Copy)]
 pub struct Kl {
     /// What is typed.
     pub keyboard: Keyboard,

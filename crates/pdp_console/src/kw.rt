@@ -6,7 +6,7 @@ use pdp_word::{bit_of, is_set};
 /// The line clock, with its one register LKS.
 ///
 /// PDP-11 Peripherals Handbook, KW11-L.
-#[derive(Clone, Copy, Debug, PartialEq, Eq)]
+#[derive(Clone, Copy)]
 pub struct Kw {
     /// Bit 7: the clock has ticked, or was initialised, since this was last cleared.
     pub monitor: bool,

@@ -1,5 +1,5 @@
 /// The act that began a turn.
-#[derive(Clone, Copy, Debug, PartialEq, Eq)]
+#[derive(Clone, Copy)]
 pub enum Act {
     /// One instruction, with its trap if it had one; also where its word could not be fetched.
     Instr,

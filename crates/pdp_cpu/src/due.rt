@@ -8,7 +8,7 @@ use pdp_store::Store;
 use pdp_unibus::{Bus, Source};
 
 /// What is due in a turn that has begun.
-#[derive(Clone, Copy, Debug, PartialEq, Eq)]
+#[derive(Clone, Copy)]
 pub enum Due {
     /// An instruction.
     Instruction,

@@ -4,7 +4,7 @@ ghost use Rattle.pdp_cpu.specs.Meters.{Counts};
 use std::marker::Model;
 
 /// Counts the turns that machines have run (this project's profile).
-#[derive(Debug, Drop)]
+#[derive(Drop)]
 pub struct Meter {
     turns: u64,
 }

@@ -1,7 +1,7 @@
 use pdp_operand::RunState;
 
 /// The registers of the machine, as a person reads them.
-#[derive(Clone, Copy, Debug, PartialEq, Eq)]
+#[derive(Clone, Copy)]
 pub struct Regs {
     /// R0 to R5.
     pub r: [u16; 6],

@@ -8,7 +8,7 @@ use pdp_word::Codes;
 /// below, each from 0 to 7.
 ///
 /// Source: DEC PDP-11/40 Processor Handbook (1972), Addressing modes.
-#[derive(Clone, Copy, Debug, PartialEq, Eq)]
+#[derive(Clone, Copy)]
 pub struct Spec {
     /// The addressing mode: 0 register, 2 autoincrement, 4 autodecrement, 6 index; 1, 3, 5 and 7
     /// are deferred.
@@ -23,7 +23,7 @@ pub struct Spec {
 /// and C are the condition codes.
 ///
 /// Source: DEC PDP-11/40 Processor Handbook (1972), Instruction set.
-#[derive(Clone, Copy, Debug, PartialEq, Eq)]
+#[derive(Clone, Copy)]
 pub enum Instr {
     /// HALT, 000000: the processor stops.
     Halt,

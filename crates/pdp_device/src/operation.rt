@@ -2,7 +2,7 @@ ghost use Rattle.std.specs.Prelude.{◌≡◌};
 
 /// What a device is doing: nothing, or something that takes until a turn or an event (this
 /// project's profile).
-#[derive(Clone, Copy, Debug, PartialEq, Eq, Default)]
+#[derive(Clone, Copy, Default)]
 pub enum Operation {
     /// Nothing is under way.
     #[default]

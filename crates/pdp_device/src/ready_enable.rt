@@ -7,7 +7,7 @@ use pdp_word::{bit_of, is_set};
 /// Ready, enable and the request of a device that interrupts where ready and enable are both set.
 ///
 /// PDP-11 Peripherals Handbook, KL11, PC11 and RK11.
-#[derive(Clone, Copy, Debug, PartialEq, Eq, Default)]
+#[derive(Clone, Copy, Default)]
 pub struct ReadyEnable {
     /// Bit 7 of the status: the device is ready, or done.
     pub ready: bool,

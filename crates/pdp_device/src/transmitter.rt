@@ -7,7 +7,7 @@ use pdp_word::low_byte;
 /// A register of a transmitter.
 ///
 /// PDP-11 Peripherals Handbook, KL11 and PC11.
-#[derive(Clone, Copy, Debug, PartialEq, Eq)]
+#[derive(Clone, Copy)]
 pub enum TransmitterRegister {
     /// Bit 7 ready, bit 6 enable, which alone is written.
     Status,
@@ -18,7 +18,7 @@ pub enum TransmitterRegister {
 /// What puts bytes out one by one: the printer, or the punch.
 ///
 /// PDP-11 Peripherals Handbook, KL11 and PC11.
-#[derive(Clone, Copy, Debug, PartialEq, Eq)]
+#[derive(Clone, Copy)]
 pub struct Transmitter {
     /// Ready where no byte is on its way.
     pub ready_enable: ReadyEnable,

@@ -58,7 +58,7 @@ fn add_operands(text: &mut InstructionText, address: u16, words: [u16; 3], opera
         (slice_index words 0) (slice_index words 1) (slice_index words 2) operands }
 {
     let [word, next, last] = words;
-    if operands == Operands::Absent {
+    if matches!(operands, Operands::Absent) {
         return;
     }
     add(text, b" ");

@@ -10,7 +10,7 @@ use pdp_word::Codes;
 /// The operands of an instruction, in the order of its text.
 ///
 /// Source: DEC PDP-11/40 Processor Handbook (1972), Instruction set.
-#[derive(Clone, Copy, Debug, PartialEq, Eq)]
+#[derive(Clone, Copy)]
 pub enum Operands {
     /// None.
     Absent,

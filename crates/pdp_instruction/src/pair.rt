@@ -8,7 +8,7 @@ use pdp_kt11::Mode;
 use pdp_operand::{Processor, RegisterId};
 
 /// The two registers of a number of 32 bits: R, and R or 1. Of an odd R both are R.
-#[derive(Clone, Copy, Debug, PartialEq, Eq)]
+#[derive(Clone, Copy)]
 pub struct Pair {
     pub high: RegisterId,
     pub low: RegisterId,

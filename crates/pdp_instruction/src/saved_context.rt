@@ -7,7 +7,7 @@ use pdp_unibus::{Bus, Status};
 
 /// PC and the program status when the first sequence of a turn begins: what a trap saves. The red
 /// sequence that may follow saves the same (this project's profile).
-#[derive(Clone, Copy, Debug, PartialEq, Eq)]
+#[derive(Clone, Copy)]
 pub struct SavedContext {
     /// PC (bytes).
     pub counter: u16,

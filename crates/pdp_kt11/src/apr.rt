@@ -17,7 +17,7 @@ use pdp_word::{bit_of, field, is_set};
 /// One of the two spaces that have pages, each of one processor mode.
 ///
 /// DEC PDP-11/40 Processor Handbook (1972), Memory management.
-#[derive(Clone, Copy, Debug, PartialEq, Eq)]
+#[derive(Clone, Copy)]
 pub enum Space {
     Kernel,
     User,
@@ -41,7 +41,7 @@ impl Space {
 /// One of the eight pages of a space: bits 15-13 of a virtual address.
 ///
 /// DEC PDP-11/40 Processor Handbook (1972), Memory management.
-#[derive(Clone, Copy, Debug, PartialEq, Eq)]
+#[derive(Clone, Copy)]
 pub enum PageNumber {
     P0,
     P1,
@@ -93,7 +93,7 @@ impl PageNumber {
 /// The access control field of a page, bits 2-1 of its descriptor register.
 ///
 /// DEC PDP-11/40 Processor Handbook (1972), Memory management.
-#[derive(Clone, Copy, Debug, PartialEq, Eq)]
+#[derive(Clone, Copy, PartialEq, Eq)]
 pub enum AccessControl {
     /// 00: every access aborts.
     NonResident,
@@ -138,7 +138,7 @@ impl AccessControl {
 /// or from its highest block down.
 ///
 /// DEC PDP-11/40 Processor Handbook (1972), Memory management.
-#[derive(Clone, Copy, Debug, PartialEq, Eq)]
+#[derive(Clone, Copy)]
 pub enum Expansion {
     Upward,
     Downward,
@@ -171,7 +171,7 @@ impl Expansion {
 /// A page, as its page address register and its page descriptor register have it.
 ///
 /// DEC PDP-11/40 Processor Handbook (1972), Memory management.
-#[derive(Clone, Copy, Debug, PartialEq, Eq)]
+#[derive(Clone, Copy)]
 pub struct Apr {
     /// The page address field, bits 11-0 of the page address register: where the page is, in blocks
     /// of 100 (octal) bytes.

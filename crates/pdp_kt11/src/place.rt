@@ -4,7 +4,7 @@ ghost use Rattle.pdp_kt11.specs.Place.{unmapped_address};
 use crate::bits::{IO_PAGE, IO_PAGE_HIGHER};
 
 /// What an access does with the word that it reaches.
-#[derive(Clone, Copy, Debug, PartialEq, Eq)]
+#[derive(Clone, Copy, PartialEq, Eq)]
 pub enum Access {
     Read,
     Write,

@@ -6,7 +6,7 @@ use crate::apr::{PageNumber, Space};
 /// A register of memory management.
 ///
 /// DEC PDP-11/40 Processor Handbook (1972), Memory management.
-#[derive(Clone, Copy, Debug, PartialEq, Eq)]
+#[derive(Clone, Copy)]
 pub enum KtRegister {
     /// SR0, 777572.
     Status0,

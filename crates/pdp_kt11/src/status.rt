@@ -11,7 +11,7 @@ use pdp_word::{bit_of, is_set};
 /// SR0 of memory management.
 ///
 /// DEC PDP-11/40 Processor Handbook (1972), Memory management.
-#[derive(Clone, Copy, Debug, PartialEq, Eq)]
+#[derive(Clone, Copy)]
 pub struct MappingStatus {
     /// Bit 15: an access to a page that isn't resident was aborted.
     pub resident_abort: bool,

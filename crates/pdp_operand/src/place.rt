@@ -6,7 +6,7 @@ use pdp_kt11::Mode;
 use pdp_word::Size;
 
 /// A place in memory, as an operand names it.
-#[derive(Clone, Copy, Debug, PartialEq, Eq)]
+#[derive(Clone, Copy)]
 pub struct Cell {
     /// The mode in whose space the address is.
     pub mode: Mode,
@@ -18,14 +18,14 @@ pub struct Cell {
 }
 
 /// Where an operand is.
-#[derive(Clone, Copy, Debug, PartialEq, Eq)]
+#[derive(Clone, Copy)]
 pub enum Place {
     Reg(RegisterId),
     Mem(Cell),
 }
 
 /// How a write fills a register. In memory it writes its word or its byte.
-#[derive(Clone, Copy, Debug, PartialEq, Eq)]
+#[derive(Clone, Copy)]
 pub enum Fill {
     /// A word fills the register.
     Whole,

@@ -11,7 +11,7 @@ use pdp_decode::{Instr, Spec};
 use pdp_word::{Codes, Size};
 
 /// What an instruction does, by the phases that it has.
-#[derive(Clone, Copy, Debug, PartialEq, Eq)]
+#[derive(Clone, Copy)]
 pub enum Action {
     Halt,
     Wait,

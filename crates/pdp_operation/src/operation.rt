@@ -12,7 +12,7 @@ use pdp_alu::{
 use pdp_word::{Codes, Size};
 
 /// What is done with two operands of which neither is written.
-#[derive(Clone, Copy, Debug, PartialEq, Eq)]
+#[derive(Clone, Copy)]
 pub enum Comparison {
     Cmp(Size),
     Bit(Size),
@@ -42,7 +42,7 @@ impl Comparison {
 }
 
 /// What is done with two operands of which the destination is read and written.
-#[derive(Clone, Copy, Debug, PartialEq, Eq)]
+#[derive(Clone, Copy)]
 pub enum Combination {
     Bic(Size),
     Bis(Size),
@@ -80,7 +80,7 @@ impl Combination {
 }
 
 /// What is done with one operand that is read and written.
-#[derive(Clone, Copy, Debug, PartialEq, Eq)]
+#[derive(Clone, Copy)]
 pub enum Modification {
     Com(Size),
     Inc(Size),
@@ -139,7 +139,7 @@ impl Modification {
 }
 
 /// What is put in the place of one operand, which is not read.
-#[derive(Clone, Copy, Debug, PartialEq, Eq)]
+#[derive(Clone, Copy)]
 pub enum Replacement {
     Clr(Size),
     Sxt,

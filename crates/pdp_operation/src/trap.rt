@@ -1,7 +1,7 @@
 /// Why a phase could not go on, or which trap an instruction asks for.
 ///
 /// DEC PDP-11/40 Processor Handbook (1972), Traps.
-#[derive(Clone, Copy, Debug, PartialEq, Eq)]
+#[derive(Clone, Copy, PartialEq, Eq)]
 pub enum Trap {
     /// A word was asked for at an odd address.
     OddAddress,

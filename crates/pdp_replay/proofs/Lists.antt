@@ -1,9 +1,7 @@
--- Lists of words as they are filled, and lists compared item by item.
+-- Lists of words as they are filled.
 use Rattle.std.proofs.Common.{◌≡◌, ℕ, suc, zero, ◌+◌, ◌<◌, ◌≤◌, List, [], ◌∷◌, ◌++◌, ◌&&◌, Bool, length, take, drop, get_or, refl, sym, ◌∙◌, ap, replicate, slice_set, slice_get, add-one, None, Option, Some, is_some, true, Result, Ok, Err, IsOk, false}
 use Rattle.std.proofs.Math.Seq.{take-suc}
 use Rattle.std.proofs.lemmas.List.{length-map, get_or-map, length-drop, get_or-drop}
-use Rattle.std.specs.Cmp.Lexicographic.{pointwise}
-use Rattle.std.specs.Option.{option_eq}
 use Rattle.std.specs.Prelude.{slice_index}
 use Rattle.std.proofs.Common.{arith}
 use Rattle.pdp_cpu.specs.KeptTexts.{without_turns}
@@ -40,18 +38,6 @@ pub bytes_one_more : (kept : List KeptByte) (i : ℕ) (d : KeptByte) → i < len
 bytes_one_more kept i d below =
     sym (rw add-one (take-suc (without_turns kept) i 0 (rw length-map below)
     ∙ ap (λ byte. take i (without_turns kept) ++ byte ∷ []) (get_or-map (λ b. b.byte) kept i d 0 below)))
-
-compared : {X : Type 0} (same : X → X → Bool) (xs ys : List X) (i : ℕ) → length xs ≡ length ys → i < length xs
-    → pointwise same (drop i xs) (drop i ys) ≡ (option_eq same (slice_get xs i) (slice_get ys i) && pointwise same (drop (suc i) xs) (drop (suc i) ys))
-compared same [] ys i long below = absurd (omega arith)
-compared same (x ∷ xs) [] i long below = absurd (omega arith)
-compared same (x ∷ xs) (y ∷ ys) zero long below = refl
-compared same (x ∷ xs) (y ∷ ys) (suc i) long below = compared same xs ys i (omega arith) (omega arith)
-
--- two lists are alike from an item on where that item is, and from the next on
-pub compared_next : {X : Type 0} (same : X → X → Bool) (xs ys : List X) (i : ℕ) → length xs ≡ length ys → i < length xs
-    → pointwise same (drop i xs) (drop i ys) ≡ (option_eq same (slice_get xs i) (slice_get ys i) && pointwise same (drop (i + 1) xs) (drop (i + 1) ys))
-compared_next same xs ys i long below = rw add-one (compared same xs ys i long below)
 
 -- nothing that isn't there was found
 pub not_there : {X : Type 0} {Y : Type 0} (found : Option X) → found ≡ None → is_some found ≡ true → Y

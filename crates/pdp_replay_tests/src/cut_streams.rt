@@ -101,7 +101,7 @@ impl Feed for CutFeed<'_> {
 }
 
 // How a drain fails.
-#[derive(Clone, Copy, PartialEq, Eq)]
+#[derive(Clone, Copy)]
 enum Full {
     Refuses,
     TakesNone,

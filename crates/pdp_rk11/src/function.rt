@@ -3,7 +3,7 @@ ghost use Rattle.std.specs.Prelude.{◌≡◌, ◌<◌};
 /// What the RK11 is told to do, by bits 3-1 of RKCS.
 ///
 /// PDP-11 Peripherals Handbook, RK11.
-#[derive(Clone, Copy, Debug, PartialEq, Eq)]
+#[derive(Clone, Copy, PartialEq, Eq)]
 pub enum Function {
     /// 0: as RESET, and at once.
     ControlReset,

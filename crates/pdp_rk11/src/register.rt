@@ -3,7 +3,7 @@ ghost use Rattle.std.specs.Prelude.{◌≡◌};
 /// A register of the RK11.
 ///
 /// PDP-11 Peripherals Handbook, RK11.
-#[derive(Clone, Copy, Debug, PartialEq, Eq)]
+#[derive(Clone, Copy)]
 pub enum RkRegister {
     /// RKDS: 4700, and bit 5 where the drive that RKDA names is locked; 0 where that drive isn't
     /// there. It can't be written (this project's profile).

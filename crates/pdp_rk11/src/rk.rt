@@ -14,7 +14,7 @@ use pdp_word::{bit_of, field, is_set};
 /// The RK11 controller.
 ///
 /// PDP-11 Peripherals Handbook, RK11.
-#[derive(Clone, Copy, Debug, PartialEq, Eq)]
+#[derive(Clone, Copy)]
 pub struct Rk {
     /// Ready where no function is under way.
     pub ready_enable: ReadyEnable,

@@ -12,7 +12,7 @@ use pdp_store::{PAGE_WORDS, Stamp, Store};
 
 /// The words that a transfer moves or compares: `count` words, starting at `core_start` in core and
 /// at its first word on the drive.
-#[derive(Clone, Copy, Debug, PartialEq, Eq)]
+#[derive(Clone, Copy)]
 pub struct Transfer {
     /// The bus address isn't incremented: each move is of the first word of core.
     pub no_increment: bool,

@@ -7,7 +7,7 @@ use pdp_unibus::Event;
 use pdp_word::NoMemory;
 
 /// The number and the turn of an event of the script.
-#[derive(Clone, Copy, Debug, PartialEq, Eq)]
+#[derive(Clone, Copy)]
 pub struct Label {
     pub number: u32,
     pub turn: u32,

@@ -16,7 +16,7 @@ pub const MOST_EVENTS: usize = 65_536;
 
 /// What happens to the machine from outside: events in the order of their turns, each under a
 /// number of its own (this project's profile).
-#[derive(Debug, Drop)]
+#[derive(Drop)]
 pub struct Script {
     labels: Vec<Label>,
     events: Vec<Event>,

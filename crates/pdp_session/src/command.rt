@@ -15,7 +15,7 @@ use std::alloc::Global;
 pub type TapeBytes = ArrayVec<u8, LONGEST_LINE>;
 
 // A command of the session language.
-#[derive(Debug, PartialEq, Eq, Drop)]
+#[derive(Drop)]
 pub enum Command {
     SetCore {
         address: u32,

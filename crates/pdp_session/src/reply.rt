@@ -19,7 +19,7 @@ use texts::{
 };
 
 // What a line is answered.
-#[derive(Debug, PartialEq, Eq, Drop)]
+#[derive(Drop)]
 pub enum Reply {
     Nothing,
     Done,

@@ -4,7 +4,7 @@ ghost use Rattle.pdp_session.specs.Version.{version_of};
 use pdp_replay::Engine;
 
 // The version of a session, by which the lines of the drives are read and shown.
-#[derive(Clone, Copy, Debug, PartialEq, Eq)]
+#[derive(Clone, Copy)]
 pub enum Version {
     // One drive, which no line names.
     One,

@@ -6,7 +6,7 @@ use pdp_device::{Transmitter, TransmitterRegister};
 /// A register of the paper tape's reader and punch.
 ///
 /// PDP-11 Peripherals Handbook, PC11.
-#[derive(Clone, Copy, Debug, PartialEq, Eq)]
+#[derive(Clone, Copy)]
 pub enum PcRegister {
     /// PRS: bit 15 error, bit 11 busy, bit 7 done, bit 6 enable, bit 0 go. Enable and go alone are
     /// written.
@@ -42,7 +42,7 @@ impl PcRegister {
 /// The paper tape: its reader and its punch.
 ///
 /// PDP-11 Peripherals Handbook, PC11.
-#[derive(Clone, Copy, Debug, PartialEq, Eq)]
+#[derive(Clone, Copy)]
 pub struct Pc {
     /// What reads the tape.
     pub reader: Reader,

@@ -7,7 +7,7 @@ use pdp_word::{bit_of, is_set};
 /// The paper tape reader.
 ///
 /// PDP-11 Peripherals Handbook, PC11.
-#[derive(Clone, Copy, Debug, PartialEq, Eq)]
+#[derive(Clone, Copy)]
 pub struct Reader {
     /// Bit 15 of the status: a read found no byte. RESET alone clears it (this project's profile).
     pub error: bool,

@@ -15,7 +15,7 @@ use pdp_store::Store;
 
 /// The byte that was printed on the console and the byte that was punched in the beginning of a
 /// turn, if any (this project's profile).
-#[derive(Clone, Copy, Debug, PartialEq, Eq, Default)]
+#[derive(Clone, Copy, Default)]
 pub struct Output {
     pub printed: Option<u8>,
     pub punched: Option<u8>,

@@ -2,7 +2,7 @@ ghost use Rattle.std.specs.Prelude.{◌≡◌};
 ghost use Rattle.pdp_unibus.specs.Delays.{standard_delays, with_delay};
 
 /// A device whose delay can be set (this project's profile).
-#[derive(Clone, Copy, Debug, PartialEq, Eq)]
+#[derive(Clone, Copy)]
 pub enum DelayedDevice {
     /// The console terminal's printer.
     Printer,
@@ -19,7 +19,7 @@ pub enum DelayedDevice {
 /// How many turns after it began an operation of each device completes: 0 says by an event alone.
 /// Of the clock it is the period: with p above 0 it ticks in the turns p, 2p and so on, with 0 by
 /// events alone (this project's profile).
-#[derive(Clone, Copy, Debug, PartialEq, Eq)]
+#[derive(Clone, Copy)]
 pub struct Delays {
     pub printer: u32,
     pub reader: u32,

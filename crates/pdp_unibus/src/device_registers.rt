@@ -48,7 +48,7 @@ const SHOWN: [(&str, Register); SHOWN_REGISTERS] = [
 /// The registers of the devices, as reads would give them without the effect of a read (PDP-11
 /// Peripherals Handbook, KL11, KW11-L, PC11 and RK11; DEC PDP-11/40 Processor Handbook (1972),
 /// Switch register).
-#[derive(Clone, Copy, Debug, PartialEq, Eq)]
+#[derive(Clone, Copy)]
 pub struct DeviceRegisters {
     /// TKS, TKB, TPS, LKS, PRS, PRB, PPS, RKDS, RKER, RKCS, RKWC, RKBA, RKDA and the switch
     /// register SWR: the words of the registers that `name` names, by the same index.

@@ -1,5 +1,5 @@
 /// What happens to the machine from outside, at a turn of a script (this project's profile).
-#[derive(Clone, Copy, Debug, PartialEq, Eq)]
+#[derive(Clone, Copy)]
 pub enum Event {
     /// A key is struck, with this byte.
     Key(u8),

@@ -11,7 +11,7 @@ use pdp_store::Store;
 
 /// The registers of memory management, as reads would give them (DEC PDP-11/40 Processor Handbook
 /// (1972), Memory management): each list is by the number of the page.
-#[derive(Clone, Copy, Debug, PartialEq, Eq)]
+#[derive(Clone, Copy)]
 pub struct PageRegisters {
     /// SR0, 777572.
     pub status0: u16,

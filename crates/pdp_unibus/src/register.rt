@@ -7,7 +7,7 @@ use pdp_rk11::RkRegister;
 use pdp_tape::PcRegister;
 
 /// A register on the bus, of a device, of memory management or of the processor.
-#[derive(Clone, Copy, Debug, PartialEq, Eq)]
+#[derive(Clone, Copy)]
 pub enum Register {
     /// 777400 to 777413: the disk's.
     Disk(RkRegister),

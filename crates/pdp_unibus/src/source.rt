@@ -5,7 +5,7 @@ use crate::priority::Priority;
 /// What can interrupt the processor.
 ///
 /// PDP-11 Peripherals Handbook, KL11, KW11-L, PC11 and RK11.
-#[derive(Clone, Copy, Debug, PartialEq, Eq)]
+#[derive(Clone, Copy)]
 pub enum Source {
     /// The console terminal's keyboard.
     Keyboard,

@@ -8,7 +8,7 @@ use pdp_word::{Codes, bit_of, field, is_set};
 /// What the program status word says: modes, priority, the trace bit and the condition codes.
 ///
 /// DEC PDP-11/40 Processor Handbook (1972), Processor status word.
-#[derive(Clone, Copy, Debug, PartialEq, Eq, Default)]
+#[derive(Clone, Copy, Default)]
 pub struct Status {
     pub mode: Mode,
     pub previous: Mode,

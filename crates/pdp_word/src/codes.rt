@@ -1,6 +1,6 @@
 /// The four condition codes of the program status word (DEC PDP-11/40 Processor Handbook (1972),
 /// Processor status word): negative, zero, overflow and carry. All are clear by default.
-#[derive(Clone, Copy, Debug, Default, PartialEq, Eq)]
+#[derive(Clone, Copy, Default)]
 pub struct Codes {
     /// The result was negative.
     pub n: bool,

@@ -1,5 +1,5 @@
 -- Trails: the turns of a run as they are listed (this project's profile).
-use Rattle.std.specs.Prelude.{ℕ, ◌≡◌, zero, suc, ◌+◌, ◌++◌, Bool, List, [], ◌∷◌}
+use Rattle.std.specs.Prelude.{ℕ, ◌≡◌, zero, suc, ◌+◌, ◌++◌, List, [], ◌∷◌}
 use Rattle.pdp_unibus.specs.declared.event.Event.{Event}
 use Rattle.pdp_operand.specs.Phases.World.{World}
 use Rattle.pdp_cpu.specs.Turns.MachineState.{MachineState}
@@ -10,7 +10,6 @@ use Rattle.pdp_script.specs.Script.{ScriptData}
 use Rattle.pdp_replay.specs.Past.{Past}
 use Rattle.pdp_replay.specs.Run.States.{at, state_at}
 use Rattle.pdp_replay.specs.declared.ask.trail.TrailEntry.{TrailEntry}
-use Rattle.pdp_replay.specs.contracts.ask.trail.TrailEntryPartialEq.TheImpl as entry_eq
 
 -- turn t with these events as a trail lists it: its number, PC before it, and its act
 abbrev pub trail_entry : ℕ → List Event → World → TrailEntry
@@ -28,7 +27,3 @@ trail_of p first (suc n) =
 abbrev pub IsTrailFrom : ScriptData → ℕ → ℕ → MachineState → List TrailEntry → Type 0
 IsTrailFrom script first count machine trail = (p : Past) → p.script ≡ script → machine
     ≡ at p first → trail ≡ trail_of p first count
-
--- what `==` says of two turns that are listed
-abbrev pub same_entry : TrailEntry → TrailEntry → Bool
-same_entry = (entry_eq.ghosts).eq

@@ -1,5 +1,4 @@
 ghost use Rattle.std.specs.Prelude.{◌≡◌, ◌+◌, ◌≤◌, length, IfOk};
-ghost use Rattle.std.specs.Cmp.Lexicographic.{lists_equiv, lists_per, pointwise};
 ghost use Rattle.pdp_cpu.specs.KeptTexts.{without_turns};
 ghost use Rattle.pdp_replay.specs.Ask.Answer.{words_from};
 ghost use Rattle.pdp_replay.specs.Run.States.{disk_of};
@@ -11,7 +10,7 @@ use std::marker::Model;
 
 /// Words or bytes of an answer, one after another (this project's profile). A contract sees the
 /// list of them.
-#[derive(Debug, Drop)]
+#[derive(Drop)]
 pub struct Items<T> {
     items: Vec<T>,
 }
@@ -37,20 +36,6 @@ impl<T> Items<T> {
     {
         self.items.as_slice()
     }
-}
-
-impl<T: PartialEq> PartialEq for Items<T> {
-    ghost eq = { λ a b. pointwise T.eq a b };
-
-    ghost laws = { lists_per T.laws };
-
-    fn eq(&self, other: &Items<T>) -> bool {
-        self.items() == other.items()
-    }
-}
-
-impl<T: Eq> Eq for Items<T> {
-    ghost laws = { lists_equiv T.Eq.laws };
 }
 
 /// `count` words of the machine's core, from the word of the number `first` on.

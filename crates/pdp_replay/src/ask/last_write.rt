@@ -6,7 +6,7 @@ use pdp_store::Agent;
 
 /// The last write to a word of core before a turn (this project's profile). A byte write counts for
 /// its word; patches and images are no writes.
-#[derive(Clone, Copy, Debug, PartialEq, Eq)]
+#[derive(Clone, Copy)]
 pub struct LastWrite {
     /// The turn of the write, counted from 0 at power-up.
     pub turn: u32,

@@ -26,7 +26,7 @@ const MOST_TURNS_LISTED: u32 = 64;
 
 /// What can be asked of a run (this project's profile); each question names the turn before which
 /// the machine is looked at.
-#[derive(Clone, Copy, Debug, PartialEq, Eq)]
+#[derive(Clone, Copy)]
 pub enum Question {
     /// The registers before this turn, counted from 0 at power-up.
     Regs(u32),
@@ -238,7 +238,7 @@ fn check_trail(turn: u32, count: u32) -> Result<(), Fault>
 }
 
 /// What a question is answered.
-#[derive(Debug, PartialEq, Eq, Drop)]
+#[derive(Drop)]
 pub enum Value {
     /// The registers, and whether the processor runs.
     Regs(Regs),
@@ -261,7 +261,7 @@ pub enum Value {
 }
 
 /// A question's answer, with what it took.
-#[derive(Debug, PartialEq, Eq, Drop)]
+#[derive(Drop)]
 pub struct Answer {
     pub value: Value,
     /// How many turns were run for it.

@@ -1,11 +1,8 @@
 ghost use Rattle.std.specs.Prelude.{◌≡◌, ◌+◌, ◌<◌, ◌≤◌, ℕ, length, slice_get, IfOk, OnOk};
-ghost use Rattle.std.specs.Cmp.{partial_equiv_from_equiv};
-ghost use Rattle.std.specs.Cmp.Lexicographic.{pointwise, lists_equiv};
 ghost use Rattle.pdp_cpu.specs.Turns.MachineState.{after_turn};
 ghost use Rattle.pdp_script.specs.Entries.{events_at};
 ghost use Rattle.pdp_replay.specs.Run.KeptRuns.{Advances, ArrivesAt, CanGoOn, GoesOn, LeavesKept};
-ghost use Rattle.pdp_replay.specs.Ask.Trails.{trail_entry, same_entry, IsTrailFrom};
-ghost use Rattle.pdp_replay.specs.contracts.ask.trail.TrailEntryEq.TheImpl.Laws.{laws-law};
+ghost use Rattle.pdp_replay.specs.Ask.Trails.{trail_entry, IsTrailFrom};
 
 use crate::run::KeptRun;
 use circular_buffer::HeapCircularBuffer;
@@ -17,7 +14,7 @@ use std::alloc::Global;
 use std::marker::Model;
 
 /// One turn of a trail (this project's profile).
-#[derive(Clone, Copy, Debug, PartialEq, Eq)]
+#[derive(Clone, Copy)]
 pub struct TrailEntry {
     /// The turn, counted from 0 at power-up.
     pub turn: u32,
@@ -29,7 +26,7 @@ pub struct TrailEntry {
 
 /// Turns of a run, one after another, the earliest first (this project's profile). A contract sees
 /// the list of them.
-#[derive(Debug, Drop)]
+#[derive(Drop)]
 pub struct Trail {
     entries: HeapCircularBuffer<TrailEntry>,
 }
@@ -110,27 +107,4 @@ fn record_turn(alloc: Global, run: &mut KeptRun, script: &Script) -> Result<Trai
     let pc = run.machine.regs().pc;
     let act = run.step(alloc, script)?;
     Ok(TrailEntry { turn, pc, act })
-}
-
-impl PartialEq for Trail {
-    ghost eq = { λ a b. pointwise same_entry a b };
-
-    ghost laws = { partial_equiv_from_equiv (lists_equiv laws-law) };
-
-    #[tactic(auto, using(crate::proofs::Lists::compared_next))]
-    fn eq(&self, other: &Trail) -> bool {
-        if self.len() != other.len() {
-            return false;
-        }
-        for index in 0..self.len() {
-            if self.entry(index) != other.entry(index) {
-                return false;
-            }
-        }
-        true
-    }
-}
-
-impl Eq for Trail {
-    ghost laws = { lists_equiv laws-law };
 }

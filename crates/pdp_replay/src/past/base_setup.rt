@@ -4,7 +4,7 @@ ghost use Rattle.pdp_replay.specs.Past.Setup.{drive_count, image_of, images_of};
 use crate::past::MOST_DRIVES;
 
 /// How many drives a run has (this project's profile).
-#[derive(Clone, Copy, Debug, PartialEq, Eq)]
+#[derive(Clone, Copy)]
 pub(crate) enum DriveCount {
     /// Drive 0 alone, as every run begins.
     One,
@@ -26,7 +26,7 @@ impl DriveCount {
 
 /// What a setup gives to a run but for the tape, which is in the machine's reader, and how many
 /// drives there are.
-#[derive(Debug, Drop)]
+#[derive(Drop)]
 pub(crate) struct BaseSetup {
     /// The size of core in units of 4,096 words.
     pub(crate) units: u8,

@@ -2,7 +2,7 @@ ghost use Rattle.std.specs.Prelude.{◌≡◌};
 ghost use Rattle.pdp_replay.specs.Run.KeptRuns.{patch_drive, patch_number};
 
 /// A word that differs as of power-up (this project's profile).
-#[derive(Clone, Copy, Debug, PartialEq, Eq)]
+#[derive(Clone, Copy)]
 pub enum Patch {
     /// The core word at this address (octal, bytes, even) is this word.
     Core(u32, u16),
@@ -11,7 +11,7 @@ pub enum Patch {
 }
 
 /// A word that can have a patch, by which patches are kept (this project's profile).
-#[derive(Clone, Copy, Debug, PartialEq, Eq, Hash)]
+#[derive(Clone, Copy, PartialEq, Eq, Hash)]
 pub enum PatchKey {
     /// The core word of this number, which is half its address.
     Core(u32),

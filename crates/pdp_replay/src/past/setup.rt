@@ -26,7 +26,7 @@ pub(crate) const TAPE_BYTES: usize = 1_048_576;
 pub const DEFAULT_STRIDE: u32 = 10_000;
 
 /// What a run starts from (this project's profile).
-#[derive(Debug, Drop)]
+#[derive(Drop)]
 pub struct Setup {
     /// The size of core in units of 4,096 words: 1 to 31.
     pub units: u8,
