@@ -3,7 +3,8 @@
    REFUSE_LATER is 1 it forks once more, and that copy is refused every later request too. A copy goes on to its end, on the
    same standard input from the same place, and with output of its own, which begins with what the program has written so
    far. The program itself is refused nothing. Its standard input and output must be files.
-   REFUSE_FIRST and REFUSE_PAST are two numbers: the first requests, so many, are refused so, and those past that number.
+   REFUSE_FIRST, REFUSE_PAST and REFUSE_MOST are numbers: the first requests, so many, are refused so, and of those past
+   the second number as many as the third says.
    REFUSE_TOLD is a file descriptor. To it is written, of each copy, a line with the number of its request, 'alone' or
    'later', its exit status (256 and the signal, where one ended it), the bytes of its output and of its standard error, and
    then these bytes; and at the program's end a line with the number of all requests.
@@ -27,7 +28,7 @@ extern void *__libc_calloc(size_t count, size_t size);
 extern void *__libc_realloc(void *old, size_t size);
 extern void *__libc_memalign(size_t alignment, size_t size);
 
-static long first, past, requests;
+static long first, past, most, requests;
 static int told = -1;
 static int is_copy, refuses_later, has_later;
 
@@ -39,6 +40,7 @@ static long number_in(const char *name) {
 __attribute__((constructor)) static void begin(void) {
     first = number_in("REFUSE_FIRST");
     past = number_in("REFUSE_PAST");
+    most = number_in("REFUSE_MOST");
     told = (int)number_in("REFUSE_TOLD");
     has_later = number_in("REFUSE_LATER") == 1;
 }
@@ -121,7 +123,7 @@ static int is_refused(void) {
     if (is_copy)
         return refuses_later;
     requests += 1;
-    if (told < 0 || (requests > first && requests <= past))
+    if (told < 0 || (requests > first && requests <= past) || requests - past > most)
         return 0;
     return is_in_copy(0) || (has_later && is_in_copy(1));
 }
