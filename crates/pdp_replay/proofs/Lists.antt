@@ -1,5 +1,5 @@
 -- Lists of words as they are filled.
-use Rattle.std.proofs.Common.{◌≡◌, ℕ, suc, zero, ◌+◌, ◌<◌, ◌≤◌, List, [], ◌∷◌, ◌++◌, ◌&&◌, Bool, length, take, drop, get_or, refl, sym, ◌∙◌, ap, replicate, slice_set, slice_get, add-one, None, Option, Some, is_some, true, Result, Ok, Err, IsOk, false}
+use Rattle.std.proofs.Common.{◌≡◌, ℕ, suc, zero, ◌+◌, ◌<◌, ◌≤◌, List, [], ◌∷◌, ◌++◌, Bool, length, take, drop, get_or, refl, sym, ◌∙◌, ap, replicate, slice_set, add-one, None, Option, Some, is_some, true, Result, Ok, Err, IsOk, false}
 use Rattle.std.proofs.Math.Seq.{take-suc}
 use Rattle.std.proofs.lemmas.List.{length-map, get_or-map, length-drop, get_or-drop}
 use Rattle.std.specs.Prelude.{slice_index}

@@ -5,6 +5,7 @@ use pdp_icache::Lines;
 use pdp_store::{Flat, Store};
 use pdp_unibus::{Delays, LAST_TURN};
 use pdp_word::NoMemory;
+use std::alloc::Global;
 
 // MOV #3,R0; INC R1; MOVB #202,@#1004, which makes the INC one of R2; SOB R0 to the INC; HALT
 const STORES_OVER_ITSELF: [u16; 8] = [
@@ -19,11 +20,21 @@ fn put(core: &mut Flat) {
     }
 }
 
-fn turn_without_lines(machine: &mut Machine<Flat, Flat>) -> Result<(), NoMemory> {
-    machine.clear_lines();
-    machine.ready()?;
-    if machine.turns() < LAST_TURN {
-        machine.turn(&mut Meter::new(), &[]);
+fn machine_of(alloc: Global) -> Result<Machine<Flat, Flat>, NoMemory> {
+    let mut core = Flat::new(alloc, 512, true)?;
+    put(&mut core);
+    let lines = Lines::new(alloc)?;
+    let (drives, tape) = (Vec::new(alloc), Vec::new(alloc));
+    Ok(Machine::power(alloc, lines, 0o1000, core, drives, tape, Delays::standard()))
+}
+
+fn run_without_lines(machine: &mut Machine<Flat, Flat>, turns: u32) -> Result<(), NoMemory> {
+    for _ in 0..turns {
+        machine.clear_lines();
+        machine.ready()?;
+        if machine.turns() < LAST_TURN {
+            machine.turn(&mut Meter::new(), &[]);
+        }
     }
     Ok(())
 }
@@ -31,15 +42,8 @@ fn turn_without_lines(machine: &mut Machine<Flat, Flat>) -> Result<(), NoMemory>
 // R1 is counted up once, and R2 twice.
 #[test]
 fn stores_over_itself(rt: HostRuntime) -> Result<(), NoMemory> {
-    let alloc = rt.alloc();
-    let mut core = Flat::new(alloc, 512, true)?;
-    put(&mut core);
-    let lines = Lines::new(alloc)?;
-    let (drives, tape) = (Vec::new(alloc), Vec::new(alloc));
-    let mut machine = Machine::power(alloc, lines, 0o1000, core, drives, tape, Delays::standard());
-    for _ in 0..11 {
-        turn_without_lines(&mut machine)?;
-    }
+    let mut machine = machine_of(rt.alloc())?;
+    run_without_lines(&mut machine, 11)?;
     assert_eq!(rt; machine.regs().r, [0, 1, 2, 0, 0, 0]);
     Ok(())
 }

@@ -140,9 +140,13 @@ fn assert_known(rt: &impl Abort, alloc: Global, engine: &mut Engine) -> Result<(
     Ok(())
 }
 
+fn assert_no_turns(rt: &impl Abort, alloc: Global, engine: &mut Engine) -> Result<(), Fail> {
+    follow(rt, alloc, engine, 40_000, &FAR)?;
+    assert_known(rt, alloc, engine)
+}
+
 #[test]
 fn no_turns_run_in_secret(rt: HostRuntime) -> Result<(), Fail> {
     let mut engine = engine_of(rt.alloc(), &[0o777], DEFAULT_STRIDE)?;
-    follow(&rt, rt.alloc(), &mut engine, 40_000, &FAR)?;
-    assert_known(&rt, rt.alloc(), &mut engine)
+    assert_no_turns(&rt, rt.alloc(), &mut engine)
 }

@@ -1,5 +1,5 @@
 -- The states of a run, its texts and its trace (this project's profile).
-use Rattle.std.specs.Prelude.{ℕ, ◌≡◌, zero, suc, ◌+◌, ◌++◌, List, [], length, slice_index_or, take}
+use Rattle.std.specs.Prelude.{ℕ, ◌≡◌, zero, suc, ◌+◌, ◌++◌, List, [], length, take}
 use Rattle.std.specs.Prelude.{None, replicate}
 use Rattle.pdp_store.specs.Parts.{words_of_drive}
 use Rattle.pdp_store.specs.TracedAccess.{TracedAccess}

@@ -1,4 +1,4 @@
-ghost use Rattle.std.specs.Prelude.{◌≡◌, ◌+◌, ◌≤◌, ◌<◌, ◌&&◌, ℕ, max, min, nat_le, true, IfOk};
+ghost use Rattle.std.specs.Prelude.{◌≡◌, ◌+◌, ◌≤◌, ◌<◌, ◌&&◌, ℕ, [], max, min, nat_le, true, IfOk};
 ghost use Rattle.std.specs.Prelude.{OnOk};
 ghost use Rattle.pdp_checkpoint.specs.Ladder.{next_of};
 ghost use Rattle.pdp_cpu.specs.Turns.MachineState.{after_turn};
@@ -12,6 +12,7 @@ ghost use Rattle.pdp_replay.specs.Run.Checkpoints.{AreStatesOf};
 ghost use Rattle.pdp_replay.specs.Past.{Past, past_without_events};
 ghost use Rattle.pdp_replay.specs.Past.Setup.{first_setup, IsGood};
 ghost use Rattle.pdp_replay.specs.declared.past.base_setup.DriveCount.TheVariants.{One};
+ghost use Rattle.pdp_replay.specs.Run.FirstTouches.{untouched_all};
 ghost use Rattle.pdp_replay.specs.Run.States.{at};
 
 use crate::past::{BaseSetup, core_store, drive_store};
@@ -58,19 +59,7 @@ impl KeptRun {
         ensures meter { IfOk result (λ run. run.meter ≡ 0) }
         ensures stride { IfOk result (λ run. run.ladder.stride ≡ base_setup.now.stride) }
     {
-        let core = core_store(alloc, base_setup)?;
-        let drives = vec![in alloc; drive_store(alloc, base_setup.image(0))?]?;
-        let delays = Delays::standard();
-        let lines = Lines::new(alloc)?;
-        let mut machine = Machine::power(
-            alloc,
-            lines,
-            base_setup.start,
-            core,
-            drives,
-            tape,
-            delays,
-        );
+        let mut machine = first_machine(alloc, base_setup, tape)?;
         let ladder = Ladder::new(alloc, base_setup.stride, &mut machine)?;
         let words = WordTable::new(alloc)?;
         Ok(KeptRun {
@@ -238,4 +227,28 @@ fn is_later(stays: bool, here: u32, kept: u32) -> bool
     ensures { result ≡ (nat_le kept here && stays) }
 {
     kept <= here && stays
+}
+
+/// The machine as of power-up with one drive and the standard delays and without patches.
+///
+/// Err where there is no memory for it.
+fn first_machine(
+    alloc: Global,
+    base_setup: &BaseSetup,
+    tape: Vec<u8>,
+) -> Result<PagedMachine, NoMemory>
+    requires good { IsGood (first_setup base_setup.now tape.items) }
+    requires one { base_setup.now.drives ≡ One }
+    ensures state { IfOk result (λ machine. machine.state
+        ≡ at (past_without_events (first_setup base_setup.now tape.items)) 0) }
+    ensures kept_text { IfOk result (λ machine. machine.kept_text ≡ []) }
+    ensures kept_punched { IfOk result (λ machine. machine.kept_punched ≡ []) }
+    ensures firsts { IfOk result (λ machine. machine.firsts
+        ≡ untouched_all (first_setup base_setup.now tape.items)) }
+{
+    let core = core_store(alloc, base_setup)?;
+    let drives = vec![in alloc; drive_store(alloc, base_setup.image(0))?]?;
+    let delays = Delays::standard();
+    let lines = Lines::new(alloc)?;
+    Ok(Machine::power(alloc, lines, base_setup.start, core, drives, tape, delays))
 }
