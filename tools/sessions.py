@@ -56,7 +56,7 @@ COUNTED = {command_of(line) for line in LANGUAGE if line.reply == COUNTED_LINES}
 def existing_program(path):
     """The program's absolute path, from any folder; an error of the arguments if it isn't there."""
     if not os.access(path, os.X_OK):
-        raise argparse.ArgumentTypeError(f"{path}: no such program; ./pdp11 </dev/null builds it")
+        raise argparse.ArgumentTypeError(f"{path}: no such program; tools/program pdp11 finds one")
     return os.path.abspath(path)
 
 

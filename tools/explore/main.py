@@ -49,10 +49,10 @@ def arguments(words: List[str]) -> argparse.Namespace:
         help="does one part of a sweep, as `sweep --jobs` writes it, and ends",
     )
     parser.add_argument(
-        "--program", metavar="FILE", help="a built pdp11, in place of crates/pdp11/out/pdp11"
+        "--program", metavar="FILE", help="a built pdp11, in place of the one that tools/program finds"
     )
     parser.add_argument(
-        "--disassembler", metavar="FILE", help="a built disassemble, in place of the repository's"
+        "--disassembler", metavar="FILE", help="a built disassemble, in the same way"
     )
     parser.add_argument("session", metavar="SESSION", nargs="?")
     return parser.parse_args(words)
@@ -73,18 +73,19 @@ def options_of(found: argparse.Namespace) -> Tuple[List[str], Path]:
         raise ExploreError(f"{beside} can't be read: {error}") from error
 
 
-def built(name: str) -> str:
-    """The program of this crate, built first if it must be."""
-    path = ROOT / "crates" / name / "out" / name
-    if subprocess.run([str(ROOT / "tools" / "build"), name], stdin=subprocess.DEVNULL).returncode:
-        raise ExploreError(f"{path.relative_to(ROOT)} can't be built")
-    return str(path)
+def found_program(name: str) -> str:
+    """The program of this name that the sources give: it is built first if it must be."""
+    command = [str(ROOT / "tools" / "program"), name]
+    found = subprocess.run(command, stdin=subprocess.DEVNULL, stdout=subprocess.PIPE)
+    if found.returncode:
+        raise ExploreError(f"there is no program {name}")
+    return os.fsdecode(found.stdout.removesuffix(b"\n"))
 
 
 def disassembler_of(given: Optional[str]) -> Disassembler:
     """Without the program explore goes on, and shows words."""
     try:
-        return Disassembler(existing_program(given) if given else built("disassemble"))
+        return Disassembler(existing_program(given) if given else found_program("disassemble"))
     except ExploreError as error:
         print(f"explore: {error}; instructions are shown as words", file=sys.stderr)
         return Disassembler(None)
@@ -111,7 +112,7 @@ def explore(found: argparse.Namespace) -> None:
     if found.session and not Path(found.session).is_file():
         raise ExploreError(f"{found.session}: no such file")
     options, folder = options_of(found)
-    program = existing_program(found.program) if found.program else built("pdp11")
+    program = existing_program(found.program) if found.program else found_program("pdp11")
     machine = Machine(Start(program, options, folder))
     disassembler = disassembler_of(found.disassembler)
     explorer = Explorer(machine, disassembler, is_terminal=sys.stdin.isatty())
