@@ -6,7 +6,21 @@ import subprocess
 import time
 
 HERE = os.path.dirname(os.path.abspath(__file__))
-PROGRAM = os.path.join(HERE, "..", "crates", "pdp11", "out", "pdp11")
+ROOT = os.path.join(HERE, "..")
+
+
+def found_program():
+    """The program that was built here last, whatever the sources are now, or the release file; an
+    empty path if there is none."""
+    built = os.path.join(ROOT, "crates", "pdp11", "out", "pdp11")
+    if os.access(built, os.X_OK):
+        return built
+    command = [os.path.join(ROOT, "tools", "program"), "--at-hand", "pdp11"]
+    found = subprocess.run(command, stdout=subprocess.PIPE)
+    return os.fsdecode(found.stdout.removesuffix(b"\n"))
+
+
+PROGRAM = found_program()
 
 # The arguments of a run that keeps its first state alone.
 FIRST_ALONE = ["--stride", "2000000000"]
@@ -14,16 +28,15 @@ FIRST_ALONE = ["--stride", "2000000000"]
 
 def asked(description, **defaults):
     """Returns the numbers that a measurement is given, in the order of these names, each with its
-    default. --help shows the description and ends. If the program isn't built, it ends with
-    status 1."""
+    default. --help shows the description and ends. If there is no program, it ends with status 1."""
     as_it_is = argparse.RawDescriptionHelpFormatter
     parser = argparse.ArgumentParser(description=description, formatter_class=as_it_is)
     for name, default in defaults.items():
         text = f"{default:,} if it isn't given"
         parser.add_argument(name.upper(), nargs="?", type=int, default=default, help=text)
     numbers = vars(parser.parse_args()).values()
-    if not os.access(PROGRAM, os.X_OK):
-        parser.exit(1, f"{parser.prog}: build the program first: ./pdp11 </dev/null\n")
+    if not PROGRAM:
+        parser.exit(1, f"{parser.prog}: build the program first: tools/build pdp11\n")
     return list(numbers)
 
 
