@@ -7,8 +7,9 @@
 //!   the drives: its events, and then what is due (a trap, an interrupt, an instruction or
 //!   nothing), with the plans of pdp_instruction. It tells with which act it began, and the meter
 //!   counts it (`Machine::turn`, `ready`).
-//! - A burst of n turns of a calm machine is n turns of the definition without events, and the
-//!   meter counts n (`Machine::run_calmly`).
+//! - A burst of n turns of a calm machine is n turns of the definition without events, each of them
+//!   an instruction, and the meter counts n (`Machine::run_calmly`). A burst that is to stop before
+//!   an address runs no turn that begins with PC there (`run_calmly_before`).
 //! - A turn touches the page of every word that it reads, writes, moves or compares, in core and on
 //!   the drives: the first touches after it are those before it with its trace (`Machine::turn`).
 //!   A load leaves them; `first` returns the first touch of a page, and `forget` drops late ones.
@@ -53,6 +54,7 @@ pub use laws::{
 };
 pub use machine::Machine;
 pub use meter::Meter;
+pub use pdp_kt11::Mode;
 pub use pdp_operand::RunState;
 pub use pdp_quick::WordTable;
 pub use pdp_unibus::{DeviceRegisters, LAST_TURN, PageRegisters};

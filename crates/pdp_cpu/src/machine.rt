@@ -22,6 +22,7 @@ use crate::regs::Regs;
 use crate::take_due::take_what_is_due;
 use pdp_icache::Lines;
 use pdp_instruction::instruct;
+use pdp_kt11::Mode;
 use pdp_operand::{Processor, RegisterId, RunState};
 use pdp_store::{Stamp, Store};
 use pdp_unibus::{Bus, Delays, DeviceRegisters, Event, LAST_TURN, PageRegisters};
@@ -252,6 +253,22 @@ impl<S: Store, D: Store> Machine<S, D> {
             ps: self.bus.status().word(),
             state: p.run,
         }
+    }
+
+    /// PC, the address (octal, bytes) at which the next instruction begins.
+    #[inline(always)]
+    pub fn pc(&self) -> u16
+        ensures { result ≡ (regs_of self.now.state.world).pc }
+    {
+        self.processor.register(RegisterId::ProgramCounter)
+    }
+
+    /// The mode of the processor, as bits 15 and 14 of the program status word give it.
+    #[inline(always)]
+    pub fn mode(&self) -> Mode
+        ensures { result ≡ self.now.state.world.bus.io_page.status.mode }
+    {
+        self.bus.mode()
     }
 
     /// The core word of this number (half its byte address), without a bus cycle.
