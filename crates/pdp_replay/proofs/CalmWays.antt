@@ -6,7 +6,7 @@ use Rattle.pdp_replay.specs.Run.KeptRuns.{IsUnderWay, IsWithoutEvents}
 use Rattle.pdp_replay.specs.Past.{Past}
 use Rattle.pdp_replay.proofs.UnderWay.{way_on}
 
-turn_after : (n : ℕ) (m : MachineWithTexts) → (after_calm_turns n m).state.turn ≡ m.state.turn + n
+pub turn_after : (n : ℕ) (m : MachineWithTexts) → (after_calm_turns n m).state.turn ≡ m.state.turn + n
 unfolding after_calm_turns
 turn_after zero m = omega arith
 turn_after (suc n) m = let is = turn_after n m in omega (arith, is)
@@ -24,9 +24,10 @@ way_on_calmly p known to (suc n) m within quiet way =
     (sym (quiet before.state.turn (omega (arith, turn)) (omega (arith, turn, within))))
     refl refl refl refl
 
-within : (n turn to now : ℕ) → turn < to → now ≡ turn + n → (0 < n → now ≤ to) → turn + n ≤ to
-within zero turn to now before is most = omega (arith, before)
-within (suc n) turn to now before is most = let at_most = most (omega arith) in omega (arith, is, at_most)
+-- a machine that ran some turns, or none, is at most at the turn that they were to end before
+pub ran_within : (n turn to now : ℕ) → turn < to → now ≡ turn + n → (0 < n → now ≤ to) → turn + n ≤ to
+ran_within zero turn to now before is most = omega (arith, before)
+ran_within (suc n) turn to now before is most = let at_most = most (omega arith) in omega (arith, is, at_most)
 
 -- the same for a machine that ran some
 pub ran_calmly : (p : Past) (known to n : ℕ) (m now : MachineWithTexts) → now ≡ after_calm_turns n m
@@ -34,4 +35,4 @@ pub ran_calmly : (p : Past) (known to n : ℕ) (m now : MachineWithTexts) → no
     → IsWithoutEvents p m.state.turn to → IsUnderWay p known m → IsUnderWay p known now
 ran_calmly p known to n m now is before turn most quiet way =
     subst (IsUnderWay p known) (sym is)
-    (way_on_calmly p known to n m (within n m.state.turn to now.state.turn before turn most) quiet way)
+    (way_on_calmly p known to n m (ran_within n m.state.turn to now.state.turn before turn most) quiet way)

@@ -9,6 +9,10 @@ pub mod Setups
 pub mod States
 pub mod Texts
 pub mod Trails
+pub mod Searches
+pub mod SoughtTurns
+pub mod Writes
+pub mod TurnWrites
 pub mod FirstsLaws
 pub mod Untouched
 pub mod AlikePages

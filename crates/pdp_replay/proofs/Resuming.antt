@@ -1,11 +1,13 @@
 -- Where a run goes on from: the machine, or the best checkpoint.
-use Rattle.std.proofs.Common.{◌≡◌, ℕ, ◌+◌, ◌*◌, ◌/◌, ◌<◌, ◌&&◌, Bool, ap, arith, false, min, nat_le}
+use Rattle.std.proofs.Common.{◌≡◌, ℕ, ◌+◌, ◌*◌, ◌/◌, ◌<◌, ◌≤◌, ◌&&◌, Bool, ap, arith, false, min, nat_le, refl, subst, sym}
 use Rattle.pdp_checkpoint.specs.Ladder.{best_of, next_of}
-use Rattle.pdp_replay.specs.Run.KeptRuns.{ComesTo, IsSomeRun, is_current_by, resumed_at, resumed_turn}
+use Rattle.pdp_replay.specs.Run.KeptRuns.{Advances, ComesTo, IsSomeRun, is_current_by, resumed_at, resumed_turn}
 use Rattle.pdp_replay.specs.Run.Checkpoints.{AreStatesOf}
-use Rattle.pdp_replay.specs.Ask.Known.{IsCome, next_kept}
+use Rattle.pdp_replay.specs.Ask.Answer.{first_turn_needed}
+use Rattle.pdp_replay.specs.Ask.Known.{IsCome, RunsFor, next_kept}
 use Rattle.pdp_replay.specs.Past.{Past}
 use Rattle.pdp_replay.specs.Timeline.{Timeline}
+use Rattle.pdp_replay.specs.declared.ask.question.Question.{Question}
 use Rattle.pdp_replay.specs.declared.run.kept_run.KeptRun.{KeptRun}
 use Rattle.pdp_replay.proofs.Checkpoints.{lesser_quotient}
 use Rattle.pdp_replay.proofs.OnWay.{known_below_next}
@@ -45,3 +47,28 @@ come_is before after t now come known_before known turn current next = record {
   known = rw (next, turn, known_before, known) come.known;
   current = λ below. let short : after.machine.state.turn < next_of after.ladder = rw (next, turn) at below in rw current (come.current short);
 }
+
+-- an engine over this past with this run
+abbrev pub timeline_of : Past → ℕ → KeptRun → Timeline
+timeline_of p highest r = record {
+  past = p;
+  known = r.known;
+  highest = highest;
+  stride = r.ladder.stride;
+  turns = r.meter;
+  turn = r.machine.state.turn;
+  current = r.is_current;
+}
+
+-- where a run went on from and what it came to, whether memory was refused or not, as a contract of an engine tells it
+pub runs_from : (p : Past) (highest to : ℕ) (q : Question) (r after : KeptRun) (now : Timeline) → AreStatesOf p r.known r.ladder
+    → AreStatesOf p after.known after.ladder → Advances (resumed_turn r (first_turn_needed q)) to r after → now.turns ≡ after.meter
+    → now.turn ≡ after.machine.state.turn → now.known ≡ after.known → now.current ≡ after.is_current → now.stride ≡ after.ladder.stride
+    → RunsFor q (timeline_of p highest r) now
+runs_from p highest to q r after now states left on turns turn known current stride =
+    let ran = subst (λ n. after.meter + n ≤ r.meter + after.machine.state.turn) (resumed_is p r (first_turn_needed q) states) on.ran in
+    record {
+      resumed = rw (turns, turn) ran;
+      come = come_is r after (timeline_of p highest r) now on.come refl known turn current
+          (rw (known, stride) (ap (λ n. n * after.ladder.stride) (sym left.count)));
+    }

@@ -3,3 +3,6 @@ pub mod LastWrites
 pub mod Trails
 pub mod Answer
 pub mod Known
+pub mod Searches
+pub mod SoughtTurns
+pub mod Writes

@@ -1,11 +1,19 @@
-//! Questions about the run, and their answers: registers, words, bytes, last writes and trails.
+//! Questions about the run, and their answers: registers, words, bytes, last writes and trails; and
+//! searches of the run.
 
 mod items;
 mod last_write;
 mod question;
+mod search;
+mod search_turns;
+mod sought;
 mod trail;
+mod writes;
 
 pub use items::{Bytes, Items, Words};
 pub use last_write::LastWrite;
 pub use question::{Answer, Question, Value};
+pub use search::Found;
+pub use sought::Sought;
 pub use trail::{Trail, TrailEntry};
+pub use writes::Written;

@@ -31,7 +31,7 @@ pub struct Engine {
     pub(crate) patches: IndexMap<PatchKey, u16>,
     pub(crate) script: Script,
     pub(crate) run: KeptRun,
-    highest: u32,
+    pub(crate) highest: u32,
 }
 
 impl Model for Engine {

@@ -12,6 +12,9 @@
 //!   run's, at turn 0 and at each multiple of the stride up to the known turn and at no other; the
 //!   bytes that are kept are those that came out before the known turn (`kept_states`, `machine`).
 //! - A last write is that of the trace of the whole run, and a trail has the run's turns.
+//! - **Searches**: [`Engine::first_at`] returns the first turn of the run that begins with the act
+//!   that is sought, and [`Engine::writes`] the writes to a word of core, for every past and
+//!   whatever is kept. The turns run for them are bounded as those of an answer.
 //! - Core and each drive as of power-up have each word's patch, else the word of the image, else 0
 //!   (`core_words_are_first_words`, `disk_words_are_first_words`).
 //! - Each edit with its refusals in their order, what it leaves, and how far back it lowers the
@@ -38,7 +41,10 @@ mod laws;
 mod past;
 mod run;
 
-pub use ask::{Answer, Bytes, Items, LastWrite, Question, Trail, TrailEntry, Value, Words};
+pub use ask::{
+    Answer, Bytes, Found, Items, LastWrite, Question, Sought, Trail, TrailEntry, Value, Words,
+    Written,
+};
 pub use engine::Engine;
 pub use laws::{
     core_words_are_first_words, disk_words_are_first_words, first_touches_are_told,

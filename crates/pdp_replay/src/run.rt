@@ -5,4 +5,4 @@ mod kept_run;
 mod turns;
 
 pub(crate) use kept_run::KeptRun;
-pub(crate) use turns::run_part;
+pub(crate) use turns::{quiet_until, run_part};

@@ -194,7 +194,7 @@ impl KeptRun {
     ///
     /// Err where a growth was refused: the known turn is then at least the one before, up to which
     /// texts are kept, and the machine is in no state of the run.
-    fn settle(&mut self, alloc: Global) -> Result<(), NoMemory>
+    pub(crate) fn settle(&mut self, alloc: Global) -> Result<(), NoMemory>
         requires within { self.old.machine.state.turn ≤ next_of self.old.ladder }
         requires current { self.old.is_current ≡ true }
         requires limit { self.old.machine.state.turn ≤ LAST_TURN }

@@ -42,7 +42,7 @@ pub(crate) fn run_part(
 }
 
 /// The first turn with events from this turn on, or `to` where none comes before it.
-fn quiet_until(script: &Script, from: u32, to: u32) -> u32
+pub(crate) fn quiet_until(script: &Script, from: u32, to: u32) -> u32
     requires { from ≤ to }
     ensures least { from ≤ result }
     ensures most { result ≤ to }

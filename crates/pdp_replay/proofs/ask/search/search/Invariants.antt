@@ -1,0 +1,19 @@
+use Rattle.std.proofs.Common.{◌≡◌, ◌-◌, ◌≤◌}
+use Rattle.pdp_replay.specs.Run.KeptRuns.{Advances, ArrivesAt, GoesOn, IsOnWay}
+use Rattle.pdp_replay.specs.Past.{Past}
+use Rattle.pdp_replay.specs.Ask.Searches.{HoldsNowhere}
+use Rattle.pdp_replay.specs.Ask.SoughtTurns.{is_sought_at}
+use Rattle.pdp_replay.proofs.ask.search.search.Given as goal
+
+abbrev pub invariant-loop-alloc : goal.invariant-loop-alloc
+invariant-loop-alloc l = record {
+  way : GoesOn l.script l.fn.run l.run;
+  there : ArrivesAt l.run.machine.state.turn l.fn.run l.run;
+  on : Advances l.fn.run.machine.state.turn l.to l.fn.run l.run;
+  begun : l.fn.run.machine.state.turn ≤ l.run.machine.state.turn;
+  none : (p : Past) → p.script ≡ l.script → IsOnWay p l.fn.run
+      → HoldsNowhere (is_sought_at p l.sought) l.fn.run.machine.state.turn l.run.machine.state.turn;
+}
+
+abbrev pub decreases-loop-alloc : goal.decreases-loop-alloc
+decreases-loop-alloc l = l.to - l.run.machine.state.turn

@@ -1,0 +1,79 @@
+-- Searches for the first of some turns that has a property (this project's profile).
+use Rattle.std.specs.Prelude.{ℕ, zero, suc, ◌≡◌, ◌+◌, ◌<◌, ◌≤◌, Bool, true, false, Option, Some}
+use Rattle.std.specs.Prelude.{None, Result, Ok, Err, max, min, nat_le, if◌then◌else◌}
+use Rattle.pdp_unibus.specs.LastTurn.{last_turn}
+use Rattle.pdp_script.specs.declared.faults.Fault.{Fault}
+use Rattle.pdp_script.specs.declared.faults.Fault.TheVariants.{TurnTooLarge, CountOutOfRange}
+use Rattle.pdp_script.specs.Script.{ScriptData}
+use Rattle.pdp_replay.specs.Past.{Past}
+use Rattle.pdp_replay.specs.Run.States.{at}
+use Rattle.pdp_replay.specs.Timeline.{Timeline}
+use Rattle.pdp_replay.specs.declared.ask.search.Found.{Found}
+use Rattle.pdp_replay.specs.declared.run.kept_run.KeptRun.{KeptRun}
+
+-- no turn from one on and before another has the property
+abbrev pub HoldsNowhere : (ℕ → Bool) → ℕ → ℕ → Type 0
+HoldsNowhere holds from to = (turn : ℕ) → from ≤ turn → turn < to → holds turn ≡ false
+
+-- turn t is the first from one on and before another that has the property
+pub record IsFirstTurn (holds : ℕ → Bool) (from to t : ℕ) : Type 0 where
+  pub least : from ≤ t
+  pub most : t < to
+  pub there : holds t ≡ true
+  pub none : HoldsNowhere holds from t
+
+-- this is the first turn from one on and before another that has the property; None if none has it
+abbrev pub IsFirst : (ℕ → Bool) → ℕ → ℕ → Option ℕ → Type 0
+IsFirst holds from to (Some t) = IsFirstTurn holds from to t
+IsFirst holds from to None = HoldsNowhere holds from to
+
+-- the turn that was found before; otherwise this turn, if it has the property
+abbrev pub or_turn : Option ℕ → Bool → ℕ → Option ℕ
+or_turn (Some t) there turn = Some t
+or_turn None true turn = Some turn
+or_turn None false turn = None
+
+-- the same turn, computed: the first of `n` turns from one on that has the property
+unfoldable pub first_turn_of : (ℕ → Bool) → ℕ → ℕ → Option ℕ
+first_turn_of holds from zero = None
+first_turn_of holds from (suc n) =
+    or_turn (first_turn_of holds from n) (holds (from + n)) (from + n)
+
+-- can turns from one on and before another be searched?
+abbrev pub search_checked : ℕ → ℕ → Result (Unit {0}) Fault
+search_checked from to = (
+    if nat_le to last_turn then
+    if nat_le from to then Ok tt
+    else Err CountOutOfRange
+    else Err TurnTooLarge)
+
+-- the turn that a search ends at: the one after what it found, or the one before which it looks
+abbrev pub turn_reached : Option ℕ → ℕ → ℕ
+turn_reached (Some t) to = t + 1
+turn_reached None to = to
+
+-- a part of a search that came to this turn came to the one after what it found, if it found one
+abbrev pub EndsAfter : ℕ → Option ℕ → Type 0
+EndsAfter turn found = turn ≡ turn_reached found turn
+
+-- the machine is still in a state of each run with this script in a state of which it was
+abbrev pub StaysIn : ScriptData → KeptRun → KeptRun → Type 0
+StaysIn script before after = (p : Past) → p.script ≡ script
+    → before.machine.state ≡ at p before.machine.state.turn
+    → after.machine.state ≡ at p after.machine.state.turn
+
+-- A search of this timeline ran at most one stride of turns more than those from its first turn, or
+-- from the known one if that is earlier, to the turn that it ended at.
+abbrev pub IsWithinSearch : ℕ → Timeline → Timeline → Type 0
+IsWithinSearch from before after = after.turns + min from before.known + 1
+    ≤ before.turns + max from after.turn + before.stride
+
+-- What a search found, with what is told beside it: how many turns were run for it, the known turn
+-- and the stride after it. The machine is at the turn that the search ended at, which is known now.
+pub record IsFound (to : ℕ) (f : Found) (before after : Timeline) : Type 0 where
+  pub ran : after.turns ≡ before.turns + f.ran
+  pub there : after.turn ≡ turn_reached f.turn to
+  pub known : after.known ≡ max before.known (turn_reached f.turn to)
+  pub known_told : f.known ≡ after.known
+  pub stride : f.stride ≡ after.stride
+  pub current : after.current ≡ true

@@ -1,0 +1,86 @@
+-- The writes to a word of core in some turns (this project's profile).
+use Rattle.std.specs.Prelude.{ℕ, ◌≡◌, ◌+◌, ◌-◌, ◌==◌, ◌<◌, ◌++◌, zero, suc, List, []}
+use Rattle.std.specs.Prelude.{Option, None, Some, Result, Ok, Err, true, option_to_list, slice_get}
+use Rattle.std.specs.Prelude.{slice_index, if◌then◌else◌, max}
+use Rattle.pdp_store.specs.TracedAccess.{last_write}
+use Rattle.pdp_cpu.specs.Turns.MachineState.{MachineState}
+use Rattle.pdp_cpu.specs.Turns.Turn.{turn_trace}
+use Rattle.pdp_script.specs.Entries.{events_at}
+use Rattle.pdp_script.specs.Refusal.{result_map}
+use Rattle.pdp_script.specs.Script.{ScriptData}
+use Rattle.pdp_script.specs.declared.faults.Fault.{Fault}
+use Rattle.pdp_replay.specs.Past.{Past}
+use Rattle.pdp_replay.specs.Past.Setup.{SetupData, core_size}
+use Rattle.pdp_replay.specs.Run.States.{at, state_at}
+use Rattle.pdp_replay.specs.Run.KeptRuns.{IsKeptRun}
+use Rattle.pdp_replay.specs.Ask.LastWrites.{last_write_of}
+use Rattle.pdp_replay.specs.Past.Edit.{core_word_at}
+use Rattle.pdp_replay.specs.Ask.Searches.{search_checked}
+use Rattle.pdp_replay.specs.Timeline.{Timeline}
+use Rattle.pdp_replay.specs.declared.ask.last_write.LastWrite.{LastWrite}
+use Rattle.pdp_replay.specs.declared.ask.writes.Written.{Written}
+use Rattle.pdp_replay.specs.declared.run.kept_run.KeptRun.{KeptRun}
+
+-- a last write, if it is of this turn
+abbrev pub of_turn : ℕ → Option LastWrite → Option LastWrite
+of_turn t None = None
+of_turn t (Some write) = if write.turn == t then Some write else None
+
+-- the last write in turn t to the core word of this number, with the word as it is after the turn;
+-- None if the turn doesn't write the word
+abbrev pub write_in : Past → ℕ → ℕ → Option LastWrite
+write_in p number t = last_write_of
+    (last_write (turn_trace t (events_at p.script.entries t) (state_at p t)) number None)
+    (slice_index (state_at p (t + 1)).bus.core number)
+
+-- those of n turns from this one on, in their order
+unfoldable pub writes_in_turns : Past → ℕ → ℕ → ℕ → List LastWrite
+writes_in_turns p number first zero = []
+writes_in_turns p number first (suc n) =
+    writes_in_turns p number first n ++ option_to_list (write_in p number (first + n))
+
+-- the turn after this write; the other turn if there is none
+abbrev pub turn_after_write : Option LastWrite → ℕ → ℕ
+turn_after_write (Some write) to = write.turn + 1
+turn_after_write None to = to
+
+-- the turn that a search for writes before turn `to` ends at: the one after the 256th write that it
+-- lists, or `to` if it lists fewer
+abbrev pub turn_listed : List LastWrite → ℕ → ℕ
+turn_listed writes to = turn_after_write (slice_get writes 255) to
+
+-- these are the writes of the turns from one on and before another, of every past with this script
+-- whose machine before the turns is this one
+abbrev pub AreWritesFrom : ScriptData → ℕ → ℕ → ℕ → MachineState → List LastWrite → Type 0
+AreWritesFrom script number from to machine writes = (p : Past) → p.script ≡ script → machine
+    ≡ at p from → writes ≡ writes_in_turns p number from (to - from)
+
+-- a word can be searched for writes in a run with this script: it is in core
+pub record CanSearch (number : ℕ) (script : ScriptData) (r : KeptRun) : Type 0 where
+  pub past : Past
+  pub same : past.script ≡ script
+  pub run : IsKeptRun past r
+  pub within : number < core_size past.setup
+
+-- one test after another
+abbrev pub then_checked : Result (Unit {0}) Fault → Result (Unit {0}) Fault
+    → Result (Unit {0}) Fault
+then_checked (Ok x) next = next
+then_checked (Err fault) next = Err fault
+
+-- can turns from one on and before another be searched for writes to the core word at this address?
+abbrev pub writes_checked : ℕ → ℕ → ℕ → SetupData → Result (Unit {0}) Fault
+writes_checked address from to s =
+    then_checked (search_checked from to) (result_map (λ _. tt) (core_word_at address s))
+
+-- What a search for writes before turn `to` found, with what is told beside them: the turn that the
+-- search ended at, how many turns were run for it, the known turn and the stride after it. The
+-- machine is at the turn that the search ended at, which is known now.
+pub record IsWritten (to : ℕ) (f : Written) (before after : Timeline) : Type 0 where
+  pub reached : f.reached ≡ turn_listed f.writes.items to
+  pub ran : after.turns ≡ before.turns + f.ran
+  pub there : after.turn ≡ f.reached
+  pub known : after.known ≡ max before.known f.reached
+  pub known_told : f.known ≡ after.known
+  pub stride : f.stride ≡ after.stride
+  pub current : after.current ≡ true

@@ -1,0 +1,193 @@
+ghost use Rattle.std.specs.Prelude.{◌≡◌, ◌+◌, ◌-◌, ◌<◌, ◌≤◌, min, max, false, IfOk, IsErr, Ok};
+ghost use Rattle.std.specs.Prelude.{OnOk};
+ghost use Rattle.pdp_script.specs.Refusal.{for_memory, question_answer, result_map};
+ghost use Rattle.pdp_replay.specs.declared.ask.question.Question.TheVariants.{Regs};
+ghost use Rattle.pdp_replay.specs.Past.{Past};
+ghost use Rattle.pdp_replay.specs.Run.KeptRuns.{resumed_turn, Advances, ArrivesAt, CanGoOn, GoesOn};
+ghost use Rattle.pdp_replay.specs.Run.KeptRuns.{IsKeptRun, IsRunOf, KeepsRun, LeavesKept};
+ghost use Rattle.pdp_replay.specs.Ask.Known.{LeavesPast, RunsFor};
+ghost use Rattle.pdp_replay.specs.Ask.Searches.{first_turn_of, search_checked, turn_reached};
+ghost use Rattle.pdp_replay.specs.Ask.Searches.{EndsAfter, IsFirst, IsFound, IsWithinSearch};
+ghost use Rattle.pdp_replay.specs.Ask.SoughtTurns.{is_sought_at, IsFirstInRun, IsFirstTo};
+
+use crate::ask::Sought;
+use crate::ask::search_turns::search_part;
+use crate::engine::Engine;
+use crate::run::KeptRun;
+use pdp_cpu::Meter;
+use pdp_script::{Fault, Script};
+use pdp_unibus::LAST_TURN;
+use pdp_word::NoMemory;
+use std::alloc::Global;
+use std::mem;
+
+/// What a search for one turn found.
+#[derive(Clone, Copy)]
+pub struct Found {
+    /// The turn; None if there is none.
+    pub turn: Option<u32>,
+    /// How many turns were run for it.
+    pub ran: u64,
+    /// The known turn after it.
+    pub known: u32,
+    /// The stride after it, in turns.
+    pub stride: u32,
+}
+
+impl Engine {
+    /// The first turn from turn `from` on and before turn `to` that is sought, of the run from
+    /// power-up of the past as it is now. The machine runs to the end of that turn, or to `to`.
+    ///
+    /// Err(TurnTooLarge) if `to` is above 1,000,000,000; otherwise Err(CountOutOfRange) if `from`
+    /// is above `to`; otherwise Err(NoMemory) if memory was refused. No refusal changes the past,
+    /// and one for another cause than memory changes nothing. (This project's profile.)
+    pub fn first_at(
+        &mut self,
+        alloc: Global,
+        sought: Sought,
+        from: u32,
+        to: u32,
+    ) -> Result<Found, Fault>
+        ensures refusal { result_map (λ _. tt) result
+            ≡ question_answer (search_checked from to) (for_memory result) }
+
+        // The turn is the first, said as what is true of it and as what computes it.
+        ensures turn { IfOk result
+            (λ found. IsFirst (is_sought_at self.old.past sought) from to found.turn) }
+        ensures value { IfOk result (λ found. found.turn
+            ≡ first_turn_of (is_sought_at self.old.past sought) from (to - from)) }
+
+        // It ran at most one stride of turns more than those searched or past what was known, also
+        // if it is then refused.
+        ensures bound { IsWithinSearch from self.old self.new }
+
+        // What it leaves is what a question about turn `to` leaves, and it goes on from where a
+        // question about turn `from` does.
+        ensures leaves { LeavesPast (Regs to) self.old self.new }
+        ensures runs { search_checked from to ≡ Ok tt → RunsFor (Regs from) self.old self.new }
+        ensures found { IfOk result (λ found. IsFound to found self.old self.new) }
+
+        // A refusal for another cause than memory changes nothing.
+        ensures refused { IsErr result → for_memory result ≡ false → self.new ≡ self.old }
+    {
+        let before = self.run.meter.count();
+        check_search(from, to)?;
+        let found = find_first(alloc, &mut self.run, &self.script, sought, from, to);
+        self.highest = self.highest.max(self.run.known);
+        let turn = found?;
+        Ok(Found {
+            turn,
+            ran: self.run.meter.count() - before,
+            known: self.run.known,
+            stride: self.run.ladder.stride(),
+        })
+    }
+}
+
+/// Whether the turns from one on and before another can be searched.
+///
+/// Err(TurnTooLarge) if `to` is above 1,000,000,000; otherwise Err(CountOutOfRange) if `from` is
+/// above `to`.
+pub(crate) fn check_search(from: u32, to: u32) -> Result<(), Fault>
+    ensures refusal { search_checked from to ≡ result }
+    ensures limit { OnOk result (to ≤ LAST_TURN) }
+    ensures order { OnOk result (from ≤ to) }
+{
+    if to > LAST_TURN {
+        return Err(Fault::TurnTooLarge);
+    }
+    if from > to {
+        return Err(Fault::CountOutOfRange);
+    }
+    Ok(())
+}
+
+/// Takes the machine to turn `from`, and from there to the end of the first turn that is sought, or
+/// to turn `to`. Returns the turn that is sought.
+///
+/// Err if memory was refused; what was kept until then stays.
+fn find_first(
+    alloc: Global,
+    run: &mut KeptRun,
+    script: &Script,
+    sought: Sought,
+    from: u32,
+    to: u32,
+) -> Result<Option<u32>, NoMemory>
+    requires run { IsRunOf script.now run.old }
+    requires order { from ≤ to }
+    requires limit { to ≤ LAST_TURN }
+    ensures found { IfOk result (λ found. (p : Past) → p.script ≡ script.now → IsKeptRun p run.old
+        → IsFirst (is_sought_at p sought) from to found) }
+    ensures kept { KeepsRun script.now run.old run.new }
+    ensures arrives { IfOk result (λ found. ArrivesAt (turn_reached found to) run.old run.new) }
+    ensures advances { Advances (resumed_turn run.old from) to run.old run.new }
+    ensures bound { run.new.meter + min from run.old.known + 1
+        ≤ run.old.meter + max from run.new.machine.state.turn + run.old.ladder.stride }
+{
+    run.reach(alloc, script, from)?;
+    search(alloc, run, script, sought, to)
+}
+
+/// Runs turns to the end of the first that is sought, or to turn `to`. Returns the turn that is
+/// sought, and keeps what is to be kept.
+///
+/// Err if memory was refused; what was kept until then stays.
+fn search(
+    alloc: Global,
+    run: &mut KeptRun,
+    script: &Script,
+    sought: Sought,
+    to: u32,
+) -> Result<Option<u32>, NoMemory>
+    requires ready { CanGoOn run.old }
+    requires order { run.old.machine.state.turn ≤ to }
+    requires limit { to ≤ LAST_TURN }
+    ensures found { IfOk result (IsFirstTo to script.now sought run.old) }
+    ensures kept { LeavesKept script.now run.old run.new }
+    ensures arrives { IfOk result (λ found. ArrivesAt (turn_reached found to) run.old run.new) }
+    ensures advances { Advances run.old.machine.state.turn to run.old run.new }
+{
+    while run.machine.turns() < to {
+        let found = search_leg(alloc, run, script, sought, to)?;
+        if found.is_some() {
+            return Ok(found);
+        }
+    }
+    Ok(None)
+}
+
+/// The same, but at most to the next turn whose state is to be kept.
+fn search_leg(
+    alloc: Global,
+    run: &mut KeptRun,
+    script: &Script,
+    sought: Sought,
+    to: u32,
+) -> Result<Option<u32>, NoMemory>
+    requires ready { CanGoOn run.old }
+    requires order { run.old.machine.state.turn < to }
+    requires limit { to ≤ LAST_TURN }
+    ensures found { IfOk result (IsFirstInRun script.now sought run.old run.new) }
+    ensures ends { IfOk result (EndsAfter run.new.machine.state.turn) }
+    ensures on { OnOk result (run.old.machine.state.turn < run.new.machine.state.turn) }
+    ensures kept { LeavesKept script.now run.old run.new }
+    ensures way { OnOk result (GoesOn script.now run.old run.new) }
+    ensures arrives { OnOk result (ArrivesAt run.new.machine.state.turn run.old run.new) }
+    ensures advances { Advances run.old.machine.state.turn to run.old run.new }
+{
+    let end = run.ladder.next().min(to);
+    // While the meter is apart from the machine, the loop counts in a register.
+    let mut counting = mem::replace(&mut run.meter, Meter::new());
+    let found = search_part(
+        &mut run.machine,
+        &run.words,
+        script,
+        &mut counting,
+        sought,
+        end,
+    );
+    run.meter = counting;
+    run.settle(alloc)?;
+    found
+}

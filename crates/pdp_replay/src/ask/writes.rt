@@ -1,0 +1,243 @@
+ghost use Rattle.std.specs.Prelude.{◌≡◌, ◌+◌, ◌<◌, ◌≤◌, ◌++◌, ℕ, length, min, max, option_to_list};
+ghost use Rattle.std.specs.Prelude.{◌-◌, ◌*◌, ◌/◌, IfOk, IfSome, IsErr, Ok, OnOk, false, take};
+ghost use Rattle.pdp_cpu.specs.Turns.MachineState.{after_turn};
+ghost use Rattle.pdp_script.specs.Entries.{events_at};
+ghost use Rattle.pdp_replay.specs.Past.{Past};
+ghost use Rattle.pdp_replay.specs.Run.KeptRuns.{resumed_turn, Advances, ArrivesAt, CanGoOn, GoesOn};
+ghost use Rattle.pdp_replay.specs.Run.KeptRuns.{IsKeptRun, KeepsRun, LeavesKept};
+ghost use Rattle.pdp_replay.specs.Run.States.{at};
+ghost use Rattle.pdp_script.specs.Refusal.{for_memory, question_answer, result_map};
+ghost use Rattle.pdp_replay.specs.declared.ask.question.Question.TheVariants.{Regs};
+ghost use Rattle.pdp_replay.specs.Past.Setup.{SetupData};
+ghost use Rattle.pdp_replay.specs.Ask.Known.{LeavesPast, RunsFor};
+ghost use Rattle.pdp_replay.specs.Ask.Searches.{IsWithinSearch};
+ghost use Rattle.pdp_replay.specs.Ask.Writes.{of_turn, turn_listed, write_in, writes_checked};
+ghost use Rattle.pdp_replay.specs.Ask.Writes.{writes_in_turns, AreWritesFrom, CanSearch, IsWritten};
+
+use crate::ask::LastWrite;
+use crate::ask::search::check_search;
+use crate::engine::Engine;
+use crate::past::{UNIT_WORDS, core_word};
+use crate::run::KeptRun;
+use pdp_script::{Fault, Script};
+use pdp_unibus::LAST_TURN;
+use pdp_word::NoMemory;
+use std::alloc::Global;
+
+/// The most writes that are listed.
+const MOST_WRITES: usize = 256;
+
+/// What a search for writes found.
+#[derive(Drop)]
+pub struct Written {
+    /// The writes, in their order, at most 256: of each turn the last.
+    pub writes: Vec<LastWrite>,
+    /// The turn before which every turn was searched: the turn after that of the 256th write, or
+    /// `to` if there are fewer writes. If it is before `to`, later writes may follow, and a search
+    /// from it on lists them.
+    pub reached: u32,
+    /// How many turns were run for it.
+    pub ran: u64,
+    /// The known turn after it.
+    pub known: u32,
+    /// The stride after it, in turns.
+    pub stride: u32,
+}
+
+impl Engine {
+    /// The writes to the core word at this address (octal, bytes, even) in the turns from turn
+    /// `from` on and before turn `to`, in their order: of each turn that writes the word the last
+    /// write, with the word as it is after the turn. At the end of the turn of the 256th write the
+    /// search ends.
+    ///
+    /// Err(TurnTooLarge) if `to` is above 1,000,000,000; otherwise Err(CountOutOfRange) if `from`
+    /// is above `to`; otherwise Err(OutsideCore) if the address is not in core; otherwise
+    /// Err(OddAddress) if it is odd; otherwise Err(NoMemory) if memory was refused. No refusal
+    /// changes the past, and one for another cause than memory changes nothing. (This project's
+    /// profile.)
+    pub fn writes(
+        &mut self,
+        alloc: Global,
+        address: u32,
+        from: u32,
+        to: u32,
+    ) -> Result<Written, Fault>
+        ensures refusal { result_map (λ _. tt) result ≡ question_answer
+            (writes_checked address from to self.old.past.setup) (for_memory result) }
+
+        // The first 256 of all writes in these turns.
+        ensures value { IfOk result (λ found. found.writes.items ≡ take MOST_WRITES
+            (writes_in_turns self.old.past (address / 2) from (to - from))) }
+
+        // It ran at most one stride of turns more than those searched or past what was known, also
+        // if it is then refused.
+        ensures bound { IsWithinSearch from self.old self.new }
+
+        // What it leaves is what a question about turn `to` leaves, and it goes on from where a
+        // question about turn `from` does. It ends at the turn after the 256th write, or at `to`.
+        ensures leaves { LeavesPast (Regs to) self.old self.new }
+        ensures runs { writes_checked address from to self.old.past.setup ≡ Ok tt
+            → RunsFor (Regs from) self.old self.new }
+        ensures found { IfOk result (λ found. IsWritten to found self.old self.new) }
+
+        // A refusal for another cause than memory changes nothing.
+        ensures refused { IsErr result → for_memory result ≡ false → self.new ≡ self.old }
+    {
+        let before = self.run.meter.count();
+        let number = check_writes(self.base_setup.units, address, from, to)?;
+        let found = find_writes(alloc, &mut self.run, &self.script, number, from, to);
+        self.highest = self.highest.max(self.run.known);
+        let writes = found?;
+        Ok(Written {
+            writes,
+            reached: self.run.machine.turns(),
+            ran: self.run.meter.count() - before,
+            known: self.run.known,
+            stride: self.run.ladder.stride(),
+        })
+    }
+}
+
+/// The number of the core word at this address, if the turns from one on and before another can be
+/// searched for writes to it.
+fn check_writes(units: u8, address: u32, from: u32, to: u32) -> Result<usize, Fault>
+    ensures refusal { (s : SetupData) → s.units ≡ units
+        → writes_checked address from to s ≡ result_map (λ _. tt) result }
+    ensures limit { OnOk result (to ≤ LAST_TURN) }
+    ensures order { OnOk result (from ≤ to) }
+    ensures number { IfOk result (λ number. number ≡ address / 2) }
+    ensures below { IfOk result (λ number. number < units * UNIT_WORDS) }
+{
+    check_search(from, to)?;
+    let number = core_word(units, address)?;
+    Ok(number as usize)
+}
+
+/// Takes the machine to turn `from`, and from there to the end of the turn of the 256th write to
+/// the core word of this number, or to turn `to`. Returns the writes.
+///
+/// Err if memory was refused; what was kept until then stays.
+fn find_writes(
+    alloc: Global,
+    run: &mut KeptRun,
+    script: &Script,
+    number: usize,
+    from: u32,
+    to: u32,
+) -> Result<Vec<LastWrite>, NoMemory>
+    requires can { CanSearch number script.now run.old }
+    requires order { from ≤ to }
+    requires limit { to ≤ LAST_TURN }
+    ensures writes { IfOk result (λ writes. (p : Past) → p.script ≡ script.now
+        → IsKeptRun p run.old
+        → writes.items ≡ writes_in_turns p number from (run.new.machine.state.turn - from)) }
+    ensures ends { IfOk result (λ writes. run.new.machine.state.turn < to
+        → MOST_WRITES ≤ length writes.items) }
+    ensures end { IfOk result (λ writes. run.new.machine.state.turn ≡ turn_listed writes.items to) }
+    ensures most { IfOk result (λ writes. length writes.items ≤ MOST_WRITES) }
+    ensures least { OnOk result (from ≤ run.new.machine.state.turn) }
+    ensures kept { KeepsRun script.now run.old run.new }
+    ensures arrives { OnOk result (ArrivesAt run.new.machine.state.turn run.old run.new) }
+    ensures advances { Advances (resumed_turn run.old from) to run.old run.new }
+    ensures bound { run.new.meter + min from run.old.known + 1
+        ≤ run.old.meter + max from run.new.machine.state.turn + run.old.ladder.stride }
+{
+    run.reach(alloc, script, from)?;
+    list_writes(alloc, run, script, number, to)
+}
+
+/// Runs turns to the end of that of the 256th write to the core word of this number, or to turn
+/// `to`. Returns the writes, and keeps what is to be kept of the turns.
+///
+/// Err if memory was refused; what was kept until then stays.
+#[tactic(auto, using(crate::proofs::Writes::end_listed))]
+fn list_writes(
+    alloc: Global,
+    run: &mut KeptRun,
+    script: &Script,
+    number: usize,
+    to: u32,
+) -> Result<Vec<LastWrite>, NoMemory>
+    requires ready { CanGoOn run.old }
+    requires inside { number < length run.old.machine.state.world.bus.core }
+    requires order { run.old.machine.state.turn ≤ to }
+    requires limit { to ≤ LAST_TURN }
+    ensures writes { IfOk result (λ writes. AreWritesFrom script.now number
+        run.old.machine.state.turn run.new.machine.state.turn run.old.machine.state writes.items) }
+    ensures ends { IfOk result (λ writes. run.new.machine.state.turn < to
+        → MOST_WRITES ≤ length writes.items) }
+    ensures end { IfOk result (λ writes. run.new.machine.state.turn ≡ turn_listed writes.items to) }
+    ensures most { IfOk result (λ writes. length writes.items ≤ MOST_WRITES) }
+    ensures least { OnOk result (run.old.machine.state.turn ≤ run.new.machine.state.turn) }
+    ensures kept { LeavesKept script.now run.old run.new }
+    ensures arrives { OnOk result (ArrivesAt run.new.machine.state.turn run.old run.new) }
+    ensures advances { Advances run.old.machine.state.turn to run.old run.new }
+{
+    let mut writes = Vec::new(alloc);
+    while run.machine.turns() < to && writes.len() < MOST_WRITES {
+        let write = run_and_look(alloc, run, script, number)?;
+        add(&mut writes, write)?;
+    }
+    Ok(writes)
+}
+
+/// Adds a write, if there is one.
+fn add(writes: &mut Vec<LastWrite>, write: Option<LastWrite>) -> Result<(), NoMemory>
+    ensures length { OnOk result (length writes.new.items ≤ length writes.old.items + 1) }
+    ensures items { OnOk result (writes.new.items ≡ writes.old.items ++ option_to_list write) }
+{
+    if let Some(write) = write {
+        writes.push(write)?;
+    }
+    Ok(())
+}
+
+/// Runs one turn with the events of the script, and returns its write to the core word of this
+/// number. Keeps what is to be kept of the turn.
+///
+/// Err if memory was refused; what was kept until then stays.
+fn run_and_look(
+    alloc: Global,
+    run: &mut KeptRun,
+    script: &Script,
+    number: usize,
+) -> Result<Option<LastWrite>, NoMemory>
+    requires ready { CanGoOn run.old }
+    requires inside { number < length run.old.machine.state.world.bus.core }
+    requires limit { run.old.machine.state.turn < LAST_TURN }
+    ensures write { IfOk result (λ write. (p : Past) → p.script ≡ script.now
+        → run.old.machine.state ≡ at p run.old.machine.state.turn
+        → write ≡ write_in p number run.old.machine.state.turn) }
+    ensures turn { IfOk result
+        (λ write. IfSome write (λ last. last.turn ≡ run.old.machine.state.turn)) }
+    ensures inside { OnOk result (number < length run.new.machine.state.world.bus.core) }
+    ensures machine { OnOk result (run.new.machine.state ≡ after_turn
+        (events_at script.now.entries run.old.machine.state.turn) run.old.machine.state) }
+    ensures kept { LeavesKept script.now run.old run.new }
+    ensures way { OnOk result (GoesOn script.now run.old run.new) }
+    ensures arrives { OnOk result (ArrivesAt (run.old.machine.state.turn + 1) run.old run.new) }
+    ensures advances { Advances run.old.machine.state.turn (run.old.machine.state.turn + 1)
+        run.old run.new }
+{
+    let turn = run.machine.turns();
+    run.step(alloc, script)?;
+    let last = LastWrite::read(&run.machine, number);
+    Ok(of_turn(last, turn))
+}
+
+/// A last write, if it is of this turn.
+fn of_turn(last: Option<LastWrite>, turn: u32) -> Option<LastWrite>
+    ensures write { result ≡ of_turn turn last }
+    ensures turn { IfSome result (λ write. write.turn ≡ turn) }
+{
+    match last {
+        Some(write) => {
+            if write.turn == turn {
+                Some(write)
+            } else {
+                None
+            }
+        }
+        None => None,
+    }
+}
