@@ -151,7 +151,7 @@ as_long : (bytes : List KeptByte) → length (without_turns bytes) ≡ length by
 as_long [] = refl
 as_long (b ∷ bytes) = ap suc (as_long bytes)
 
-length_is : (kept : ℕ → List KeptByte) (text out : ℕ → List ℕ) → KeepsAll kept text out → (n : ℕ) → length (kept n) ≡ length (text n)
+pub length_is : (kept : ℕ → List KeptByte) (text out : ℕ → List ℕ) → KeepsAll kept text out → (n : ℕ) → length (kept n) ≡ length (text n)
 length_is kept text out all n = sym (as_long (kept n)) ∙ ap length (text_is kept text out all n)
 
 first_of : (kept : ℕ → List KeptByte) (text out : ℕ → List ℕ) → KeepsAll kept text out → (n k : ℕ)

@@ -10,17 +10,17 @@ use Rattle.pdp_replay.specs.Run.States.{state_at, text_at, punched_at}
 use Rattle.pdp_replay.proofs.KeptBytes.{KeepsAll, text_is, first_is, before_is, length_reaches, over_is}
 
 -- what is printed in a turn of a run, and what is punched
-abbrev printed_of : Past → ℕ → List ℕ
+abbrev pub printed_of : Past → ℕ → List ℕ
 printed_of p n = printed_in n (events_at p.script.entries n) (state_at p n)
 
-abbrev punched_of : Past → ℕ → List ℕ
+abbrev pub punched_of : Past → ℕ → List ℕ
 punched_of p n = punched_in n (events_at p.script.entries n) (state_at p n)
 
-text_keeps : (p : Past) → KeepsAll (text_kept_at p) (text_at p) (printed_of p)
+pub text_keeps : (p : Past) → KeepsAll (text_kept_at p) (text_at p) (printed_of p)
 unfolding text_kept_at text_at
 text_keeps p = record { none = refl; empty = refl; next = λ n. refl; grows = λ n. refl }
 
-punched_keeps : (p : Past) → KeepsAll (punched_kept_at p) (punched_at p) (punched_of p)
+pub punched_keeps : (p : Past) → KeepsAll (punched_kept_at p) (punched_at p) (punched_of p)
 unfolding punched_kept_at punched_at
 punched_keeps p = record { none = refl; empty = refl; next = λ n. refl; grows = λ n. refl }
 

@@ -13,6 +13,7 @@ pub mod Searches
 pub mod SoughtTurns
 pub mod Writes
 pub mod TurnWrites
+pub mod TextParts
 pub mod FirstsLaws
 pub mod Untouched
 pub mod AlikePages

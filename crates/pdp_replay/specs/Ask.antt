@@ -6,3 +6,4 @@ pub mod Known
 pub mod Searches
 pub mod SoughtTurns
 pub mod Writes
+pub mod TextParts

@@ -7,6 +7,7 @@ mod question;
 mod search;
 mod search_turns;
 mod sought;
+mod text_part;
 mod trail;
 mod writes;
 
@@ -15,5 +16,6 @@ pub use last_write::LastWrite;
 pub use question::{Answer, Question, Value};
 pub use search::Found;
 pub use sought::Sought;
+pub use text_part::{TextKind, TextPart};
 pub use trail::{Trail, TrailEntry};
 pub use writes::Written;

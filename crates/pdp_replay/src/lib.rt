@@ -42,8 +42,8 @@ mod past;
 mod run;
 
 pub use ask::{
-    Answer, Bytes, Found, Items, LastWrite, Question, Sought, Trail, TrailEntry, Value, Words,
-    Written,
+    Answer, Bytes, Found, Items, LastWrite, Question, Sought, TextKind, TextPart, Trail,
+    TrailEntry, Value, Words, Written,
 };
 pub use engine::Engine;
 pub use laws::{

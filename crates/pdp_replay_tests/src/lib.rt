@@ -21,4 +21,6 @@ mod script;
 #[cfg(test)]
 mod steps;
 #[cfg(test)]
+mod text_parts;
+#[cfg(test)]
 mod turns;
