@@ -14,6 +14,7 @@ pub mod SoughtTurns
 pub mod Writes
 pub mod TurnWrites
 pub mod TextParts
+pub mod DiskChanges
 pub mod FirstsLaws
 pub mod Untouched
 pub mod AlikePages

@@ -7,3 +7,4 @@ pub mod Searches
 pub mod SoughtTurns
 pub mod Writes
 pub mod TextParts
+pub mod DiskChanges

@@ -14,3 +14,4 @@ pub use patch::Patch;
 pub(crate) use patch::PatchKey;
 pub use setup::{DEFAULT_STRIDE, Setup};
 pub(crate) use setup::{DRIVE_WORDS, MOST_DRIVES, TAPE_BYTES, UNIT_WORDS};
+pub(crate) use setup_edits::disk_word;

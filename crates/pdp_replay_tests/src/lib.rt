@@ -9,6 +9,8 @@
 #[cfg(test)]
 mod cut_streams;
 #[cfg(test)]
+mod disk_changes;
+#[cfg(test)]
 mod dropped_lines;
 #[cfg(test)]
 mod failing_streams;

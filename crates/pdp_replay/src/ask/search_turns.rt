@@ -166,7 +166,7 @@ fn search_turn(
 }
 
 /// This turn, if it is sought.
-fn turn_if(turn: u32, is_sought: bool) -> Option<u32>
+pub(crate) fn turn_if(turn: u32, is_sought: bool) -> Option<u32>
     ensures { result ≡ or_turn None is_sought turn }
 {
     if is_sought { Some(turn) } else { None }

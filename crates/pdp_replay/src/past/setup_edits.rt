@@ -106,7 +106,7 @@ impl Engine {
 /// Err(NoSuchDrive) if there is no drive of this number; else Err(OutsideDisk) if the drive has no
 /// word of this number.
 #[tactic(auto, unfolding(crate::specs::Past::Edit::disk_word_at))]
-fn disk_word(drives: usize, drive: u8, number: u32) -> Result<u32, Fault>
+pub(crate) fn disk_word(drives: usize, drive: u8, number: u32) -> Result<u32, Fault>
     ensures word { (s : SetupData) → s.drives ≡ drives → disk_word_at drive number s ≡ result }
     ensures same { IfOk result (λ word. word ≡ number) }
     ensures there { OnOk result (drive < drives) }

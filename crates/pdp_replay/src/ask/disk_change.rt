@@ -1,0 +1,186 @@
+ghost use Rattle.std.specs.Prelude.{◌≡◌, ◌+◌, ◌-◌, ◌<◌, ◌≤◌, length, max, min};
+ghost use Rattle.std.specs.Prelude.{false, IfOk, IsErr, Ok, OnOk};
+ghost use Rattle.pdp_script.specs.Refusal.{for_memory, question_answer, result_map};
+ghost use Rattle.pdp_replay.specs.declared.ask.question.Question.TheVariants.{Regs};
+ghost use Rattle.pdp_replay.specs.Past.{Past};
+ghost use Rattle.pdp_replay.specs.Past.Setup.{SetupData};
+ghost use Rattle.pdp_replay.specs.Run.KeptRuns.{resumed_turn, Advances, ArrivesAt, CanGoOn, GoesOn};
+ghost use Rattle.pdp_replay.specs.Run.KeptRuns.{IsKeptRun, KeepsRun, LeavesKept};
+ghost use Rattle.pdp_replay.specs.Run.States.{disk_of};
+ghost use Rattle.pdp_replay.specs.Ask.Known.{LeavesPast, RunsFor};
+ghost use Rattle.pdp_replay.specs.Ask.Searches.{first_turn_of, turn_reached};
+ghost use Rattle.pdp_replay.specs.Ask.Searches.{EndsAfter, IsFirst, IsFound, IsWithinSearch, StaysIn};
+ghost use Rattle.pdp_replay.specs.Ask.DiskChanges.{change_checked, word_changes};
+ghost use Rattle.pdp_replay.specs.Ask.DiskChanges.{CanWatch, IsFirstChange};
+
+use crate::ask::Found;
+use crate::ask::search::check_search;
+use crate::ask::search_turns::turn_if;
+use crate::engine::Engine;
+use crate::past::{DRIVE_WORDS, disk_word};
+use crate::run::KeptRun;
+use pdp_script::{Fault, Script};
+use pdp_unibus::LAST_TURN;
+use pdp_word::NoMemory;
+use std::alloc::Global;
+
+impl Engine {
+    /// The first turn from turn `from` on and before turn `to` that changes the word of this number
+    /// of a drive (drive and word counted from 0), of the run from power-up of the past as it is
+    /// now: after the turn the word isn't what it was before the turn. A transfer that writes the
+    /// word that is there changes nothing. The machine runs up to the end of the turn that is
+    /// found, or to `to`.
+    ///
+    /// Err(TurnTooLarge) if `to` is above 1,000,000,000; otherwise Err(CountOutOfRange) if `from`
+    /// is above `to`; otherwise Err(NoSuchDrive) if the drive is not below the number of drives;
+    /// otherwise Err(OutsideDisk) if the word's number is 4604000 (octal; 1,247,232) or above;
+    /// otherwise Err(NoMemory) if memory was refused. No refusal changes the past, and one for
+    /// another cause than memory changes nothing. (This project's profile.)
+    pub fn next_change(
+        &mut self,
+        alloc: Global,
+        drive: u8,
+        number: u32,
+        from: u32,
+        to: u32,
+    ) -> Result<Found, Fault>
+        ensures refusal { result_map (λ _. tt) result ≡ question_answer
+            (change_checked drive number from to self.old.past.setup) (for_memory result) }
+        ensures turn { IfOk result
+            (λ found. IsFirst (word_changes drive number self.old.past) from to found.turn) }
+        ensures value { IfOk result (λ found. found.turn
+            ≡ first_turn_of (word_changes drive number self.old.past) from (to - from)) }
+        ensures bound { IsWithinSearch from self.old self.new }
+        ensures leaves { LeavesPast (Regs to) self.old self.new }
+        ensures runs { change_checked drive number from to self.old.past.setup ≡ Ok tt
+            → RunsFor (Regs from) self.old self.new }
+        ensures found { IfOk result (λ found. IsFound to found self.old self.new) }
+        ensures refused { IsErr result → for_memory result ≡ false → self.new ≡ self.old }
+    {
+        let before = self.run.meter.count();
+        check_change(self.base_setup.drives.count(), drive, number, from, to)?;
+        let found = find_change(
+            alloc,
+            &mut self.run,
+            &self.script,
+            usize::from(drive),
+            number as usize,
+            from,
+            to,
+        );
+        self.highest = self.highest.max(self.run.known);
+        let turn = found?;
+        Ok(Found {
+            turn,
+            ran: self.run.meter.count() - before,
+            known: self.run.known,
+            stride: self.run.ladder.stride(),
+        })
+    }
+}
+
+/// Whether the turns from one on and before another can be searched for a change of this word, of a
+/// run with `drives` drives.
+fn check_change(drives: usize, drive: u8, number: u32, from: u32, to: u32) -> Result<(), Fault>
+    ensures refusal { (s : SetupData) → s.drives ≡ drives
+        → change_checked drive number from to s ≡ result }
+    ensures limit { OnOk result (to ≤ LAST_TURN) }
+    ensures order { OnOk result (from ≤ to) }
+    ensures there { OnOk result (drive < drives) }
+    ensures below { OnOk result (number < DRIVE_WORDS) }
+{
+    check_search(from, to)?;
+    disk_word(drives, drive, number)?;
+    Ok(())
+}
+
+/// Takes the machine to turn `from`, and from there on until a turn changed the word of this number
+/// of the drive, or to turn `to`. Returns that turn.
+///
+/// Err if memory was refused; what was kept until then stays.
+fn find_change(
+    alloc: Global,
+    run: &mut KeptRun,
+    script: &Script,
+    drive: usize,
+    number: usize,
+    from: u32,
+    to: u32,
+) -> Result<Option<u32>, NoMemory>
+    requires can { CanWatch drive number script.now run.old }
+    requires order { from ≤ to }
+    requires limit { to ≤ LAST_TURN }
+    ensures found { IfOk result (λ found. (p : Past) → p.script ≡ script.now → IsKeptRun p run.old
+        → IsFirst (word_changes drive number p) from to found) }
+    ensures kept { KeepsRun script.now run.old run.new }
+    ensures arrives { IfOk result (λ found. ArrivesAt (turn_reached found to) run.old run.new) }
+    ensures advances { Advances (resumed_turn run.old from) to run.old run.new }
+    ensures bound { run.new.meter + min from run.old.known + 1
+        ≤ run.old.meter + max from run.new.machine.state.turn + run.old.ladder.stride }
+{
+    run.reach(alloc, script, from)?;
+    search_change(alloc, run, script, drive, number, to)
+}
+
+/// Runs turns until one changed the word of this number of the drive, or to turn `to`. Returns that
+/// turn. Keeps what is to be kept of the turns.
+///
+/// Err if memory was refused; what was kept until then stays.
+fn search_change(
+    alloc: Global,
+    run: &mut KeptRun,
+    script: &Script,
+    drive: usize,
+    number: usize,
+    to: u32,
+) -> Result<Option<u32>, NoMemory>
+    requires ready { CanGoOn run.old }
+    requires inside { number < length (disk_of run.old.machine.state.world drive) }
+    requires order { run.old.machine.state.turn ≤ to }
+    requires limit { to ≤ LAST_TURN }
+    ensures found { IfOk result (λ found. IsFirstChange script.now drive number
+        run.old.machine.state.turn to run.old.machine.state found) }
+    ensures kept { LeavesKept script.now run.old run.new }
+    ensures arrives { IfOk result (λ found. ArrivesAt (turn_reached found to) run.old run.new) }
+    ensures advances { Advances run.old.machine.state.turn to run.old run.new }
+{
+    while run.machine.turns() < to {
+        let found = watch_turn(alloc, run, script, drive, number)?;
+        if found.is_some() {
+            return Ok(found);
+        }
+    }
+    Ok(None)
+}
+
+/// Runs one turn with the events of the script, and returns it if it changed the word of this
+/// number of the drive. Keeps what is to be kept of the turn.
+///
+/// Err if memory was refused; what was kept until then stays.
+fn watch_turn(
+    alloc: Global,
+    run: &mut KeptRun,
+    script: &Script,
+    drive: usize,
+    number: usize,
+) -> Result<Option<u32>, NoMemory>
+    requires ready { CanGoOn run.old }
+    requires inside { number < length (disk_of run.old.machine.state.world drive) }
+    requires limit { run.old.machine.state.turn < LAST_TURN }
+    ensures found { IfOk result (λ found. IsFirstChange script.now drive number
+        run.old.machine.state.turn run.new.machine.state.turn run.old.machine.state found) }
+    ensures here { OnOk result (StaysIn script.now run.old run.new) }
+    ensures inside { OnOk result (number < length (disk_of run.new.machine.state.world drive)) }
+    ensures ends { IfOk result (EndsAfter run.new.machine.state.turn) }
+    ensures kept { LeavesKept script.now run.old run.new }
+    ensures way { OnOk result (GoesOn script.now run.old run.new) }
+    ensures arrives { OnOk result (ArrivesAt (run.old.machine.state.turn + 1) run.old run.new) }
+    ensures advances { Advances run.old.machine.state.turn (run.old.machine.state.turn + 1)
+        run.old run.new }
+{
+    let turn = run.machine.turns();
+    let before = run.machine.disk_word(drive, number);
+    run.step(alloc, script)?;
+    let after = run.machine.disk_word(drive, number);
+    Ok(turn_if(turn, before != after))
+}
