@@ -6,6 +6,7 @@ use Rattle.pdp_script.specs.declared.faults.Fault.{Fault}
 use Rattle.pdp_unibus.specs.Delays.{standard_delays}
 use Rattle.pdp_replay.specs.Past.{starting_past}
 use Rattle.pdp_replay.specs.Past.Setup.{SetupData}
+use Rattle.pdp_session.specs.Language.{SessionLanguage}
 use Rattle.pdp_session.specs.Session.{Session}
 use Rattle.pdp_session.specs.Streams.{OutputData, StreamsData}
 use Rattle.pdp11.specs.Exit.{exit_status, line_of, exit_of}
@@ -46,7 +47,8 @@ Shows text before after _ = ⊥
 pub record RunsSession (options : Options) (media : Contents) (before after : StreamsData)
     (exit : Exit) : Type 0 where
   pub answer : Result (Unit {0}) Fault
-  pub session : Session (starting_past (setup_with options media)) before after answer
+  pub session : Session SessionLanguage (starting_past (setup_with options media)) before after
+      answer
   pub ends : exit ≡ exit_of answer
 
 -- what is done with what the files hold, or with the exit in place of it: then nothing was read or

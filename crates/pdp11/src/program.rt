@@ -112,7 +112,7 @@ fn answer_lines<R: Feed, W: Drain>(
         (streams_of (R.input reader.new) (W.output writer.new)) result }
 {
     let setup = setup_of(options, media);
-    Exit::of_session(run(alloc, setup, reader, writer))
+    Exit::of_session(run::<false, R, W>(alloc, setup, reader, writer))
 }
 
 // The setup of these options, images and tape.

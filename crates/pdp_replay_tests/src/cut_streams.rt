@@ -173,7 +173,7 @@ fn replies_to_beginning(
 ) {
     let mut reader = CutFeed::new(given, one_at_a_time);
     let mut writer = CutDrain::new(alloc, usize::MAX, one_at_a_time, Full::Refuses);
-    let ended = run(alloc, blank(alloc, 31, WIDEST), &mut reader, &mut writer);
+    let ended = run::<false, _, _>(alloc, blank(alloc, 31, WIDEST), &mut reader, &mut writer);
     let count = given.len();
     assert_eq!(rt; ended, Err(Fault::Input), "after {count} bytes");
     assert!(rt; reader.failed);
@@ -245,7 +245,7 @@ fn taken_by(
 {
     let (lines, replies) = whole_session(alloc)?;
     let mut reader = CutFeed::new(lines.as_slice(), one_at_a_time);
-    let ended = run(alloc, blank(alloc, 31, WIDEST), &mut reader, &mut writer);
+    let ended = run::<false, _, _>(alloc, blank(alloc, 31, WIDEST), &mut reader, &mut writer);
     if ended == Err(Fault::Input) {
         assert_eq!(rt; writer.taken.as_slice(), replies.as_slice());
         return Ok(None);

@@ -1,6 +1,9 @@
 pub mod ByteLines
 pub mod WordLines
 pub mod SessionEnds
+pub mod ServedLines
+pub mod Findings
+pub mod KeptLines
 pub mod HeldLines
 pub mod ImageWords
 pub mod LineLists

@@ -1,18 +1,19 @@
 -- Each line that is answered adds its reply to those that were given.
-use Rattle.std.proofs.Common.{◌≡◌, ℕ, zero, suc, ◌+◌, ◌<◌, Bool, true, false, cond, eqb, Some, Result, Ok, Err, List, [], ◌∷◌, ◌++◌, length, refl, sym, ap, ◌∙◌, subst, arith, append_assoc, append-nil, length-append}
+use Rattle.std.proofs.Common.{◌≡◌, ℕ, zero, suc, ◌+◌, ◌<◌, Bool, true, false, cond, eqb, Option, None, Some, Result, Ok, Err, List, [], ◌∷◌, ◌++◌, length, refl, sym, ap, ◌∙◌, subst, arith, append_assoc, append-nil, length-append}
 use Rattle.std.specs.List.{concat, slice_get}
 use Rattle.std.proofs.lemmas.Bool.{eqb-true, eq-eqb, false≢true}
 use Rattle.std.proofs.lemmas.List.Folds.{concat-append}
 use Rattle.pdp_script.specs.declared.faults.Fault.TheVariants.{NoMemory}
 use Rattle.pdp_replay.specs.Past.{Past}
-use Rattle.pdp_session.specs.declared.reply.Reply.TheVariants.{Refused}
 use Rattle.pdp_script.specs.Refusal.{result_map}
 use Rattle.pdp_script.specs.declared.faults.Fault.{Fault}
 use Rattle.pdp_session.specs.Command.{edit_reply, reply_to, past_after}
-use Rattle.pdp_session.specs.Grammar.{line_means}
+use Rattle.pdp_session.specs.declared.search.Search.{Search}
+use Rattle.pdp_session.specs.Language.{Language, search_of, text_meant, text_to}
 use Rattle.pdp_session.specs.Inside.Progress.{Replied}
-use Rattle.pdp_session.specs.Reply.{text_of, text_to, refusal_text}
+use Rattle.pdp_session.specs.Reply.{refusal_text}
 use Rattle.pdp_session.specs.Version.{version_of}
+use Rattle.pdp_session.proofs.HeldLines.{IsHeardAs}
 use Rattle.pdp_session.specs.Session.{replies, RepliesTo, BeginsReplies}
 
 slice_get-front : {X : Type 0} (xs ys : List X) (k : ℕ) (x : X) → slice_get xs k ≡ Some x → slice_get (xs ++ ys) k ≡ Some x
@@ -47,8 +48,8 @@ only_next given text wanted refused flag memory only n = by_test (eqb n (length 
     by_test true e set = ap (slice_get (given ++ text ∷ [])) (eqb-true n (length given) e) ∙ slice_get-push given text ∙ ap Some (memory set)
     by_test false e set = slice_get-front given (text ∷ []) n wanted (only n set)
 
-pub nothing_replied : (past : Past) → Replied past [] [] past
-nothing_replied past = record {
+pub nothing_replied : (language : Language) (past : Past) → Replied language past [] [] past
+nothing_replied language past = record {
   given = [];
   count = 0;
   refused = λ _. false;
@@ -58,13 +59,28 @@ nothing_replied past = record {
   goes = λ other next agrees. refl;
 }
 
+-- the text that a line is answered is that of what was heard of it
+heard_text : (language : Language) (heard line : List ℕ) (flag : Bool) (now : Past) → IsHeardAs language (version_of now) heard line
+    → text_to language heard flag now ≡ text_to language line flag now
+unfolding text_to reply_to past_after
+heard_text language heard line flag now h = ap (λ found. text_meant found heard flag now) h.search ∙ by_search (search_of language (version_of now) line)
+  where
+    by_search : (found : Option Search) → text_meant found heard flag now ≡ text_meant found line flag now
+    by_search None = rw h.means refl
+    by_search (Some search) = refl
+
+heard_past : (language : Language) (heard line : List ℕ) (flag : Bool) (now : Past) → IsHeardAs language (version_of now) heard line
+    → past_after heard flag now ≡ past_after line flag now
+unfolding past_after
+heard_past language heard line flag now h = rw h.means refl
+
 -- one line more, that means what was heard of it
-pub next_replied : (past : Past) (lines : List (List ℕ)) (out : List ℕ) (now : Past) (line heard : List ℕ) (flag : Bool)
-    → line_means (version_of now) heard ≡ line_means (version_of now) line → (flag ≡ true → reply_to heard flag now ≡ Refused NoMemory) → Replied past lines out now
-    → Replied past (lines ++ line ∷ []) (out ++ text_to heard flag now) (past_after heard flag now)
-unfolding replies reply_to past_after text_of
-next_replied past lines out now line heard flag means memory before =
-    let text = text_to heard flag now in
+pub next_replied : (language : Language) (past : Past) (lines : List (List ℕ)) (out : List ℕ) (now : Past) (line heard : List ℕ) (flag : Bool)
+    → IsHeardAs language (version_of now) heard line → (flag ≡ true → text_to language heard flag now ≡ refusal_text NoMemory) → Replied language past lines out now
+    → Replied language past (lines ++ line ∷ []) (out ++ text_to language heard flag now) (past_after heard flag now)
+unfolding replies
+next_replied language past lines out now line heard flag same_line memory before =
+    let text = text_to language heard flag now in
     let after = past_after heard flag now in
     let refused : ℕ → Bool = with_line before.count flag before.refused in
     record {
@@ -73,21 +89,22 @@ next_replied past lines out now line heard flag means memory before =
       refused = refused;
       counted = omega (arith, length-append before.given (text ∷ []), before.counted);
       only = subst (λ n. (k : ℕ) → with_line n flag before.refused k ≡ true → slice_get (before.given ++ text ∷ []) k ≡ Some (refusal_text NoMemory)) before.counted
-          (only_next before.given text (refusal_text NoMemory) before.refused flag (λ set. ap (λ reply. text_of reply after) (memory set)) before.only);
+          (only_next before.given text (refusal_text NoMemory) before.refused flag memory before.only);
       text = ap (λ front. front ++ text) before.text ∙ ap (λ back. concat before.given ++ back) (sym (append-nil text)) ∙ sym (concat-append before.given (text ∷ []));
       goes = λ other next agrees.
           let same : other before.count ≡ flag = agrees before.count (omega arith) ∙ with_line-same before.count flag before.refused in
-          ap (λ all. replies 0 all other past) (append_assoc lines (line ∷ []) next)
+          ap (λ all. replies language 0 all other past) (append_assoc lines (line ∷ []) next)
           ∙ before.goes other (line ∷ next) (λ k less. agrees k (omega arith) ∙ with_line-other before.count k flag before.refused less)
-          ∙ rw (same, ← means) (sym (append_assoc before.given (text ∷ []) (replies (before.count + 1) next other after)));
+          ∙ rw (same, ← heard_text language heard line flag now same_line, ← heard_past language heard line flag now same_line)
+          (sym (append_assoc before.given (text ∷ []) (replies language (before.count + 1) next other after)));
     }
 
 -- all lines were answered
-pub answers : (past : Past) (lines : List (List ℕ)) (out : List ℕ) (now : Past) → Replied past lines out now → RepliesTo past lines out
+pub answers : (language : Language) (past : Past) (lines : List (List ℕ)) (out : List ℕ) (now : Past) → Replied language past lines out now → RepliesTo language past lines out
 unfolding replies
-answers past lines out now before =
-    let whole : replies 0 lines before.refused past ≡ before.given =
-    ap (λ all. replies 0 all before.refused past) (sym (append-nil lines)) ∙ before.goes before.refused [] (λ k less. refl) ∙ append-nil before.given in
+answers language past lines out now before =
+    let whole : replies language 0 lines before.refused past ≡ before.given =
+    ap (λ all. replies language 0 all before.refused past) (sym (append-nil lines)) ∙ before.goes before.refused [] (λ k less. refl) ∙ append-nil before.given in
     record {
       refused = before.refused;
       only = λ n set. ap (λ texts. slice_get texts n) whole ∙ before.only n set;
@@ -95,11 +112,11 @@ answers past lines out now before =
     }
 
 -- and then the writer failed, whatever lines come next
-pub begins_answers : (past : Past) (lines : List (List ℕ)) (out unwritten : List ℕ) (now : Past) (next : List (List ℕ))
-    → Replied past lines (out ++ unwritten) now → BeginsReplies past (lines ++ next) out
-begins_answers past lines out unwritten now next before =
-    let later = replies before.count next before.refused now in
-    let whole : replies 0 (lines ++ next) before.refused past ≡ before.given ++ later = before.goes before.refused next (λ k less. refl) in
+pub begins_answers : (language : Language) (past : Past) (lines : List (List ℕ)) (out unwritten : List ℕ) (now : Past) (next : List (List ℕ))
+    → Replied language past lines (out ++ unwritten) now → BeginsReplies language past (lines ++ next) out
+begins_answers language past lines out unwritten now next before =
+    let later = replies language before.count next before.refused now in
+    let whole : replies language 0 (lines ++ next) before.refused past ≡ before.given ++ later = before.goes before.refused next (λ k less. refl) in
     record {
       refused = before.refused;
       only = λ n set. ap (λ texts. slice_get texts n) whole ∙ slice_get-front before.given later n _ (before.only n set);

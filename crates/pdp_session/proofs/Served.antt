@@ -6,7 +6,7 @@ use Rattle.pdp_replay.specs.Past.{Past}
 use Rattle.pdp_session.specs.Command.{past_after}
 use Rattle.pdp_session.specs.Lines.{without_return, lines_of}
 use Rattle.pdp_session.specs.Inside.Progress.{Reached, Goes, Breaks, Serves, Moves, Finishes}
-use Rattle.pdp_session.specs.Reply.{text_to}
+use Rattle.pdp_session.specs.Language.{Language, text_to}
 use Rattle.pdp_session.specs.Session.{BeginsReplies}
 use Rattle.pdp_session.specs.Streams.{OutputData}
 use Rattle.pdp_session.proofs.Pieces.{sent_nothing, sent_then}
@@ -18,38 +18,38 @@ cut_text : (out text taken unwritten : List ℕ) → text ≡ taken ++ unwritten
 cut_text out text taken unwritten split = ap (λ back. out ++ back) split ∙ sym (append_assoc out taken unwritten)
 
 -- the line that an LF ended was served
-pub line_moves : {T E : Type 0} (past : Past) (done out held : List ℕ) (now after : Past) (output output_after : OutputData) (result : Result T E)
-    → Reached past done out held now → Serves (without_return held) now after output output_after result
-    → Moves past (done ++ 10 ∷ []) out output output_after [] after result
-line_moves past done out held now after output output_after (Ok x) r s = record {
-  more = text_to (without_return held) s.refused now;
+pub line_moves : {T E : Type 0} (language : Language) (past : Past) (done out held : List ℕ) (now after : Past) (output output_after : OutputData) (result : Result T E)
+    → Reached language past done out held now → Serves language (without_return held) now after output output_after result
+    → Moves language past (done ++ 10 ∷ []) out output output_after [] after result
+line_moves language past done out held now after output output_after (Ok x) r s = record {
+  more = text_to language (without_return held) s.refused now;
   sent = s.sends;
-  reached = rw s.after (line_reached past done out held now s.refused s.only r);
+  reached = rw s.after (line_reached language past done out held now s.refused s.only r);
 }
-line_moves past done out held now after output output_after (Err e) r s =
-    let text = text_to (without_return held) s.refused now in
-    let reached : Reached past (done ++ 10 ∷ []) ((out ++ s.sends.taken) ++ s.sends.unwritten) [] (past_after (without_return held) s.refused now) =
-    rw (← cut_text out text s.sends.taken s.sends.unwritten s.sends.split) (line_reached past done out held now s.refused s.only r) in
+line_moves language past done out held now after output output_after (Err e) r s =
+    let text = text_to language (without_return held) s.refused now in
+    let reached : Reached language past (done ++ 10 ∷ []) ((out ++ s.sends.taken) ++ s.sends.unwritten) [] (past_after (without_return held) s.refused now) =
+    rw (← cut_text out text s.sends.taken s.sends.unwritten s.sends.split) (line_reached language past done out held now s.refused s.only r) in
     record {
       more = s.sends.taken;
       writes = s.sends.writes;
       failed = s.sends.failed;
-      broken = broken past (done ++ 10 ∷ []) (out ++ s.sends.taken) s.sends.unwritten [] _ reached;
+      broken = broken language past (done ++ 10 ∷ []) (out ++ s.sends.taken) s.sends.unwritten [] _ reached;
     }
 
 -- the line that the end of the input left open was served
-pub last_finishes : {T E : Type 0} (past : Past) (done out held : List ℕ) (now after : Past) (output output_after : OutputData) (result : Result T E)
-    → 0 < length held → Reached past done out held now → Serves held now after output output_after result → Finishes past done out output output_after result
-last_finishes past done out held now after output output_after (Ok x) some r s = record {
-  more = text_to held s.refused now;
+pub last_finishes : {T E : Type 0} (language : Language) (past : Past) (done out held : List ℕ) (now after : Past) (output output_after : OutputData) (result : Result T E)
+    → 0 < length held → Reached language past done out held now → Serves language held now after output output_after result → Finishes language past done out output output_after result
+last_finishes language past done out held now after output output_after (Ok x) some r s = record {
+  more = text_to language held s.refused now;
   sent = s.sends;
-  answers = answers past (lines_of done) _ _ (last_replied past done out held now s.refused s.only some r);
+  answers = answers language past (lines_of done) _ _ (last_replied language past done out held now s.refused s.only some r);
 }
-last_finishes past done out held now after output output_after (Err e) some r s =
-    let text = text_to held s.refused now in
-    let begins : BeginsReplies past (lines_of done ++ []) (out ++ s.sends.taken) =
-    begins_answers past (lines_of done) (out ++ s.sends.taken) s.sends.unwritten (past_after held s.refused now) []
-    (rw (← cut_text out text s.sends.taken s.sends.unwritten s.sends.split) (last_replied past done out held now s.refused s.only some r)) in
+last_finishes language past done out held now after output output_after (Err e) some r s =
+    let text = text_to language held s.refused now in
+    let begins : BeginsReplies language past (lines_of done ++ []) (out ++ s.sends.taken) =
+    begins_answers language past (lines_of done) (out ++ s.sends.taken) s.sends.unwritten (past_after held s.refused now) []
+    (rw (← cut_text out text s.sends.taken s.sends.unwritten s.sends.split) (last_replied language past done out held now s.refused s.only some r)) in
     record {
       more = s.sends.taken;
       writes = s.sends.writes;
@@ -58,24 +58,24 @@ last_finishes past done out held now after output output_after (Err e) some r s 
     }
 
 -- nothing was written
-pub nothing_more : (past : Past) (done out held : List ℕ) (now : Past) (output : OutputData) → Reached past done out held now
-    → Goes past done out output output held now
-nothing_more past done out held now output r = record {
+pub nothing_more : (language : Language) (past : Past) (done out held : List ℕ) (now : Past) (output : OutputData) → Reached language past done out held now
+    → Goes language past done out output output held now
+nothing_more language past done out held now output r = record {
   more = [];
   sent = sent_nothing output;
   reached = rw (append-nil out) r;
 }
 
 -- some bytes, and then some more
-pub then_moves : {T E : Type 0} (past : Past) (done all out held now_held : List ℕ) (between now : Past) (output output_between output_after : OutputData) (result : Result T E)
-    → (g : Goes past done out output output_between held between) → Moves past all (out ++ g.more) output_between output_after now_held now result
-    → Moves past all out output output_after now_held now result
-then_moves past done all out held now_held between now output output_between output_after (Ok x) g m = record {
+pub then_moves : {T E : Type 0} (language : Language) (past : Past) (done all out held now_held : List ℕ) (between now : Past) (output output_between output_after : OutputData) (result : Result T E)
+    → (g : Goes language past done out output output_between held between) → Moves language past all (out ++ g.more) output_between output_after now_held now result
+    → Moves language past all out output output_after now_held now result
+then_moves language past done all out held now_held between now output output_between output_after (Ok x) g m = record {
   more = g.more ++ m.more;
   sent = sent_then g.more m.more output output_between output_after g.sent m.sent;
   reached = rw (← append_assoc out g.more m.more) m.reached;
 }
-then_moves past done all out held now_held between now output output_between output_after (Err e) g m = record {
+then_moves language past done all out held now_held between now output output_between output_after (Err e) g m = record {
   more = g.more ++ m.more;
   writes = Appends-trans output.written output_between.written output_after.written g.more m.more g.sent.writes m.writes;
   failed = m.failed;
@@ -83,9 +83,9 @@ then_moves past done all out held now_held between now output output_between out
 }
 
 -- the writer failed before the rest was taken
-pub breaks_early : (past : Past) (done rest out : List ℕ) (output output_after : OutputData) → Breaks past done out output output_after
-    → Breaks past (done ++ rest) out output output_after
-breaks_early past done rest out output output_after b = record {
+pub breaks_early : (language : Language) (past : Past) (done rest out : List ℕ) (output output_after : OutputData) → Breaks language past done out output output_after
+    → Breaks language past (done ++ rest) out output output_after
+breaks_early language past done rest out output output_after b = record {
   more = b.more;
   writes = b.writes;
   failed = b.failed;

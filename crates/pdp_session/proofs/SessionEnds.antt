@@ -4,6 +4,7 @@ use Rattle.std.proofs.lemmas.Bool.{false≢true}
 use Rattle.pdp_script.specs.Refusal.{question_answer, result_map}
 use Rattle.pdp_script.specs.declared.faults.Fault.{Fault}
 use Rattle.pdp_script.specs.declared.faults.Fault.TheVariants.{BadImage, BadSetup, NoMemory}
+use Rattle.pdp_session.specs.Language.{Language}
 use Rattle.pdp_session.specs.Session.{Ends, is_told_first}
 use Rattle.pdp_replay.specs.Past.{past_without_events}
 use Rattle.pdp_replay.specs.Past.Setup.{SetupData, setup_checked, has_good_numbers, has_good_images}
@@ -45,11 +46,11 @@ starts_with (Ok setup) false t is = let same : t ≡ fresh setup = cc in rw same
 starts_with (Err fault) refused t is = cc
 
 -- and where there is none it has read and written nothing
-pub ends_refused : (checked : Result SetupData Fault) (refused : Bool) (fault : Fault) (rest : Option (List ℕ))
-    → Err fault ≡ result_map fresh (question_answer checked refused) → Ends (result_map past_without_events checked) [] [] rest (Err fault)
-ends_refused (Ok setup) true fault rest is = let same : fault ≡ NoMemory = cc in rw same (refl, refl)
-ends_refused (Ok setup) false fault rest is = cc
-ends_refused (Err other) refused fault rest is = let same : fault ≡ other = cc in rw same (refl, refl, refl)
+pub ends_refused : (language : Language) (checked : Result SetupData Fault) (refused : Bool) (fault : Fault) (rest : Option (List ℕ))
+    → Err fault ≡ result_map fresh (question_answer checked refused) → Ends language (result_map past_without_events checked) [] [] rest (Err fault)
+ends_refused language (Ok setup) true fault rest is = let same : fault ≡ NoMemory = cc in rw same (refl, refl)
+ends_refused language (Ok setup) false fault rest is = cc
+ends_refused language (Err other) refused fault rest is = let same : fault ≡ other = cc in rw same (refl, refl, refl)
 
 -- a session that has begun ends by no fault of a start
 pub ends_begun : {T : Type 0} (P : Type 0) (r : Result T Fault) → IfErr r (λ fault. is_told_first fault ≡ false) → IfErr r (λ fault. is_told_first fault ≡ true → P)

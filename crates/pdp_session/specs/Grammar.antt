@@ -24,6 +24,7 @@ use Rattle.pdp_session.specs.Lines.{longest_line}
 pub mod Arguments
 pub mod Events
 pub mod Questions
+pub mod Searches
 pub mod Words
 
 -- `core A W`: an address and a word, in octal

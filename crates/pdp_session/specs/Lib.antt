@@ -5,6 +5,9 @@ pub mod Version
 pub mod Grammar
 pub mod Command
 pub mod Reply
+-- The languages: the session language, and the search language, which has searches beside it.
+pub mod Search
+pub mod Language
 -- The words of an image.
 pub mod Image
 -- A session: from the bytes of its input to the bytes of its output.

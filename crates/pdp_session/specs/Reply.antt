@@ -37,7 +37,6 @@ use Rattle.pdp_session.specs.declared.reply.Reply.TheVariants.{Nothing, Done, In
 use Rattle.pdp_session.specs.declared.reply.Reply.TheVariants.{Listed, Refused}
 use Rattle.pdp_session.specs.declared.version.Version.{Version}
 use Rattle.pdp_session.specs.declared.version.Version.TheVariants.{One, Two}
-use Rattle.pdp_session.specs.Command.{reply_to, past_after}
 use Rattle.pdp_session.specs.Version.{version_of}
 
 -- a name, a word in six octal digits, and the space after it
@@ -216,7 +215,3 @@ text_of (Inserted number) past = codes "event " ++ decimal number ++ codes "\n"
 text_of (Shown value) past = value_text value
 text_of Listed past = patches_text past
 text_of (Refused fault) past = refusal_text fault
-
--- the text that a line is answered
-abbrev pub text_to : List ℕ → Bool → Past → List ℕ
-text_to line refused past = text_of (reply_to line refused past) (past_after line refused past)

@@ -11,6 +11,7 @@ ghost use Rattle.pdp_session.specs.Grammar.Words.{words_of_line};
 mod arguments;
 mod events;
 mod questions;
+mod searches;
 mod words;
 
 use crate::command::Command;
@@ -23,6 +24,7 @@ use events::read_event;
 use pdp_replay::Fault;
 use pdp_word::{read_decimal, read_octal};
 use questions::read_question;
+pub use searches::read_search;
 use words::next_word;
 
 // The most bytes that a line may have.

@@ -5,12 +5,14 @@ ghost use Rattle.pdp_session.specs.Inside.Sends.{Sends};
 ghost use Rattle.pdp_session.specs.Version.{version_of};
 
 mod bytes;
+mod findings;
 mod history;
 mod texts;
 
 use crate::streams::{Drain, Failed, send};
 use crate::version::Version;
 use bytes::send_bytes;
+pub use findings::send_found;
 use history::{last_text, send_trail};
 use pdp_replay::{Engine, Fault, Value};
 use texts::{

@@ -1,6 +1,7 @@
 ghost use Rattle.std.specs.Prelude.{◌≡◌, true, false, Ok, OnOk, IfErr, IsErrOf};
 ghost use Rattle.pdp_replay.specs.Past.Setup.{given_setup};
 ghost use Rattle.pdp_replay.specs.Past.{starting_past};
+ghost use Rattle.pdp_session.specs.Language.{language_with};
 ghost use Rattle.pdp_session.specs.Session.{Session, is_told_first};
 ghost use Rattle.pdp_session.specs.Streams.{streams_of};
 
@@ -16,6 +17,10 @@ use std::alloc::Global;
 /// and writes the reply to each line to `writer`. The replies to all lines that have ended are
 /// written before more is read.
 ///
+/// With `SEARCHES` false the lines are those of the session language; with `SEARCHES` true they are
+/// those of the search language, which has searches besides, and answers every line of the session
+/// language with the same bytes.
+///
 /// The lines and their replies are this project's profile. A line that is refused has a reply that
 /// says so, and the session goes on; all other lines are answered as if a line refused as out of
 /// memory weren't there.
@@ -28,7 +33,7 @@ use std::alloc::Global;
 /// and [`Fault::Output`] if the writer fails or takes none of some bytes.
 ///
 /// Of the reader's pulls it uses at most one more than the bytes that it reads.
-pub fn run<R: Feed, W: Drain>(
+pub fn run<const SEARCHES: bool, R: Feed, W: Drain>(
     alloc: Global,
     setup: Setup,
     reader: &mut R,
@@ -36,7 +41,7 @@ pub fn run<R: Feed, W: Drain>(
 ) -> Result<(), Fault>
     requires reader_sound { (R.input reader.old).has_failed ≡ false }
     requires writer_sound { (W.output writer.old).has_failed ≡ false }
-    ensures session { Session (starting_past (given_setup setup))
+    ensures session { Session (language_with SEARCHES) (starting_past (given_setup setup))
         (streams_of (R.input reader.old) (W.output writer.old))
         (streams_of (R.input reader.new) (W.output writer.new)) result }
     ensures unread { IfErr result (λ fault.
@@ -49,11 +54,11 @@ pub fn run<R: Feed, W: Drain>(
         × ((W.output writer.new).has_failed ≡ false)) }
 {
     let mut engine = Engine::new(alloc, setup)?;
-    serve(alloc, &mut engine, reader, writer)
+    serve::<SEARCHES, R, W>(alloc, &mut engine, reader, writer)
 }
 
 // Runs a session on an engine.
-fn serve<R: Feed, W: Drain>(
+fn serve<const SEARCHES: bool, R: Feed, W: Drain>(
     alloc: Global,
     engine: &mut Engine,
     reader: &mut R,
@@ -61,7 +66,7 @@ fn serve<R: Feed, W: Drain>(
 ) -> Result<(), Fault>
     requires reader_sound { (R.input reader.old).has_failed ≡ false }
     requires writer_sound { (W.output writer.old).has_failed ≡ false }
-    ensures session { Session (Ok engine.old.past)
+    ensures session { Session (language_with SEARCHES) (Ok engine.old.past)
         (streams_of (R.input reader.old) (W.output writer.old))
         (streams_of (R.input reader.new) (W.output writer.new)) result }
     ensures began { IfErr result (λ fault. is_told_first fault ≡ false) }
@@ -75,14 +80,14 @@ fn serve<R: Feed, W: Drain>(
     loop {
         match reader.pull(&mut chunk) {
             Ok(0) => {
-                return match serve_last_line(alloc, engine, &held, writer) {
+                return match serve_last_line::<SEARCHES, W>(alloc, engine, &held, writer) {
                     Ok(()) => Ok(()),
                     Err(_) => Err(Fault::Output),
                 };
             }
             Ok(count) => {
                 let (bytes, _) = chunk.split_at(count);
-                match take_bytes(alloc, engine, &mut held, bytes, writer) {
+                match take_bytes::<SEARCHES, W>(alloc, engine, &mut held, bytes, writer) {
                     Ok(()) => {}
                     Err(_) => return Err(Fault::Output),
                 }

@@ -4,23 +4,37 @@ use Rattle.std.specs.Prelude.{◌≡◌, ℕ, ◌+◌, ◌<◌, Bool, true, fals
 use Rattle.std.specs.Prelude.{Ok, Err}
 use Rattle.std.specs.List.{All, concat}
 use Rattle.std.specs.Io.KnownBytes.{Appends}
+use Rattle.pdp_script.specs.Refusal.{question_answer}
 use Rattle.pdp_script.specs.declared.faults.Fault.TheVariants.{NoMemory}
 use Rattle.pdp_replay.specs.Past.{Past}
-use Rattle.pdp_session.specs.declared.reply.Reply.TheVariants.{Refused}
-use Rattle.pdp_session.specs.Command.{reply_to, past_after}
+use Rattle.pdp_session.specs.declared.search.Search.{Search}
+use Rattle.pdp_session.specs.Command.{past_after}
+use Rattle.pdp_session.specs.Language.{Language, text_to}
 use Rattle.pdp_session.specs.Lines.{longest_line, is_line_feed, ended_lines, lines_of}
-use Rattle.pdp_session.specs.Reply.{text_to}
+use Rattle.pdp_session.specs.Reply.{refusal_text}
+use Rattle.pdp_session.specs.Search.{found_text, search_result}
 use Rattle.pdp_session.specs.Streams.{OutputData}
 use Rattle.pdp_session.specs.Inside.Sends.{Sent, Sends}
 use Rattle.pdp_session.specs.Session.{replies, OnlyForMemory, RepliesTo, BeginsReplies}
 
--- what answering one line does
-pub record Serves {T E : Type 0} (line : List ℕ) (past now : Past)
+-- what answering one line of a language does
+pub record Serves {T E : Type 0} (language : Language) (line : List ℕ) (past now : Past)
     (output output_after : OutputData) (result : Result T E) : Type 0 where
   pub refused : Bool
-  pub only : refused ≡ true → reply_to line refused past ≡ Refused NoMemory
+  pub only : refused ≡ true → text_to language line refused past ≡ refusal_text
+      NoMemory
   pub after : now ≡ past_after line refused past
-  pub sends : Sends (text_to line refused past) output output_after result
+  pub sends : Sends (text_to language line refused past) output output_after result
+
+-- what making one search does
+pub record ServesSearch {T E : Type 0} (search : Search) (past now : Past)
+    (output output_after : OutputData) (result : Result T E) : Type 0 where
+  pub refused : Bool
+  pub only : refused ≡ true → found_text (question_answer (search_result search past) refused)
+      ≡ refusal_text NoMemory
+  pub after : now ≡ past
+  pub sends : Sends (found_text (question_answer (search_result search past) refused)) output
+      output_after result
 
 -- two sets have the same of the first n lines
 abbrev pub AgreesBelow : ℕ → (ℕ → Bool) → (ℕ → Bool) → Type 0
@@ -29,8 +43,8 @@ AgreesBelow n refused other = (k : ℕ) → k < n → other k ≡ refused k
 -- From this past, `lines` were answered with `out`, and the past is `now`. Whatever lines come
 -- next, and whichever of those are refused as out of memory, the replies begin with those that were
 -- given.
-pub record Replied (past : Past) (lines : List (List ℕ)) (out : List ℕ) (now : Past)
-    : Type 0 where
+pub record Replied (language : Language) (past : Past) (lines : List (List ℕ)) (out : List ℕ)
+    (now : Past) : Type 0 where
   pub given : List (List ℕ)
   pub count : ℕ
   pub refused : ℕ → Bool
@@ -38,7 +52,7 @@ pub record Replied (past : Past) (lines : List (List ℕ)) (out : List ℕ) (now
   pub only : OnlyForMemory refused given
   pub text : out ≡ concat given
   pub goes : (other : ℕ → Bool) (next : List (List ℕ)) → AgreesBelow count refused other →
-      replies 0 (lines ++ next) other past ≡ given ++ replies count next other now
+      replies language 0 (lines ++ next) other past ≡ given ++ replies language count next other now
 
 -- the most bytes that are held of a line that has not ended: those of the longest line, one more,
 -- and a CR
@@ -47,7 +61,8 @@ most_held = longest_line + 2
 
 -- The bytes `done` were read and `out` was written: all lines that ended were answered, and the
 -- line buffer has what it holds of the line that is open.
-pub record Reached (past : Past) (done out held : List ℕ) (now : Past) : Type 0 where
+pub record Reached (language : Language) (past : Past) (done out held : List ℕ) (now : Past)
+    : Type 0 where
   pub whole : List ℕ
   pub tail : List ℕ
   pub lines : List (List ℕ)
@@ -56,60 +71,62 @@ pub record Reached (past : Past) (done out held : List ℕ) (now : Past) : Type 
   pub kept : held ≡ take most_held tail
   pub every : (next : List ℕ) → lines_of (whole ++ next) ≡ lines ++ lines_of next
   pub ended : (next : List ℕ) → ended_lines (whole ++ next) ≡ lines ++ ended_lines next
-  pub replied : Replied past lines out now
+  pub replied : Replied language past lines out now
 
 -- `more` was written, and the session goes on
-pub record Goes (past : Past) (done out : List ℕ) (output output_after : OutputData)
-    (held : List ℕ) (now : Past) : Type 0 where
+pub record Goes (language : Language) (past : Past) (done out : List ℕ)
+    (output output_after : OutputData) (held : List ℕ) (now : Past) : Type 0 where
   pub more : List ℕ
   pub sent : Sent more output output_after
-  pub reached : Reached past done (out ++ more) held now
+  pub reached : Reached language past done (out ++ more) held now
 
 -- `more` was written before the writer failed, within the replies to whatever begins with `done`
-pub record Breaks (past : Past) (done out : List ℕ) (output output_after : OutputData)
-    : Type 0 where
+pub record Breaks (language : Language) (past : Past) (done out : List ℕ)
+    (output output_after : OutputData) : Type 0 where
   pub more : List ℕ
   pub writes : Appends output.written output_after.written more
   pub failed : output_after.has_failed ≡ true
-  pub broken : (next : List ℕ) → BeginsReplies past (lines_of (done ++ next)) (out ++ more)
+  pub broken : (next : List ℕ) → BeginsReplies language past (lines_of (done ++ next)) (out ++ more)
 
 -- what the next bytes do, after which `done` was read
-abbrev pub Moves : {T E : Type 0} → Past → List ℕ → List ℕ → OutputData → OutputData
+abbrev pub Moves : {T E : Type 0} → Language → Past → List ℕ → List ℕ → OutputData → OutputData
     → List ℕ → Past → Result T E → Type 0
-Moves past done out output output_after held now (Ok x) =
-    Goes past done out output output_after held now
-Moves past done out output output_after held now (Err e) =
-    Breaks past done out output output_after
+Moves language past done out output output_after held now (Ok x) =
+    Goes language past done out output output_after held now
+Moves language past done out output output_after held now (Err e) =
+    Breaks language past done out output output_after
 
 -- from wherever a session has come to, these bytes move it on
-abbrev pub Takes : {T E : Type 0} → List ℕ → List ℕ → List ℕ → Past → Past
+abbrev pub Takes : {T E : Type 0} → Language → List ℕ → List ℕ → List ℕ → Past → Past
     → OutputData → OutputData → Result T E → Type 0
-Takes bytes held held_after now now_after output output_after result =
-    (past : Past) (done out : List ℕ) → Reached past done out held now
-    → Moves past (done ++ bytes) out output output_after held_after now_after result
+Takes language bytes held held_after now now_after output output_after result =
+    (past : Past) (done out : List ℕ) → Reached language past done out held now
+    → Moves language past (done ++ bytes) out output output_after held_after now_after result
 
 -- what the end of the input does
-pub record Completes (past : Past) (done out : List ℕ) (output output_after : OutputData)
-    : Type 0 where
+pub record Completes (language : Language) (past : Past) (done out : List ℕ)
+    (output output_after : OutputData) : Type 0 where
   pub more : List ℕ
   pub sent : Sent more output output_after
-  pub answers : RepliesTo past (lines_of done) (out ++ more)
+  pub answers : RepliesTo language past (lines_of done) (out ++ more)
 
-pub record BreaksOff (past : Past) (done out : List ℕ) (output output_after : OutputData)
-    : Type 0 where
+pub record BreaksOff (language : Language) (past : Past) (done out : List ℕ)
+    (output output_after : OutputData) : Type 0 where
   pub more : List ℕ
   pub writes : Appends output.written output_after.written more
   pub failed : output_after.has_failed ≡ true
-  pub begins : BeginsReplies past (lines_of done) (out ++ more)
+  pub begins : BeginsReplies language past (lines_of done) (out ++ more)
 
-abbrev pub Finishes : {T E : Type 0} → Past → List ℕ → List ℕ → OutputData → OutputData
+abbrev pub Finishes : {T E : Type 0} → Language → Past → List ℕ → List ℕ → OutputData → OutputData
     → Result T E → Type 0
-Finishes past done out output output_after (Ok x) = Completes past done out output output_after
-Finishes past done out output output_after (Err e) = BreaksOff past done out output output_after
+Finishes language past done out output output_after (Ok x) =
+    Completes language past done out output output_after
+Finishes language past done out output output_after (Err e) =
+    BreaksOff language past done out output output_after
 
 -- from wherever a session has come to, the end of the input finishes it
-abbrev pub TakesEnd : {T E : Type 0} → List ℕ → Past → OutputData → OutputData → Result T E
+abbrev pub TakesEnd : {T E : Type 0} → Language → List ℕ → Past → OutputData → OutputData → Result T E
     → Type 0
-TakesEnd held now output output_after result =
-    (past : Past) (done out : List ℕ) → Reached past done out held now
-    → Finishes past done out output output_after result
+TakesEnd language held now output output_after result =
+    (past : Past) (done out : List ℕ) → Reached language past done out held now
+    → Finishes language past done out output output_after result

@@ -28,7 +28,7 @@ pub fn last_text(last: Option<LastWrite>) -> Text
     text
 }
 
-fn agent_name(agent: Agent) -> &'static str
+pub fn agent_name(agent: Agent) -> &'static str
     ensures name { result.now ≡ agent_name agent }
     ensures length { length result.now ≤ 4 }
 {

@@ -1,21 +1,56 @@
 ghost use Rattle.std.specs.Prelude.{◌≡◌, ◌∷◌, []};
-ghost use Rattle.pdp_session.specs.Inside.Progress.{Serves, Takes, TakesEnd};
+ghost use Rattle.pdp_session.specs.Inside.Progress.{Serves, ServesSearch, Takes, TakesEnd};
+ghost use Rattle.pdp_session.specs.Language.{language_with, SessionLanguage};
 
 use crate::command::answer_line;
+use crate::grammar::read_search;
 use crate::lines::{Held, hold, without_return};
-use crate::reply::send_reply;
+use crate::reply::{send_found, send_reply};
+use crate::search::Search;
 use crate::streams::{Drain, Failed};
+use crate::version::Version;
 use pdp_replay::Engine;
 use std::alloc::Global;
 
-// Answers one line, which comes without what ended it, and writes its reply.
-fn serve_line<W: Drain>(
+// Answers one line, which comes without what ended it, and writes its reply. SEARCHES is whether its
+// language has searches.
+fn serve_line<const SEARCHES: bool, W: Drain>(
     alloc: Global,
     engine: &mut Engine,
     line: &[u8],
     writer: &mut W,
 ) -> Result<(), Failed>
-    ensures { Serves line.now engine.old.past engine.new.past
+    ensures { Serves (language_with SEARCHES) line.now engine.old.past engine.new.past
+        (W.output writer.old) (W.output writer.new) result }
+{
+    match read_search::<SEARCHES>(Version::of(engine), line) {
+        Some(search) => serve_search(alloc, engine, search, writer),
+        None => serve_command(alloc, engine, line, writer),
+    }
+}
+
+// Makes a search, and writes what it finds.
+fn serve_search<W: Drain>(
+    alloc: Global,
+    engine: &mut Engine,
+    search: Search,
+    writer: &mut W,
+) -> Result<(), Failed>
+    ensures { ServesSearch search engine.old.past engine.new.past
+        (W.output writer.old) (W.output writer.new) result }
+{
+    let found = search.run(alloc, engine);
+    send_found(&found, writer)
+}
+
+// Answers one line of the session language, and writes its reply.
+fn serve_command<W: Drain>(
+    alloc: Global,
+    engine: &mut Engine,
+    line: &[u8],
+    writer: &mut W,
+) -> Result<(), Failed>
+    ensures { Serves SessionLanguage line.now engine.old.past engine.new.past
         (W.output writer.old) (W.output writer.new) result }
 {
     let reply = answer_line(alloc, engine, line);
@@ -23,54 +58,55 @@ fn serve_line<W: Drain>(
 }
 
 // Takes one byte of input: an LF ends the line, and any other byte is held.
-fn take_byte<W: Drain>(
+fn take_byte<const SEARCHES: bool, W: Drain>(
     alloc: Global,
     engine: &mut Engine,
     held: &mut Held,
     byte: u8,
     writer: &mut W,
 ) -> Result<(), Failed>
-    ensures { Takes (byte ∷ []) held.old.items held.new.items engine.old.past engine.new.past
-        (W.output writer.old) (W.output writer.new) result }
+    ensures { Takes (language_with SEARCHES) (byte ∷ []) held.old.items held.new.items
+        engine.old.past engine.new.past (W.output writer.old) (W.output writer.new) result }
 {
     if byte != b'\n' {
         hold(held, byte);
         return Ok(());
     }
-    let sent = serve_line(alloc, engine, without_return(held.as_slice()), writer);
+    let line = without_return(held.as_slice());
+    let sent = serve_line::<SEARCHES, W>(alloc, engine, line, writer);
     held.clear();
     sent
 }
 
 // Takes some bytes of input, and answers each line that ends among them.
-pub fn take_bytes<W: Drain>(
+pub fn take_bytes<const SEARCHES: bool, W: Drain>(
     alloc: Global,
     engine: &mut Engine,
     held: &mut Held,
     bytes: &[u8],
     writer: &mut W,
 ) -> Result<(), Failed>
-    ensures { Takes bytes.now held.old.items held.new.items engine.old.past engine.new.past
-        (W.output writer.old) (W.output writer.new) result }
+    ensures { Takes (language_with SEARCHES) bytes.now held.old.items held.new.items
+        engine.old.past engine.new.past (W.output writer.old) (W.output writer.new) result }
 {
     for byte in bytes {
-        take_byte(alloc, engine, held, *byte, writer)?;
+        take_byte::<SEARCHES, W>(alloc, engine, held, *byte, writer)?;
     }
     Ok(())
 }
 
 // Answers the line that the end of the input left open, if it has a byte.
-pub fn serve_last_line<W: Drain>(
+pub fn serve_last_line<const SEARCHES: bool, W: Drain>(
     alloc: Global,
     engine: &mut Engine,
     held: &Held,
     writer: &mut W,
 ) -> Result<(), Failed>
-    ensures { TakesEnd held.now.items engine.old.past
+    ensures { TakesEnd (language_with SEARCHES) held.now.items engine.old.past
         (W.output writer.old) (W.output writer.new) result }
 {
     if held.is_empty() {
         return Ok(());
     }
-    serve_line(alloc, engine, held.as_slice(), writer)
+    serve_line::<SEARCHES, W>(alloc, engine, held.as_slice(), writer)
 }

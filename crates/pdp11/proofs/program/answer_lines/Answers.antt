@@ -5,11 +5,12 @@ use Rattle.pdp_script.specs.declared.faults.Fault.TheVariants.{NoMemory, Outside
 use Rattle.pdp_script.specs.Refusal.{result_map}
 use Rattle.pdp_replay.specs.Past.{Past, past_without_events, starting_past}
 use Rattle.pdp_replay.specs.Past.Setup.{SetupData, given_setup, setup_checked, has_good_images, has_good_numbers}
+use Rattle.pdp_session.specs.Language.{SessionLanguage}
 use Rattle.pdp_session.specs.Session.{Ends, SessionEnds}
 use Rattle.pdp11.specs.Exit.{CanEnd}
 use Rattle.pdp11.proofs.program.answer_lines.Goals as goal
 
-ends_good : (p : Past) (read out : List ℕ) (rest : Option (List ℕ)) (r : Result (Unit {0}) Fault) → SessionEnds p read out rest r → CanEnd r
+ends_good : (p : Past) (read out : List ℕ) (rest : Option (List ℕ)) (r : Result (Unit {0}) Fault) → SessionEnds SessionLanguage p read out rest r → CanEnd r
 ends_good p read out rest (Ok x) h = tt
 ends_good p read out rest (Err NoMemory) h = tt
 ends_good p read out rest (Err Input) h = tt
@@ -29,12 +30,12 @@ ends_good p read out rest (Err LineTooLong) h = absurd h
 ends_good p read out rest (Err NoSuchDrive) h = absurd h
 
 ends_started : (b c : Bool) (s : SetupData) (read out : List ℕ) (rest : Option (List ℕ)) (r : Result (Unit {0}) Fault)
-    → Ends (result_map past_without_events (if b then if c then Ok s else Err BadImage else Err BadSetup)) read out rest r → CanEnd r
+    → Ends SessionLanguage (result_map past_without_events (if b then if c then Ok s else Err BadImage else Err BadSetup)) read out rest r → CanEnd r
 ends_started true true s read out rest r h = ends_good (past_without_events s) read out rest r h
 ends_started true false s read out rest r h = rw h.0 tt
 ends_started false c s read out rest r h = rw h.0 tt
 
-can_end : (s : SetupData) (read out : List ℕ) (rest : Option (List ℕ)) (r : Result (Unit {0}) Fault) → Ends (starting_past s) read out rest r → CanEnd r
+can_end : (s : SetupData) (read out : List ℕ) (rest : Option (List ℕ)) (r : Result (Unit {0}) Fault) → Ends SessionLanguage (starting_past s) read out rest r → CanEnd r
 unfolding setup_checked
 can_end s read out rest r h = ends_started (has_good_numbers s) (has_good_images s) s read out rest r h
 

@@ -38,7 +38,7 @@ returns-in_err-engine-clause-session g c =
       takes = search rules;
       writes = search rules;
       pulled = omega arith;
-      ends = ends_refused _ _ c.in_err-engine.field-0.0 _ c.in_err-engine.ensures.engine;
+      ends = ends_refused _ _ _ c.in_err-engine.field-0.0 _ c.in_err-engine.ensures.engine;
     })
 
 pub returns-clause-unread : goal.returns-clause-unread

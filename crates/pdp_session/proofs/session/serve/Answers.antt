@@ -10,7 +10,7 @@ loop-engine-init g c = record {
   out = [];
   takes = Consumes-nil _;
   writes = Appends-nil _;
-  reached = rw c.new-held.ensures (nothing_reached c.args.engine.now.past);
+  reached = rw c.new-held.ensures (nothing_reached _ c.args.engine.now.past);
   pulled = omega arith;
   room = refl;
   reads = c.requires.reader_sound;
@@ -92,7 +92,7 @@ returns-in-Err-clause-session g c =
       takes = Consumes-kept _ _ _ before.read before.takes c.in-Err.ensures.bytes;
       writes = before.writes;
       pulled = omega (arith, c.in-Err.ensures.keeps, before.pulled);
-      ends = ended_answered c.args.engine.now.past before.read before.out _ _ before.reached;
+      ends = ended_answered _ c.args.engine.now.past before.read before.out _ _ before.reached;
     }
 
 -- what the writer's failure is, comes with what was written

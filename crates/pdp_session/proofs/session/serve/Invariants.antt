@@ -1,6 +1,7 @@
-use Rattle.std.proofs.Common.{◌≡◌, ℕ, ◌+◌, ◌≤◌, List, false, length}
+use Rattle.std.proofs.Common.{not, nat_eq, ◌≡◌, ℕ, ◌+◌, ◌≤◌, List, false, length}
 use Rattle.std.specs.Io.KnownBytes.{Appends, Consumes}
 use Rattle.pdp_session.specs.Inside.Progress.{Reached}
+use Rattle.pdp_session.specs.Language.{language_with}
 use Rattle.pdp_session.proofs.session.serve.Given as goal
 
 abbrev pub invariant-loop-engine : goal.invariant-loop-engine
@@ -9,7 +10,7 @@ invariant-loop-engine g l = record {
   out : List ℕ;
   takes : Consumes (g.R.Feed.input l.fn.reader).unread (g.R.Feed.input l.reader).unread read;
   writes : Appends (g.W.Drain.output l.fn.writer).written (g.W.Drain.output l.writer).written out;
-  reached : Reached l.fn.engine.past read out l.held.items l.engine.past;
+  reached : Reached (language_with (not (nat_eq g.row.SEARCHES 0))) l.fn.engine.past read out l.held.items l.engine.past;
   pulled : (g.R.Feed.input l.fn.reader).pulls ≤ (g.R.Feed.input l.reader).pulls + length read;
   room : length l.chunk ≡ 256;
   reads : (g.R.Feed.input l.reader).has_failed ≡ false;

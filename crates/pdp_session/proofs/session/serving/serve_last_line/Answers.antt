@@ -10,11 +10,11 @@ returns-then-is_empty g c = λ past done out r.
     record {
       more = [];
       sent = sent_nothing (g.W.Drain.output c.args.writer.now);
-      answers = rw (append-nil out) (all_answered past done out c.args.held.now.items c.args.engine.now.past none r);
+      answers = rw (append-nil out) (all_answered _ past done out c.args.held.now.items c.args.engine.now.past none r);
     }
 
 pub returns : goal.returns
 returns g c = λ past done out r.
     let some : 0 < length c.args.held.now.items = search rules in
     let serves = rw c.as_slice.ensures.value at c.serve_line.ensures in
-    last_finishes past done out c.args.held.now.items c.args.engine.now.past _ _ _ _ some r serves
+    last_finishes _ past done out c.args.held.now.items c.args.engine.now.past _ _ _ _ some r serves

@@ -1,4 +1,4 @@
-use Rattle.std.proofs.Common.{◌≡◌, ◌+◌, ◌<◌, ◌∷◌, ◌++◌, [], Ok, Err, length, take, drop, get_or, arith, rules}
+use Rattle.std.proofs.Common.{◌≡◌, ◌+◌, ◌<◌, ◌∷◌, ◌++◌, [], Ok, Err, length, take, drop, get_or, arith}
 use Rattle.std.proofs.lemmas.List.{take_all}
 use Rattle.std.proofs.lemmas.Result.{err_from_is_err_and}
 use Rattle.pdp_session.specs.declared.streams.Failed.{Failed}
@@ -14,8 +14,8 @@ returns-in_err-take_byte g c = λ past done out r.
     let breaks = c.in_err-take_byte.ensures past (done ++ take i bytes) (out ++ before.more) before.reached in
     let (failed, is, same) = err_from_is_err_and c.from_residual.result c.from_residual.ensures.1 in
     rw (is, ← all_bytes done bytes i within)
-    (breaks_early past ((done ++ take i bytes) ++ get_or bytes i 0 ∷ []) (drop (i + 1) bytes) out _ _
-    (then_moves {T = Unit {0}} {E = Failed} past _ _ out c.loop-byte.held.items c.take_byte.new.held.items c.loop-byte.engine.past c.take_byte.new.engine.past _ _ _ (Err c.in_err-take_byte.field-0.0) before breaks))
+    (breaks_early _ past ((done ++ take i bytes) ++ get_or bytes i 0 ∷ []) (drop (i + 1) bytes) out _ _
+    (then_moves {T = Unit {0}} {E = Failed} _ past _ _ out c.loop-byte.held.items c.take_byte.new.held.items c.loop-byte.engine.past c.take_byte.new.engine.past _ _ _ (Err c.in_err-take_byte.field-0.0) before breaks))
 
 pub loop-byte-preserved : goal.loop-byte-preserved
 loop-byte-preserved g c =
@@ -26,7 +26,7 @@ loop-byte-preserved g c =
     let before = c.loop-byte.invariant past done out r in
     let goes = c.in_ok-take_byte.ensures past (done ++ take i bytes) (out ++ before.more) before.reached in
     rw (← one_more_byte done bytes i within)
-    (then_moves {T = Unit {0}} {E = Failed} past _ _ out c.loop-byte.held.items c.take_byte.new.held.items c.loop-byte.engine.past c.take_byte.new.engine.past _ _ _ (Ok c.in_ok-take_byte.field-0) before goes)
+    (then_moves {T = Unit {0}} {E = Failed} _ past _ _ out c.loop-byte.held.items c.take_byte.new.held.items c.loop-byte.engine.past c.take_byte.new.engine.past _ _ _ (Ok c.in_ok-take_byte.field-0) before goes)
 
 pub returns : goal.returns
 returns g c = λ past done out r.

@@ -1,0 +1,94 @@
+-- What a search finds, and how that is told (this project's profile).
+use Rattle.std.specs.Prelude.{ℕ, ◌-◌, ◌/◌, ◌++◌, Bool, true, false, List, codes, decimal, drop, length}
+use Rattle.std.specs.Prelude.{nat_lt, take, Option, None, Some, Result, Ok, Err}
+use Rattle.std.specs.List.{flat_map}
+use Rattle.pdp_script.specs.Refusal.{result_map}
+use Rattle.pdp_script.specs.declared.faults.Fault.{Fault}
+use Rattle.pdp_replay.specs.Ask.DiskChanges.{change_checked, word_changes}
+use Rattle.pdp_replay.specs.Ask.Searches.{first_turn_of, search_checked}
+use Rattle.pdp_replay.specs.Ask.SoughtTurns.{is_sought_at}
+use Rattle.pdp_replay.specs.Ask.TextParts.{bytes_at, comes_out, turn_checked}
+use Rattle.pdp_replay.specs.Ask.Writes.{turn_listed, writes_checked, writes_in_turns}
+use Rattle.pdp_replay.specs.Past.{Past}
+use Rattle.pdp_replay.specs.declared.ask.last_write.LastWrite.{LastWrite}
+use Rattle.pdp_replay.specs.declared.ask.text_part.TextKind.{TextKind}
+use Rattle.pdp_replay.specs.declared.ask.text_part.TextKind.TheVariants.{Printed, Punched}
+use Rattle.pdp_session.specs.declared.search.Finding.{Finding}
+use Rattle.pdp_session.specs.declared.search.Finding.TheVariants as found
+use Rattle.pdp_session.specs.declared.search.Search.{Search}
+use Rattle.pdp_session.specs.declared.search.Search.TheVariants as search
+use Rattle.pdp_session.specs.Reply.{agent_name, bytes_line, refusal_text, word_text}
+
+-- the most writes that are listed
+abbrev pub most_listed : ℕ
+most_listed = 256
+
+-- the first writes to the word at an address, and whether turns were left that may have more
+abbrev pub writes_found : List LastWrite → ℕ → Finding
+writes_found writes to = found.Writes writes (nat_lt (turn_listed writes to) to)
+
+-- what a search of this past finds
+abbrev pub finding : Search → Past → Finding
+finding (search.First from to sought) past = found.First (first_turn_of (is_sought_at past sought)
+    from (to - from))
+finding (search.Writes from to address) past = writes_found (take most_listed
+    (writes_in_turns past (address / 2) from (to - from))) to
+finding (search.Change from to drive number) past = found.Change (first_turn_of
+    (word_changes drive number past) from (to - from))
+finding (search.TextFrom kind turn first) past = found.TextFrom kind (drop first
+    (bytes_at kind past turn))
+finding (search.When turn number) past = found.When (first_turn_of (comes_out Printed number past) 0
+    turn)
+
+-- can the search be made?
+abbrev pub search_permitted : Search → Past → Result (Unit {0}) Fault
+search_permitted (search.First from to sought) past = search_checked from to
+search_permitted (search.Writes from to address) past = writes_checked address from to past.setup
+search_permitted (search.Change from to drive number) past = change_checked drive number from to
+    past.setup
+search_permitted (search.TextFrom kind turn first) past = turn_checked turn
+search_permitted (search.When turn number) past = turn_checked turn
+
+-- what it finds, or why it can't be made
+unfoldable pub search_result : Search → Past → Result Finding Fault
+search_result s past = result_map (λ _. finding s past) (search_permitted s past)
+
+-- what was looked for, and the turn that was found, or that there is none
+abbrev pub turn_line : List ℕ → Option ℕ → List ℕ
+turn_line name None = name ++ codes " none\n"
+turn_line name (Some turn) = name ++ codes " " ++ decimal turn ++ codes "\n"
+
+-- the end of a line that says whether turns were left that may have more
+abbrev pub more_mark : Bool → List ℕ
+more_mark false = codes "\n"
+more_mark true = codes " more\n"
+
+-- how many writes are listed, and whether turns were left that may have more
+abbrev pub writes_head : ℕ → Bool → List ℕ
+writes_head count more = codes "writes " ++ decimal count ++ more_mark more
+
+-- a write: its turn, its agent, and the word after the turn
+abbrev pub write_line : LastWrite → List ℕ
+write_line write = decimal write.turn ++ codes " " ++ agent_name write.agent ++ word_text write.word
+    ++ codes "\n"
+
+unfoldable pub writes_text : List LastWrite → Bool → List ℕ
+writes_text writes more = writes_head (length writes) more ++ flat_map write_line writes
+
+-- the name of a text
+abbrev pub text_name : TextKind → List ℕ
+text_name Printed = codes "text"
+text_name Punched = codes "punched"
+
+-- what was found, in lines: one row for each kind of search
+abbrev pub finding_text : Finding → List ℕ
+finding_text (found.First turn) = turn_line (codes "first") turn
+finding_text (found.Writes writes more) = writes_text writes more
+finding_text (found.Change turn) = turn_line (codes "change") turn
+finding_text (found.TextFrom kind bytes) = bytes_line (text_name kind) bytes
+finding_text (found.When turn) = turn_line (codes "when") turn
+
+-- the text that a search is answered
+abbrev pub found_text : Result Finding Fault → List ℕ
+found_text (Ok f) = finding_text f
+found_text (Err fault) = refusal_text fault

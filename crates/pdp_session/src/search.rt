@@ -1,0 +1,82 @@
+//! The searches of the search language, and what they find.
+
+ghost use Rattle.std.specs.Prelude.{◌≡◌};
+ghost use Rattle.pdp_script.specs.Refusal.{for_memory, question_answer};
+ghost use Rattle.pdp_session.specs.Search.{search_result};
+
+mod finders;
+mod write_list;
+
+use finders::{find_change, find_first, find_text, find_turn_of_byte, find_writes};
+use pdp_replay::{Bytes, Engine, Fault, Sought, TextKind};
+use std::alloc::Global;
+pub use write_list::WriteList;
+
+// A search of the run. Where it has two turns, it looks at the turns from the first on and before
+// the second.
+#[derive(Clone, Copy)]
+pub enum Search {
+    // The first turn that is sought.
+    First {
+        from: u32,
+        to: u32,
+        sought: Sought,
+    },
+    // The writes to the word of core at an address.
+    Writes {
+        from: u32,
+        to: u32,
+        address: u32,
+    },
+    // The first turn that changes a word of a drive.
+    Change {
+        from: u32,
+        to: u32,
+        drive: u8,
+        number: u32,
+    },
+    // The bytes printed or punched before a turn, from one of them on, counted from 0.
+    TextFrom {
+        kind: TextKind,
+        turn: u32,
+        first: u32,
+    },
+    // The turn before a turn in which a byte was printed, counted from 0.
+    When {
+        turn: u32,
+        number: u32,
+    },
+}
+
+// What a search found.
+#[derive(Drop)]
+pub enum Finding {
+    First(Option<u32>),
+    // The first writes, and whether turns were left that may have more.
+    Writes(WriteList, bool),
+    Change(Option<u32>),
+    TextFrom(TextKind, Bytes),
+    When(Option<u32>),
+}
+
+impl Search {
+    // What the search finds in the run of the past as it is.
+    pub fn run(self, alloc: Global, engine: &mut Engine) -> Result<Finding, Fault>
+        ensures finding { result
+            ≡ question_answer (search_result self engine.old.past) (for_memory result) }
+        ensures past { engine.new.past ≡ engine.old.past }
+    {
+        match self {
+            Search::First { from, to, sought } => find_first(alloc, engine, from, to, sought),
+            Search::Writes { from, to, address } => find_writes(alloc, engine, from, to, address),
+            Search::Change {
+                from,
+                to,
+                drive,
+                number,
+            } => find_change(alloc, engine, from, to, drive, number),
+            Search::TextFrom { kind, turn, first } => find_text(alloc, engine, kind, turn, first),
+            Search::When { turn, number } => find_turn_of_byte(alloc, engine, turn, number),
+        }
+    }
+}

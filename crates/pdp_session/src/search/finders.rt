@@ -1,0 +1,88 @@
+ghost use Rattle.std.specs.Prelude.{◌≡◌};
+ghost use Rattle.pdp_script.specs.Refusal.{for_memory, question_answer};
+ghost use Rattle.pdp_session.specs.Search.{search_result};
+
+use crate::search::{Finding, Search, WriteList};
+use pdp_replay::{Engine, Fault, Sought, TextKind};
+use std::alloc::Global;
+
+// The first turn that is sought.
+pub fn find_first(
+    alloc: Global,
+    engine: &mut Engine,
+    from: u32,
+    to: u32,
+    sought: Sought,
+) -> Result<Finding, Fault>
+    ensures finding { result ≡ question_answer
+        (search_result (Search.First from to sought) engine.old.past) (for_memory result) }
+    ensures past { engine.new.past ≡ engine.old.past }
+{
+    let found = engine.first_at(alloc, sought, from, to)?;
+    Ok(Finding::First(found.turn))
+}
+
+// The writes to the word of core at an address.
+pub fn find_writes(
+    alloc: Global,
+    engine: &mut Engine,
+    from: u32,
+    to: u32,
+    address: u32,
+) -> Result<Finding, Fault>
+    ensures finding { result ≡ question_answer
+        (search_result (Search.Writes from to address) engine.old.past) (for_memory result) }
+    ensures past { engine.new.past ≡ engine.old.past }
+{
+    let found = engine.writes(alloc, address, from, to)?;
+    let more = found.reached < to;
+    Ok(Finding::Writes(WriteList::new(found.writes), more))
+}
+
+// The first turn that changes a word of a drive.
+pub fn find_change(
+    alloc: Global,
+    engine: &mut Engine,
+    from: u32,
+    to: u32,
+    drive: u8,
+    number: u32,
+) -> Result<Finding, Fault>
+    ensures finding { result ≡ question_answer
+        (search_result (Search.Change from to drive number) engine.old.past) (for_memory result) }
+    ensures past { engine.new.past ≡ engine.old.past }
+{
+    let found = engine.next_change(alloc, drive, number, from, to)?;
+    Ok(Finding::Change(found.turn))
+}
+
+// The bytes printed or punched before a turn, from one of them on.
+pub fn find_text(
+    alloc: Global,
+    engine: &mut Engine,
+    kind: TextKind,
+    turn: u32,
+    first: u32,
+) -> Result<Finding, Fault>
+    ensures finding { result ≡ question_answer
+        (search_result (Search.TextFrom kind turn first) engine.old.past) (for_memory result) }
+    ensures past { engine.new.past ≡ engine.old.past }
+{
+    let part = engine.text_from(alloc, kind, turn, first)?;
+    Ok(Finding::TextFrom(kind, part.bytes))
+}
+
+// The turn before a turn in which a byte was printed.
+pub fn find_turn_of_byte(
+    alloc: Global,
+    engine: &mut Engine,
+    turn: u32,
+    number: u32,
+) -> Result<Finding, Fault>
+    ensures finding { result ≡ question_answer
+        (search_result (Search.When turn number) engine.old.past) (for_memory result) }
+    ensures past { engine.new.past ≡ engine.old.past }
+{
+    let found = engine.turn_of_byte(alloc, TextKind::Printed, number, turn)?;
+    Ok(Finding::When(found.turn))
+}
