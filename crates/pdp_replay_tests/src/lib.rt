@@ -1,6 +1,7 @@
 //! Tests of the engine, and of the session as a call: what no reply tells. That is how many turns
-//! are run for a question, the known turn, the stride, which states are kept, which turns begin
-//! quietly, a machine without decoded lines, a full script, and streams that fail.
+//! are run for a question, the known turn, the stride, which states are kept, what searches find,
+//! which turns begin quietly, a machine without decoded lines, a full script, and streams that
+//! fail.
 //!
 //! They stand in a crate of their own, since a crate that has tests is proved once more for them.
 //! What lines make of an engine is in the rows and tables of sessions.
@@ -20,6 +21,8 @@ mod kept_states;
 mod quiet_turns;
 #[cfg(test)]
 mod script;
+#[cfg(test)]
+mod searches;
 #[cfg(test)]
 mod steps;
 #[cfg(test)]

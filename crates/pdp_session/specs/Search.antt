@@ -61,7 +61,7 @@ turn_line name (Some turn) = name ++ codes " " ++ decimal turn ++ codes "\n"
 -- the end of a line that says whether turns were left that may have more
 abbrev pub more_mark : Bool → List ℕ
 more_mark false = codes "\n"
-more_mark true = codes " more\n"
+more_mark true = codes " or more\n"
 
 -- how many writes are listed, and whether turns were left that may have more
 abbrev pub writes_head : ℕ → Bool → List ℕ

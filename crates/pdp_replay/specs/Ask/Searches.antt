@@ -42,9 +42,11 @@ first_turn_of holds from (suc n) =
 -- can turns from one on and before another be searched?
 abbrev pub search_checked : ℕ → ℕ → Result (Unit {0}) Fault
 search_checked from to = (
+    if nat_le from last_turn then
     if nat_le to last_turn then
     if nat_le from to then Ok tt
     else Err CountOutOfRange
+    else Err TurnTooLarge
     else Err TurnTooLarge)
 
 -- the turn that a search ends at: the one after what it found, or the one before which it looks

@@ -8,8 +8,8 @@ ghost use Rattle.pdp_replay.specs.Run.KeptRuns.{resumed_turn, Advances, ArrivesA
 ghost use Rattle.pdp_replay.specs.Run.KeptRuns.{IsKeptRun, KeepsRun, LeavesKept};
 ghost use Rattle.pdp_replay.specs.Run.States.{disk_of};
 ghost use Rattle.pdp_replay.specs.Ask.Known.{LeavesPast, RunsFor};
-ghost use Rattle.pdp_replay.specs.Ask.Searches.{first_turn_of, turn_reached};
-ghost use Rattle.pdp_replay.specs.Ask.Searches.{EndsAfter, IsFirst, IsFound, IsWithinSearch, StaysIn};
+ghost use Rattle.pdp_replay.specs.Ask.Searches.{first_turn_of, turn_reached, EndsAfter, IsFirst};
+ghost use Rattle.pdp_replay.specs.Ask.Searches.{IsFound, IsWithinSearch, StaysIn};
 ghost use Rattle.pdp_replay.specs.Ask.DiskChanges.{change_checked, word_changes};
 ghost use Rattle.pdp_replay.specs.Ask.DiskChanges.{CanWatch, IsFirstChange};
 
@@ -31,7 +31,7 @@ impl Engine {
     /// word that is there changes nothing. The machine runs up to the end of the turn that is
     /// found, or to `to`.
     ///
-    /// Err(TurnTooLarge) if `to` is above 1,000,000,000; otherwise Err(CountOutOfRange) if `from`
+    /// Err(TurnTooLarge) if a turn is above 1,000,000,000; otherwise Err(CountOutOfRange) if `from`
     /// is above `to`; otherwise Err(NoSuchDrive) if the drive is not below the number of drives;
     /// otherwise Err(OutsideDisk) if the word's number is 4604000 (octal; 1,247,232) or above;
     /// otherwise Err(NoMemory) if memory was refused. No refusal changes the past, and one for

@@ -38,7 +38,7 @@ impl Engine {
     /// The first turn from turn `from` on and before turn `to` that is sought, of the run from
     /// power-up of the past as it is now. The machine runs to the end of that turn, or to `to`.
     ///
-    /// Err(TurnTooLarge) if `to` is above 1,000,000,000; otherwise Err(CountOutOfRange) if `from`
+    /// Err(TurnTooLarge) if a turn is above 1,000,000,000; otherwise Err(CountOutOfRange) if `from`
     /// is above `to`; otherwise Err(NoMemory) if memory was refused. No refusal changes the past,
     /// and one for another cause than memory changes nothing. (This project's profile.)
     pub fn first_at(
@@ -86,14 +86,14 @@ impl Engine {
 
 /// Whether the turns from one on and before another can be searched.
 ///
-/// Err(TurnTooLarge) if `to` is above 1,000,000,000; otherwise Err(CountOutOfRange) if `from` is
+/// Err(TurnTooLarge) if either is above 1,000,000,000; otherwise Err(CountOutOfRange) if `from` is
 /// above `to`.
 pub(crate) fn check_search(from: u32, to: u32) -> Result<(), Fault>
     ensures refusal { search_checked from to ≡ result }
     ensures limit { OnOk result (to ≤ LAST_TURN) }
     ensures order { OnOk result (from ≤ to) }
 {
-    if to > LAST_TURN {
+    if from > LAST_TURN || to > LAST_TURN {
         return Err(Fault::TurnTooLarge);
     }
     if from > to {

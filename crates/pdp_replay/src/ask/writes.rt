@@ -50,7 +50,7 @@ impl Engine {
     /// write, with the word as it is after the turn. At the end of the turn of the 256th write the
     /// search ends.
     ///
-    /// Err(TurnTooLarge) if `to` is above 1,000,000,000; otherwise Err(CountOutOfRange) if `from`
+    /// Err(TurnTooLarge) if a turn is above 1,000,000,000; otherwise Err(CountOutOfRange) if `from`
     /// is above `to`; otherwise Err(OutsideCore) if the address is not in core; otherwise
     /// Err(OddAddress) if it is odd; otherwise Err(NoMemory) if memory was refused. No refusal
     /// changes the past, and one for another cause than memory changes nothing. (This project's

@@ -92,9 +92,9 @@ fn writes_head(count: usize, more: bool) -> Text
 // The end of a line that says whether there may be more.
 fn more_mark(more: bool) -> &'static str
     ensures mark { result.now ≡ more_mark more }
-    ensures length { length result.now ≤ 6 }
+    ensures length { length result.now ≤ 9 }
 {
-    if more { " more\n" } else { "\n" }
+    if more { " or more\n" } else { "\n" }
 }
 
 // Writes the line of the write of this index, where there is one.
