@@ -3,8 +3,9 @@ import struct
 from pathlib import Path
 from typing import Iterator, List, Tuple
 
+from .children import ExploreError
 from .commands import Arguments, Explorer, command
-from .machine import MOST_WORDS, ExploreError, Machine
+from .machine import MOST_WORDS, Machine
 from .replies import Devices, Mode, Pages, Registers, words_of
 from .script import write_whole
 

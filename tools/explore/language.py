@@ -1,6 +1,6 @@
 """The forms of the session language, and which word of a refused line is the wrong one."""
 from dataclasses import dataclass
-from typing import Dict, List, Optional
+from typing import Dict, FrozenSet, List, Optional
 
 from .past import LINE_DEVICES, Past
 
@@ -13,7 +13,7 @@ class Number:
     """A number of the language, by its letter."""
 
     title: str
-    digits: frozenset
+    digits: FrozenSet[str]
     largest: Optional[int] = None
 
     def fault(self, letter: str, word: str) -> Optional[str]:

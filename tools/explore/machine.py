@@ -8,6 +8,7 @@ from typing import Iterator, List, Optional, Sequence
 import sessions
 
 from .children import Child, ExploreError, ProgramEnded
+from .interrupts import INTERRUPTS
 from .past import Past
 from .replies import Devices, LastWrite, Pages, Registers, Turn, text_of, turns_of, words_of
 
@@ -64,37 +65,55 @@ def is_taken(reply: str) -> bool:
 
 @dataclass
 class Machine:
-    """A program with the edits that it took. It is started again if it ends, with these edits."""
+    """A program with the edits that it took. If it ends, or is stopped, the next question starts it
+    again, with these edits."""
 
     start: Start
     journal: List[str] = field(default_factory=list)
     past: Past = field(default_factory=Past)
+    replies: List[str] = field(default_factory=list)
     is_closed: bool = False
 
     def __post_init__(self) -> None:
-        self.program = self._started()
+        self._running: Optional[Program] = self._started()
+
+    def begin(self) -> Program:
+        """The program, started again if there is none."""
+        if self.is_closed:
+            raise ProgramEnded("the program was closed")
+        if self._running is None:
+            self._running = self._started()
+        return self._running
+
+    @property
+    def program(self) -> Program:
+        return self.begin()
 
     def _started(self) -> Program:
-        program = Program(self.start.command(), self.start.folder)
+        with INTERRUPTS.held():
+            program = Program(self.start.command(), self.start.folder)
         try:
-            for _ in program.ask_all(["regs 0", *self.journal], SHORT_SENT_AHEAD):
-                pass
-        except ExploreError:
+            _, *replies = program.ask_all(["regs 0", *self.journal], SHORT_SENT_AHEAD)
+            for line, before, now in zip(self.journal, self.replies, replies):
+                if before != now:
+                    raise ExploreError(f"{line}: was answered {before}, and now {now}")
+        except BaseException:
             program.close()
             raise
         return program
 
     def restart(self) -> None:
-        """Starts the program again, with all edits. Only the states that it kept are lost."""
-        self.program.close()
-        if self.is_closed:
-            raise ProgramEnded("the program was closed")
-        self.program = self._started()
+        """Ends the program. The next use starts it again, with all edits: only the states that it
+        kept are lost."""
+        if self._running is not None:
+            running, self._running = self._running, None
+            running.close()
 
     def twin(self, edits: Optional[Sequence[str]] = None) -> "Machine":
         """Another program with the same edits, or with these."""
         if edits is None:
-            return Machine(self.start, list(self.journal), copy.deepcopy(self.past))
+            past = copy.deepcopy(self.past)
+            return Machine(self.start, list(self.journal), past, list(self.replies))
         twin = Machine(self.start)
         for line in edits:
             twin.ask(line)
@@ -102,17 +121,26 @@ class Machine:
 
     def close(self) -> None:
         self.is_closed = True
-        self.program.close()
+        self.restart()
 
     # Lines
 
     def ask(self, line: str) -> str:
         """The reply to a line that has one. An edit that was taken is kept."""
-        (reply,) = self.ask_all([line])
-        if line.split()[0] in EDITS and is_taken(reply):
-            self.journal.append(line)
-            self.past.apply(line, reply)
+        if line.split()[0] not in EDITS:
+            (reply,) = self.ask_all([line])
+            return reply
+        self.begin()  # here, where Ctrl-C can stop it
+        with INTERRUPTS.held():
+            (reply,) = self.ask_all([line])
+            if is_taken(reply):
+                self._keep(line, reply)
         return reply
+
+    def _keep(self, line: str, reply: str) -> None:
+        self.journal.append(line)
+        self.replies.append(reply)
+        self.past.apply(line, reply)
 
     def ask_all(self, lines: Sequence[str], ahead: int = SENT_AHEAD) -> Iterator[str]:
         """The replies to lines, one by one. Edits among them aren't kept."""
@@ -120,7 +148,7 @@ class Machine:
             yield from self.program.ask_all(lines, ahead)
         except ProgramEnded as error:
             self.restart()
-            raise ProgramEnded(f"{error}; it was started again, with all edits") from error
+            raise ProgramEnded(f"{error}; the next line starts it again, with all edits") from error
         except KeyboardInterrupt:
             self.restart()
             raise

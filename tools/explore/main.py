@@ -1,6 +1,5 @@
 """The options of explore, and how it begins and ends."""
 import argparse
-import os
 import subprocess
 import sys
 from pathlib import Path
@@ -8,10 +7,13 @@ from typing import List, Optional, Tuple
 
 import sessions
 
+from .children import ExploreError
 from .commands import Explorer
 from .disassembly import Disassembler
 from .language import explanation
-from .machine import EDITS, ExploreError, Machine, Start, existing_program
+from .machine import EDITS, Machine, Start, existing_program
+from .interrupts import INTERRUPTS
+from .output import Unwritable, complain, drop_output, fault_in_words, flush, prepare_streams
 from .prompt import Prompt, read_at_terminal, read_lines
 from .sweep import raw_lines
 
@@ -87,7 +89,7 @@ def disassembler_of(given: Optional[str]) -> Disassembler:
     try:
         return Disassembler(existing_program(given) if given else found_program("disassemble"))
     except ExploreError as error:
-        print(f"explore: {error}; instructions are shown as words", file=sys.stderr)
+        complain(f"{error}; instructions are shown as words")
         return Disassembler(None)
 
 
@@ -105,45 +107,61 @@ def read_session(machine: Machine, path: Path) -> None:
         reply = machine.ask(text)
         if reply.startswith("refused"):
             why = explanation(text, reply, machine.past) if text.split()[0] in EDITS else ""
-            print(f"explore: {path}:{number}: {text}: {reply} {why}".rstrip(), file=sys.stderr)
+            complain(f"{path}:{number}: {text}: {reply} {why}".rstrip())
 
 
-def explore(found: argparse.Namespace) -> None:
+def begun(found: argparse.Namespace) -> Explorer:
+    """The machine with the session's edits, and what shows instructions."""
     if found.session and not Path(found.session).is_file():
         raise ExploreError(f"{found.session}: no such file")
     options, folder = options_of(found)
     program = existing_program(found.program) if found.program else found_program("pdp11")
     machine = Machine(Start(program, options, folder))
-    disassembler = disassembler_of(found.disassembler)
-    explorer = Explorer(machine, disassembler, is_terminal=sys.stdin.isatty())
+    explorer = Explorer(machine, disassembler_of(found.disassembler))
+    explorer.is_terminal = sys.stdin.isatty()
+    if found.session:
+        read_session(machine, Path(found.session))
+    return explorer
+
+
+def explore(found: argparse.Namespace) -> None:
+    with INTERRUPTS.allowed():
+        explorer = begun(found)
+    prompt = Prompt(explorer, found.echo)
     try:
-        if found.session:
-            read_session(machine, Path(found.session))
-        prompt = Prompt(explorer, found.echo)
         if found.sweep is not None:
-            prompt.show(raw_lines(explorer, found.sweep))
+            with INTERRUPTS.allowed():
+                prompt.show(raw_lines(explorer, found.sweep))
         elif explorer.is_terminal:
             read_at_terminal(prompt)
         else:
             read_lines(prompt)
-        sys.stdout.flush()
+        flush()
     finally:
-        machine.close()
-        disassembler.close()
+        explorer.machine.close()
+        explorer.disassembler.close()
 
 
 def main() -> int:
+    INTERRUPTS.install()
+    prepare_streams()
     try:
         explore(arguments(sys.argv[1:]))
         return 0
     except ExploreError as error:
-        print(f"explore: {error}", file=sys.stderr)
+        complain(str(error))
         return 1
     except BrokenPipeError:
-        # nobody reads the output: what is left of it goes nowhere
-        os.dup2(os.open(os.devnull, os.O_WRONLY), sys.stdout.fileno())
-        print("explore: the output can't be written", file=sys.stderr)
+        drop_output()
+        complain("the output can't be written")
         return 3
+    except Unwritable as error:
+        drop_output()
+        complain(f"the output can't be written: {error}")
+        return 1
     except KeyboardInterrupt:
-        print("explore: stopped", file=sys.stderr)
+        complain("stopped")
         return 130
+    except Exception as error:
+        complain(fault_in_words(error))
+        return 1

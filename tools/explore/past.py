@@ -1,6 +1,6 @@
 """The past as explore knows it: what the edits that the program took have made of it."""
 from dataclasses import dataclass, field
-from typing import Dict, Iterator, List, Optional, Tuple
+from typing import Dict, Iterator, List, Optional, Tuple, Union
 
 DELAYS = {"printer": 1, "reader": 4, "punch": 4, "disk": 10, "clock": 0}
 LINE_DEVICES = frozenset(DELAYS)
@@ -30,7 +30,7 @@ class Event:
 
 
 # A patch is of ("core", address), or of ("disk", drive, number of the word).
-Patch = Tuple
+Patch = Tuple[Union[str, int], ...]
 
 
 @dataclass

@@ -1,5 +1,4 @@
 """The prompt: lines of the session language go through, explore's own commands are done here."""
-import cmd
 import os
 import readline
 import sys
@@ -10,6 +9,8 @@ from . import compare, export, listing, page, script, search, sweep  # noqa: F40
 from .commands import COMMANDS, Explorer
 from .language import FORMS, explanation, form_of
 from .children import ExploreError
+from .interrupts import INTERRUPTS
+from .output import Unwritable, fault_in_words, put
 
 PROMPT = "explore> "
 INTRODUCTION = "lines of the session language, and help, see, until, sweep ..; quit ends"
@@ -44,48 +45,47 @@ NUMBERS = (
 )
 
 
-class Prompt(cmd.Cmd):
-    """Reads lines, and shows what each gives."""
-
-    prompt = PROMPT
+class Prompt:
+    """Does lines, and shows what each gives."""
 
     def __init__(self, explorer: Explorer, echo: bool = False):
-        super().__init__()
+        self.completions: List[str] = []
         self.explorer = explorer
         self.echo = echo
 
     def show(self, lines: Iterable[str]) -> None:
         for line in lines:
-            print(line, flush=self.explorer.is_terminal)
-
-    # cmd.Cmd calls these
+            put(line, self.explorer.is_terminal)
 
     def onecmd(self, line: str) -> bool:
         """Does one line, and tells whether it was the last one."""
-        word, _, rest = line.strip().partition(" ")
+        if not line.strip() or line.startswith("#"):
+            return False
+        word, *others = line.strip().split(maxsplit=1)
         try:
-            if line == "EOF" or word == "quit":
+            if word == "quit":
                 return True
-            if not word or line.startswith("#"):
-                return False
-            self.do(word, rest, line)
-        except BrokenPipeError:
+            with INTERRUPTS.allowed():
+                self.do(word, "".join(others), line)
+        except (BrokenPipeError, Unwritable):
             raise
-        except (ExploreError, OSError) as error:
-            print(f"{word}: {error}")
         except KeyboardInterrupt:
-            print(f"\n{word}: stopped; the edits are all there")
+            self.show([f"\n{word}: stopped; the edits are all there"])
+            INTERRUPTS.forget()
+        except (ExploreError, OSError) as error:
+            self.show([f"{word}: {error}"])
+        except Exception as error:
+            self.show([f"{word}: {fault_in_words(error)}"])
         return False
 
-    def emptyline(self) -> bool:
-        return False
+    # Completion
 
-    def completenames(self, text: str, *ignored: object) -> List[str]:
-        return sorted(it for it in {*COMMANDS, *OWN_HELP, *FORMS} if it.startswith(text))
-
-    def completedefault(self, *ignored: object) -> List[str]:
-        text = str(ignored[0])
-        return [str(it) for it in Path(".").glob(f"{text}*")] if text else []
+    def complete(self, text: str, number: int) -> Optional[str]:
+        """The completion of a word with this number, for readline."""
+        if number == 0:
+            before = readline.get_line_buffer()[: readline.get_begidx()]
+            self.completions = paths_from(text) if before.strip() else words_from(text)
+        return self.completions[number] if number < len(self.completions) else None
 
     # What a line does
 
@@ -100,10 +100,8 @@ class Prompt(cmd.Cmd):
     def pass_on(self, line: str) -> None:
         machine = self.explorer.machine
         reply = machine.ask(line)
-        print(reply)
-        if reply.startswith("refused"):
-            why = explanation(line, reply, machine.past)
-            print(f"  {why}" if why else "", end="\n" if why else "")
+        why = explanation(line, reply, machine.past) if reply.startswith("refused") else ""
+        self.show([reply, f"  {why}"] if why else [reply])
 
     def help_lines(self, word: str) -> List[str]:
         past = self.explorer.machine.past
@@ -131,42 +129,76 @@ class Prompt(cmd.Cmd):
         return [*lines, "", NUMBERS]
 
 
+def words_from(text: str) -> List[str]:
+    """The commands and lines that begin so."""
+    return sorted(it for it in {*COMMANDS, *OWN_HELP, *FORMS} if it.startswith(text))
+
+
+def paths_from(text: str) -> List[str]:
+    """The files and folders whose path begins so."""
+    folder, name = os.path.split(text)
+    try:
+        with os.scandir(folder or ".") as entries:
+            found = [(it.name, it.is_dir()) for it in entries if it.name.startswith(name)]
+    except OSError:
+        return []
+    is_shown = [(it, is_folder) for it, is_folder in found if name or not it.startswith(".")]
+    return sorted(os.path.join(folder, it) + "/" * is_folder for it, is_folder in is_shown)
+
+
 def history_file() -> Optional[Path]:
     """Where the lines of earlier prompts are."""
     folder = os.environ.get("XDG_STATE_HOME") or os.path.expanduser("~/.local/state")
     return Path(folder) / "nezdrab" / "history" if os.path.isabs(folder) else None
 
 
-def read_at_terminal(prompt: Prompt) -> None:
-    """The loop at a terminal: line editing and history; Ctrl-C at the prompt drops the line."""
-    path = history_file()
-    if path and path.exists():
-        try:
+def read_history(path: Optional[Path]) -> None:
+    try:
+        if path and path.exists():
             readline.read_history_file(path)
-        except OSError:
-            pass
-    intro = INTRODUCTION
-    while True:
-        try:
-            prompt.cmdloop(intro)
-            break
-        except KeyboardInterrupt:
-            print("^C")
-            intro = ""
-    if path:
-        try:
+    except OSError:
+        pass
+
+
+def write_history(path: Optional[Path]) -> None:
+    try:
+        if path:
             path.parent.mkdir(parents=True, exist_ok=True)
             readline.set_history_length(2000)
             readline.write_history_file(path)
-        except OSError:
-            pass
+    except OSError:
+        pass
+
+
+def read_at_terminal(prompt: Prompt) -> None:
+    """The loop at a terminal: line editing and history; Ctrl-C at the prompt drops the line."""
+    path = history_file()
+    read_history(path)
+    readline.set_completer(prompt.complete)
+    readline.set_completer_delims(" \t\n")
+    readline.parse_and_bind("tab: complete")
+    put(INTRODUCTION)
+    is_last = False
+    while not is_last:
+        try:
+            with INTERRUPTS.allowed():
+                line = input(PROMPT)
+        except EOFError:
+            break
+        except KeyboardInterrupt:
+            put("^C")
+        else:
+            is_last = prompt.onecmd(line)
+    write_history(path)
 
 
 def read_lines(prompt: Prompt) -> None:
     """Lines from a file or a pipe. With echo each is shown before what it gives."""
-    for line in sys.stdin.buffer:
+    is_last = False
+    while not is_last:
+        with INTERRUPTS.allowed():
+            line = sys.stdin.buffer.readline()
         text = line.decode(errors="surrogateescape").rstrip("\n").removesuffix("\r")
         if prompt.echo and text.strip():
-            print(text if text.startswith("#") else f"{PROMPT}{text}")
-        if prompt.onecmd(text):
-            return
+            put(text if text.startswith("#") else f"{PROMPT}{text}")
+        is_last = not line or prompt.onecmd(text)

@@ -6,10 +6,12 @@ from dataclasses import dataclass, field
 from pathlib import Path
 from typing import Dict, Iterator, List, Optional, Sequence, TextIO, Tuple
 
+from .children import ExploreError
 from .commands import Arguments, Explorer, command
 from .crew import Progress, each_of, processors
+from .interrupts import INTERRUPTS
 from .language import explanation
-from .machine import EDITS, ExploreError, Machine
+from .machine import EDITS, Machine
 from .script import absolute_options, write_whole
 
 SWEEP = re.compile(
@@ -164,6 +166,7 @@ def sweep_lines(
     finally:
         if file:
             file.close()
+    INTERRUPTS.again()
     results.replies = {turn: it for turn, it in results.replies.items() if turn in sweep.turns}
     yield from results.lines(sweep.turns.step)
     if is_stopped:

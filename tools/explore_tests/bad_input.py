@@ -122,7 +122,7 @@ class BadInput(Case):
         written = self.explore(lines, "--program", str(stand_in)).splitlines()
         self.assertEqual(
             written[2],
-            "regs: the program ended with status 9; it was started again, with all edits",
+            "regs: the program ended with status 9; the next line starts it again, with all edits",
         )
         self.assertIn("PC 001000", written[3])
         self.assertEqual(written[4:6], ["patches 1", "core 001000 000777"])

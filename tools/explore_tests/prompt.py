@@ -1,56 +1,11 @@
 """The prompt at a terminal, which the tests play through a pseudo terminal."""
-import os
-import pty
-import select
-import signal
-import subprocess
 import time
 
-from .common import SECONDS, Case
+from .terminal import AtTerminal
 
 
-class Terminal(Case):
+class Terminal(AtTerminal):
     """Line editing, history and Ctrl-C."""
-
-    def setUp(self) -> None:
-        super().setUp()
-        self.seen = b""
-
-    def begin(self, *words: str) -> None:
-        ours, theirs = pty.openpty()
-        self.child = subprocess.Popen(
-            self.command(*words),
-            cwd=self.folder,
-            env=self.environment(),
-            start_new_session=True,
-            stdin=theirs,
-            stdout=theirs,
-            stderr=theirs,
-        )
-        os.close(theirs)
-        self.ours = ours
-        self.addCleanup(os.close, ours)
-        self.addCleanup(self.child.wait)
-        self.addCleanup(self.child.kill)
-
-    def wait_for(self, text: bytes) -> str:
-        """Reads until the text is there; returns what was read up to it."""
-        limit = time.monotonic() + SECONDS
-        while text not in self.seen:
-            self.assertLess(time.monotonic(), limit, f"{text!r} doesn't come after {self.seen!r}")
-            if select.select([self.ours], [], [], 0.2)[0]:
-                self.seen += os.read(self.ours, 65536)
-        before, _, self.seen = self.seen.partition(text)
-        return before.decode()
-
-    def type(self, text: str) -> None:
-        """Types at the next prompt. What is typed before it is echoed twice."""
-        self.wait_for(b"explore> ")
-        os.write(self.ours, text.encode())
-
-    def end(self) -> None:
-        self.type("\x04")
-        self.assertEqual(self.child.wait(SECONDS), 0)
 
     def test_a_line_goes_through(self) -> None:
         self.begin("examples/first-run.session")
@@ -64,6 +19,13 @@ class Terminal(Case):
         self.wait_for(b"last never")
         self.type("\x1b[A\n")
         self.wait_for(b"last never")
+        self.end()
+
+    def test_a_path_is_completed_into_a_folder(self) -> None:
+        self.begin()
+        self.type("symbols exam\tledger/user.s\t\n")
+        self.wait_for(b"symbols examples/ledger/user.sym")
+        self.wait_for(b" symbols\r\n")
         self.end()
 
     def test_the_history_is_there_the_next_time(self) -> None:
@@ -82,7 +44,7 @@ class Terminal(Case):
         self.type("core 1000 1")
         self.wait_for(b"core 1000 1")
         time.sleep(0.5)  # a signal counts once readline waits for input
-        os.killpg(self.child.pid, signal.SIGINT)
+        self.interrupt()
         self.type("patches\n")
         self.wait_for(b"patches 0")
         self.end()
@@ -94,7 +56,7 @@ class Terminal(Case):
         self.type("regs 1000000000\n")
         self.wait_for(b"regs 1000000000")
         time.sleep(0.3)
-        os.killpg(self.child.pid, signal.SIGINT)
+        self.interrupt()
         self.wait_for(b"regs: stopped")
         self.type("patches\n")
         self.wait_for(b"core 001000 000777")
@@ -104,7 +66,7 @@ class Terminal(Case):
         self.begin("examples/one-key-sooner.session")
         self.type("sweep -j 2 -o kept key 101 from 0 to 300000: regs 300001\n")
         self.wait_for(b"] ")
-        os.killpg(self.child.pid, signal.SIGINT)
+        self.interrupt()
         self.wait_for(b"stopped: ")
         self.wait_for(b"goes on from kept")
         self.type("events\n")

@@ -1,0 +1,60 @@
+"""What Ctrl-C does: it ends what is under way, once. Between what may be ended it is put off, so
+that no edit is cut in two, and a second Ctrl-C finds nothing half done."""
+import signal
+import threading
+from contextlib import contextmanager
+from typing import Iterator
+
+
+class Interrupts:
+    """Whether Ctrl-C ends what the main thread does now, and whether one was put off."""
+
+    def __init__(self) -> None:
+        self.ends, self.came = False, False
+
+    def install(self) -> None:
+        signal.signal(signal.SIGINT, self.handle)
+
+    def handle(self, *ignored: object) -> None:
+        if self.ends:
+            self.ends = False
+            raise KeyboardInterrupt
+        self.came = True
+
+    @contextmanager
+    def allowed(self) -> Iterator[None]:
+        """What Ctrl-C ends. One that came before ends it at once."""
+        try:
+            self.ends = True
+            if self.came:
+                self.came = self.ends = False
+                raise KeyboardInterrupt
+            yield
+        finally:
+            self.ends = False
+
+    def again(self) -> None:
+        """Those that came count no more. The next one ends what follows in what is allowed."""
+        self.came, self.ends = False, True
+
+    def forget(self) -> None:
+        """Those that came count no more: what they were to end has ended."""
+        self.came = False
+
+    @contextmanager
+    def held(self) -> Iterator[None]:
+        """A part that is done whole. A Ctrl-C that came meanwhile counts at its end."""
+        if not self.ends or threading.current_thread() is not threading.main_thread():
+            yield
+            return
+        self.ends = False
+        try:
+            yield
+        finally:
+            self.ends = not self.came
+        if self.came:
+            self.came = self.ends = False
+            raise KeyboardInterrupt
+
+
+INTERRUPTS = Interrupts()

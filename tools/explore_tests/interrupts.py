@@ -1,0 +1,70 @@
+"""Ctrl-C at any time: no edit is lost, and there is no traceback."""
+import signal
+import subprocess
+import time
+
+from .common import SECONDS
+from .terminal import AtTerminal
+
+GAPS = (0.0, 0.001, 0.003, 0.005, 0.007, 0.01, 0.03, 0.1)
+
+
+class Interrupts(AtTerminal):
+    """Signals one after another, at a terminal and at the start."""
+
+    def two_in_a_question(self, gap: float) -> None:
+        self.type("regs 1000000000\n")
+        self.wait_for(b"regs 1000000000")
+        time.sleep(0.2)
+        self.interrupt()
+        time.sleep(gap)
+        self.interrupt()
+        self.wait_for(b"regs: stopped; the edits are all there")
+        self.settle()
+
+    def test_two_lose_no_edit(self) -> None:
+        (self.folder / "my.session").write_text(
+            "".join(f"core {1000 + 2 * it:o} {it:o}\n" for it in range(2000))
+        )
+        self.begin("my.session")
+        for number, gap in enumerate(GAPS):
+            self.type(f"at {number} key {number:o}\n")
+            self.wait_for(b"event ")
+            self.two_in_a_question(gap)
+        self.type("events\n")
+        self.wait_for(f"{len(GAPS)} events".encode())
+        self.type("patches\n")
+        self.wait_for(b"patches 2000")
+        self.end()
+
+    def test_while_the_program_is_started_again(self) -> None:
+        (self.folder / "my.session").write_text("core 1000 1\n" * 30_000 + "core 1002 7\n")
+        self.begin("my.session")
+        self.two_in_a_question(0.01)
+        for _ in range(3):
+            self.type("regs 0\n")
+            self.wait_for(b"regs 0")
+            time.sleep(0.01)
+            self.interrupt()
+            self.settle()
+        self.type("patches\n")
+        self.wait_for(b"patches 2\r\ncore 001000 000001\r\ncore 001002 000007\r\n")
+        self.end()
+
+    def test_at_the_start(self) -> None:
+        for number in range(50):
+            child = subprocess.Popen(
+                self.command("examples/first-run.session"),
+                cwd=self.folder,
+                env=self.environment(),
+                stdin=subprocess.PIPE,
+                stdout=subprocess.PIPE,
+                stderr=subprocess.PIPE,
+            )
+            time.sleep(0.003 * number)
+            child.send_signal(signal.SIGINT)
+            _, error = child.communicate(timeout=SECONDS)
+            self.assertNotIn(b"Traceback", error)
+            self.assertIn(child.returncode, (130, -signal.SIGINT))
+            if child.returncode == 130:
+                self.assertEqual(error, b"explore: stopped\n")
