@@ -65,6 +65,13 @@ class Command:
 
 
 COMMANDS: Dict[str, Command] = {}
+
+
+def check_turn(turn: int) -> None:
+    if turn > LAST_TURN:
+        raise ExploreError(f"turn {turn} is above {LAST_TURN}")
+
+
 # The parts of patterns: a turn, a count and an event are decimal, an address and a word octal.
 PARTS = {
     "decimal": r"\d{1,10}",

@@ -5,7 +5,8 @@ import sys
 import threading
 import time
 from dataclasses import dataclass
-from typing import Callable, Dict, Iterator, List, Sequence, Tuple, TypeVar
+from operator import length_hint
+from typing import Callable, Dict, Iterable, Iterator, List, Optional, Tuple, TypeVar
 
 from .children import ExploreError
 from .machine import Machine
@@ -54,16 +55,16 @@ def processors() -> int:
 
 def each_of(
     machine: Machine,
-    tasks: Sequence[Task],
+    tasks: Iterable[Task],
     work: Callable[[Machine, Task], Result],
     hands: int,
 ) -> Iterator[Tuple[Task, Result]]:
     """Does each task on one of so many twins of the machine, and yields the results as they come.
-    When nobody reads on, the twins end with what they do."""
-    left: "queue.SimpleQueue" = queue.SimpleQueue()
-    results: "queue.SimpleQueue" = queue.SimpleQueue()
-    for task in tasks:
-        left.put(task)
+    A task is taken when a twin is free for it. When nobody reads on, the twins end with what they
+    do."""
+    left, taking = iter(tasks), threading.Lock()
+    results: "queue.SimpleQueue[Optional[Tuple[Task, Result]]]" = queue.SimpleQueue()
+    faults: List[Exception] = []
     twins: List[Machine] = []
     stop = threading.Event()
 
@@ -72,22 +73,29 @@ def each_of(
             twin = machine.twin()
             twins.append(twin)
             while not stop.is_set():
-                task = left.get_nowait()
-                results.put((task, work(twin, task), None))
-        except queue.Empty:
+                with taking:
+                    task = next(left)
+                results.put((task, work(twin, task)))
+        except StopIteration:
             pass
         except Exception as error:  # it is raised again by the one who reads the results
-            results.put((None, None, error))
+            faults.append(error)
+        results.put(None)
 
-    threads = [threading.Thread(target=hand, daemon=True) for _ in range(min(hands, len(tasks)))]
+    count = min(hands, length_hint(tasks, hands))
+    threads = [threading.Thread(target=hand, daemon=True) for _ in range(count)]
     try:
         for thread in threads:
             thread.start()
-        for _ in range(len(tasks)):
-            task, result, error = results.get()
-            if error is not None:
-                raise error if isinstance(error, ExploreError) else ExploreError(repr(error))
-            yield task, result
+        working = count
+        while working and not faults:
+            result = results.get()
+            if result is None:
+                working -= 1
+            else:
+                yield result
+        for error in faults:
+            raise error if isinstance(error, ExploreError) else ExploreError(repr(error))
     finally:
         stop.set()
         for twin in twins:

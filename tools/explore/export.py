@@ -1,13 +1,14 @@
 """The machine at a turn as a command file of SIMH's pdp11: `export`."""
+import shlex
 import struct
 from pathlib import Path
 from typing import Iterator, List, Tuple
 
 from .children import ExploreError
 from .commands import Arguments, Explorer, command
+from .files import OUTPUT, write_whole
 from .machine import MOST_WORDS, Machine
 from .replies import Devices, Mode, Pages, Registers, words_of
-from .script import write_whole
 
 UNIT_BYTES, DRIVE_WORDS = 0o20000, 1_247_232
 MODEL_NAMES = {Mode.KERNEL: "KI", Mode.USER: "UI"}
@@ -91,41 +92,52 @@ def left_out(machine: Machine, turn: int, registers: Registers, devices: Devices
         yield f"the events from turn {turn} on are not in it: keys are typed by hand"
 
 
-def changed_drives(machine: Machine) -> range:
+def drives(machine: Machine) -> range:
     return range(8) if machine.past.version == 2 else range(1)
+
+
+def attach_lines(drive: int, image: Path) -> Iterator[str]:
+    """SIMH writes to the file of a drive, so it gets a copy of the image, new at each start."""
+    copy = image.with_name(f"{image.name}.run")
+    yield f"! cp {shlex.quote(str(image))} {shlex.quote(str(copy))}"
+    yield f"attach rk{drive} {copy}"
+    yield f"echo drive {drive} is a copy, new at each start: {copy}"
 
 
 @command("export FILE at N", r"(?P<file>.+) at <turn:decimal>", "the state before turn N, for SIMH")
 def export(explorer: Explorer, arguments: Arguments) -> Iterator[str]:
     """Writes the machine before turn N as a command file of SIMH's PDP-11, `pdp11 FILE`, and each
-    drive as an image beside it, FILE.rk0 and so on (FILE without its ending). Core, registers,
-    mapping and the registers of keyboard, printer, clock and disk are in it. What a device is
-    doing, requests, tape and events aren't; the reply names what is lost at this turn."""
+    drive as an image beside it, FILE.rk0 and so on (FILE without its ending). The command file
+    copies an image to FILE.rk0.run and attaches the copy, so that each start finds the same drive.
+    Core, registers, mapping and the registers of keyboard, printer, clock and disk are in it. What
+    a device is doing, requests, tape and events aren't; the reply names what is lost at this turn.
+    A file that was there before is overwritten by export! FILE alone."""
     machine, turn = explorer.machine, arguments.decimal("turn")
     path = Path(arguments.text("file"))
+    OUTPUT.target(path)
     registers, devices = machine.registers(turn), machine.devices(turn)
     lost = list(left_out(machine, turn, registers, devices))
     images = []
-    for drive in changed_drives(machine):
+    for drive in drives(machine):
         image = drive_image(machine, turn, drive)
         if drive == 0 or any(image):
             images.append((drive, path.with_suffix(f".rk{drive}"), image))
-    try:
-        for _, name, image in images:
-            name.write_bytes(image)
-    except OSError as error:
-        raise ExploreError(f"{path}: {error.strerror}") from error
+    for _, name, _ in images:
+        OUTPUT.target(name)
+    for _, name, image in images:
+        OUTPUT.write(name, image)
     lines = [
         f"; the machine before turn {turn}, by Nezdrab's explore",
         "set cpu 11/40",
         "set cpu 256K",
     ]
     lines += [f"; {it}" for it in lost]
-    lines += [f"attach rk{drive} {name.resolve()}" for drive, name, _ in images]
+    lines += [it for drive, name, _ in images for it in attach_lines(drive, name.resolve())]
     lines += core_lines(core_words(machine, turn))
     lines += register_lines(registers, machine.pages(turn))
     lines += device_lines(devices)
     write_whole(path, "".join(f"{it}\n" for it in lines))
     names = ", ".join(str(it) for it in (path, *(name for _, name, _ in images)))
     yield f"written: {names}; run it: pdp11 {path}, then: step, go or examine"
+    yield f"each run attaches a copy: {', '.join(f'{name}.run' for _, name, _ in images)}"
     yield from lost

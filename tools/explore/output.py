@@ -1,4 +1,4 @@
-"""What explore writes: standard output, and files, which are there whole or not at all."""
+"""Standard output and standard error."""
 import codecs
 import io
 import os

@@ -9,6 +9,7 @@ from . import compare, export, listing, page, script, search, sweep  # noqa: F40
 from .commands import COMMANDS, Explorer
 from .language import FORMS, explanation, form_of
 from .children import ExploreError
+from .files import OUTPUT
 from .interrupts import INTERRUPTS
 from .output import Unwritable, fault_in_words, put
 
@@ -39,6 +40,8 @@ OWN_HELP = {
     "help": ("help [WORD]", "what there is, or what the command WORD does"),
     "quit": ("quit", "ends; Ctrl-D does too"),
 }
+# With `!` these overwrite a file that this run hasn't written.
+WRITING = {"save", "page", "export", "sweep"}
 NUMBERS = (
     "A, X, I, D, W and B are octal, N, M, T, C, K and E decimal. A question about turn N is about "
     "the machine before it."
@@ -62,6 +65,7 @@ class Prompt:
         if not line.strip() or line.startswith("#"):
             return False
         word, *others = line.strip().split(maxsplit=1)
+        name = word.rstrip("!")
         try:
             if word == "quit":
                 return True
@@ -70,12 +74,12 @@ class Prompt:
         except (BrokenPipeError, Unwritable):
             raise
         except KeyboardInterrupt:
-            self.show([f"\n{word}: stopped; the edits are all there"])
+            self.show([f"\n{name}: stopped; the edits are all there"])
             INTERRUPTS.forget()
         except (ExploreError, OSError) as error:
-            self.show([f"{word}: {error}"])
+            self.show([f"{name}: {error}"])
         except Exception as error:
-            self.show([f"{word}: {fault_in_words(error)}"])
+            self.show([f"{name}: {fault_in_words(error)}"])
         return False
 
     # Completion
@@ -92,8 +96,9 @@ class Prompt:
     def do(self, word: str, rest: str, line: str) -> None:
         if word in ("help", "?"):
             self.show(self.help_lines(rest.strip()))
-        elif word in COMMANDS:
-            self.show(COMMANDS[word].lines(self.explorer, rest))
+        elif word in COMMANDS or word[-1] == "!" and word[:-1] in WRITING:
+            OUTPUT.command, OUTPUT.overwrites = word.rstrip("!"), word[-1] == "!"
+            self.show(COMMANDS[OUTPUT.command].lines(self.explorer, rest))
         else:
             self.pass_on(line)
 

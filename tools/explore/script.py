@@ -1,11 +1,11 @@
 """Events and the past: `events`, `save`, `type`."""
-import os
 import re
 from pathlib import Path
 from typing import Iterator, List, Optional
 
 from .commands import Arguments, Explorer, command
 from .children import ExploreError
+from .files import write_whole as write_whole
 from .machine import LAST_TURN, Machine
 
 ESCAPES = {"r": 0o15, "n": 0o12, "t": 0o11, "e": 0o33, "\\": 0o134, '"': 0o42}
@@ -20,18 +20,6 @@ def events(explorer: Explorer, arguments: Arguments) -> Iterator[str]:
     yield f"{len(script)} event{'' if len(script) == 1 else 's'}"
     for event in script:
         yield f"event {event.number:>5}  at {event.turn:>10}  {event.explained()}"
-
-
-def write_whole(path: Path, text: str) -> None:
-    """Writes a file so that it is there whole or not at all."""
-    beside = path.with_name(f"{path.name}.{os.getpid()}")
-    try:
-        beside.write_text(text)
-        os.replace(beside, path)
-    except OSError as error:
-        raise ExploreError(f"{path} can't be written: {error.strerror}") from error
-    finally:
-        beside.unlink(missing_ok=True)
 
 
 def absolute_options(machine: Machine) -> List[str]:

@@ -1,18 +1,22 @@
 """One event at each of many turns: `sweep`."""
+import fcntl
 import hashlib
+import os
 import re
 import shlex
+import stat
 from dataclasses import dataclass, field
 from pathlib import Path
-from typing import Dict, Iterator, List, Optional, Sequence, TextIO, Tuple
+from typing import Container, Dict, Iterator, List, Optional, Sequence, Tuple
 
 from .children import ExploreError
-from .commands import Arguments, Explorer, command
+from .commands import Arguments, Explorer, check_turn, command
 from .crew import Progress, each_of, processors
+from .files import write_whole
 from .interrupts import INTERRUPTS
 from .language import explanation
 from .machine import EDITS, Machine
-from .script import absolute_options, write_whole
+from .script import absolute_options
 
 SWEEP = re.compile(
     r"(?P<event>\d+|[a-z].*?) from (?P<first>\d{1,10}) to (?P<last>\d{1,10})"
@@ -36,6 +40,8 @@ class Sweep:
         match = SWEEP.fullmatch(" ".join(text.split()))
         if match is None:
             raise ExploreError("the form is: sweep EVENT|E from N to M [step K]: QUESTION")
+        for turn in (match["first"], match["last"]):
+            check_turn(int(turn))
         turns = range(int(match["first"]), int(match["last"]) + 1, int(match["step"] or 1) or 1)
         number = int(match["event"]) if match["event"].isdigit() else None
         if number is not None and number not in machine.past.events:
@@ -85,14 +91,22 @@ class Results:
 
     heading: str
     replies: Dict[int, str] = field(default_factory=dict)
+    known: Dict[str, str] = field(default_factory=dict)
+
+    def add(self, turn: int, reply: str) -> None:
+        """Equal replies are kept as one text."""
+        self.replies[turn] = self.known.setdefault(reply, reply)
 
     def read(self, path: Path) -> None:
         """Adds what a file has. A last line without its end was cut off, and counts for nothing."""
         try:
-            lines = path.read_text(errors="replace").split("\n")[:-1]
+            self.take(path, path.read_text(errors="replace"))
         except OSError as error:
             raise ExploreError(f"{path}: {error.strerror}") from error
-        for number, line in enumerate(lines, 1):
+
+    def take(self, path: Path, text: str) -> None:
+        """Adds what the text of a file has."""
+        for number, line in enumerate(text.split("\n")[:-1], 1):
             self.heading = self.heading or line
             turn, _, reply = line.partition(" ")
             if line.startswith("#"):
@@ -101,7 +115,7 @@ class Results:
                         f"{path}:{number}: of another sweep, or of another past: {line}"
                     )
             elif turn.isdigit() and reply:
-                self.replies[int(turn)] = reply
+                self.add(int(turn), reply)
             else:
                 raise ExploreError(f"{path}:{number}: no line of a sweep")
 
@@ -120,29 +134,57 @@ class Results:
         yield f"{len(self.replies)} turns, {len(runs)} run{several} of equal replies"
 
 
-def opened(results: Results, path: Path) -> TextIO:
-    """The file of results, with what is there already taken in, to be written on."""
-    if path.exists() and path.stat().st_size:
-        results.read(path)
-        whole = [results.heading, *(f"{turn} {reply}" for turn, reply in results.replies.items())]
-        write_whole(path, "".join(f"{it}\n" for it in whole))
-        return path.open("a")
-    try:
-        file = path.open("w")
-        file.write(f"{results.heading}\n")
-        return file
-    except OSError as error:
-        raise ExploreError(f"{path} can't be written: {error.strerror}") from error
+class ResultFile:
+    """The file of `-o`: results are added to it, and no other sweep writes to it meanwhile."""
+
+    def __init__(self, results: Results, path: Path):
+        self.path = path
+        try:
+            self.handle = os.open(path, os.O_RDWR | os.O_APPEND | os.O_CREAT, 0o666)
+        except OSError as error:
+            raise ExploreError(f"{path} can't be written: {error.strerror}") from error
+        try:
+            if stat.S_ISREG(os.fstat(self.handle).st_mode):
+                self.take(results)
+        except BaseException:
+            self.close()
+            raise
+
+    def take(self, results: Results) -> None:
+        """Takes in what is there. A last line without its end was cut off, and goes."""
+        try:
+            fcntl.flock(self.handle, fcntl.LOCK_EX | fcntl.LOCK_NB)
+        except BlockingIOError:
+            raise ExploreError(f"{self.path}: another sweep is writing to it") from None
+        data = self.path.read_bytes()
+        whole = data[: data.rfind(b"\n") + 1]
+        results.take(self.path, whole.decode(errors="replace"))
+        os.ftruncate(self.handle, len(whole))
+        if not whole:
+            self.add(results.heading)
+
+    def add(self, line: str) -> None:
+        data = f"{line}\n".encode(errors="surrogateescape")
+        try:
+            while data:
+                data = data[os.write(self.handle, data) :]
+        except OSError as error:
+            raise ExploreError(f"{self.path} can't be written: {error.strerror}") from error
+
+    def close(self) -> None:
+        os.close(self.handle)
 
 
 def swept(
-    machine: Machine, sweep: Sweep, turns: Sequence[int], hands: int
+    machine: Machine, sweep: Sweep, known: Container[int], hands: int
 ) -> Iterator[Tuple[int, str]]:
-    """The turns with their replies, as they come."""
-    if not turns:
+    """The turns that aren't known yet, with their replies, as they come."""
+    count = sum(1 for it in sweep.turns if it not in known) if known else len(sweep.turns)
+    wanted = (it for it in sweep.turns if it not in known)
+    if not count:
         return
-    with Progress(len(turns), "turns") as progress:
-        for turn, reply in each_of(machine, turns, sweep.work, hands):
+    with Progress(count, "turns") as progress:
+        for turn, reply in each_of(machine, wanted, sweep.work, min(hands, count)):
             progress.step()
             yield turn, reply
 
@@ -152,15 +194,13 @@ def sweep_lines(
 ) -> Iterator[str]:
     machine = explorer.machine
     results = Results(sweep.heading(machine))
-    file = opened(results, path) if path else None
-    wanted = [it for it in sweep.turns if it not in results.replies]
+    file = ResultFile(results, path) if path else None
     is_stopped = False
     try:
-        for turn, reply in swept(machine, sweep, wanted, hands):
-            results.replies[turn] = reply
+        for turn, reply in swept(machine, sweep, results.replies, hands):
+            results.add(turn, reply)
             if file:
-                file.write(f"{turn} {reply}\n")
-                file.flush()
+                file.add(f"{turn} {reply}")
     except KeyboardInterrupt:
         is_stopped = True
     finally:
@@ -211,11 +251,25 @@ def gathered(paths: Sequence[str]) -> Iterator[str]:
         yield f"{missing} turns between the first and the last are missing"
 
 
-OPTIONS = re.compile(r"(-j|-o|--jobs)\s+(\S+)\s+")
+OPTIONS = re.compile(r"(-j|-o|--jobs)\s+(\S+)\s+|(-y)()\s+")
+MOST_TURNS_UNASKED = 100_000
+
+
+def ask_first(explorer: Explorer, turns: range) -> None:
+    """So many turns are begun only if the user says so."""
+    said = f"{len(turns)} turns are more than {MOST_TURNS_UNASKED}"
+    if not explorer.is_terminal:
+        raise ExploreError(f"{said}; sweep -y .. does them")
+    try:
+        answer = input(f"{said}; begin? (y or n) ")
+    except EOFError:
+        answer = ""
+    if answer.strip() not in ("y", "yes"):
+        raise ExploreError("not begun")
 
 
 @command(
-    "sweep [-j N] [-o FILE] [--jobs FILE] EVENT|E from N to M [step K]: QUESTION"
+    "sweep [-j N] [-o FILE] [-y] [--jobs FILE] EVENT|E from N to M [step K]: QUESTION"
     "  or  sweep --gather FILE ..",
     r"(?P<words>.+)",
     "a question with an event at each of these turns",
@@ -224,7 +278,8 @@ def sweep_command(explorer: Explorer, arguments: Arguments) -> Iterator[str]:
     """Puts EVENT at each of the turns N to M (each K-th), one at a time, and asks QUESTION, a line
     of the language. A number E moves the event with this number. Turns with equal replies that
     follow one another are one line. The past stays as it is. -j N takes N processes (without it one
-    for each processor). -o FILE keeps each reply at once: after Ctrl-C the same line goes on.
+    for each processor). -o FILE keeps each reply at once: after Ctrl-C the same line goes on. Two
+    sweeps can't write to one FILE. More than 100000 turns want a `y`, or -y.
     --jobs FILE writes commands for GNU parallel instead, on this machine or on others with the same
     folders, and --gather FILE .. reads what they have written."""
     words = arguments.text("words").strip()
@@ -234,12 +289,15 @@ def sweep_command(explorer: Explorer, arguments: Arguments) -> Iterator[str]:
         return
     match = OPTIONS.match(words)
     while match:
-        options[match[1]], words = match[2], words[match.end() :]
+        options[match[1] or match[3]] = match[2] or ""
+        words = words[match.end() :]
         match = OPTIONS.match(words)
     hands = options.get("-j", str(processors()))
-    if not hands.isdigit() or not 1 <= int(hands) <= 256:
+    if not hands.isdecimal() or not 1 <= int(hands) <= 256:
         raise ExploreError("N of -j is 1 to 256")
     sweep = Sweep.of(explorer.machine, words)
+    if len(sweep.turns) > MOST_TURNS_UNASKED and not options.keys() & {"-y", "--jobs"}:
+        ask_first(explorer, sweep.turns)
     sweep.check(explorer.machine)
     if "--jobs" in options:
         yield from job_lines(explorer, sweep, Path(options["--jobs"]))
@@ -252,5 +310,5 @@ def raw_lines(explorer: Explorer, text: str) -> Iterator[str]:
     """The sweep of one job: a heading, and each turn with its reply."""
     sweep = Sweep.of(explorer.machine, text)
     yield sweep.heading(explorer.machine)
-    for turn, reply in swept(explorer.machine, sweep, list(sweep.turns), 1):
+    for turn, reply in swept(explorer.machine, sweep, (), 1):
         yield f"{turn} {reply}"

@@ -137,7 +137,7 @@ class BadInput(Case):
         self.assertEqual(
             lines[1], "page: missing/page.html can't be written: No such file or directory"
         )
-        self.assertEqual(lines[2], "export: missing/it: No such file or directory")
+        self.assertEqual(lines[2], "export: missing/it.rk0 can't be written: No such file or directory")
         self.assertTrue(lines[3].startswith("R0 000000"))
 
     def test_results_of_another_sweep(self) -> None:
@@ -170,7 +170,7 @@ class BadInput(Case):
             stderr=subprocess.PIPE,
             text=True,
         )
-        child.stdin.write("sweep -o kept key 101 from 0 to 900000: regs 900001\nevents\n")
+        child.stdin.write("sweep -y -o kept key 101 from 0 to 900000: regs 900001\nevents\n")
         child.stdin.flush()
         kept = Path(self.folder / "kept")
         while not kept.exists() or kept.stat().st_size < 1000:

@@ -64,7 +64,7 @@ class Terminal(AtTerminal):
 
     def test_a_bar_is_shown_and_ctrl_c_stops_a_sweep(self) -> None:
         self.begin("examples/one-key-sooner.session")
-        self.type("sweep -j 2 -o kept key 101 from 0 to 300000: regs 300001\n")
+        self.type("sweep -y -j 2 -o kept key 101 from 0 to 300000: regs 300001\n")
         self.wait_for(b"] ")
         self.interrupt()
         self.wait_for(b"stopped: ")

@@ -1,0 +1,96 @@
+"""The files that explore writes: each is there whole or not at all, and takes no other's place."""
+import os
+import stat
+import tempfile
+from contextlib import suppress
+from dataclasses import dataclass, field
+from pathlib import Path
+from typing import Dict, Optional, Tuple
+
+from .children import ExploreError
+
+# A file as it was left, to tell whether it is still that file.
+Stamp = Tuple[int, int, int, int]
+
+
+def stamp_of(found: os.stat_result) -> Stamp:
+    return found.st_dev, found.st_ino, found.st_size, found.st_mtime_ns
+
+
+def usual_mode() -> int:
+    """The mode of a new file."""
+    mask = os.umask(0o77)
+    os.umask(mask)
+    return 0o666 & ~mask
+
+
+def replaced(target: Path, found: Optional[os.stat_result], data: bytes) -> Stamp:
+    """Writes the file beside its place, and then puts it there. Owner and mode stay."""
+    handle, beside = tempfile.mkstemp(prefix=".explore-", dir=target.parent)
+    try:
+        with open(handle, "wb") as file:
+            file.write(data)
+            file.flush()
+            if found is not None:
+                with suppress(OSError):
+                    os.fchown(handle, found.st_uid, found.st_gid)
+            os.fchmod(handle, stat.S_IMODE(found.st_mode) if found else usual_mode())
+            os.fsync(handle)
+            stamp = stamp_of(os.fstat(handle))
+        os.replace(beside, target)
+    except BaseException:
+        with suppress(OSError):
+            os.unlink(beside)
+        raise
+    return stamp
+
+
+@dataclass
+class Output:
+    """The files that this run has written, the command that writes now, and whether it may
+    overwrite others."""
+
+    left: Dict[Path, Stamp] = field(default_factory=dict)
+    command: str = ""
+    overwrites: bool = False
+
+    def target(self, path: Path) -> Tuple[Path, Optional[os.stat_result]]:
+        """What the path names, through links, and what is there. An error if it mustn't be
+        written."""
+        target = Path(os.path.realpath(path))
+        try:
+            found = path.stat()
+        except FileNotFoundError:
+            return target, None
+        except OSError as error:
+            raise ExploreError(f"{path} can't be written: {error.strerror}") from error
+        if stat.S_ISDIR(found.st_mode):
+            raise ExploreError(f"{path} is a folder")
+        if not stat.S_ISREG(found.st_mode):
+            return path, found
+        if not found.st_mode & 0o222 or not os.access(target, os.W_OK):
+            raise ExploreError(f"{path} is read-only")
+        if not self.overwrites and self.left.get(target) != stamp_of(found):
+            raise ExploreError(f"{path} is there already; {self.command}! overwrites it")
+        return target, found
+
+    def write(self, path: Path, data: bytes) -> None:
+        """Writes a file whole, or leaves what was there. Devices and pipes are written to."""
+        target, found = self.target(path)
+        try:
+            if found is None or stat.S_ISREG(found.st_mode):
+                self.left[target] = replaced(target, found, data)
+            else:
+                with open(target, "wb", buffering=0) as device:
+                    while data:
+                        data = data[device.write(data) :]
+        except OSError as error:
+            raise ExploreError(f"{path} can't be written: {error.strerror}") from error
+
+
+OUTPUT = Output()
+
+
+def write_whole(path: Path, text: str) -> None:
+    """Writes a text file, as `Output.write`."""
+    OUTPUT.write(path, text.encode("utf-8", "surrogateescape"))
