@@ -1,7 +1,7 @@
 """The table of explore's own commands. Each module adds its commands to it."""
 import re
 from dataclasses import dataclass, field
-from typing import Callable, Dict, Iterator, Optional
+from typing import Callable, Dict, Iterator, List, Optional
 
 from .disassembly import Disassembler, Symbols
 from .children import ExploreError
@@ -9,9 +9,34 @@ from .machine import LAST_TURN, Machine
 from .replies import Registers
 
 
+@dataclass(frozen=True)
+class Step:
+    """A line at the prompt that made edits, and these edits."""
+
+    line: str
+    edits: List[str]
+
+
+@dataclass
+class Steps:
+    """What `undo` takes back and `redo` makes again, and how many edits there are so far."""
+
+    count: int = 0
+    done: List[Step] = field(default_factory=list)
+    undone: List[Step] = field(default_factory=list)
+
+    def note(self, line: str, journal: List[str]) -> None:
+        """Takes in what a line has added to the edits."""
+        if len(journal) > self.count:
+            self.done.append(Step(line.strip(), journal[self.count :]))
+            self.undone = []
+        self.count = len(journal)
+
+
 @dataclass
 class Explorer:
-    """What the commands work on."""
+    """What the commands work on. The edits that were saved last are those of the session at
+    first."""
 
     machine: Machine
     disassembler: Disassembler
@@ -19,6 +44,8 @@ class Explorer:
     shown: Optional[Registers] = None
     shown_turn: int = 0
     is_terminal: bool = False
+    steps: Steps = field(default_factory=Steps)
+    saved: List[str] = field(default_factory=list)
 
 
 @dataclass(frozen=True)

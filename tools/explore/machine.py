@@ -9,6 +9,7 @@ import sessions
 
 from .children import Child, ExploreError, ProgramEnded
 from .interrupts import INTERRUPTS
+from .journal import Journal
 from .past import Past
 from .replies import Devices, LastWrite, Pages, Registers, Turn, text_of, turns_of, words_of
 
@@ -73,6 +74,7 @@ class Machine:
     past: Past = field(default_factory=Past)
     replies: List[str] = field(default_factory=list)
     is_closed: bool = False
+    file: Optional[Journal] = None
 
     def __post_init__(self) -> None:
         self._running: Optional[Program] = self._started()
@@ -127,20 +129,32 @@ class Machine:
 
     def ask(self, line: str) -> str:
         """The reply to a line that has one. An edit that was taken is kept."""
-        if line.split()[0] not in EDITS:
-            (reply,) = self.ask_all([line])
-            return reply
-        self.begin()  # here, where Ctrl-C can stop it
-        with INTERRUPTS.held():
-            (reply,) = self.ask_all([line])
-            if is_taken(reply):
-                self._keep(line, reply)
+        is_edit = line.split()[0] in EDITS
+        (reply,) = self.edit_all([line]) if is_edit else self.ask_all([line])
         return reply
 
-    def _keep(self, line: str, reply: str) -> None:
-        self.journal.append(line)
-        self.replies.append(reply)
-        self.past.apply(line, reply)
+    def edit_all(self, lines: Sequence[str]) -> List[str]:
+        """The replies to edits. All that were taken are kept, or none if the program ends."""
+        self.begin()  # here, where Ctrl-C can stop it
+        with INTERRUPTS.held():
+            replies = list(self.ask_all(lines))
+            taken = [pair for pair in zip(lines, replies) if is_taken(pair[1])]
+            if self.file is not None and taken:
+                self.file.add(self.journal, [line for line, _ in taken])
+            for line, reply in taken:
+                self.journal.append(line)
+                self.replies.append(reply)
+                self.past.apply(line, reply)
+        return replies
+
+    def take_back(self, count: int) -> None:
+        """Takes the last edits back, as if they hadn't been made."""
+        with INTERRUPTS.held():
+            self.restart()
+            del self.journal[-count:], self.replies[-count:]
+            self.past = Past.of(self.journal, self.replies)
+            if self.file is not None:
+                self.file.take_back(count)
 
     def ask_all(self, lines: Sequence[str], ahead: int = SENT_AHEAD) -> Iterator[str]:
         """The replies to lines, one by one. Edits among them aren't kept."""

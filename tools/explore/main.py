@@ -1,33 +1,41 @@
 """The options of explore, and how it begins and ends."""
 import argparse
+import os
 import subprocess
 import sys
 from pathlib import Path
-from typing import List, Optional, Tuple
+from typing import Iterator, List, Optional
 
 import sessions
 
 from .children import ExploreError
 from .commands import Explorer
 from .disassembly import Disassembler
+from .interrupts import INTERRUPTS
+from .journal import OF_SESSION, Contents, Journal, counted, newest, state_folder, told
 from .language import explanation
 from .machine import EDITS, Machine, Start, existing_program
-from .interrupts import INTERRUPTS
-from .output import Unwritable, complain, drop_output, fault_in_words, flush, prepare_streams
+from .options import FILES, VALUES, option_lines, options_of_session, options_of_words
+from .options import words_of_options
+from .output import Unwritable, complain, drop_output, fault_in_words, flush, prepare_streams, put
 from .prompt import Prompt, read_at_terminal, read_lines
 from .sweep import raw_lines
 
 ROOT = Path(__file__).resolve().parents[2]
-FILES = ["core", "disk", *(f"disk{it}" for it in range(1, 8)), "tape"]
-VALUES = {"units": "N", "start": "A", "stride": "N"}
 DESCRIPTION = """\
 A prompt over the session language of Nezdrab's PDP-11 (docs/LANGUAGE.md). Its lines go through,
 and beside them there are commands to see instructions, to find the turn in which something happens,
 to sweep an event over many turns, and to draw a run. At the prompt `help` lists them all.
 
-SESSION is read first: its edits are made, its questions aren't asked. If a file of its name with
-the ending .args is beside it, the options in it hold, one word a line, unless options are given
-here. Lines from a pipe are read too: ./explore --echo SESSION < my.lines"""
+SESSION is read first: its edits are made, its questions aren't asked. Options may stand in it, in
+comment lines `#! OPTIONS` before its first line, as `save` writes them. Without such a line those
+of a file beside it with the ending .args hold, one word a line. An option that is given here takes
+the place of the one with its name there. Paths in them are those of the session's folder.
+Lines from a pipe are read too: ./explore --echo SESSION < my.lines
+
+At a terminal each edit is written at once to a journal, a session in ~/.local/state/nezdrab (or in
+the folder nezdrab of XDG_STATE_HOME), so that a closed terminal or a power cut loses none. It goes
+when all edits are saved, or with `quit!`; the 30 newest are kept."""
 
 
 def arguments(words: List[str]) -> argparse.Namespace:
@@ -51,28 +59,31 @@ def arguments(words: List[str]) -> argparse.Namespace:
         help="does one part of a sweep, as `sweep --jobs` writes it, and ends",
     )
     parser.add_argument(
-        "--program", metavar="FILE", help="a built pdp11, in place of the one that tools/program finds"
+        "--program", metavar="FILE", help="a built pdp11, in place of what tools/program finds"
     )
     parser.add_argument(
         "--disassembler", metavar="FILE", help="a built disassemble, in the same way"
     )
+    parser.add_argument(
+        "--resume",
+        metavar="FILE",
+        nargs="?",
+        const="",
+        help="takes up a journal, in place of a SESSION: the newest one, or FILE",
+    )
+    journal = parser.add_mutually_exclusive_group()
+    journal.add_argument("--journal", metavar="FILE", help="the journal is FILE, from a pipe too")
+    journal.add_argument("--no-journal", action="store_true", help="there is no journal")
     parser.add_argument("session", metavar="SESSION", nargs="?")
     return parser.parse_args(words)
 
 
-def options_of(found: argparse.Namespace) -> Tuple[List[str], Path]:
-    """The options of the program, and the folder that their paths are in."""
-    given = [(name, getattr(found, name)) for name in (*FILES, *VALUES)]
-    options = [word for name, value in given if value is not None for word in (f"--{name}", value)]
-    if options or not found.session:
-        return options, Path.cwd()
-    beside = Path(found.session).with_suffix(".args")
-    if not beside.exists():
-        return [], Path.cwd()
-    try:
-        return beside.read_text().splitlines(), beside.resolve().parent
-    except (OSError, ValueError) as error:
-        raise ExploreError(f"{beside} can't be read: {error}") from error
+def options_of(found: argparse.Namespace, session: Optional[Path]) -> List[str]:
+    """The options of the program: those of the session, and those that are given."""
+    named = [(name, getattr(found, name)) for name in (*FILES, *VALUES)]
+    words = [word for name, value in named if value is not None for word in (f"--{name}", value)]
+    given = options_of_words(words, "explore", Path.cwd())
+    return words_of_options({**(options_of_session(session) if session else {}), **given})
 
 
 def found_program(name: str) -> str:
@@ -110,17 +121,70 @@ def read_session(machine: Machine, path: Path) -> None:
             complain(f"{path}:{number}: {text}: {reply} {why}".rstrip())
 
 
+def resumed(found: argparse.Namespace) -> Path:
+    """The journal to take up."""
+    if found.session or found.journal:
+        raise ExploreError("--resume takes up a journal: there is no SESSION and no --journal")
+    path = Path(found.resume) if found.resume else newest()
+    if path is None:
+        raise ExploreError("no journal with edits is kept")
+    return path
+
+
+def journal_of(found: argparse.Namespace, options: List[str]) -> Optional[Journal]:
+    """The journal of this run, if it has one."""
+    if found.no_journal or not (found.journal or sys.stdin.isatty()):
+        return None
+    session = os.path.abspath(found.session) if found.session else "none"
+    of_session = f"{OF_SESSION}{session}".replace("\n", " ")
+    heading = [*option_lines(options_of_words(options, "explore", Path.cwd())), of_session]
+    if not found.journal:
+        return Journal(heading, is_own=True)
+    path = Path(found.journal)
+    if path.exists():
+        raise ExploreError(f"{path} is there already; --resume {path} takes it up")
+    return Journal(heading, path)
+
+
+def take_up(explorer: Explorer, path: Path, is_kept_on: bool) -> Iterator[str]:
+    """Makes the edits of a journal, and goes on with it."""
+    machine, steps = explorer.machine, explorer.steps
+    journal = Journal.taken_up(path, path.parent == state_folder()) if is_kept_on else None
+    contents = Contents.of(path)
+    replies = machine.edit_all([*contents.of_session, *contents.edits])
+    refused = [it for it in replies if it.startswith("refused")]
+    if refused:
+        raise ExploreError(f"{path} has {counted(len(refused))} that can't be made: {refused[0]}")
+    machine.file = journal
+    steps.count = len(contents.of_session)
+    explorer.saved = list(contents.of_session)
+    for edit in contents.edits:
+        steps.note(edit, machine.journal[: steps.count + 1])
+    yield f"{counted(len(contents.edits))} taken up (session: {contents.session})"
+
+
 def begun(found: argparse.Namespace) -> Explorer:
     """The machine with the session's edits, and what shows instructions."""
     if found.session and not Path(found.session).is_file():
         raise ExploreError(f"{found.session}: no such file")
-    options, folder = options_of(found)
+    taken_up = resumed(found) if found.resume is not None else None
+    session = Path(found.session) if found.session else None
+    options = options_of(found, taken_up or session)
     program = existing_program(found.program) if found.program else found_program("pdp11")
-    machine = Machine(Start(program, options, folder))
+    machine = Machine(Start(program, options, Path.cwd()))
     explorer = Explorer(machine, disassembler_of(found.disassembler))
     explorer.is_terminal = sys.stdin.isatty()
-    if found.session:
-        read_session(machine, Path(found.session))
+    if taken_up:
+        for line in take_up(explorer, taken_up, not found.no_journal):
+            put(line)
+        return explorer
+    if session:
+        read_session(machine, session)
+    explorer.steps.count = len(machine.journal)
+    explorer.saved = list(machine.journal)
+    machine.file = journal_of(found, options)
+    for line in told() if explorer.is_terminal and not found.no_journal else ():
+        put(line)
     return explorer
 
 

@@ -1,6 +1,6 @@
 """The past as explore knows it: what the edits that the program took have made of it."""
 from dataclasses import dataclass, field
-from typing import Dict, Iterator, List, Optional, Tuple, Union
+from typing import Dict, Iterable, Iterator, List, Optional, Tuple, Union
 
 DELAYS = {"printer": 1, "reader": 4, "punch": 4, "disk": 10, "clock": 0}
 LINE_DEVICES = frozenset(DELAYS)
@@ -43,6 +43,14 @@ class Past:
     delays: Dict[str, int] = field(default_factory=lambda: dict(DELAYS))
     events: Dict[int, Event] = field(default_factory=dict)
     places: int = 0
+
+    @classmethod
+    def of(cls, lines: Iterable[str], replies: Iterable[str]) -> "Past":
+        """What these edits have made, which were answered so."""
+        past = cls()
+        for line, reply in zip(lines, replies):
+            past.apply(line, reply)
+        return past
 
     def apply(self, line: str, reply: str) -> None:
         """Takes an edit that the program has answered `ok` or `event E`."""

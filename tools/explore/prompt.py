@@ -5,12 +5,13 @@ import sys
 from pathlib import Path
 from typing import Iterable, List, Optional
 
-from . import compare, export, listing, page, script, search, sweep  # noqa: F401, they add commands
+from . import compare, edits, export, listing, page, script, search, sweep  # noqa: F401, they add commands
 from .commands import COMMANDS, Explorer
 from .language import FORMS, explanation, form_of
 from .children import ExploreError
 from .files import OUTPUT
 from .interrupts import INTERRUPTS
+from .journal import counted, state_folder
 from .output import Unwritable, fault_in_words, put
 
 PROMPT = "explore> "
@@ -38,8 +39,9 @@ LINE_HELP = {
 }
 OWN_HELP = {
     "help": ("help [WORD]", "what there is, or what the command WORD does"),
-    "quit": ("quit", "ends; Ctrl-D does too"),
+    "quit": ("quit", "ends, as q, exit and Ctrl-D do; quit! drops edits that weren't saved"),
 }
+ENDS = {"quit", "q", "exit"}
 # With `!` these overwrite a file that this run hasn't written.
 WRITING = {"save", "page", "export", "sweep"}
 NUMBERS = (
@@ -53,6 +55,7 @@ class Prompt:
 
     def __init__(self, explorer: Explorer, echo: bool = False):
         self.completions: List[str] = []
+        self.told_fault = ""
         self.explorer = explorer
         self.echo = echo
 
@@ -67,7 +70,8 @@ class Prompt:
         word, *others = line.strip().split(maxsplit=1)
         name = word.rstrip("!")
         try:
-            if word == "quit":
+            if name in ENDS:
+                self.end(is_dropped=word != name)
                 return True
             with INTERRUPTS.allowed():
                 self.do(word, "".join(others), line)
@@ -80,7 +84,29 @@ class Prompt:
             self.show([f"{name}: {error}"])
         except Exception as error:
             self.show([f"{name}: {fault_in_words(error)}"])
+        self.note(line)
         return False
+
+    def note(self, line: str) -> None:
+        """Takes in the edits that a line has made."""
+        machine = self.explorer.machine
+        self.explorer.steps.note(line, machine.journal)
+        fault = machine.file.fault if machine.file else ""
+        if fault and fault != self.told_fault:
+            self.show([f"{fault}; edits are in memory alone"])
+        self.told_fault = fault
+
+    def end(self, is_dropped: bool = False) -> None:
+        """The journal stays if it has edits that weren't saved."""
+        machine = self.explorer.machine
+        if machine.file is None:
+            return
+        edits = sum(len(it.edits) for it in self.explorer.steps.done)
+        if is_dropped or not edits or machine.journal == self.explorer.saved:
+            machine.file.remove()
+        elif machine.file.path:
+            how = "--resume" if machine.file.is_own else f"--resume {machine.file.path}"
+            self.show([f"{counted(edits)} not saved: ./explore {how} takes them up"])
 
     # Completion
 
@@ -96,7 +122,7 @@ class Prompt:
     def do(self, word: str, rest: str, line: str) -> None:
         if word in ("help", "?"):
             self.show(self.help_lines(rest.strip()))
-        elif word in COMMANDS or word[-1] == "!" and word[:-1] in WRITING:
+        elif is_own(word, rest):
             OUTPUT.command, OUTPUT.overwrites = word.rstrip("!"), word[-1] == "!"
             self.show(COMMANDS[OUTPUT.command].lines(self.explorer, rest))
         else:
@@ -110,16 +136,17 @@ class Prompt:
 
     def help_lines(self, word: str) -> List[str]:
         past = self.explorer.machine.past
+        lines: List[str] = []
+        if word in FORMS:
+            lines += [form_of(word, past), "", f"{LINE_HELP[word]}. Details: docs/LANGUAGE.md"]
         if word in COMMANDS:
             found = COMMANDS[word]
-            return [found.form, "", *found.detail.splitlines()]
+            lines += [*([""] if lines else []), found.form, "", *found.detail.splitlines()]
         if word in OWN_HELP:
             return [" : ".join(OWN_HELP[word])]
-        if word in FORMS:
-            return [form_of(word, past), "", f"{LINE_HELP[word]}. Details: docs/LANGUAGE.md"]
-        if word:
+        if word and not lines:
             return [f"there is no command '{word}'; help lists them"]
-        return self.overview()
+        return lines or self.overview()
 
     def overview(self) -> List[str]:
         past = self.explorer.machine.past
@@ -132,6 +159,13 @@ class Prompt:
         lines += ["", "lines of the session language (docs/LANGUAGE.md):"]
         lines += [f"  {form_of(word, past):<16}  {text}" for word, text in LINE_HELP.items()]
         return [*lines, "", NUMBERS]
+
+
+def is_own(word: str, rest: str) -> bool:
+    """Whether a line is a command of explore. A line of the language may begin with its word."""
+    if word in FORMS:
+        return word in COMMANDS and rest.startswith("from")
+    return word in COMMANDS or word[-1] == "!" and word[:-1] in WRITING
 
 
 def words_from(text: str) -> List[str]:
@@ -149,12 +183,6 @@ def paths_from(text: str) -> List[str]:
         return []
     is_shown = [(it, is_folder) for it, is_folder in found if name or not it.startswith(".")]
     return sorted(os.path.join(folder, it) + "/" * is_folder for it, is_folder in is_shown)
-
-
-def history_file() -> Optional[Path]:
-    """Where the lines of earlier prompts are."""
-    folder = os.environ.get("XDG_STATE_HOME") or os.path.expanduser("~/.local/state")
-    return Path(folder) / "nezdrab" / "history" if os.path.isabs(folder) else None
 
 
 def read_history(path: Optional[Path]) -> None:
@@ -177,7 +205,8 @@ def write_history(path: Optional[Path]) -> None:
 
 def read_at_terminal(prompt: Prompt) -> None:
     """The loop at a terminal: line editing and history; Ctrl-C at the prompt drops the line."""
-    path = history_file()
+    folder = state_folder()
+    path = folder / "history" if folder else None
     read_history(path)
     readline.set_completer(prompt.complete)
     readline.set_completer_delims(" \t\n")
@@ -189,6 +218,8 @@ def read_at_terminal(prompt: Prompt) -> None:
             with INTERRUPTS.allowed():
                 line = input(PROMPT)
         except EOFError:
+            put("")
+            prompt.end()
             break
         except KeyboardInterrupt:
             put("^C")

@@ -7,6 +7,7 @@ from .commands import Arguments, Explorer, command
 from .children import ExploreError
 from .files import write_whole as write_whole
 from .machine import LAST_TURN, Machine
+from .options import option_lines, options_of_words
 
 ESCAPES = {"r": 0o15, "n": 0o12, "t": 0o11, "e": 0o33, "\\": 0o134, '"': 0o42}
 WAITED_TURNS = 10_000_000
@@ -22,29 +23,24 @@ def events(explorer: Explorer, arguments: Arguments) -> Iterator[str]:
         yield f"event {event.number:>5}  at {event.turn:>10}  {event.explained()}"
 
 
-def absolute_options(machine: Machine) -> List[str]:
-    """The options, with absolute paths, so that they can be used in another folder."""
-    words = [part for it in machine.start.options for part in it.split("=", 1)]
-    are_files = re.compile(r"--(core|disk[1-7]?|tape)")
-    before = [""] + words
-    folder = machine.start.folder
-    pairs = zip(before, words)
-    return [str(folder / it) if are_files.fullmatch(option) else it for option, it in pairs]
+def session_lines(machine: Machine) -> List[str]:
+    """A session that gives the same machine, with its options."""
+    options = options_of_words(machine.start.options, "explore", machine.start.folder)
+    return [*option_lines(options), *machine.past.lines()]
 
 
 @command("save FILE", r"(?P<file>.+)", "the past, as a session that gives the same machine")
 def save(explorer: Explorer, arguments: Arguments) -> Iterator[str]:
     """Writes version, tape, delays, patches and events as lines of a session. Events are numbered
-    anew, in the order in which they happen. If there are options, such as `--disk`, they are
-    written to a file beside it, with the ending `.args`; `./explore FILE` reads both."""
+    anew, in the order in which they happen. The options, such as `--disk`, are in its first line,
+    a comment `#! OPTIONS`, which explore reads and pdp11 passes over. A file that was there before
+    is overwritten by save! FILE alone."""
     path = Path(arguments.text("file"))
-    lines = list(explorer.machine.past.lines())
+    lines = session_lines(explorer.machine)
     write_whole(path, "".join(f"{it}\n" for it in lines))
-    options = absolute_options(explorer.machine)
-    beside = path.with_suffix(".args")
-    if options:
-        write_whole(beside, "".join(f"{it}\n" for it in options))
-    yield f"{len(lines)} lines in {path}" + (f", the options in {beside}" if options else "")
+    if path.is_file():
+        explorer.saved = list(explorer.machine.journal)
+    yield f"{len(lines)} lines in {path}"
 
 
 def typed_bytes(text: str) -> List[int]:

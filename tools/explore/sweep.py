@@ -16,7 +16,7 @@ from .files import write_whole
 from .interrupts import INTERRUPTS
 from .language import explanation
 from .machine import EDITS, Machine
-from .script import absolute_options
+from .script import session_lines
 
 SWEEP = re.compile(
     r"(?P<event>\d+|[a-z].*?) from (?P<first>\d{1,10}) to (?P<last>\d{1,10})"
@@ -218,8 +218,7 @@ def job_lines(explorer: Explorer, sweep: Sweep, path: Path) -> Iterator[str]:
     """Writes the commands that do the sweep in parts, and the session that they read."""
     machine = explorer.machine
     session = path.with_name(f"{path.name}.session").resolve()
-    write_whole(session, "".join(f"{it}\n" for it in machine.past.lines()))
-    options = " ".join(shlex.quote(it) for it in absolute_options(machine))
+    write_whole(session, "".join(f"{it}\n" for it in session_lines(machine)))
     event = sweep.event
     if sweep.number is not None:  # the session's events are numbered anew, in their order
         order = [it.number for it in machine.past.script()]
@@ -229,8 +228,7 @@ def job_lines(explorer: Explorer, sweep: Sweep, path: Path) -> Iterator[str]:
     lines = []
     for part in parts:
         text = f"{event} from {part[0]} to {part[-1]} step {part.step}: {sweep.question}"
-        words = ["./explore", options, "--sweep", shlex.quote(text), shlex.quote(str(session))]
-        lines.append(" ".join(filter(None, words)))
+        lines.append(f"./explore --sweep {shlex.quote(text)} {shlex.quote(str(session))}")
     write_whole(path, "".join(f"{it}\n" for it in lines))
     yield f"{len(lines)} commands in {path}, which read {path}.session"
     yield f"run them in this folder: parallel < {path} > {path}.out"

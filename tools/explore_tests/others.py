@@ -71,11 +71,41 @@ class Saved(Case):
         before = self.pdp11(text + questions, *options).splitlines()
         lines = saved.read_text()
         after = self.pdp11(lines + questions, *options).splitlines()
-        self.assertNotIn("refused", " ".join(after[: len(lines.splitlines())]))
-        self.assertEqual(after[len(lines.splitlines()) :], before[len(edits) :])
-        if options:
-            self.assertEqual(saved.with_suffix(".args").read_text().split("\n")[:-1], options)
-            saved.with_suffix(".args").unlink()
+        count = sum(sessions.has_reply(it.encode()) for it in lines.splitlines())
+        self.assertNotIn("refused", " ".join(after[:count]))
+        self.assertEqual(after[count:], before[len(edits) :])
+        self.assertEqual(lines.splitlines()[0], " ".join(["#!", *options]))
+        saved.unlink()
+
+    def test_options_are_in_the_file_itself(self) -> None:
+        """A file of options that is beside it counts no more, and those that are given win."""
+        (self.folder / "my disk").write_bytes(b"\7\0")
+        (self.folder / "past.args").write_text("--units\n2\n")
+        asked = "mem 0 40000 1\nregs 0\ndsk 0 0 1\n"
+        words = ("--units", "4", "--start", "2000", "--disk", "my disk")
+        wanted = self.explore("core 40000 7\nsave past.session\n" + asked, *words)
+        self.assertEqual((self.folder / "past.args").read_text(), "--units\n2\n")
+        (self.folder / "elsewhere").mkdir()
+        moved = self.folder / "elsewhere" / "past.session"
+        (self.folder / "past.session").rename(moved)
+        moved.with_suffix(".args").write_text("--units\n2\n")
+        self.assertEqual(self.explore(asked, str(moved)), "".join(wanted.splitlines(True)[2:]))
+        written = self.explore(asked, "--start", "3000", str(moved)).splitlines()
+        self.assertEqual((written[0], written[2]), ("mem 000007", "dsk 000007"))
+        self.assertIn("PC 003000", written[1])
+        self.explore("save! past\n")
+        self.assertEqual((self.folder / "past").read_text(), "#!\n")
+        self.assertTrue(self.explore("mem 0 100000 1\n", "past").startswith("mem "))
+
+    def test_a_long_path_is_in_the_file(self) -> None:
+        """The program passes over its comment lines, which have 200 bytes at most."""
+        folder = self.folder / ("it's a \\ folder" * 4) / ("b" * 130)
+        folder.mkdir(parents=True)
+        (folder / "d").write_bytes(b"\7\0")
+        self.explore("core 1000 5\nsave past\n", "--disk", str(folder / "d"))
+        written = self.pdp11((self.folder / "past").read_text())
+        self.assertEqual(written, "ok\n")
+        self.assertEqual(self.explore("dsk 0 0 1\n", "past"), "dsk 000007\n")
 
     @staticmethod
     def is_edit(line: bytes) -> bool:
@@ -88,7 +118,7 @@ class Saved(Case):
         edits += "alter 3 8 tick\nalter 3 9 tick\ndrop 2\n"
         self.explore(edits + "save past\n")
         self.assertEqual(
-            (self.folder / "past").read_text(), "at 9 key 104\nat 9 key 103\nat 9 tick\n"
+            (self.folder / "past").read_text(), "#!\nat 9 key 104\nat 9 key 103\nat 9 tick\n"
         )
 
 

@@ -1,0 +1,51 @@
+"""Edits that are taken back: `undo`, `redo`, `drop from`."""
+from typing import Iterator
+
+from .children import ExploreError
+from .commands import Arguments, Explorer, Step, command
+from .interrupts import INTERRUPTS
+from .journal import counted
+
+
+def step_in_words(step: Step) -> str:
+    count = len(step.edits)
+    return step.line if count == 1 else f"{step.line} ({counted(count)})"
+
+
+@command("undo", r"", "takes back the edits of the last line that made any")
+def undo(explorer: Explorer, arguments: Arguments) -> Iterator[str]:
+    """Takes back the last edit, or all edits of one line, such as the keys of a `type`. The past
+    and the numbers of events are those of before. Edits of the session aren't taken back."""
+    steps = explorer.steps
+    if not steps.done:
+        raise ExploreError("no edit was made here; those of the session stay")
+    step = steps.done[-1]
+    with INTERRUPTS.held():
+        explorer.machine.take_back(len(step.edits))
+        steps.undone.append(steps.done.pop())
+        steps.count = len(explorer.machine.journal)
+    yield f"taken back: {step_in_words(step)}"
+
+
+@command("redo", r"", "makes the edits again that the last undo took back")
+def redo(explorer: Explorer, arguments: Arguments) -> Iterator[str]:
+    """Makes again what the last `undo` took back. A new edit ends that."""
+    steps = explorer.steps
+    if not steps.undone:
+        raise ExploreError("nothing was taken back, or an edit came after it")
+    step = steps.undone[-1]
+    explorer.machine.begin()
+    with INTERRUPTS.held():
+        explorer.machine.edit_all(step.edits)
+        steps.done.append(steps.undone.pop())
+        steps.count = len(explorer.machine.journal)
+    yield f"made again: {step_in_words(step)}"
+
+
+@command("drop from T", r"from <turn:decimal>", "takes out all events from turn T on")
+def drop_from(explorer: Explorer, arguments: Arguments) -> Iterator[str]:
+    """Takes out each event whose turn is T or later. `undo` takes that back as one."""
+    machine, turn = explorer.machine, arguments.decimal("turn")
+    found = [it.number for it in machine.past.script() if it.turn >= turn]
+    machine.edit_all([f"drop {it}" for it in found])
+    yield f"{len(found)} event{'' if len(found) == 1 else 's'} dropped"
