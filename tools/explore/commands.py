@@ -5,6 +5,7 @@ from typing import Callable, Dict, Iterator, List, Optional
 
 from .disassembly import Disassembler, Symbols
 from .children import ExploreError
+from .language import comma_fault
 from .machine import LAST_TURN, Machine
 from .replies import Registers
 
@@ -87,8 +88,16 @@ class Command:
     def lines(self, explorer: Explorer, words: str) -> Iterator[str]:
         match = self.pattern.fullmatch(words.strip())
         if match is None:
-            raise ExploreError(f"the form is: {self.form}")
-        return self.run(explorer, Arguments(match.groupdict()))
+            commas = comma_fault(words)
+            raise ExploreError(f"{commas}; {self.form}" if commas else f"the form is: {self.form}")
+        parts = match.groupdict()
+        for name in ("first", "last"):
+            check_turn(int(parts.get(name) or 0))
+        if parts.get("drive") and explorer.machine.past.version == 1:
+            raise ExploreError("version 1 has one drive, which isn't named; see version 2")
+        if "\0" in words:
+            raise ExploreError("the line has a NUL")
+        return self.run(explorer, Arguments(parts))
 
 
 COMMANDS: Dict[str, Command] = {}

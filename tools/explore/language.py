@@ -1,4 +1,5 @@
 """The forms of the session language, and which word of a refused line is the wrong one."""
+import re
 from dataclasses import dataclass
 from typing import Dict, FrozenSet, List, Optional
 
@@ -6,6 +7,12 @@ from .past import LINE_DEVICES, Past
 
 OCTAL, DECIMAL = frozenset("01234567"), frozenset("0123456789")
 LONGEST_LINE, MOST_DIGITS = 200, 10
+
+
+def comma_fault(words: str) -> str:
+    """What is wrong with the first number that is written with commas, if there is one."""
+    match = re.search(r"(?<!\S)\d{1,3}(,\d{3})+(?!\S)", words)
+    return f"{match[0]} is written {match[0].replace(',', '')}, without commas" if match else ""
 
 
 @dataclass(frozen=True)
@@ -19,6 +26,8 @@ class Number:
     def fault(self, letter: str, word: str) -> Optional[str]:
         base = "octal" if self.digits == OCTAL else "decimal"
         wrong = sorted(set(word) - self.digits)
+        if comma_fault(word):
+            return f"{letter}, {self.title}: {comma_fault(word)}"
         if wrong:
             return f"{letter}, {self.title}, is {base}, and '{word}' has '{wrong[0]}'"
         if len(word) > MOST_DIGITS:

@@ -201,6 +201,10 @@ def explore(found: argparse.Namespace) -> None:
         else:
             read_lines(prompt)
         flush()
+    except (ExploreError, BrokenPipeError, Unwritable):
+        raise
+    except Exception as error:
+        raise ExploreError(prompt.fault(error)) from error
     finally:
         explorer.machine.close()
         explorer.disassembler.close()

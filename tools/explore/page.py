@@ -151,6 +151,9 @@ def keyed(words: Sequence[str]) -> Dict[str, List[str]]:
             raise ExploreError(f"'{word}' is wrong; the form is: {FORM}")
         else:
             found[key].append(word)
+    empty = next((it for it in KEYS if it in words and not found[it]), None)
+    if empty:
+        raise ExploreError(f"'{empty}' has no number; the form is: {FORM}")
     return found
 
 

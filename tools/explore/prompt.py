@@ -5,6 +5,7 @@ import sys
 from pathlib import Path
 from typing import Iterable, List, Optional
 
+from . import stepping  # noqa: F401
 from . import compare, edits, export, listing, page, script, search, sweep  # noqa: F401, they add commands
 from .commands import COMMANDS, Explorer
 from .language import FORMS, explanation, form_of
@@ -83,9 +84,15 @@ class Prompt:
         except (ExploreError, OSError) as error:
             self.show([f"{name}: {error}"])
         except Exception as error:
-            self.show([f"{name}: {fault_in_words(error)}"])
+            self.show([f"{name}: {self.fault(error)}"])
         self.note(line)
         return False
+
+    def fault(self, error: Exception) -> str:
+        """A fault of explore, and where the edits are."""
+        file = self.explorer.machine.file
+        place = f"; the edits are in {file.path}" if file and file.path else ""
+        return f"{fault_in_words(error)}{place}"
 
     def note(self, line: str) -> None:
         """Takes in the edits that a line has made."""

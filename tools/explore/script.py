@@ -43,6 +43,17 @@ def save(explorer: Explorer, arguments: Arguments) -> Iterator[str]:
     yield f"{len(lines)} lines in {path}"
 
 
+def bytes_of(text: str) -> bytes:
+    """A character up to 377 is a byte, and so is a byte that is no text."""
+    try:
+        return b"".join(
+            bytes([ord(it) - 0xDC00]) if 0xDC80 <= ord(it) <= 0xDCFF else it.encode("latin-1")
+            for it in text
+        )
+    except UnicodeEncodeError as error:
+        raise ExploreError(f"{error.object!r} is no byte; a key is a byte, \\000 to \\377") from None
+
+
 def typed_bytes(text: str) -> List[int]:
     """The bytes of a TEXT: `\\r`, `\\n`, `\\t`, `\\e`, and three octal digits, as in replies."""
     if len(text) > 1 and text[0] == text[-1] == '"':
@@ -54,7 +65,7 @@ def typed_bytes(text: str) -> List[int]:
         if octal:
             found.append(int(octal, 8))
         elif plain:
-            found += plain.encode("latin-1", errors="replace")
+            found += bytes_of(plain)
         elif escape in ESCAPES:
             found.append(ESCAPES[escape])
         else:
@@ -100,13 +111,13 @@ def first_free_between(machine: Machine, first: int, bound: int) -> Optional[int
 def type_text(explorer: Explorer, arguments: Arguments) -> Iterator[str]:
     r"""Adds a key for each byte of TEXT, each at the first turn at which no earlier key waits (bit
     7 of TKS is clear), and at least N turns after the one before. Without `from` it begins after
-    the last key of the script. Enter is \r; there are \n \t \e \\ \" too, and \015 for a
+    the last event of the script. Enter is \r; there are \n \t \e \\ \" too, and \015 for a
     byte in octal. A TEXT with spaces at its end, or with ` from ` in it, stands in "quotes".
     """
     machine = explorer.machine
     every, keys = arguments.decimal("every", 1), typed_bytes(arguments.text("text"))
-    after_keys = max((it + 1 for it in machine.past.key_turns()), default=0)
-    turn = arguments.decimal("first", after_keys)
+    after_events = max((it.turn + 1 for it in machine.past.script()), default=0)
+    turn = arguments.decimal("first", after_events)
     typed = 0
     try:
         for byte in keys:

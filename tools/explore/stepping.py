@@ -1,0 +1,32 @@
+"""Words that people know from other debuggers: `step`, `back`, `run`."""
+from typing import Iterator
+
+from .children import ExploreError
+from .commands import COMMANDS, Arguments, Explorer, command
+
+
+def shown(explorer: Explorer, turn: int) -> Iterator[str]:
+    return COMMANDS["show"].lines(explorer, str(turn))
+
+
+@command("step [K]", r"<count:decimal>?", "shows the turn after the last one that was shown")
+def step(explorer: Explorer, arguments: Arguments) -> Iterator[str]:
+    """Shows the registers K turns after those that the last `show`, `step` or `back` has shown, or
+    one turn. Before the first of them it is turn 0 that was shown."""
+    return shown(explorer, explorer.shown_turn + arguments.decimal("count", 1))
+
+
+@command("back [K]", r"<count:decimal>?", "shows the turn before the last one that was shown")
+def back(explorer: Explorer, arguments: Arguments) -> Iterator[str]:
+    """Shows the registers K turns before those that the last `show`, `step` or `back` has shown, or
+    one turn."""
+    turn = explorer.shown_turn - arguments.decimal("count", 1)
+    if turn < 0:
+        raise ExploreError(f"that is before turn 0: the last turn shown is {explorer.shown_turn}")
+    return shown(explorer, turn)
+
+
+@command("run", r".*", "says what to type: the machine runs as far as a question needs")
+def run(explorer: Explorer, arguments: Arguments) -> Iterator[str]:
+    """There is nothing to start: each turn is there, and a question runs the machine up to it."""
+    yield "each turn is there already: show N, text N; until PC X finds the turn that comes to X"

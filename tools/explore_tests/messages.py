@@ -1,0 +1,104 @@
+"""What is refused is refused by name, and what people type is known."""
+import subprocess
+import sys
+
+from .common import SECONDS, Case
+
+ABOVE = "is above 1000000000"
+
+
+class Messages(Case):
+    """Numbers, words and bytes."""
+
+    def refuses(self, line: str, message: str, *words: str) -> None:
+        written = self.explore(f"{line}\n", *words)
+        self.assertIn(message, written, line)
+        self.assertEqual(self.error, "")
+
+    def test_turns_that_are_too_large(self) -> None:
+        for line in (
+            "until PC 5 from 5000000000",
+            "next 1000 to 9999999999",
+            "first core 1000 = 5 from 1000000001",
+            "sweep tick from 0 to 9999999999: regs 5",
+            "type x from 9999999999",
+            "compare from 1000000001",
+        ):
+            turn = line.split(":")[0].split()[-1]
+            self.refuses(f"core 0 1\n{line}", f"{line.split()[0]}: turn {turn} {ABOVE}\n")
+
+    def test_a_drive_in_version_1(self) -> None:
+        for line in ("first disk 3 5 = 0", "where disk 3 5 60"):
+            self.refuses(line, "version 1 has one drive, which isn't named; see version 2\n")
+        self.assertIn("disk 3 0000005", self.explore("version 2\nfirst disk 3 5 = 0\n"))
+
+    def test_a_tab_between_words(self) -> None:
+        session = "examples/first-run.session"
+        self.assertEqual(self.explore("see\t2\n", session), self.explore("see 2\n", session))
+
+    def test_a_key_of_page_without_a_number(self) -> None:
+        for key in ("from", "to", "words", "disk"):
+            self.refuses(f"page it.html {key}", f"page: '{key}' has no number; the form is: page ")
+        self.assertFalse((self.folder / "it.html").exists())
+
+    def test_numbers_with_commas(self) -> None:
+        self.refuses("regs 1,000", "N, a turn, or a count of turns: 1,000 is written 1000, without")
+        self.refuses("see 1,000,000", "see: 1,000,000 is written 1000000, without commas; see N [C]")
+
+    def test_type_begins_after_the_last_event(self) -> None:
+        self.refuses("at 30 tick\ntype a", "event 2 at 31 key 141\n")
+
+    def test_bytes_that_are_no_text(self) -> None:
+        ended = subprocess.run(
+            self.command("--echo"),
+            input=b"core \377 5\ntype \377\n",
+            cwd=self.folder,
+            env={**self.environment(), "LC_ALL": "C.UTF-8"},
+            capture_output=True,
+            timeout=SECONDS,
+        )
+        self.assertEqual(ended.stderr, b"")
+        self.assertIn(b"is octal, and '\\377' has '\\377'", ended.stdout)
+        self.assertIn(b"event 1 at 0 key 377\n", ended.stdout)
+
+    def test_characters_that_the_terminal_lacks(self) -> None:
+        ended = subprocess.run(
+            self.command("--echo"),
+            input="core \u20ac 5\ntype \u20ac\n".encode(),
+            cwd=self.folder,
+            env={**self.environment(), "PYTHONIOENCODING": "ascii", "PYTHONUTF8": "0"},
+            capture_output=True,
+            timeout=SECONDS,
+        )
+        self.assertEqual((ended.returncode, ended.stderr), (0, b""))
+        self.assertIn(b"has '\\u20ac'", ended.stdout)
+        self.assertIn(b"is no byte", ended.stdout)
+
+    def test_a_fault_of_explore_is_one_line(self) -> None:
+        """A program that answers what no program does stands in for a fault."""
+        wrong = self.folder / "wrong"
+        wrong.write_text(
+            f"#!{sys.executable}\n"
+            "import sys\n"
+            "for line in sys.stdin:\n"
+            "    print('ok' if line.startswith('core') else 'R0 9 run', flush=True)\n"
+        )
+        wrong.chmod(0o755)
+        lines = "core 0 1\nshow 5\nregs 0\n"
+        written = self.explore(lines, "--program", str(wrong), "--journal", "mine").splitlines()
+        self.assertEqual(self.error, "")
+        self.assertTrue(written[1].startswith("show: a fault of explore, please report it: "))
+        self.assertTrue(written[1].endswith("; the edits are in mine"), written[1])
+        self.assertEqual(written[2:], ["R0 9 run"])
+
+    def test_words_of_other_debuggers(self) -> None:
+        lines = "show 1\nstep\nback 2\nback\nstep 2\nrun\nrun 1000\n"
+        written = self.explore(lines, "examples/first-run.session")
+        turns = [int(it.split()[2][:-1]) for it in written.splitlines() if it.startswith("before")]
+        self.assertEqual(turns, [1, 2, 0, 2])
+        self.assertIn("back: that is before turn 0", written)
+        self.assertEqual(written.count("each turn is there already: show N"), 2)
+
+    def test_words_that_end(self) -> None:
+        for word in ("quit", "q", "exit"):
+            self.assertEqual(self.explore(f"{word}\nregs 0\n"), "")
