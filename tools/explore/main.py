@@ -183,8 +183,9 @@ def begun(found: argparse.Namespace) -> Explorer:
     explorer.steps.count = len(machine.journal)
     explorer.saved = list(machine.journal)
     machine.file = journal_of(found, options)
-    for line in told() if explorer.is_terminal and not found.no_journal else ():
-        put(line)
+    if explorer.is_terminal and not found.no_journal and found.sweep is None:
+        for line in told():
+            put(line)
     return explorer
 
 

@@ -69,21 +69,29 @@ class Files(Case):
         self.assertEqual(stat.S_IMODE(target.stat().st_mode), 0o640)
         self.assertIn("core 1000 5\n", (self.folder / "made").read_text())
 
-    def test_devices(self) -> None:
-        """A node of /dev/full of its own, where one may be made; a link to it otherwise."""
-        node = self.folder / "full"
+    def device(self, name: str, minor: int) -> Path:
+        """A device of its own, where one may be made, since a wrong program replaces it. Who may
+        make none can't replace those of the system either, and gets a link."""
+        node = self.folder / name
         try:
-            os.mknod(node, 0o666 | stat.S_IFCHR, os.makedev(1, 7))
+            os.mknod(node, 0o666 | stat.S_IFCHR, os.makedev(1, minor))
             node.open("wb").close()
         except OSError:
             node.unlink(missing_ok=True)
-            node.symlink_to("/dev/full")
-        written = self.explore("core 1000 5\nsave full\npage full to 3\nsave /dev/null\nsave /dev/stdout\n")
+            node.symlink_to(f"/dev/{name}")
+        return node
+
+    def test_devices(self) -> None:
+        nodes = [self.device("full", 7), self.device("null", 3)]
+        (self.folder / "out").symlink_to("/dev/stdout")
+        written = self.explore("core 1000 5\nsave full\npage full to 3\nsave null\nsave out\n")
         lines = written.splitlines()[1:]
         self.assertEqual(lines[0], f"save: full can't be written: {FULL}")
         self.assertEqual(lines[1], f"page: full can't be written: {FULL}")
-        self.assertIn("lines in /dev/null", lines[2])
-        self.assertTrue(stat.S_ISCHR(node.stat().st_mode))
+        self.assertIn("lines in null", lines[2])
+        self.assertIn("core 1000 5", lines[3:])
+        for node in nodes:
+            self.assertTrue(stat.S_ISCHR(node.stat().st_mode))
 
     def test_a_pipe_with_a_name(self) -> None:
         os.mkfifo(self.folder / "pipe")
