@@ -86,6 +86,11 @@ class Journal:
     waiting: List[str] = field(default_factory=list)
     fault: str = ""
 
+    @property
+    def place(self) -> Optional[Path]:
+        """Where all edits are, if they are in a file."""
+        return None if self.handle is None or self.waiting else self.path
+
     @classmethod
     def taken_up(cls, path: Path, is_own: bool) -> "Journal":
         """A journal that is there, to be written on."""
@@ -202,4 +207,4 @@ def told() -> Iterator[str]:
     found = Contents.of(path)
     when = time.strftime("%d %b %Y %H:%M", time.localtime(path.stat().st_mtime))
     what = f"{counted(len(found.edits))} of {when} (session: {found.session})"
-    yield f"{what} weren't saved: ./explore --resume takes them up"
+    yield f"a journal has {what}: ./explore --resume takes them up"

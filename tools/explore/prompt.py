@@ -91,7 +91,7 @@ class Prompt:
     def fault(self, error: Exception) -> str:
         """A fault of explore, and where the edits are."""
         file = self.explorer.machine.file
-        place = f"; the edits are in {file.path}" if file and file.path else ""
+        place = f"; the edits are in {file.place}" if file and file.place else ""
         return f"{fault_in_words(error)}{place}"
 
     def note(self, line: str) -> None:
@@ -111,9 +111,9 @@ class Prompt:
         edits = sum(len(it.edits) for it in self.explorer.steps.done)
         if is_dropped or not edits or machine.journal == self.explorer.saved:
             machine.file.remove()
-        elif machine.file.path:
-            how = "--resume" if machine.file.is_own else f"--resume {machine.file.path}"
-            self.show([f"{counted(edits)} not saved: ./explore {how} takes them up"])
+        elif machine.file.place:
+            how = "--resume" if machine.file.is_own else f"--resume {machine.file.place}"
+            self.show([f"the past isn't saved: ./explore {how} takes up {counted(edits)}"])
 
     # Completion
 

@@ -51,7 +51,8 @@ def bytes_of(text: str) -> bytes:
             for it in text
         )
     except UnicodeEncodeError as error:
-        raise ExploreError(f"{error.object!r} is no byte; a key is a byte, \\000 to \\377") from None
+        said = f"'{error.object[error.start]}' is no byte; a key is \\000 to \\377"
+        raise ExploreError(said) from None
 
 
 def typed_bytes(text: str) -> List[int]:

@@ -137,7 +137,9 @@ class BadInput(Case):
         self.assertEqual(
             lines[1], "page: missing/page.html can't be written: No such file or directory"
         )
-        self.assertEqual(lines[2], "export: missing/it.rk0 can't be written: No such file or directory")
+        self.assertEqual(
+            lines[2], "export: missing/it.rk0 can't be written: No such file or directory"
+        )
         self.assertTrue(lines[3].startswith("R0 000000"))
 
     def test_results_of_another_sweep(self) -> None:

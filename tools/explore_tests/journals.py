@@ -43,7 +43,7 @@ class Journals(AtTerminal):
                 "--units", "4", "my.session",
             ).splitlines()[3:]
             self.begin()
-            self.wait_for(b"3 edits of ")
+            self.wait_for(b"a journal has 3 edits of ")
             self.wait_for(b"./explore --resume takes them up")
             self.type("quit\n")
             self.assertEqual(self.child.wait(SECONDS), 0)
@@ -98,7 +98,7 @@ class Journals(AtTerminal):
             self.type("core 2000 5\n")
             self.wait_for(b"ok")
             self.type(word)
-            self.wait_for(b"1 edit not saved: ./explore --resume takes them up")
+            self.wait_for(b"the past isn't saved: ./explore --resume takes up 1 edit\r\n")
             self.assertEqual(self.child.wait(SECONDS), 0)
             self.seen = b""
         self.assertEqual(len(self.journals()), 4)

@@ -43,7 +43,8 @@ class Messages(Case):
 
     def test_numbers_with_commas(self) -> None:
         self.refuses("regs 1,000", "N, a turn, or a count of turns: 1,000 is written 1000, without")
-        self.refuses("see 1,000,000", "see: 1,000,000 is written 1000000, without commas; see N [C]")
+        message = "see: 1,000,000 is written 1000000, without commas; see N [C]"
+        self.refuses("see 1,000,000", message)
 
     def test_type_begins_after_the_last_event(self) -> None:
         self.refuses("at 30 tick\ntype a", "event 2 at 31 key 141\n")

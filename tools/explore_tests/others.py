@@ -106,6 +106,7 @@ class Saved(Case):
         written = self.pdp11((self.folder / "past").read_text())
         self.assertEqual(written, "ok\n")
         self.assertEqual(self.explore("dsk 0 0 1\n", "past"), "dsk 000007\n")
+        self.assertFalse((self.folder / "past.args").exists())
 
     @staticmethod
     def is_edit(line: bytes) -> bool:
