@@ -93,8 +93,8 @@ class Command:
         parts = match.groupdict()
         for name in ("first", "last"):
             check_turn(int(parts.get(name) or 0))
-        if parts.get("drive") and explorer.machine.past.version == 1:
-            raise ExploreError("version 1 has one drive, which isn't named; see version 2")
+        if parts.get("drive"):
+            check_drive(explorer.machine)
         if "\0" in words:
             raise ExploreError("the line has a NUL")
         return self.run(explorer, Arguments(parts))
@@ -106,6 +106,12 @@ COMMANDS: Dict[str, Command] = {}
 def check_turn(turn: int) -> None:
     if turn > LAST_TURN:
         raise ExploreError(f"turn {turn} is above {LAST_TURN}")
+
+
+def check_drive(machine: Machine) -> None:
+    """An error where no drive is named."""
+    if machine.past.version == 1:
+        raise ExploreError("version 1 has one drive, which isn't named; see version 2")
 
 
 # The parts of patterns: a turn, a count and an event are decimal, an address and a word octal.

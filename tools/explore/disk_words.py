@@ -5,7 +5,7 @@ changes once at most, and looks at these turns see every change."""
 from dataclasses import dataclass
 from typing import Iterator, List, Optional
 
-from .commands import Explorer
+from .commands import Explorer, check_drive
 from .crew import Progress
 from .listing import turn_in_words
 from .machine import SHORT_SENT_AHEAD, ExploreError, Machine
@@ -22,6 +22,10 @@ class DiskWord:
     machine: Machine
     drive: int
     index: int
+
+    def __post_init__(self) -> None:
+        if self.drive:
+            check_drive(self.machine)
 
     @property
     def name(self) -> str:

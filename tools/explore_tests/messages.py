@@ -28,7 +28,7 @@ class Messages(Case):
             self.refuses(f"core 0 1\n{line}", f"{line.split()[0]}: turn {turn} {ABOVE}\n")
 
     def test_a_drive_in_version_1(self) -> None:
-        for line in ("first disk 3 5 = 0", "where disk 3 5 60"):
+        for line in ("first disk 3 5 = 0", "where disk 3 5 60", "page it.html to 5 disk 3:5"):
             self.refuses(line, "version 1 has one drive, which isn't named; see version 2\n")
         self.assertIn("disk 3 0000005", self.explore("version 2\nfirst disk 3 5 = 0\n"))
 
