@@ -5,6 +5,7 @@ from typing import Callable, Dict, Iterator, List, Optional
 
 from .disassembly import Disassembler, Symbols
 from .children import ExploreError
+from .finder import Finder
 from .language import comma_fault
 from .machine import LAST_TURN, Machine
 from .replies import Registers
@@ -47,6 +48,10 @@ class Explorer:
     is_terminal: bool = False
     steps: Steps = field(default_factory=Steps)
     saved: List[str] = field(default_factory=list)
+
+    @property
+    def finder(self) -> Finder:
+        return Finder(self.machine)
 
 
 @dataclass(frozen=True)
@@ -152,3 +157,11 @@ def turn_range(arguments: Arguments, first: int = 0, turns: int = SEARCHED_TURNS
     if last < begin:
         raise ExploreError(f"turn {last} comes before turn {begin}")
     return range(begin, min(last + 1, LAST_TURN))
+
+
+def searched_range(explorer: Explorer, arguments: Arguments) -> range:
+    """The turns of a search. Without `to` they go on to the greatest turn that was asked so far,
+    and then a million further."""
+    begin = arguments.decimal("first")
+    asked = max(0, explorer.machine.asked.greatest - begin)
+    return turn_range(arguments, turns=asked + SEARCHED_TURNS)

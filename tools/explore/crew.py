@@ -58,6 +58,7 @@ def each_of(
     tasks: Iterable[Task],
     work: Callable[[Machine, Task], Result],
     hands: int,
+    stride: Optional[int] = None,
 ) -> Iterator[Tuple[Task, Result]]:
     """Does each task on one of so many twins of the machine, and yields the results as they come.
     A task is taken when a twin is free for it. When nobody reads on, the twins end with what they
@@ -70,7 +71,7 @@ def each_of(
 
     def hand() -> None:
         try:
-            twin = machine.twin()
+            twin = machine.twin(stride=stride)
             twins.append(twin)
             while not stop.is_set():
                 with taking:

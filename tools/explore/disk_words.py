@@ -8,11 +8,12 @@ from typing import Iterator, List, Optional
 from .commands import Explorer, check_drive
 from .crew import Progress
 from .listing import turn_in_words
-from .machine import SHORT_SENT_AHEAD, ExploreError, Machine
+from .machine import Machine
 from .replies import SECTOR_WORDS, Devices, DiskFunction, words_of
 
-MOST_LOOKS = 10_000
-COARSE_LOOKS = 256
+MOST_LOOKS, COARSE_LOOKS = 200_000, 256
+DISK_BYTES, DEVICES_BYTES = 16, 180
+LOOKS_OF_A_WINDOW, FIRST_STEPS_BACK, MOST_STEPS_BACK = 1_024, 16, 65_536
 
 
 @dataclass
@@ -32,6 +33,12 @@ class DiskWord:
         drive = f"{self.drive:o} " if self.machine.past.version == 2 else ""
         return f"disk {drive}{self.index:07o}"
 
+    @property
+    def in_a_line(self) -> str:
+        """The word as commands name it."""
+        drive = f"{self.drive:o} " if self.machine.past.version == 2 else ""
+        return f"disk {drive}{self.index:o}"
+
     def value(self, turn: int) -> int:
         return self.machine.disk_word(turn, self.drive, self.index)
 
@@ -48,14 +55,24 @@ class DiskWord:
         delay = self.machine.past.delays["disk"]
         return (len(turns) // delay if delay else 0) + 2 * len(self.machine.past.disk_events())
 
+    def exact_part(self, turns: range) -> range:
+        """The first of the turns, so many that not too many looks show each change."""
+        delay = self.machine.past.delays["disk"]
+        looks = max(1, MOST_LOOKS - 2 * len(self.machine.past.disk_events()))
+        return turns[: looks * delay] if delay else turns
+
+    def coarse_looks(self, turns: range) -> List[int]:
+        step = max(1, len(turns) // COARSE_LOOKS)
+        return [*range(turns.start, turns.stop, step), turns.stop]
+
     def values(self, looks: List[int]) -> Iterator[int]:
+        """The word before each of these turns, which ascend."""
         lines = [self.machine.disk_line(it, self.drive, self.index) for it in looks]
         with Progress(len(looks), "turns looked at") as progress:
-            for reply in self.machine.ask_all(lines, SHORT_SENT_AHEAD):
-                if reply.startswith("refused"):
-                    raise ExploreError(f"{self.name}: {reply}")
-                progress.step()
-                yield words_of(reply)[0]
+            for block in self.machine.blocks(lines, DISK_BYTES):
+                replies = block.decode("ascii").splitlines()
+                progress.step(len(replies))
+                yield from (words_of(it)[0] for it in replies)
 
     def change_between(self, low: int, high: int) -> int:
         """A turn of low to high - 1 that makes the word what it is before turn high. Before turn
@@ -69,47 +86,36 @@ class DiskWord:
                 low = middle
         return low
 
-    def first_value(self, turns: range, wanted: int) -> Optional[int]:
-        """The first turn of these that makes the word so."""
-        looks = self.looks(turns)
+    def first_value(self, looks: List[int], wanted: int) -> Optional[int]:
+        """A turn that makes the word so, before the first of these looks, but for the first, that
+        finds it so."""
         for before, look, value in zip(looks, looks[1:], list_from_second(self.values(looks))):
             if value == wanted:
                 return self.change_between(before, look)
         return None
 
-    def some_turn_to(self, turns: range, wanted: int) -> Optional[int]:
-        """A turn of these that makes the word so, by a coarse look and halving."""
-        step = max(1, len(turns) // COARSE_LOOKS)
-        looks = [*range(turns.start, turns.stop, step), turns.stop]
-        for before, look, value in zip(looks, looks[1:], list_from_second(self.values(looks))):
-            if value == wanted:
+    def first_change(self, turns: range) -> Optional[int]:
+        """The first turn of these that changes the word."""
+        looks = self.looks(turns)
+        values = self.values(looks)
+        old = next(values)
+        for before, look, value in zip(looks, looks[1:], values):
+            if value != old:
                 return self.change_between(before, look)
         return None
 
     def last_change_exactly(self, turns: range) -> Optional[int]:
-        """The last turn of these that changes the word."""
-        looks = self.looks(turns)[::-1]
-        wanted = self.value(turns.stop)
-        for after, look, value in zip(looks, looks[1:], list_from_second(self.values(looks))):
-            if value != wanted:
-                return self.change_between(look, after)
+        """The last turn of these that changes the word. The looks are asked window by window, the
+        last window first, and each window upwards."""
+        looks = self.looks(turns)
+        while len(looks) > 1:
+            window = looks[-LOOKS_OF_A_WINDOW:]
+            values = list(self.values(window))
+            for at in range(len(window) - 1, 0, -1):
+                if values[at - 1] != values[at]:
+                    return self.change_between(window[at - 1], window[at])
+            looks = looks[: 1 - len(window)]
         return None
-
-    @staticmethod
-    def function_in_words(explorer: Explorer, turn: int) -> str:
-        """The function of the disk that completes in this turn, and what began it."""
-        machine = explorer.machine
-        devices = machine.devices(turn)
-        core = f"core {devices.bus_address:06o}"
-        sector = f"sector {devices.sector} of drive {devices.drive}"
-        ends = (core, sector) if devices.function == DiskFunction.WRITE else (sector, core)
-        what = (
-            f"a {devices.function.title} of {devices.word_count} words from {ends[0]} to {ends[1]}"
-        )
-        begun = begin_of(machine, turn)
-        if begun is None:
-            return what
-        return f"{what}, begun in turn {begun} by {turn_in_words(explorer, begun)}"
 
 
 def list_from_second(values: Iterator[int]) -> Iterator[int]:
@@ -117,15 +123,35 @@ def list_from_second(values: Iterator[int]) -> Iterator[int]:
     return values
 
 
+def function_in_words(explorer: Explorer, turn: int) -> str:
+    """The function of the disk that completes in this turn, and what began it."""
+    machine = explorer.machine
+    devices = machine.devices(turn)
+    core = f"core {devices.bus_address:06o}"
+    sector = f"sector {devices.sector} of drive {devices.drive}"
+    ends = (core, sector) if devices.function == DiskFunction.WRITE else (sector, core)
+    what = f"a {devices.function.title} of {devices.word_count} words from {ends[0]} to {ends[1]}"
+    begun = begin_of(machine, turn)
+    if begun is None:
+        return what
+    return f"{what}, begun in turn {begun} by {turn_in_words(explorer, begun)}"
+
+
 def begin_of(machine: Machine, turn: int) -> Optional[int]:
     """The turn that began the function that completes in this turn: the disk is ready before it,
-    and not from then on."""
-    delay = machine.past.delays["disk"]
-    farthest = max(0, turn - (delay or MOST_LOOKS))
-    looks = list(range(turn, farthest - 1, -1))
-    for look, reply in zip(looks, machine.ask_all([f"devices {it}" for it in looks])):
-        if Devices.of(reply).disk_is_ready:
-            return look
+    and not from then on. It is no further back than the disk's delay; without a delay it is looked
+    for in parts that double."""
+    steps = machine.past.delays["disk"] or FIRST_STEPS_BACK
+    end = turn + 1
+    while end > 0 and turn - end < MOST_STEPS_BACK:
+        looks = range(max(0, end - steps - 1), end)
+        blocks = machine.blocks([f"devices {it}" for it in looks], DEVICES_BYTES)
+        replies = b"".join(blocks).decode("ascii").splitlines()
+        ready = (at for at, it in zip(looks[::-1], replies[::-1]) if Devices.of(it).disk_is_ready)
+        found = next(ready, None)
+        if found is not None or machine.past.delays["disk"]:
+            return found
+        end, steps = looks.start, 2 * steps
     return None
 
 
@@ -139,10 +165,6 @@ class Change:
     looks: int
 
 
-def is_exact(word: DiskWord, turns: range) -> bool:
-    return word.look_count(turns) <= MOST_LOOKS
-
-
 def last_change(word: DiskWord, turn: int, all_of_them: bool) -> Change:
     """The last change before the turn. A first guess is found by steps that double and halving;
     then all turns after it are looked at, if they aren't too many."""
@@ -153,7 +175,7 @@ def last_change(word: DiskWord, turn: int, all_of_them: bool) -> Change:
     rest = range(0 if guess is None else guess + 1, turn)
     if not rest:
         return Change(guess, True, 0)
-    if not all_of_them and not is_exact(word, rest):
+    if not all_of_them and word.look_count(rest) > MOST_LOOKS:
         return Change(guess, False, word.look_count(rest))
     found = word.last_change_exactly(rest)
     return Change(guess if found is None else found, True, word.look_count(rest))
@@ -164,7 +186,7 @@ def change_lines(explorer: Explorer, word: DiskWord, turn: int) -> Iterator[str]
     machine = explorer.machine
     before, after = word.value(turn), word.value(turn + 1)
     yield f"turn {turn}: {word.name} goes from {before:06o} to {after:06o}"
-    yield f"  by {DiskWord.function_in_words(explorer, turn)}"
+    yield f"  by {function_in_words(explorer, turn)}"
     devices = machine.devices(turn)
     offset = word.index - devices.sector * SECTOR_WORDS
     if offset >= devices.word_count:

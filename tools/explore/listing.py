@@ -1,14 +1,25 @@
 """Turns and instructions with their texts: `see`, `show`, `list`, `symbols`."""
+import itertools
 from dataclasses import dataclass
 from pathlib import Path
-from typing import Iterator, List, Optional, Tuple
+from typing import Dict, Iterator, List, Optional, Sequence
 
 from .commands import Arguments, Explorer, command
 from .children import ExploreError
-from .machine import Machine
-from .replies import INSTRUCTION, INTERRUPT, Mode, Pages, Turn
+from .machine import SHORT_SENT_AHEAD, Machine
+from .replies import (
+    INSTRUCTION,
+    INTERRUPT,
+    LastWrite,
+    Mode,
+    Pages,
+    Registers,
+    Turn,
+    turns_of,
+    words_of,
+)
 
-INSTRUCTION_WORDS = 3
+INSTRUCTION_WORDS, UNIT_BYTES, SEEN_AT_ONCE = 3, 0o20000, 4_096
 
 
 @dataclass(frozen=True)
@@ -36,29 +47,62 @@ class SeenTurn:
 HEADING = f"{'turn':>10}  {'mode':<6}  {'PC':<6}  {'core':<6}  what it did"
 
 
+@dataclass(frozen=True)
+class Fetch:
+    """Where a turn found its instruction: the physical addresses of its words, as far as they are
+    core. The first address may be none, or none of core."""
+
+    registers: Registers
+    physical: Optional[int]
+    words: List[int]
+
+    @classmethod
+    def of(cls, registers: Registers, pages: Pages, address: int, top: int) -> "Fetch":
+        places = [(address + 2 * at) % 0o200000 for at in range(INSTRUCTION_WORDS)]
+        found = [pages.physical(registers.mode, it) for it in places]
+        core = itertools.takewhile(lambda it: it is not None and not it % 2 and it < top, found)
+        return cls(registers, found[0], [it for it in core if it is not None])
+
+
+def fetches_of(machine: Machine, turns: Sequence[Turn]) -> List[Fetch]:
+    lines = [f"{name} {it.turn}" for it in turns for name in ("regs", "pages")]
+    replies = machine.ask_all(lines, SHORT_SENT_AHEAD)
+    known: Dict[str, Pages] = {}
+    found: List[Fetch] = []
+    for turn, registers, pages in zip(turns, replies, replies):
+        for reply in (registers, pages):
+            if reply.startswith("refused"):
+                raise ExploreError(f"turn {turn.turn}: {reply}")
+        if pages not in known:
+            known[pages] = Pages.of(pages)
+        top = machine.units() * UNIT_BYTES
+        found.append(Fetch.of(Registers.of(registers), known[pages], turn.pc, top))
+    return found
+
+
 def fetched_words(
-    machine: Machine, turn: int, pages: Pages, mode: Mode, address: int
-) -> Tuple[Optional[int], List[int]]:
-    """The physical address, and the words there that the instruction of a turn was fetched from."""
-    first = pages.physical(mode, address)
-    words: List[int] = []
-    for at in range(INSTRUCTION_WORDS):
-        physical = pages.physical(mode, (address + 2 * at) % 0o200000)
-        if physical is None or physical % 2 or physical >= machine.units() * 0o20000:
-            break
-        words.append(fetched_word(machine, turn, physical))
-    return first, words
-
-
-def fetched_word(machine: Machine, turn: int, physical: int) -> int:
-    """The word as the act of the turn found it: a transfer that ends in the turn comes before."""
-    before = machine.word(turn, physical)
-    after = machine.word(turn + 1, physical)
-    if after != before:
-        last = machine.last(turn + 1, physical)
+    machine: Machine, turns: Sequence[Turn], fetches: Sequence[Fetch]
+) -> List[List[int]]:
+    """The words that the instruction of each turn was fetched from, as the act of the turn found
+    them: a transfer that ends in the turn comes before it."""
+    places = [(turn.turn, it.words) for turn, it in zip(turns, fetches)]
+    asked = [
+        (at, place) for turn, words in places for at in (turn, turn + 1) for place in words
+    ]
+    replies = machine.ask_all([f"mem {at} {place:o} 1" for at, place in asked], SHORT_SENT_AHEAD)
+    values = {key: words_of(reply)[0] for key, reply in zip(asked, replies)}
+    changed = [
+        (turn, it)
+        for turn, words in places
+        for it in words
+        if values[turn, it] != values[turn + 1, it]
+    ]
+    lasts = machine.ask_all([f"last {turn + 1} {it:o}" for turn, it in changed])
+    for (turn, place), reply in zip(changed, lasts):
+        last = LastWrite.of(reply)
         if last is not None and last.writer == "disk":
-            return after
-    return before
+            values[turn, place] = values[turn + 1, place]
+    return [[values[turn, it] for it in words] for turn, words in places]
 
 
 def instruction_text(explorer: Explorer, address: int, words: List[int]) -> str:
@@ -69,41 +113,53 @@ def instruction_text(explorer: Explorer, address: int, words: List[int]) -> str:
     return found.text if found.words <= len(words) else f"{found.text} (can't be fetched whole)"
 
 
-def seen(explorer: Explorer, turn: Turn) -> SeenTurn:
-    """The turn with its instruction."""
-    machine = explorer.machine
-    registers = machine.registers(turn.turn)
-    mode = registers.mode
-    physical, words = fetched_words(machine, turn.turn, machine.pages(turn.turn), mode, turn.pc)
+def act_text(explorer: Explorer, turn: Turn, fetch: Fetch, words: List[int]) -> str:
     if turn.act == INTERRUPT:
-        text = turn.interrupt()
-    elif turn.act == INSTRUCTION:
-        text = instruction_text(explorer, turn.pc, words)
-    else:
-        idle = "halted" if registers.state == "halted" else "waits"
-        text = {"idle": idle, "trace": "trace trap", "stack": "stack trap"}[turn.act]
-    return SeenTurn(turn, mode, physical, text, explorer.symbols.near(mode, turn.pc))
+        return turn.interrupt()
+    if turn.act == INSTRUCTION:
+        return instruction_text(explorer, turn.pc, words)
+    idle = "halted" if fetch.registers.state == "halted" else "waits"
+    return {"idle": idle, "trace": "trace trap", "stack": "stack trap"}[turn.act]
+
+
+def seen(explorer: Explorer, turns: Sequence[Turn]) -> Iterator[SeenTurn]:
+    """The turns, which ascend, with their instructions. What they need is asked in three passes
+    upwards: registers and pages, then words, then who wrote those that a turn changed."""
+    fetches = fetches_of(explorer.machine, turns)
+    words = fetched_words(explorer.machine, turns, fetches)
+    for turn, fetch, found in zip(turns, fetches, words):
+        mode = fetch.registers.mode
+        text = act_text(explorer, turn, fetch, found)
+        symbol = explorer.symbols.near(mode, turn.pc)
+        yield SeenTurn(turn, mode, fetch.physical, text, symbol)
+
+
+def turns_in_words(explorer: Explorer, numbers: Sequence[int]) -> List[str]:
+    """Turns, which ascend, each in one line, such as `kernel 001040 ADD #7,@#2000`."""
+    replies = explorer.machine.ask_all([f"trail {it + 1} 1" for it in numbers])
+    turns = [turns_of(reply)[0] for reply in replies]
+    return [it.brief() for it in seen(explorer, turns)]
 
 
 def turn_in_words(explorer: Explorer, turn: int) -> str:
-    """One turn in one line, such as `kernel 001040 ADD #7,@#2000`."""
-    return seen(explorer, explorer.machine.turn(turn)).brief()
+    return turns_in_words(explorer, [turn])[0]
 
 
 @command("see N [C]", r"<turn:decimal>( <count:decimal>)?", "the C turns before turn N")
 def see(explorer: Explorer, arguments: Arguments) -> Iterator[str]:
     """Shows the C turns before turn N, 16 if C isn't given: the turn, the mode, PC as the program
     has it, the address of core that it is at, the instruction or interrupt, and the symbol.
-    With mapping off both addresses are the same. C may be large: 64 turns are one question, and
-    each turn a few more."""
+    With mapping off both addresses are the same. C may be large: the turns are asked upwards, so
+    5,000 of them take about a second wherever they are."""
     end = arguments.decimal("turn")
     count = min(end, arguments.decimal("count", 16))
     if count == 0:
         raise ExploreError(f"no turn comes before turn {end}, or C is 0")
-    turns = list(explorer.machine.turns(end - count, count))
-    yield HEADING
-    for turn in turns:
-        yield seen(explorer, turn).line()
+    for first in range(end - count, end, SEEN_AT_ONCE):
+        part = min(SEEN_AT_ONCE, end - first)
+        turns = list(explorer.machine.turns(first, part))
+        yield from [HEADING] if first == end - count else []
+        yield from (it.line() for it in seen(explorer, turns))
 
 
 COLUMNS = (("R0", "R3", "KSP"), ("R1", "R4", "USP"), ("R2", "R5", "PC"))
@@ -142,7 +198,7 @@ def list_instructions(explorer: Explorer, arguments: Arguments) -> Iterator[str]
     if address % 2 or not 1 <= count <= 256:
         raise ExploreError("A is odd" if address % 2 else "C is 1 to 256")
     pages = machine.pages(turn)
-    top = machine.units() * 0o20000
+    top = machine.units() * UNIT_BYTES
     for _ in range(count):
         places = [(address + at) % (top if mode is None else 0o200000) for at in (0, 2, 4)]
         found = [it if mode is None else pages.physical(mode, it) for it in places]

@@ -1,12 +1,15 @@
 """The program pdp11 as a child process, and the machine that it runs."""
 import copy
 import os
-from dataclasses import dataclass, field
+from contextlib import contextmanager
+from dataclasses import dataclass, field, replace
+from io import BufferedReader
 from pathlib import Path
-from typing import Iterator, List, Optional, Sequence
+from typing import Iterator, List, Optional, Sequence, cast
 
 import sessions
 
+from .asked import Asked
 from .children import Child, ExploreError, ProgramEnded
 from .interrupts import INTERRUPTS
 from .journal import Journal
@@ -19,6 +22,7 @@ MOST_WORDS = 256
 # How many lines are sent before their replies are read. They have room in a pipe, so the program
 # never waits for explore while explore waits for the program.
 SENT_AHEAD, SHORT_SENT_AHEAD = 16, 100
+ROOM_OF_A_PIPE = 50_000
 EDITS = {sessions.command_of(it).decode() for it in sessions.LANGUAGE if it.kind == sessions.EDIT}
 COUNTED = {it.decode() for it in sessions.COUNTED}
 
@@ -45,6 +49,19 @@ class Program(Child):
             self.send(part)
             yield from [self.reply() for _ in part]
 
+    def block(self, lines: Sequence[str], reply_lines: int) -> bytes:
+        """The replies to these lines as they come, unread. Each has so many lines, or is a refusal
+        of one line."""
+        self.send(lines)
+        data = bytearray()
+        wanted = len(lines) * reply_lines
+        while data.count(b"\n") < wanted - data.count(b"refused ") * (reply_lines - 1):
+            part = cast(BufferedReader, self.written).read1(ROOM_OF_A_PIPE)
+            if not part:
+                raise self.ended()
+            data += part
+        return bytes(data)
+
 
 @dataclass(frozen=True)
 class Start:
@@ -53,6 +70,16 @@ class Start:
     program: str
     options: Sequence[str]
     folder: Path
+
+    def with_stride(self, stride: int) -> "Start":
+        """The same with this stride. No reply depends on it."""
+        before = ["", *self.options]
+        others = [
+            it
+            for option, it in zip(before, self.options)
+            if "--stride" not in (option, it.split("=")[0])
+        ]
+        return replace(self, options=[*others, "--stride", str(stride)])
 
     def command(self) -> List[str]:
         has_stride = any(it.split("=")[0] == "--stride" for it in self.options)
@@ -75,6 +102,7 @@ class Machine:
     replies: List[str] = field(default_factory=list)
     is_closed: bool = False
     file: Optional[Journal] = None
+    asked: Asked = field(default_factory=Asked)
 
     def __post_init__(self) -> None:
         self._running: Optional[Program] = self._started()
@@ -111,11 +139,14 @@ class Machine:
             running, self._running = self._running, None
             running.close()
 
-    def twin(self, edits: Optional[Sequence[str]] = None) -> "Machine":
-        """Another program with the same edits, or with these."""
+    def twin(
+        self, edits: Optional[Sequence[str]] = None, stride: Optional[int] = None
+    ) -> "Machine":
+        """Another program with the same edits, or with these; with a stride of its own, if any."""
         if edits is None:
+            start = self.start if stride is None else self.start.with_stride(stride)
             past = copy.deepcopy(self.past)
-            return Machine(self.start, list(self.journal), past, list(self.replies))
+            return Machine(start, list(self.journal), past, list(self.replies))
         twin = Machine(self.start)
         for line in edits:
             twin.ask(line)
@@ -158,8 +189,34 @@ class Machine:
 
     def ask_all(self, lines: Sequence[str], ahead: int = SENT_AHEAD) -> Iterator[str]:
         """The replies to lines, one by one. Edits among them aren't kept."""
+        with self._started_again():
+            for at in range(0, len(lines), ahead):
+                part = lines[at : at + ahead]
+                self.asked.note(part)
+                yield from self.program.ask_all(part, ahead)
+
+    def blocks(
+        self, lines: Sequence[str], reply_bytes: int, reply_lines: int = 1
+    ) -> Iterator[bytes]:
+        """The replies to many questions as bytes, some at a time: for searches, which look for few
+        of them. No reply has more bytes, and each has so many lines. None may be refused."""
+        ahead = max(1, ROOM_OF_A_PIPE // reply_bytes)
+        with self._started_again():
+            for at in range(0, len(lines), ahead):
+                part = lines[at : at + ahead]
+                self.asked.note(part)
+                block = self.program.block(part, reply_lines)
+                refusal = block.find(b"refused ")
+                if refusal >= 0:
+                    reply = block[refusal:].splitlines()[0].decode("ascii")
+                    raise Refused(f"{part[0]}: {reply}")
+                yield block
+
+    @contextmanager
+    def _started_again(self) -> Iterator[None]:
+        """If the program ends, or Ctrl-C stops it, the next use starts it again, with all edits."""
         try:
-            yield from self.program.ask_all(lines, ahead)
+            yield
         except ProgramEnded as error:
             self.restart()
             raise ProgramEnded(f"{error}; the next line starts it again, with all edits") from error

@@ -5,11 +5,11 @@ from typing import Dict, Iterator, List, Optional, Tuple
 
 from .commands import Explorer
 from .crew import Progress
-from .disk_words import MOST_LOOKS, DiskWord
+from .disk_words import MOST_LOOKS, DiskWord, function_in_words
 from .machine import LAST_TURN, MOST_TURNS_OF_A_TRAIL, Machine
 from .past import Event
 from .replies import INTERRUPT, Devices, Mode, Registers, Turn, turns_of
-from .search import writer_in_words, writes_of
+from .search import writer_in_words
 
 COLUMNS = 600
 MOST_LISTED_TURNS = 1_000_000
@@ -151,8 +151,7 @@ def bytes_of(machine: Machine, turns: range) -> List[Byte]:
 
 def core_history(explorer: Explorer, address: int, turns: range) -> WordHistory:
     machine = explorer.machine
-    listing = writes_of(machine, address, turns)
-    writes = list(itertools.islice(listing, MOST_WRITES))[::-1]
+    writes = explorer.finder.writes(turns, address, MOST_WRITES)[-MOST_WRITES:]
     is_whole = len(writes) < MOST_WRITES
     begin = machine.word(turns.start if is_whole else writes[0].turn, address)
     values = [Value(turns.start, begin, "", "before")]
@@ -172,7 +171,7 @@ def disk_history(explorer: Explorer, drive: int, index: int, turns: range) -> Wo
     for before, after, old, new in zip(looks, looks[1:], seen, seen[1:]):
         if old != new:
             turn = word.change_between(before, after)
-            how = word.function_in_words(explorer, turn)
+            how = function_in_words(explorer, turn)
             values.append(Value(turn, new, "disk", how))
     return WordHistory(word.name, values, is_whole)
 

@@ -218,6 +218,11 @@ class Turn:
         turn, pc, act, *vector = line.split()
         return cls(int(turn), int(pc, 8), act, int(vector[0], 8) if vector else None)
 
+    def line(self) -> str:
+        """The line of the trail."""
+        vector = "" if self.vector is None else f" {self.vector:03o}"
+        return f"{self.turn} {self.pc:06o} {self.act}{vector}"
+
     def interrupt(self) -> str:
         vector = self.vector or 0
         return f"interrupt {vector:03o} {VECTORS.get(vector, '')}".rstrip()

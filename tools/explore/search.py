@@ -1,86 +1,76 @@
 """The turn in which something happens: `until`, `next`, `first`, `where`."""
-from typing import Iterator, List, Optional
+from typing import Iterator
 
-from .commands import Arguments, Explorer, command, turn_range
-from .crew import Progress, each_of, in_order, processors
-from .disk_words import DiskWord, change_lines, is_exact, last_change
-from .listing import turn_in_words
+from .commands import Arguments, Explorer, command, searched_range
 from .children import ExploreError
-from .machine import Machine
-from .replies import INSTRUCTION, LastWrite, turns_of
+from .disk_words import DiskWord, change_lines, function_in_words, last_change
+from .finder import Search, instruction_at, interrupt_by, mode_is, register_with
+from .listing import turn_in_words
+from .replies import LastWrite, Mode
+from .script import typed_bytes
 
-BLOCK = 4096
-BLOCKS_OF_ONE = 4
-
-
-def first_at(machine: Machine, block: range, address: int) -> Optional[int]:
-    """The first turn of these that runs an instruction with this PC, by trails."""
-    shown = f" {address:06o} {INSTRUCTION}"
-    for reply in machine.ask_all(machine.trail_lines(block.start, len(block))):
-        if reply.startswith("refused"):
-            raise ExploreError(f"trail: {reply}")
-        if shown in reply:
-            turns = turns_of(reply)
-            return next(it.turn for it in turns if (it.pc, it.act) == (address, INSTRUCTION))
-    return None
+LARGEST_WORD = 0o177777
 
 
-def first_of_blocks(machine: Machine, turns: range, address: int) -> Optional[int]:
-    """The same of many turns: the first blocks on this machine, the others on twins."""
-    starts = range(turns.start, turns.stop, BLOCK)
-    blocks = [range(at, min(at + BLOCK, turns.stop)) for at in starts]
-    for block in blocks[:BLOCKS_OF_ONE]:
-        found = first_at(machine, block, address)
-        if found is not None:
-            return found
-    rest = blocks[BLOCKS_OF_ONE:]
+def word_of(arguments: Arguments, name: str) -> int:
+    word = arguments.octal(name)
+    if word > LARGEST_WORD:
+        raise ExploreError(f"{word:o} is more than a word has, {LARGEST_WORD:o}")
+    return word
 
-    def work(twin: Machine, number: int) -> Optional[int]:
-        return first_at(twin, rest[number], address)
 
-    with Progress(len(turns), "turns") as progress:
-        for _, found in in_order(each_of(machine, range(len(rest)), work, processors())):
-            progress.step(BLOCK)
-            if found is not None:
-                return found
-    return None
+def not_found(turns: range, line: str, what: str = "not") -> str:
+    return f"{what} in the turns {turns.start} to {turns.stop - 1}; on: {line} from {turns.stop}"
+
+
+def search_of(arguments: Arguments) -> Search:
+    """What `until` looks for in each turn."""
+    if arguments.optional("address"):
+        return instruction_at(arguments.octal("address"))
+    if arguments.optional("vector"):
+        return interrupt_by(arguments.octal("vector"))
+    if arguments.optional("mode"):
+        return mode_is(Mode(arguments.text("mode")))
+    return register_with(arguments.text("register").upper(), word_of(arguments, "word"))
+
+
+UNTIL = ("PC X", "vector V", "mode user|kernel", "R = W", "text STRING")
 
 
 @command(
-    "until PC X [from N] [to M]",
-    r"(PC|pc) <address:octal>{from}{to}",
-    "the first turn that runs the instruction at X",
+    "  or  ".join(f"until {it} [from N] [to M]" for it in UNTIL),
+    r"(?P<what>(PC|pc) <address:octal>|vector <vector:octal>|mode (?P<mode>user|kernel)"
+    r"|(?P<register>[Rr][0-5]|[KUku][Ss][Pp]|[Pp][Ss])\s*=\s*<word:octal>"
+    r"|text (?P<text>.+?)){from}{to}",
+    "the first turn that runs the instruction at X, or has what is named",
 )
 def until(explorer: Explorer, arguments: Arguments) -> Iterator[str]:
     """Finds the first of the turns N to M that runs an instruction with PC X, an address as
-    the program has it. Without `from` N is 0, without `to` M is N + 999999. It is exact: the PC
-    of each turn is looked at, by trails of 64."""
-    turns, address = turn_range(arguments), arguments.octal("address")
-    found = first_of_blocks(explorer.machine, turns, address)
+    the program has it; that is an interrupt by vector V; that begins in user or kernel mode; before
+    which R, one of R0 to R5, KSP, USP and PS, is W; or that prints the last byte of STRING, which
+    is written as in `type`. Without `from` N is 0. Without `to` M is a million turns past the
+    greatest turn that was asked so far. It is exact: each turn is looked at, by trails of 64 or by
+    `regs`; and a text only grows, so it is halved."""
+    turns, what = searched_range(explorer, arguments), arguments.text("what")
+    if arguments.optional("text"):
+        yield until_text(explorer, arguments.text("text"), turns)
+        return
+    found = explorer.finder.first_turn(turns, search_of(arguments))
     if found is None:
-        on = f"until PC {address:o} from {turns.stop}"
-        yield f"not in the turns {turns.start} to {turns.stop - 1}; on: {on}"
+        yield not_found(turns, f"until {what}")
     else:
         yield f"turn {found}: {turn_in_words(explorer, found)}"
 
 
-def next_write(machine: Machine, address: int, turns: range) -> Optional[LastWrite]:
-    """The first write to a core word in these turns. `last M A` is in the turns from N on once
-    the first write is, so halving on M finds that one exactly."""
-    low, step, found = turns.start, 1, None
-    while found is None and low < turns.stop:
-        high = min(low + step, turns.stop)
-        found = machine.last(high, address)
-        if found is None or found.turn < turns.start:
-            found, low, step = None, high, step * 2
-    while found is not None and found.turn > low:
-        middle = (low + found.turn) // 2
-        last = machine.last(middle + 1, address)
-        if last is not None and last.turn >= turns.start:
-            found = last
-        else:
-            low = middle + 1
-    return found
+def until_text(explorer: Explorer, text: str, turns: range) -> str:
+    string = bytes(typed_bytes(text))
+    if not string:
+        raise ExploreError("STRING has no byte")
+    found = explorer.finder.end_of_text(turns, string)
+    if found is None:
+        return not_found(turns, f"until text {text}")
+    turn, length = found
+    return f"turn {turn}: byte {length} of the text is printed, the last of {text}"
 
 
 def write_in_words(explorer: Explorer, write: LastWrite) -> str:
@@ -94,54 +84,45 @@ def writer_in_words(explorer: Explorer, write: LastWrite) -> str:
     """The instruction that wrote, or the function of the disk."""
     if write.writer == "cpu":
         return turn_in_words(explorer, write.turn)
-    return DiskWord.function_in_words(explorer, write.turn)
+    return function_in_words(explorer, write.turn)
 
 
-@command("next A [from N] [to M]", r"<address:octal>{from}{to}", "the next write to a core word")
+WORD_OF_DISK = r"((?P<drive>[0-7]) )?"
+
+
+def disk_word_of(explorer: Explorer, arguments: Arguments) -> DiskWord:
+    return DiskWord(explorer.machine, arguments.octal("drive"), arguments.octal("address"))
+
+
+@command(
+    "next A [from N] [to M]  or  next disk [D] I [from N] [to M]",
+    rf"((?P<kind>disk) {WORD_OF_DISK})?<address:octal>{{from}}{{to}}",
+    "the next write to a core word, or change of a disk word",
+)
 def next_command(explorer: Explorer, arguments: Arguments) -> Iterator[str]:
     """Finds the first of the turns N to M that writes the core word at A, and who wrote it,
-    also if the word stays the same. Without `from` N is 0, without `to` M is N + 999999. It is
-    exact, by `last` and halving. An image and a patch are no writes."""
-    turns, address = turn_range(arguments), arguments.octal("address")
-    found = next_write(explorer.machine, address, turns)
+    also if the word stays the same; or that changes word I of a drive. Without `from` N is 0.
+    Without `to` M is a million turns past the greatest turn that was asked so far. It is exact,
+    by `last` and halving, or by a look in each delay of the disk. An image and a patch are no
+    writes."""
+    turns, address = searched_range(explorer, arguments), arguments.octal("address")
+    if arguments.optional("kind"):
+        yield from next_on_disk(explorer, disk_word_of(explorer, arguments), turns)
+        return
+    found = explorer.finder.next_write(turns, address)
     if found is None:
-        on = f"next {address:o} from {turns.stop}"
-        yield f"no write in the turns {turns.start} to {turns.stop - 1}; on: {on}"
+        yield not_found(turns, f"next {address:o}", "no write")
     else:
         yield write_in_words(explorer, found)
 
 
-def writes_of(machine: Machine, address: int, turns: range) -> Iterator[LastWrite]:
-    """All writes to a core word in these turns, the last one first: each is the last before the
-    turn of the one after it."""
-    end = turns.stop
-    while True:
-        found = machine.last(end, address)
-        if found is None or found.turn < turns.start:
-            return
-        yield found
-        end = found.turn
-
-
-def first_with_value(
-    machine: Machine, address: int, value: int, turns: range
-) -> Optional[LastWrite]:
-    """The first write that makes the word this value. The writes are listed window by window."""
-    low, step = turns.start, 64
-    with Progress(len(turns), "turns") as progress:
-        while low < turns.stop:
-            window = range(low, min(low + step, turns.stop))
-            found: List[LastWrite] = [
-                it for it in writes_of(machine, address, window) if it.word == value
-            ]
-            if found:
-                return found[-1]
-            progress.step(len(window))
-            low, step = window.stop, step * 2
-    return None
-
-
-WORD_OF_DISK = r"((?P<drive>[0-7]) )?"
+def next_on_disk(explorer: Explorer, word: DiskWord, turns: range) -> Iterator[str]:
+    looked_at = word.exact_part(turns)
+    found = word.first_change(looked_at)
+    if found is None:
+        yield not_found(looked_at, f"next {word.in_a_line}", "no change")
+    else:
+        yield from change_lines(explorer, word, found)
 
 
 @command(
@@ -152,21 +133,21 @@ WORD_OF_DISK = r"((?P<drive>[0-7]) )?"
 )
 def first(explorer: Explorer, arguments: Arguments) -> Iterator[str]:
     """Finds the first of the turns N to M that makes the word W, if it isn't W before turn N.
-    Without `from` N is 0, without `to` M is N + 999999. For a core word it is exact: `last`
-    lists all writes. A word of a drive has no such list, but changes only when a function
-    completes: so it is looked at once in each delay of the disk, and at the events `disk`, which
-    is exact. If that takes too many questions, a change is found by halving, which needn't be the
-    first one, and the reply says so; with `exactly` all questions are asked."""
-    value, turns = arguments.octal("value"), turn_range(arguments)
+    Without `from` N is 0. Without `to` M is a million turns past the greatest turn that was asked
+    so far. For a core word it is exact, by `last`. A word of a drive has no such list, but changes
+    only when a function completes: so it is looked at once in each delay of the disk, and at the
+    events `disk`, which is exact. If there are more than 200,000 such looks, they are asked of the
+    first turns, of the others some; the reply says so. With `exactly` all are asked."""
+    value, turns = word_of(arguments, "value"), searched_range(explorer, arguments)
     machine, address = explorer.machine, arguments.octal("address")
     if arguments.text("kind") == "disk":
-        word = DiskWord(machine, arguments.octal("drive"), address)
+        word = disk_word_of(explorer, arguments)
         yield from first_on_disk(explorer, word, value, turns, bool(arguments.optional("exactly")))
         return
     if machine.word(turns.start, address) == value:
         yield f"core {address:06o} is {value:06o} before turn {turns.start} already"
         return
-    found = first_with_value(machine, address, value, turns)
+    found = explorer.finder.first_write_of(turns, address, value)
     if found is None:
         yield f"not in the turns {turns.start} to {turns.stop - 1}"
     else:
@@ -176,22 +157,34 @@ def first(explorer: Explorer, arguments: Arguments) -> Iterator[str]:
 def first_on_disk(
     explorer: Explorer, word: DiskWord, value: int, turns: range, all_of_them: bool
 ) -> Iterator[str]:
+    """Looks at all changes of the first turns, and of the others at some turns."""
     if word.value(turns.start) == value:
         yield f"{word.name} is {value:06o} before turn {turns.start} already"
         return
-    # a turn that is found soon leaves few turns before it to look at
-    guess = None if is_exact(word, turns) else word.some_turn_to(turns, value)
-    before = turns if guess is None else range(turns.start, guess + 1)
-    exact = all_of_them or is_exact(word, before)
-    found = word.first_value(before, value) if exact else guess
-    if found is None:
-        where = "in" if exact else "found by halving in"
-        yield f"not {where} the turns {turns.start} to {turns.stop - 1}"
+    exact = turns if all_of_them else word.exact_part(turns)
+    found = word.first_value(word.looks(exact), value)
+    if found is not None:
+        yield from change_lines(explorer, word, found)
         return
-    yield from change_lines(explorer, word, found)
-    if not exact:
-        yield f"found by halving: a change to {value:06o}, which needn't be the first"
-        yield f"with exactly, {word.look_count(before)} questions show the first"
+    rest = range(exact.stop, turns.stop)
+    yield f"not in the turns {exact.start} to {exact.stop - 1}"
+    if rest:
+        yield from first_by_samples(explorer, word, value, rest)
+        yield f"with exactly, {word.look_count(rest)} more questions show the first"
+
+
+def first_by_samples(
+    explorer: Explorer, word: DiskWord, value: int, turns: range
+) -> Iterator[str]:
+    looks = word.coarse_looks(turns)
+    found = word.first_value(looks, value)
+    ends = f"{turns.start} to {turns.stop - 1}"
+    if found is None:
+        not_there = f"before none of them it is {value:06o}"
+        yield f"of the turns {ends} {len(looks)} were looked at: {not_there}"
+    else:
+        yield from change_lines(explorer, word, found)
+        yield f"of the turns {ends} {len(looks)} were looked at: it needn't be the first"
 
 
 @command(
@@ -205,7 +198,7 @@ def where(explorer: Explorer, arguments: Arguments) -> Iterator[str]:
     same value is no change. It is exact if few enough questions show that no two changes lie
     between the change and turn N, or with `exactly`; otherwise the reply says that it isn't."""
     turn = arguments.decimal("turn")
-    word = DiskWord(explorer.machine, arguments.octal("drive"), arguments.octal("address"))
+    word = disk_word_of(explorer, arguments)
     found = last_change(word, turn, bool(arguments.optional("exactly")))
     if found.turn is None:
         yield f"{word.name} has been {word.value(turn):06o} since power-up"

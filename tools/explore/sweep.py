@@ -9,6 +9,7 @@ from dataclasses import dataclass, field
 from pathlib import Path
 from typing import Container, Dict, Iterator, List, Optional, Sequence, Tuple
 
+from .asked import turns_of_question
 from .children import ExploreError
 from .commands import Arguments, Explorer, check_turn, command
 from .crew import Progress, each_of, processors
@@ -23,6 +24,7 @@ SWEEP = re.compile(
     r"( step (?P<step>\d{1,10}))? ?: ?(?P<question>.+)"
 )
 JOBS = 64
+LEAST_STRIDE, KEPT_STATES = 64, 250  # the program keeps 256, and then doubles the stride
 
 
 @dataclass
@@ -74,6 +76,14 @@ class Sweep:
         if number is None and edited.startswith("event "):
             self.numbers[id(twin)] = int(edited.split()[1])
         return (edited if edited.startswith("refused") else reply).replace("\n", " / ")
+
+    def stride(self) -> Optional[int]:
+        """A stride with which a state is kept shortly before the first turn, so that each further
+        turn of a sweep replays little more than what lies between it and the question."""
+        asked = turns_of_question(self.question)
+        first = self.turns[0]
+        least = max(LEAST_STRIDE, asked[1] // KEPT_STATES if asked else first)
+        return first // (first // least) if first >= least else None
 
     def heading(self, machine: Machine) -> str:
         """What results are of: the event, the question and the past. The turns may be others."""
@@ -183,8 +193,9 @@ def swept(
     wanted = (it for it in sweep.turns if it not in known)
     if not count:
         return
+    hands = min(hands, count)
     with Progress(count, "turns") as progress:
-        for turn, reply in each_of(machine, wanted, sweep.work, min(hands, count)):
+        for turn, reply in each_of(machine, wanted, sweep.work, hands, sweep.stride()):
             progress.step()
             yield turn, reply
 

@@ -1,0 +1,41 @@
+"""What was asked of a machine: up to which turn, and how often it had to go back. A question about
+a later turn goes on from the one before it; one about an earlier turn begins again at a state that
+the program kept, which may be many turns before. So a search asks upwards, or by halving."""
+from dataclasses import dataclass
+from typing import Iterable, Optional, Tuple
+
+import sessions
+
+QUESTIONS = frozenset(it.decode() for it in sessions.QUESTIONS)
+MOST_DIGITS = 10
+
+
+def turns_of_question(line: str) -> Optional[Tuple[int, int]]:
+    """The turns that the machine must be at before and after its reply, or None for another line.
+    A trail begins at the first turn that it lists."""
+    words = line.split()
+    if len(words) < 2 or words[0] not in QUESTIONS or not words[1].isdigit():
+        return None
+    turn = int(words[1][:MOST_DIGITS])
+    if words[0] == "trail" and len(words) == 3 and words[2].isdigit():
+        return max(0, turn - int(words[2][:MOST_DIGITS])), turn
+    return turn, turn
+
+
+@dataclass
+class Asked:
+    """The turn of the last question, the greatest one, and how many questions were about an
+    earlier turn than the question before them."""
+
+    turn: int = 0
+    greatest: int = 0
+    went_back: int = 0
+
+    def note(self, lines: Iterable[str]) -> None:
+        for line in lines:
+            turns = turns_of_question(line)
+            if turns is not None:
+                first, last = turns
+                self.went_back += first < self.turn
+                self.turn = last
+                self.greatest = max(self.greatest, last)

@@ -1,0 +1,84 @@
+"""Searches ask upwards: how often a command asks about an earlier turn than just before."""
+from pathlib import Path
+from typing import List, Sequence
+
+from explore import prompt  # noqa: F401, it adds the commands
+from explore.commands import COMMANDS, Explorer
+from explore.disassembly import Disassembler
+from explore.machine import Machine, Start
+from explore.main import read_session
+from explore.sweep import Sweep
+
+from .common import BUILT, ROOT, Case
+
+LEDGER = "ledger/ledger.session"
+# MOV #1000,R0; INC @#2000; SOB R0,.-4; HALT: the word at 2000 is written 512 times, up to 001000
+COUNTING = ("1000 12700", "1002 1000", "1004 5237", "1006 2000", "1010 77003", "1012 0")
+
+
+class Depth(Case):
+    """Commands on a machine of this process, whose questions can be looked at."""
+
+    def explorer(self, session: str = "", edits: Sequence[str] = ()) -> Explorer:
+        machine = Machine(Start(BUILT.program, [], Path.cwd()))
+        self.addCleanup(machine.close)
+        disassembler = Disassembler(BUILT.disassembler)
+        self.addCleanup(disassembler.close)
+        if session:
+            read_session(machine, ROOT / "examples" / session)
+        for line in edits:
+            self.assertEqual(machine.ask(line), "ok")
+        return Explorer(machine, disassembler)
+
+    def done(self, explorer: Explorer, line: str, most: int) -> List[str]:
+        """What the command writes. It may go back so often."""
+        word, _, rest = line.partition(" ")
+        before = explorer.machine.asked.went_back
+        written = list(COMMANDS[word].lines(explorer, rest))
+        self.assertLessEqual(explorer.machine.asked.went_back - before, most, line)
+        return written
+
+    def test_a_question_about_an_earlier_turn_goes_back(self) -> None:
+        machine = self.explorer().machine
+        lines = "regs 5,mem 5 0 1,regs 3,trail 9 6,regs 9,trail 9 1,last 9 0"
+        for line in lines.split(","):
+            machine.read(line)
+        self.assertEqual((machine.asked.went_back, machine.asked.greatest), (2, 9))
+
+    def test_see(self) -> None:
+        explorer = self.explorer(LEDGER)
+        self.assertEqual(len(self.done(explorer, "see 131000 5000", 7)), 5001)
+        # a word of an instruction that the turn itself changes
+        explorer = self.explorer("", ("core 1000 5267", "core 1002 177776"))
+        self.assertEqual(self.done(explorer, "see 1 1", 3)[1].split()[4:], ["INC", "1002"])
+
+    def test_until(self) -> None:
+        explorer = self.explorer(LEDGER)
+        self.done(explorer, "until PC 7776 to 60000", 0)
+        self.assertIn("turn 138127: kernel", self.done(explorer, "until PC 1454 from 128000", 5)[0])
+        self.assertIn("user 000002", self.done(explorer, "until mode user from 1000", 5)[0])
+        self.done(explorer, "until text =000110", 20)
+
+    def test_first_core(self) -> None:
+        explorer = self.explorer(LEDGER)
+        found = self.done(explorer, "first core 30000 = 132", 30)
+        self.assertEqual(found, ["turn 127850: cpu 000132, by user 000012 ADD R2,@#20000"])
+        counting = self.explorer("", [f"core {it}" for it in COUNTING])
+        self.assertIn("turn 1023: cpu 001000", self.done(counting, "first core 2000 = 1000", 20)[0])
+        found = self.done(counting, "first core 2000 = 1001 to 5000", 20)
+        self.assertEqual(found, ["not in the turns 0 to 5000"])
+        writes = counting.finder.writes(range(3000), 0o2000)
+        self.assertEqual([it.turn for it in writes], list(range(1, 1024, 2)))
+        self.assertEqual([it.word for it in writes], list(range(1, 513)))
+
+    def test_a_sweep_keeps_a_state_shortly_before_its_first_turn(self) -> None:
+        machine = self.explorer().machine
+        for first, asked in ((99_997_000, 100_000_000), (126_400, 131_000), (70_000, 10_000_000)):
+            text = f"key 101 from {first} to {first + 999}: mem {asked} 1000 1"
+            stride = Sweep.of(machine, text).stride() or 0
+            self.assertLess(first % stride, 256)
+            self.assertGreaterEqual(stride * 256, asked)
+        self.assertIsNone(Sweep.of(machine, "tick from 0 to 9: regs 20").stride())
+        twin = machine.twin(stride=12_345)
+        self.addCleanup(twin.close)
+        self.assertEqual(twin.start.options, ["--stride", "12345"])
