@@ -13,12 +13,12 @@ sys.dont_write_bytecode = True
 FOLDER = os.path.dirname(os.path.abspath(__file__))
 sys.path.insert(0, FOLDER)
 import sessions
-from explore_tests import bad_input, depth, files, interrupts, journals, messages, others
+from explore_tests import bad_input, depth, files, interrupts, journals, messages, others, pages
 from explore_tests import prompt, scripts, sweeps, texts
 from explore_tests.common import BUILT
 
 MODULES = (scripts, texts, prompt, interrupts, files, sweeps, journals, messages, bad_input, others)
-MODULES += (depth,)
+MODULES += (depth, pages)
 
 
 def main():

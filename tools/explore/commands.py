@@ -43,6 +43,7 @@ class Explorer:
     machine: Machine
     disassembler: Disassembler
     symbols: Symbols = field(default_factory=Symbols)
+    session: str = ""
     shown: Optional[Registers] = None
     shown_turn: int = 0
     is_terminal: bool = False

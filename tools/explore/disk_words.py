@@ -3,16 +3,16 @@ function of the disk completes, and a function takes the disk's delay, unless an
 it. So between two looks no further apart than the delay, with no event `disk` between them, a word
 changes once at most, and looks at these turns see every change."""
 from dataclasses import dataclass
-from typing import Iterator, List, Optional
+from typing import Dict, Iterator, List, Mapping, Optional, Sequence
 
 from .commands import Explorer, check_drive
 from .crew import Progress
-from .listing import turn_in_words
+from .listing import turns_in_words
 from .machine import Machine
-from .replies import SECTOR_WORDS, Devices, DiskFunction, words_of
+from .replies import SECTOR_WORDS, Devices, DiskFunction
 
 MOST_LOOKS, COARSE_LOOKS = 200_000, 256
-DISK_BYTES, DEVICES_BYTES = 16, 180
+DEVICES_BYTES = 180
 LOOKS_OF_A_WINDOW, FIRST_STEPS_BACK, MOST_STEPS_BACK = 1_024, 16, 65_536
 
 
@@ -69,10 +69,9 @@ class DiskWord:
         """The word before each of these turns, which ascend."""
         lines = [self.machine.disk_line(it, self.drive, self.index) for it in looks]
         with Progress(len(looks), "turns looked at") as progress:
-            for block in self.machine.blocks(lines, DISK_BYTES):
-                replies = block.decode("ascii").splitlines()
-                progress.step(len(replies))
-                yield from (words_of(it)[0] for it in replies)
+            for word in self.machine.single_words(lines):
+                progress.step()
+                yield word
 
     def change_between(self, low: int, high: int) -> int:
         """A turn of low to high - 1 that makes the word what it is before turn high. Before turn
@@ -123,18 +122,32 @@ def list_from_second(values: Iterator[int]) -> Iterator[int]:
     return values
 
 
-def function_in_words(explorer: Explorer, turn: int) -> str:
-    """The function of the disk that completes in this turn, and what began it."""
+def functions_in_words(
+    explorer: Explorer, turns: Sequence[int], begins: Mapping[int, Optional[int]]
+) -> Dict[int, str]:
+    """The functions of the disk that complete in these turns, which ascend, and what began them,
+    by turn. The turns that began them are looked for if they aren't known."""
     machine = explorer.machine
-    devices = machine.devices(turn)
+    replies = machine.ask_all([f"devices {it}" for it in turns])
+    functions = {turn: Devices.of(reply) for turn, reply in zip(turns, replies)}
+    found = {it: begins[it] if it in begins else begin_of(machine, it) for it in turns}
+    known = sorted({it for it in found.values() if it is not None})
+    by = dict(zip(known, turns_in_words(explorer, known)))
+    return {
+        turn: function_in_words(devices) + begin_in_words(found[turn], by)
+        for turn, devices in functions.items()
+    }
+
+
+def function_in_words(devices: Devices) -> str:
     core = f"core {devices.bus_address:06o}"
     sector = f"sector {devices.sector} of drive {devices.drive}"
     ends = (core, sector) if devices.function == DiskFunction.WRITE else (sector, core)
-    what = f"a {devices.function.title} of {devices.word_count} words from {ends[0]} to {ends[1]}"
-    begun = begin_of(machine, turn)
-    if begun is None:
-        return what
-    return f"{what}, begun in turn {begun} by {turn_in_words(explorer, begun)}"
+    return f"a {devices.function.title} of {devices.word_count} words from {ends[0]} to {ends[1]}"
+
+
+def begin_in_words(begin: Optional[int], by: Mapping[int, str]) -> str:
+    return "" if begin is None else f", begun in turn {begin} by {by[begin]}"
 
 
 def begin_of(machine: Machine, turn: int) -> Optional[int]:
@@ -186,7 +199,7 @@ def change_lines(explorer: Explorer, word: DiskWord, turn: int) -> Iterator[str]
     machine = explorer.machine
     before, after = word.value(turn), word.value(turn + 1)
     yield f"turn {turn}: {word.name} goes from {before:06o} to {after:06o}"
-    yield f"  by {function_in_words(explorer, turn)}"
+    yield f"  by {functions_in_words(explorer, [turn], {})[turn]}"
     devices = machine.devices(turn)
     offset = word.index - devices.sector * SECTOR_WORDS
     if offset >= devices.word_count:

@@ -22,7 +22,7 @@ MOST_WORDS = 256
 # How many lines are sent before their replies are read. They have room in a pipe, so the program
 # never waits for explore while explore waits for the program.
 SENT_AHEAD, SHORT_SENT_AHEAD = 16, 100
-ROOM_OF_A_PIPE = 50_000
+ROOM_OF_A_PIPE, WORD_BYTES = 50_000, 16
 EDITS = {sessions.command_of(it).decode() for it in sessions.LANGUAGE if it.kind == sessions.EDIT}
 COUNTED = {it.decode() for it in sessions.COUNTED}
 
@@ -247,6 +247,11 @@ class Machine:
 
     def word(self, turn: int, address: int) -> int:
         return self.words(turn, address)[0]
+
+    def single_words(self, lines: Sequence[str]) -> Iterator[int]:
+        """The word of the reply to each of these lines of `mem` or `dsk`, which ask for one."""
+        for block in self.blocks(lines, WORD_BYTES):
+            yield from (int(it[4:], 8) for it in block.splitlines())
 
     def disk_line(self, turn: int, drive: int, index: int, count: int = 1) -> str:
         named = f"{drive:o} " if self.past.version == 2 else ""

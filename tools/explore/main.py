@@ -174,6 +174,7 @@ def begun(found: argparse.Namespace) -> Explorer:
     machine = Machine(Start(program, options, Path.cwd()))
     explorer = Explorer(machine, disassembler_of(found.disassembler))
     explorer.is_terminal = sys.stdin.isatty()
+    explorer.session = session.name if session else ""
     if taken_up:
         for line in take_up(explorer, taken_up, not found.no_journal):
             put(line)

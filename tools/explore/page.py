@@ -9,7 +9,7 @@ from . import styles
 from .drawing import shown, svg
 from .children import ExploreError
 from .past import DELAYS
-from .picture import Byte, Picture, guessed_last, picture_of
+from .picture import Byte, Picture, WordHistory, guessed_last, picture_of
 from .replies import VECTORS, Mode
 from .script import write_whole
 
@@ -49,21 +49,32 @@ def text_rows(text: Sequence[Byte]) -> List[Tuple[str, str, str]]:
     return rows
 
 
+def console_of(picture: Picture) -> str:
+    text = picture.text
+    rows = table(("from turn", "to turn", "text"), text_rows(text.shown))
+    title = "Console"
+    if text.cut:
+        title = f"Console: the first {len(text.shown)} of {text.printed} bytes"
+    return section(title, rows)
+
+
 def words_of(picture: Picture) -> str:
-    parts = []
-    for history in picture.words:
-        rows = [
-            (
-                str(it.turn),
-                f"{it.word:06o}",
-                it.writer or "",
-                it.how if it.writer else "before this turn",
-            )
-            for it in history.values
-        ]
-        title = history.name if history.is_whole else f"{history.name} (not all changes)"
-        parts.append(section(title, table(("turn", "value", "writer", "by"), rows)))
-    return "".join(parts)
+    return "".join(samples_of(it) if it.unknown else changes_of(it) for it in picture.words)
+
+
+def changes_of(history: WordHistory) -> str:
+    """Each change of a word, after what it is before the first turn."""
+    before, *changes = history.values
+    rows = [(str(before.turn), f"{before.word:06o}", "", "before this turn")]
+    rows += [(str(it.turn), f"{it.word:06o}", it.writer, it.how) for it in changes]
+    return section(history.name, table(("turn", "value", "writer", "by"), rows))
+
+
+def samples_of(history: WordHistory) -> str:
+    rows = [(str(it.turn), f"{it.word:06o}") for it in history.values]
+    head = f"<summary>{len(rows)} samples</summary>"
+    inside = f"<details>{head}{table(('before turn', 'value'), rows)}</details>"
+    return section(f"{history.name}: {history.unknown}", inside)
 
 
 def edits_of(explorer: Explorer, picture: Picture) -> str:
@@ -98,37 +109,46 @@ def interrupts_of(picture: Picture) -> str:
     )
 
 
-def marks_of(explorer: Explorer, picture: Picture) -> List[Tuple[int, str]]:
-    """The symbols that label the PC: those of the modes in which the turns run."""
-    modes = {it.mode for it in picture.columns} & {Mode.KERNEL, Mode.USER}
-    return [
-        (value, name) for (mode, value), name in explorer.symbols.names.items() if mode in modes
-    ]
+def symbols_of(explorer: Explorer, picture: Picture) -> Dict[Mode, List[Tuple[int, str]]]:
+    """The symbols that label the PC: those of each mode in which turns run, if it has any."""
+    modes = {it.mode for it in picture.columns}
+    names = explorer.symbols.names
+    found = {
+        mode: sorted((value, name) for (it, value), name in names.items() if it == mode)
+        for mode in (Mode.KERNEL, Mode.USER)
+        if mode in modes
+    }
+    return {mode: marks for mode, marks in found.items() if marks}
+
+
+def title_of(explorer: Explorer, picture: Picture) -> str:
+    turns = picture.turns
+    of_turns = f"turns {turns.start} to {turns.stop - 1}"
+    return f"{explorer.session}: {of_turns}" if explorer.session else of_turns.capitalize()
 
 
 def whole_page(explorer: Explorer, picture: Picture) -> str:
-    turns = picture.turns
-    title = f"The turns {turns.start} to {turns.stop - 1}"
-    marks = marks_of(explorer, picture)
+    title = title_of(explorer, picture)
+    symbols = symbols_of(explorer, picture)
     drawings = "".join(
-        f'<div class="{name}">{svg(picture, width, marks)}</div>'
+        f'<div class="{name}">{svg(picture, width, symbols, title)}</div>'
         for name, width in (("wide", WIDE), ("narrow", NARROW))
     )
-    console = section("Console", table(("from turn", "to turn", "text"), text_rows(picture.text)))
-    body = (
-        drawings
-        + console
-        + words_of(picture)
-        + edits_of(explorer, picture)
-        + interrupts_of(picture)
-    )
+    parts = (console_of(picture), words_of(picture), edits_of(explorer, picture))
+    body = drawings + "".join(parts) + interrupts_of(picture)
+    shown_title = html.escape(title)
     return (
         '<!DOCTYPE html><html lang="en"><head><meta charset="utf-8">'
         '<meta name="viewport" content="width=device-width,initial-scale=1">'
         '<meta name="color-scheme" content="light dark"><link rel="icon" href="data:,">'
-        f"<title>{title}</title><style>{styles.PAGE}{styles.PICTURE}</style></head>"
-        f"<body><h1>{title}</h1>{body}</body></html>\n"
+        f"<title>{shown_title}</title><style>{styles.PAGE}{styles.PICTURE}</style></head>"
+        f"<body><h1>{shown_title}</h1>{body}</body></html>\n"
     )
+
+
+def drawing_alone(explorer: Explorer, picture: Picture) -> str:
+    title, symbols = title_of(explorer, picture), symbols_of(explorer, picture)
+    return svg(picture, WIDE, symbols, title, styles.PICTURE) + "\n"
 
 
 KEYS = {
@@ -162,9 +182,10 @@ def page(explorer: Explorer, arguments: Arguments) -> Iterator[str]:
     """Draws the turns N to M: PC with mode and priority behind it, what the disk does, interrupts,
     the console's text, the words that are named as steps with who wrote them, and the events. A
     file that ends in .svg is the drawing alone. Without `from` N is 0; without `to` M is soon after
-    the halt, or N + 99999. Up to 1000000 turns each turn is looked at, of more turns some of each
-    column. If a column is several turns, the ground behind it is that of its first turn. Symbols
-    that were read label the PC."""
+    the halt, or N + 99999. Up to 1000000 turns each turn's PC is looked at, of more turns some of
+    each column; up to 200000 the disk before each turn. A word with more than 400 writes is drawn
+    as a hatched band with samples, and the legend says what else is sampled. Symbols that were read
+    label the PC, those of each mode at a side of their own."""
     machine, path = explorer.machine, Path(arguments.text("file"))
     found = keyed(arguments.text("rest").split())
     first = int((found["from"] or ["0"])[-1])
@@ -176,8 +197,6 @@ def page(explorer: Explorer, arguments: Arguments) -> Iterator[str]:
     named = [it.rpartition(":") for it in found["disk"]]
     drive_words = [(int(drive or "0", 8), int(index, 8)) for drive, _, index in named]
     picture = picture_of(explorer, turns, addresses, drive_words)
-    if path.suffix == ".svg":
-        write_whole(path, svg(picture, WIDE, marks_of(explorer, picture), styles.PICTURE) + "\n")
-    else:
-        write_whole(path, whole_page(explorer, picture))
+    draw = drawing_alone if path.suffix == ".svg" else whole_page
+    write_whole(path, draw(explorer, picture))
     yield f"the turns {first} to {last} are in {path}"

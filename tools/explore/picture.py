@@ -1,18 +1,19 @@
-"""What a picture of a run shows: turns, interrupts, text and words, as questions tell them."""
-import itertools
-from dataclasses import dataclass
-from typing import Dict, Iterator, List, Optional, Tuple
+"""What a picture of a run shows: turns, interrupts, text and words, as questions tell them. What
+isn't known of each turn is kept as samples, and says so."""
+import re
+from dataclasses import dataclass, field
+from typing import Dict, Iterator, List, Optional, Sequence, Tuple
 
 from .commands import Explorer
 from .crew import Progress
-from .disk_words import MOST_LOOKS, DiskWord, function_in_words
+from .disk_words import DEVICES_BYTES, DiskWord, functions_in_words
+from .listing import turns_in_words
 from .machine import LAST_TURN, MOST_TURNS_OF_A_TRAIL, Machine
 from .past import Event
-from .replies import INTERRUPT, Devices, Mode, Registers, Turn, turns_of
-from .search import writer_in_words
+from .replies import INTERRUPT, Devices, LastWrite, Mode, Registers, Turn, turns_of
 
 COLUMNS = 600
-MOST_LISTED_TURNS = 1_000_000
+MOST_LISTED_TURNS, MOST_DEVICE_TURNS, MOST_DISK_LOOKS = 1_000_000, 200_000, 10_000
 MOST_WRITES, DESCRIBED_WRITES, MOST_BYTES = 400, 60, 2_000
 GUESSED_TURNS, MARGIN = 100_000, 4
 
@@ -27,8 +28,6 @@ class Column:
     largest: int
     mode: Mode
     priority: int
-    state: str
-    disk: str
 
 
 @dataclass(frozen=True)
@@ -40,22 +39,63 @@ class Byte:
 
 
 @dataclass(frozen=True)
+class ConsoleText:
+    """The bytes that were printed in the turns, or the first of them."""
+
+    shown: List[Byte]
+    printed: int
+
+    @property
+    def cut(self) -> int:
+        """How many bytes aren't shown."""
+        return self.printed - len(self.shown)
+
+
+@dataclass(frozen=True)
 class Value:
-    """A value of a word from a turn on, who wrote it, and by what."""
+    """A value of a word from a turn on, who wrote it, and by what; or before a sampled turn."""
 
     turn: int
     word: int
-    writer: str
-    how: str
+    writer: str = ""
+    how: str = ""
 
 
 @dataclass(frozen=True)
 class WordHistory:
-    """A word with its values. The first one is that before the first turn."""
+    """A word with its values. If each change is known, the first value is that before the first
+    turn. Otherwise `unknown` says why not, and the values are samples."""
 
     name: str
     values: List[Value]
-    is_whole: bool
+    unknown: str = ""
+
+
+@dataclass(frozen=True)
+class Transfer:
+    """A function of the disk: the turn that began it, the turn in which it completed, and what it
+    is. A begin before the first turn or an end after the last one is none."""
+
+    begin: Optional[int]
+    end: Optional[int]
+    what: str
+
+
+@dataclass(frozen=True)
+class DiskLane:
+    """What the disk does: each function; or, of very many turns, the looks at which it was busy."""
+
+    transfers: List[Transfer]
+    busy: List[Tuple[int, str]] = field(default_factory=list)
+    looks: int = 0
+
+    @property
+    def is_whole(self) -> bool:
+        return not self.looks
+
+    def begins(self) -> Dict[int, Optional[int]]:
+        """The turn that began each function whose begin is known, by the turn that completed it."""
+        return {it.end: it.begin for it in self.transfers if it.end and it.begin is not None}
 
 
 @dataclass(frozen=True)
@@ -67,7 +107,8 @@ class Picture:
     interrupts: List[Turn]
     block: int
     lists_all_turns: bool
-    text: List[Byte]
+    disk: DiskLane
+    text: ConsoleText
     words: List[WordHistory]
     events: List[Event]
 
@@ -108,14 +149,6 @@ def listed(machine: Machine, turns: range) -> Iterator[Turn]:
             yield from turns_of(reply)
 
 
-def column_of(machine: Machine, turn: int, counters: List[int]) -> Column:
-    registers = Registers.of(machine.read(f"regs {turn}"))
-    devices = Devices.of(machine.read(f"devices {turn}"))
-    disk = "" if devices.disk_is_ready else devices.function.title
-    ends = min(counters), max(counters)
-    return Column(turn, *ends, registers.mode, registers.priority, registers.state, disk)
-
-
 def columns_of(machine: Machine, turns: range) -> Tuple[List[Column], List[Turn]]:
     """The columns of the picture, and the interrupts."""
     size = block_size(turns)
@@ -126,54 +159,150 @@ def columns_of(machine: Machine, turns: range) -> Tuple[List[Column], List[Turn]
         if turn.act == INTERRUPT:
             interrupts.append(turn)
     starts = [(turns.start + number * size, found) for number, found in sorted(counters.items())]
-    return [column_of(machine, turn, found) for turn, found in starts], interrupts
+    replies = machine.ask_all([f"regs {turn}" for turn, _ in starts])
+    columns: List[Column] = []
+    for (begin, found), reply in zip(starts, replies):
+        registers = Registers.of(reply)
+        ends = min(found), max(found)
+        columns.append(Column(begin, *ends, registers.mode, registers.priority))
+    return columns, interrupts
 
 
-def bytes_of(machine: Machine, turns: range) -> List[Byte]:
-    """The bytes that were printed in these turns. The text only grows, so halving is exact."""
-    text = machine.text(turns.stop)
-    found: List[Byte] = []
+# The disk
 
-    def divide(low: int, high: int, begin: int, end: int) -> None:
-        if begin == end or len(found) >= MOST_BYTES:
-            return
+BUSY = re.compile(r"RKCS ([0-7]+) RKWC ([0-7]+) RKBA ([0-7]+) RKDA ([0-7]+)")
+Drive = Tuple[str, ...]
+
+
+def drives_before(machine: Machine, looks: Sequence[int]) -> Iterator[Tuple[int, Drive, str]]:
+    """Before each of the turns the registers of the disk, and what it does, if anything."""
+    titles: Dict[Drive, str] = {}
+    turns = iter(looks)
+    with Progress(len(looks), "turns, disk") as progress:
+        for block in machine.blocks([f"devices {it}" for it in looks], DEVICES_BYTES):
+            replies = block.decode("ascii").splitlines()
+            progress.step(len(replies))
+            for turn, reply in zip(turns, replies):
+                found = BUSY.search(reply)
+                drive = found.groups() if found else ()
+                if drive not in titles:
+                    devices = Devices.of(reply)
+                    titles[drive] = "" if devices.disk_is_ready else devices.function.title
+                yield turn, drive, titles[drive]
+
+
+def transfers_of(machine: Machine, turns: range) -> List[Transfer]:
+    """The functions of the disk, by a look before each turn. One that is begun in the turn in
+    which another completes has other registers."""
+    found: List[Transfer] = []
+    before: Drive = ()
+    begin: Optional[int] = None
+    what = ""
+    for turn, drive, title in drives_before(machine, range(turns.start, turns.stop + 1)):
+        if what and (not title or drive != before and may_be_over(machine, begin, turn - 1)):
+            found.append(Transfer(begin, turn - 1, what))
+            what = ""
+        if title and not what:
+            begin, what = (turn - 1 if turn > turns.start else None), title
+        before = drive
+    return [*found, Transfer(begin, None, what)] if what else found
+
+
+def may_be_over(machine: Machine, begin: Optional[int], turn: int) -> bool:
+    """Whether a function that was begun then may complete in this turn."""
+    delay = machine.past.delays["disk"]
+    is_due = delay > 0 and (begin is None or turn - begin >= delay)
+    return is_due or turn in machine.past.disk_events()
+
+
+def disk_lane(machine: Machine, turns: range) -> DiskLane:
+    if len(turns) <= MOST_DEVICE_TURNS:
+        return DiskLane(transfers_of(machine, turns))
+    looks = list(turns[:: block_size(turns)])
+    busy = [(turn, title) for turn, _, title in drives_before(machine, looks) if title]
+    return DiskLane([], busy, len(looks))
+
+
+# The console
+
+# Turns from one on up to another, and how much text there is before the one and before the other.
+Part = Tuple[int, int, int, int]
+
+
+def halved(machine: Machine, parts: Sequence[Part]) -> Iterator[Part]:
+    for low, high, first, stop in parts:
         if high - low == 1:
-            found.extend(Byte(low, it) for it in text[begin:end])
-            return
-        middle = (low + high) // 2
-        length = machine.text_length(middle)
-        divide(low, middle, begin, length)
-        divide(middle, high, length, end)
-
-    divide(turns.start, turns.stop, machine.text_length(turns.start), len(text))
-    return found
+            yield low, high, first, stop
+        else:
+            middle = (low + high) // 2
+            length = machine.text_length(middle)
+            yield low, middle, first, length
+            yield middle, high, length, stop
 
 
-def core_history(explorer: Explorer, address: int, turns: range) -> WordHistory:
-    machine = explorer.machine
-    writes = explorer.finder.writes(turns, address, MOST_WRITES)[-MOST_WRITES:]
-    is_whole = len(writes) < MOST_WRITES
-    begin = machine.word(turns.start if is_whole else writes[0].turn, address)
-    values = [Value(turns.start, begin, "", "before")]
-    for write in writes:
-        how = writer_in_words(explorer, write) if len(writes) <= DESCRIBED_WRITES else ""
-        values.append(Value(write.turn, write.word, write.writer, how))
-    return WordHistory(f"core {address:06o}", values, is_whole)
+def text_of_turns(machine: Machine, turns: range) -> ConsoleText:
+    """The bytes that were printed in these turns. The text only grows, so halving is exact: all
+    parts of the turns that printed something are halved at once, asked upwards."""
+    begin = machine.text_length(turns.start)
+    text = machine.text(turns.stop)
+    last = min(len(text), begin + MOST_BYTES)
+    parts: List[Part] = [(turns.start, turns.stop, begin, len(text))]
+    while any(high - low > 1 for low, high, _, _ in parts):
+        parts = [it for it in halved(machine, parts) if it[2] < min(it[3], last)]
+    shown = [Byte(low, text[at]) for low, _, first, stop in parts for at in range(first, stop)]
+    return ConsoleText(shown[: last - begin], len(text) - begin)
 
 
-def disk_history(explorer: Explorer, drive: int, index: int, turns: range) -> WordHistory:
-    """The changes of a word of a drive, all of them unless that takes too many questions."""
+# Words
+
+
+def core_history(explorer: Explorer, address: int, turns: range, disk: DiskLane) -> WordHistory:
+    """All writes to a core word, or the values at sampled turns if there are too many."""
+    machine, name = explorer.machine, f"core {address:06o}"
+    begin = machine.word(turns.start, address)
+    writes = explorer.finder.writes(turns, address, MOST_WRITES)
+    if len(writes) > MOST_WRITES:
+        looks = turns[:: block_size(turns)]
+        words = machine.single_words([f"mem {it} {address:o} 1" for it in looks])
+        samples = [Value(turn, word) for turn, word in zip(looks, words)]
+        return WordHistory(name, samples, f"more than {MOST_WRITES} writes")
+    how = how_written(explorer, writes, disk) if len(writes) <= DESCRIBED_WRITES else {}
+    values = [Value(it.turn, it.word, it.writer, how.get(it.turn, "")) for it in writes]
+    return WordHistory(name, [Value(turns.start, begin), *values])
+
+
+def how_written(
+    explorer: Explorer, writes: Sequence[LastWrite], disk: DiskLane
+) -> Dict[int, str]:
+    """By turn, the instruction or the function of the disk that wrote."""
+    by_cpu = [it.turn for it in writes if it.writer == "cpu"]
+    by_disk = [it.turn for it in writes if it.writer == "disk"]
+    found = functions_in_words(explorer, by_disk, disk.begins())
+    return {**found, **dict(zip(by_cpu, turns_in_words(explorer, by_cpu)))}
+
+
+def disk_history(
+    explorer: Explorer, drive: int, index: int, turns: range, disk: DiskLane
+) -> WordHistory:
+    """The changes of a word of a drive, or samples if showing each takes too many questions."""
     word = DiskWord(explorer.machine, drive, index)
-    is_whole = word.look_count(turns) <= MOST_LOOKS
-    looks = word.looks(turns) if is_whole else [*turns[:: block_size(turns)], turns.stop]
+    if not disk.is_whole and word.look_count(turns) > MOST_DISK_LOOKS:
+        looks = list(turns[:: block_size(turns)])
+        samples = [Value(turn, it) for turn, it in zip(looks, word.values(looks))]
+        return WordHistory(word.name, samples, "not each change is looked at")
+    if disk.is_whole:
+        ends = (it.end + 1 for it in disk.transfers if it.end is not None)
+        looks = [turns.start, *ends]
+    else:
+        looks = word.looks(turns)
     seen = list(word.values(looks))
-    values = [Value(turns.start, seen[0], "", "before")]
+    changes: Dict[int, int] = {}
     for before, after, old, new in zip(looks, looks[1:], seen, seen[1:]):
         if old != new:
-            turn = word.change_between(before, after)
-            how = function_in_words(explorer, turn)
-            values.append(Value(turn, new, "disk", how))
-    return WordHistory(word.name, values, is_whole)
+            changes[after - 1 if disk.is_whole else word.change_between(before, after)] = new
+    how = functions_in_words(explorer, list(changes), disk.begins())
+    values = [Value(turn, new, "disk", how[turn]) for turn, new in changes.items()]
+    return WordHistory(word.name, [Value(turns.start, seen[0]), *values])
 
 
 def picture_of(
@@ -181,10 +310,17 @@ def picture_of(
 ) -> Picture:
     machine = explorer.machine
     columns, interrupts = columns_of(machine, turns)
-    words = [core_history(explorer, it, turns) for it in addresses]
-    words += [disk_history(explorer, drive, index, turns) for drive, index in drive_words]
-    events = [it for it in machine.past.script() if it.turn in turns]
-    whole = len(turns) <= MOST_LISTED_TURNS
-    text = bytes_of(machine, turns)
-    size = block_size(turns)
-    return Picture(turns, columns, interrupts, size, whole, text, words, events)
+    disk = disk_lane(machine, turns)
+    words = [core_history(explorer, it, turns, disk) for it in addresses]
+    words += [disk_history(explorer, drive, index, turns, disk) for drive, index in drive_words]
+    return Picture(
+        turns=turns,
+        columns=columns,
+        interrupts=interrupts,
+        block=block_size(turns),
+        lists_all_turns=len(turns) <= MOST_LISTED_TURNS,
+        disk=disk,
+        text=text_of_turns(machine, turns),
+        words=words,
+        events=[it for it in machine.past.script() if it.turn in turns],
+    )

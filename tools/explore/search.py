@@ -3,7 +3,7 @@ from typing import Iterator
 
 from .commands import Arguments, Explorer, command, searched_range
 from .children import ExploreError
-from .disk_words import DiskWord, change_lines, function_in_words, last_change
+from .disk_words import DiskWord, change_lines, functions_in_words, last_change
 from .finder import Search, instruction_at, interrupt_by, mode_is, register_with
 from .listing import turn_in_words
 from .replies import LastWrite, Mode
@@ -84,7 +84,7 @@ def writer_in_words(explorer: Explorer, write: LastWrite) -> str:
     """The instruction that wrote, or the function of the disk."""
     if write.writer == "cpu":
         return turn_in_words(explorer, write.turn)
-    return function_in_words(explorer, write.turn)
+    return functions_in_words(explorer, [write.turn], {})[write.turn]
 
 
 WORD_OF_DISK = r"((?P<drive>[0-7]) )?"

@@ -7,7 +7,8 @@ _PICTURE = """
 --grid:#30363d;--pc:#6cb6ff;--user:#15304d;--raised:#44300f;--cpu:#6cb6ff;--disk:#f0a45d;
 --irq:#c297ff;--key:#57c26a}}
 .run .ground{fill:var(--ground)}
-.run text{font:11px ui-monospace,Menlo,Consolas,monospace;fill:var(--ink)}
+.run text{font:11px ui-monospace,Menlo,Consolas,monospace;fill:var(--ink);paint-order:stroke;
+stroke:var(--ground);stroke-width:3px;stroke-linejoin:round}
 .run .faint{fill:var(--faint)}
 .run .grid{stroke:var(--grid);stroke-width:1;fill:none}
 .run .pc{stroke:var(--pc);stroke-width:1.6;fill:none}
@@ -20,6 +21,10 @@ _PICTURE = """
 .run .key{fill:var(--key)}
 .run .step{stroke:var(--faint);stroke-width:1.4;fill:none}
 .run .bar{fill:var(--disk);opacity:.85}
+.run .hatch{stroke:var(--faint);stroke-width:1;opacity:.45;fill:none}
+.run .sample{fill:var(--pc)}
+.run .tick{stroke:var(--faint);stroke-width:1;fill:none}
+.run .lead{stroke:var(--faint);stroke-width:1;opacity:.5;fill:none}
 """
 _PAGE = """
 body{margin:0 auto;max-width:960px;padding:12px 18px;font:15px/1.5 system-ui,sans-serif;

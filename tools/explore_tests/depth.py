@@ -59,6 +59,14 @@ class Depth(Case):
         self.assertIn("user 000002", self.done(explorer, "until mode user from 1000", 5)[0])
         self.done(explorer, "until text =000110", 20)
 
+    def test_page(self) -> None:
+        explorer = self.explorer(LEDGER)
+        # halving for the text, and one further for each function of the disk that is told
+        self.done(explorer, f"page {self.folder}/it.html to 100000 words 30000 disk 0", 40)
+        # halving for the halt
+        halted = self.explorer("", [f"core {it}" for it in COUNTING])
+        self.done(halted, f"page {self.folder}/it.html words 2000", 30)
+
     def test_first_core(self) -> None:
         explorer = self.explorer(LEDGER)
         found = self.done(explorer, "first core 30000 = 132", 30)

@@ -190,16 +190,6 @@ def pixels_of(path: Path) -> Tuple[int, int, int]:
     return width, height, len(rows)
 
 
-class Stored(Case):
-    """The picture of README is what `page` draws now."""
-
-    def test_the_picture_of_an_update_that_gets_lost(self) -> None:
-        lines = "core 1214 2000\npage it.svg to 40 words 2000\n"
-        self.explore(lines, "examples/who-wrote-this-word.session")
-        drawn = (self.folder / "it.svg").read_text()
-        self.assertEqual(drawn, (ROOT / "docs" / "lost-update.svg").read_text())
-
-
 @unittest.skipUnless(CHROMIUM, "chromium isn't installed")
 class Drawn(Case):
     """A browser shows a page, and has nothing to say of it."""
