@@ -5,8 +5,9 @@ import sys
 from pathlib import Path
 from typing import Iterable, List, Optional
 
-from . import stepping  # noqa: F401
-from . import compare, edits, export, listing, page, script, search, sweep  # noqa: F401, they add commands
+# these add commands
+from . import compare, edits, export, listing, page, screen, script, search  # noqa: F401
+from . import stepping, sweep  # noqa: F401
 from .commands import COMMANDS, Explorer
 from .language import FORMS, explanation, form_of
 from .children import ExploreError
