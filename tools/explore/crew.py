@@ -6,7 +6,7 @@ import threading
 import time
 from dataclasses import dataclass
 from operator import length_hint
-from typing import Callable, Dict, Iterable, Iterator, List, Optional, Tuple, TypeVar
+from typing import Callable, ClassVar, Dict, Iterable, Iterator, List, Optional, Tuple, TypeVar
 
 from .children import ExploreError
 from .machine import Machine
@@ -25,6 +25,7 @@ class Progress:
     done: int = 0
     begun: float = 0.0
     shown: float = 0.0
+    bars: ClassVar[int] = 0
 
     def __enter__(self) -> "Progress":
         self.begun = time.monotonic()
@@ -35,6 +36,7 @@ class Progress:
         self.done += count
         now = time.monotonic()
         if self.is_shown and now - self.shown > 0.1 and now - self.begun > 0.5:
+            Progress.bars += not self.shown
             self.shown = now
             bar = "#" * (WIDTH * self.done // max(1, self.total))
             seconds = now - self.begun
@@ -45,6 +47,7 @@ class Progress:
 
     def __exit__(self, *what: object) -> None:
         if self.is_shown and self.shown:
+            Progress.bars -= 1
             sys.stderr.write("\r" + " " * (WIDTH + 50) + "\r")
             sys.stderr.flush()
 

@@ -8,6 +8,7 @@ from typing import Iterable, List, Optional
 # these add commands
 from . import compare, edits, export, listing, page, screen, script, search  # noqa: F401
 from . import stepping, sweep  # noqa: F401
+from .at_work import AtWork
 from .commands import COMMANDS, Explorer
 from .language import FORMS, explanation, form_of
 from .children import ExploreError
@@ -60,9 +61,11 @@ class Prompt:
         self.told_fault = ""
         self.explorer = explorer
         self.echo = echo
+        self.at_work = AtWork("")
 
     def show(self, lines: Iterable[str]) -> None:
         for line in lines:
+            self.at_work.shows()
             put(line, self.explorer.is_terminal)
 
     def onecmd(self, line: str) -> bool:
@@ -75,7 +78,7 @@ class Prompt:
             if name in ENDS:
                 self.end(is_dropped=word != name)
                 return True
-            with INTERRUPTS.allowed():
+            with AtWork(name) as self.at_work, INTERRUPTS.allowed():
                 self.do(word, "".join(others), line)
         except (BrokenPipeError, Unwritable):
             raise

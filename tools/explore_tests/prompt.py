@@ -62,6 +62,18 @@ class Terminal(AtTerminal):
         self.wait_for(b"core 001000 000777")
         self.end()
 
+    def test_a_long_question_shows_that_it_is_at_work(self) -> None:
+        self.begin()
+        self.type("regs 1000000000\n")
+        self.wait_for(b"regs: at work, 1 s ")
+        self.wait_for(b"regs: at work, 2 s ")
+        self.interrupt()
+        self.wait_for(b"regs: stopped")
+        # a short one doesn't
+        self.type("patches\n")
+        self.assertNotIn("at work", self.wait_for(b"patches 0"))
+        self.end()
+
     def test_a_bar_is_shown_and_ctrl_c_stops_a_sweep(self) -> None:
         self.begin("examples/one-key-sooner.session")
         self.type("sweep -y -j 2 -o kept key 101 from 0 to 300000: regs 300001\n")
