@@ -6,16 +6,38 @@ import argparse
 import os
 import re
 import subprocess
-from collections import namedtuple
+from typing import Any, Dict, Iterable, List, NamedTuple, Tuple, Union
 
 SECONDS = 60
 
-Ended = namedtuple("Ended", "output status error")
-Session = namedtuple("Session", "name folder lines args expected")
 
-# A line of the language: its form, as --help shows it, what kind it is, and how many lines its
-# reply has. tools/check-help compares the table with what the program's --help shows.
-Line = namedtuple("Line", "form kind reply")
+class Ended(NamedTuple):
+    """How a program ended. Without an answer in time the status says so."""
+
+    output: bytes
+    status: Union[int, str]
+    error: bytes
+
+
+class Session(NamedTuple):
+    """A stored session, and how the program must end."""
+
+    name: str
+    folder: str
+    lines: bytes
+    args: List[str]
+    expected: Ended
+
+
+class Line(NamedTuple):
+    """A line of the language: its form, as --help shows it, what kind it is, and how many lines its
+    reply has. tools/check-help compares the table with what the program's --help shows."""
+
+    form: str
+    kind: str
+    reply: str
+
+
 EDIT, QUESTION, LIST = "edit", "question", "list"
 ONE_LINE, COUNTED_LINES = "one line", "a line with a count, and as many lines"
 LANGUAGE = [
@@ -43,7 +65,7 @@ LANGUAGE = [
 ]
 
 
-def command_of(line):
+def command_of(line: Line) -> bytes:
     """The word that a line of the language begins with, as it is in a session."""
     return line.form.split()[0].encode()
 
@@ -53,14 +75,14 @@ QUESTIONS = {command_of(line) for line in LANGUAGE if line.kind == QUESTION}
 COUNTED = {command_of(line) for line in LANGUAGE if line.reply == COUNTED_LINES}
 
 
-def existing_program(path):
+def existing_program(path: str) -> str:
     """The program's absolute path, from any folder; an error of the arguments if it isn't there."""
     if not os.access(path, os.X_OK):
         raise argparse.ArgumentTypeError(f"{path}: no such program; tools/program pdp11 finds one")
     return os.path.abspath(path)
 
 
-def asked(description, *flags, numbers=()):
+def asked(description: str, *flags: str, numbers: Iterable[str] = ()) -> Tuple[Any, ...]:
     """What a tool's arguments say: the program, the folders, the strides to run their sessions
     with, whether each of its own flags is there, and each of its own numbers."""
     as_it_is = argparse.RawDescriptionHelpFormatter
@@ -78,14 +100,14 @@ def asked(description, *flags, numbers=()):
     return words["program"], words["folders"], strides, *own
 
 
-def stored(path, default=b""):
+def stored(path: str, default: bytes = b"") -> bytes:
     if not os.path.exists(path):
         return default
     with open(path, "rb") as file:
         return file.read()
 
 
-def sessions_of(folder):
+def sessions_of(folder: str) -> List[Session]:
     """Every session in the folder and the folders below it, in the order of their names."""
     found = []
     for at, folders, files in os.walk(folder):
@@ -100,7 +122,7 @@ def sessions_of(folder):
     return found
 
 
-def with_strides(session, strides):
+def with_strides(session: Session, strides: Iterable[str]) -> List[Session]:
     """The session with each of these strides; unchanged if there is none, or if the session has a
     stride of its own."""
     if not strides or any(arg.startswith("--stride") for arg in session.args):
@@ -109,9 +131,10 @@ def with_strides(session, strides):
     return [session._replace(name=name, args=[*words, *session.args]) for name, words in named]
 
 
-def run(program, session, lines, **more):
+def run(program: str, session: Session, lines: bytes, **more: Any) -> Ended:
     """Runs the program with the session's arguments on these lines; subprocess.run gets `more`."""
-    how = {"cwd": session.folder, "capture_output": True, "timeout": SECONDS, **more}
+    how: Dict[str, Any] = {"cwd": session.folder, "capture_output": True, "timeout": SECONDS}
+    how.update(more)
     try:
         ran = subprocess.run([program, *session.args], input=lines, **how)
     except subprocess.TimeoutExpired:
@@ -119,17 +142,17 @@ def run(program, session, lines, **more):
     return Ended(ran.stdout, ran.returncode, ran.stderr)
 
 
-def lines_of(text):
+def lines_of(text: bytes) -> List[bytes]:
     return re.findall(rb"[^\n]*\n|[^\n]+", text)
 
 
-def has_reply(line):
+def has_reply(line: bytes) -> bool:
     if line.endswith(b"\n"):
         line = line[:-1].removesuffix(b"\r")
     return len(line) > 200 or (not line.startswith(b"#") and line.strip(b" \t") != b"")
 
 
-def replies_of(output):
+def replies_of(output: bytes) -> List[bytes]:
     """The replies in an output, each with all its lines."""
     lines, replies = lines_of(output), []
     while lines:
@@ -141,7 +164,7 @@ def replies_of(output):
     return replies
 
 
-def difference(got, wanted):
+def difference(got: Ended, wanted: Ended) -> str:
     """Says what differs first between two runs."""
     for name in ("status", "error"):
         if getattr(got, name) != getattr(wanted, name):
