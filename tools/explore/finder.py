@@ -10,6 +10,7 @@ from .machine import MOST_TURNS_OF_A_TRAIL, Machine
 from .replies import INSTRUCTION, INTERRUPT, LastWrite, Mode
 
 BLOCK, BLOCKS_OF_ONE = 65_536, 4
+TURNS_OF_A_LOOK = 10  # so many turns run in the time in which one is looked at
 FIRST_WINDOW, LARGEST_WINDOW, LARGEST_STEP, SINGLE_PASSES = 4_096, 1_048_576, 512, 2
 REGISTERS_BYTES, LAST_BYTES, TRAIL_BYTES = 120, 36, 1_600
 # A search of some turns that follow one another: the first of them that has what is looked for.
@@ -88,26 +89,35 @@ class Finder:
     machine: Machine
 
     def first_turn(self, turns: range, search: Search) -> Optional[int]:
-        """The first of the turns that has it: of many turns the first blocks on this machine, the
-        others on twins."""
+        """The first of the turns that has it. The first blocks of the turns are looked at on this
+        machine; the others on twins, unless these had to run longer up to them than it saves."""
         starts = range(turns.start, turns.stop, BLOCK)
         blocks = [range(at, min(at + BLOCK, turns.stop)) for at in starts]
-        for block in blocks[:BLOCKS_OF_ONE]:
-            found = search(self.machine, block)
-            if found is not None:
-                return found
-        rest = blocks[BLOCKS_OF_ONE:]
-
-        def work(twin: Machine, number: int) -> Optional[int]:
-            return search(twin, rest[number])
-
+        are_far = turns.start > TURNS_OF_A_LOOK * len(turns)
+        alone = len(blocks) if are_far else BLOCKS_OF_ONE
         with Progress(len(turns), "turns") as progress:
-            results = each_of(self.machine, range(len(rest)), work, processors())
-            for _, found in in_order(results):
-                progress.step(BLOCK)
+            for block in blocks[:alone]:
+                found = search(self.machine, block)
                 if found is not None:
                     return found
+                progress.step(len(block))
+            for block, found in self._on_twins(blocks[alone:], search):
+                if found is not None:
+                    return found
+                progress.step(len(block))
         return None
+
+    def _on_twins(
+        self, blocks: List[range], search: Search
+    ) -> Iterator[Tuple[range, Optional[int]]]:
+        """What is found in each of the blocks, in their order."""
+
+        def work(twin: Machine, number: int) -> Optional[int]:
+            return search(twin, blocks[number])
+
+        numbers = range(len(blocks))
+        for number, found in in_order(each_of(self.machine, numbers, work, processors())):
+            yield blocks[number], found
 
     # The writes to a core word
 

@@ -23,6 +23,7 @@ class Pages(Case):
 
     def page(self, lines: str, *words: str) -> List[str]:
         """The page's two drawings, the wide one first."""
+        (self.folder / "it.html").unlink(missing_ok=True)
         self.explore(lines, *words)
         self.written = (self.folder / "it.html").read_text()
         drawings = re.findall(r'<div class="(?:wide|narrow)">(<svg.*?</svg>)', self.written)
@@ -67,13 +68,16 @@ class Pages(Case):
     def test_a_label_stands_where_its_byte_was_printed(self) -> None:
         ledger = "examples/ledger/ledger.session"
         drawings = self.page("page it.html from 126700 to 128700\n", ledger)
-        printed = self.explore("until text B from 126700\n", ledger)
-        turn = int(printed.split()[1].strip(":"))
+        turn = 127_703  # text 127703 lacks the B, text 127704 has it
         for drawing, (left, right) in zip(drawings, ((92, 950), (74, 354))):
             places = self.places(drawing)
             label = next(it for it in places if it.startswith("B"))
             share = (turn - 126_700) / 2_001
             self.assertAlmostEqual(places[label], left + share * (right - left), delta=0.1)
+        # bytes that are printed on one pixel make no label that is longer than the time it took
+        for drawing in self.page(f"{PRINTING}page it.html to 9999\n"):
+            labels = [it for it in self.texts(drawing) if set(it) == {"A"}]
+            self.assertLessEqual(max(map(len, labels)), 10)
 
     def test_a_transfer_is_as_long_as_it_was(self) -> None:
         # a read takes 3 turns, and 41 turns are 280 pixels
