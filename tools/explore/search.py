@@ -26,7 +26,7 @@ def not_found(turns: range, line: str, what: str = "not") -> str:
 def search_of(arguments: Arguments) -> Search:
     """What `until` looks for in each turn."""
     if arguments.optional("address"):
-        return instruction_at(arguments.octal("address"))
+        return instruction_at(word_of(arguments, "address"))
     if arguments.optional("vector"):
         return interrupt_by(arguments.octal("vector"))
     if arguments.optional("mode"):
