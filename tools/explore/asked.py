@@ -13,7 +13,7 @@ MOST_DIGITS = 10
 def turns_of_question(line: str) -> Optional[Tuple[int, int]]:
     """The turns that the machine must be at before and after its reply, or None for another line.
     A trail begins at the first turn that it lists."""
-    words = line.split()
+    words = line.split(None, 3)
     if len(words) < 2 or words[0] not in QUESTIONS or not words[1].isdigit():
         return None
     turn = int(words[1][:MOST_DIGITS])

@@ -124,8 +124,12 @@ class Finder:
     def lasts(self, turns: List[int], address: int) -> Iterator[Optional[LastWrite]]:
         """The last write to the word before each of these turns."""
         lines = [f"last {turn} {address:o}" for turn in turns]
+        before, last = "", None
         for block in self.machine.blocks(lines, LAST_BYTES):
-            yield from map(LastWrite.of, block.decode("ascii").splitlines())
+            for reply in block.decode("ascii").splitlines():
+                if reply != before:
+                    before, last = reply, LastWrite.of(reply)
+                yield last
 
     def next_write(self, turns: range, address: int) -> Optional[LastWrite]:
         """The first write to the word. `last M A` is in the turns from N on once the first write
