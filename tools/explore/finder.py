@@ -11,7 +11,10 @@ from .replies import INSTRUCTION, INTERRUPT, LastWrite, Mode
 
 BLOCK, BLOCKS_OF_ONE = 65_536, 4
 TURNS_OF_A_LOOK = 10  # so many turns run in the time in which one is looked at
-FIRST_WINDOW, LARGEST_WINDOW, LARGEST_STEP, SINGLE_PASSES = 4_096, 1_048_576, 512, 2
+FIRST_WINDOW, LARGEST_WINDOW = 4_096, 1_048_576
+# A search of writes looks at the end of each step. After so many passes a step that has had a write
+# in each of them is halved, and then its halves.
+LARGEST_STEP, SINGLE_PASSES = 512, 2
 REGISTERS_BYTES, LAST_BYTES, TRAIL_BYTES = 120, 36, 1_600
 # A search of some turns that follow one another: the first of them that has what is looked for.
 Search = Callable[[Machine, range], Optional[int]]

@@ -150,7 +150,7 @@ def see(explorer: Explorer, arguments: Arguments) -> Iterator[str]:
     """Shows the C turns before turn N, 16 if C isn't given: the turn, the mode, PC as the program
     has it, the address of core that it is at, the instruction or interrupt, and the symbol.
     With mapping off both addresses are the same. C may be large: the turns are asked upwards, so
-    5,000 of them take about a second wherever they are."""
+    turns late in a run take little longer than early ones."""
     end = arguments.decimal("turn")
     count = min(end, arguments.decimal("count", 16))
     if count == 0:
