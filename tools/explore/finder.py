@@ -1,9 +1,10 @@
 """Finds turns by questions of the session language. All searches are here, so that another finder
 with these methods can take their place. Each asks upwards, once more from the begin if it must, or
 by halving; none goes back and forth between a turn and the next."""
+import itertools
 import re
 from dataclasses import dataclass
-from typing import Callable, Dict, Iterator, List, Optional, Pattern, Tuple
+from typing import Callable, Dict, Iterator, List, Optional, Tuple
 
 from .crew import Progress, each_of, in_order, processors
 from .machine import MOST_TURNS_OF_A_TRAIL, Machine
@@ -21,21 +22,25 @@ Search = Callable[[Machine, range], Optional[int]]
 OF_MODE = {Mode.KERNEL: rb"PS 0[0-3]", Mode.USER: rb"PS 1[4-7]"}
 
 
-def in_trails(act: str) -> Search:
-    """A turn whose line in a trail has this after its number, such as `001040 instr`."""
-    text = re.compile(rb"^(\d+) %s$" % act.encode(), re.MULTILINE)
+def in_trails(end: str) -> Search:
+    """A turn whose line in a trail ends so, after a space."""
+    text = f" {end}\n".encode()
+
+    def turn_of(lines: bytes) -> Optional[int]:
+        found = lines.find(text)
+        if found < 0:
+            return None
+        return int(lines[lines.rfind(b"\n", 0, found) + 1 : found].split()[0])
 
     def search(machine: Machine, turns: range) -> Optional[int]:
         size = MOST_TURNS_OF_A_TRAIL
         whole = len(turns) // size * size
         lines = machine.trail_lines(turns.start, whole)
-        for block in machine.blocks(lines, TRAIL_BYTES, size + 1):
-            found = text.search(block)
-            if found:
-                return int(found[1])
+        blocks = machine.blocks(lines, TRAIL_BYTES, size + 1)
         rest = machine.turns(turns.start + whole, len(turns) - whole)
-        shown = (it.line().encode() for it in rest)
-        return next((int(it[1]) for it in map(text.search, shown) if it), None)
+        shown = (f"{it.line()}\n".encode() for it in rest)
+        found = map(turn_of, itertools.chain(blocks, shown))
+        return next((it for it in found if it is not None), None)
 
     return search
 
@@ -45,7 +50,7 @@ def instruction_at(address: int) -> Search:
 
 
 def interrupt_by(vector: int) -> Search:
-    return in_trails(rf"[0-7]+ {INTERRUPT} {vector:03o}")
+    return in_trails(f"{INTERRUPT} {vector:03o}")
 
 
 def in_registers(text: bytes) -> Search:
@@ -65,7 +70,7 @@ def in_registers(text: bytes) -> Search:
 
 
 def register_with(name: str, word: int) -> Search:
-    return in_registers(rb"\b%s %06o " % (name.encode(), word))
+    return in_registers(b"%s %06o " % (name.encode(), word))
 
 
 def mode_is(mode: Mode) -> Search:

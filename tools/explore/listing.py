@@ -80,6 +80,17 @@ def fetches_of(machine: Machine, turns: Sequence[Turn]) -> List[Fetch]:
     return found
 
 
+def parts_that_follow(addresses: Sequence[int]) -> List[List[int]]:
+    """The addresses in parts of words that follow one another."""
+    parts: List[List[int]] = []
+    for address in addresses:
+        if parts and parts[-1][-1] + 2 == address:
+            parts[-1].append(address)
+        else:
+            parts.append([address])
+    return parts
+
+
 def fetched_words(
     machine: Machine, turns: Sequence[Turn], fetches: Sequence[Fetch]
 ) -> List[List[int]]:
@@ -87,10 +98,18 @@ def fetched_words(
     them: a transfer that ends in the turn comes before it."""
     places = [(turn.turn, it.words) for turn, it in zip(turns, fetches)]
     asked = [
-        (at, place) for turn, words in places for at in (turn, turn + 1) for place in words
+        (at, part)
+        for turn, words in places
+        for at in (turn, turn + 1)
+        for part in parts_that_follow(words)
     ]
-    replies = machine.ask_all([f"mem {at} {place:o} 1" for at, place in asked], SHORT_SENT_AHEAD)
-    values = {key: words_of(reply)[0] for key, reply in zip(asked, replies)}
+    lines = [f"mem {at} {part[0]:o} {len(part)}" for at, part in asked]
+    replies = machine.ask_all(lines, SHORT_SENT_AHEAD)
+    values = {
+        (at, place): word
+        for (at, part), reply in zip(asked, replies)
+        for place, word in zip(part, words_of(reply))
+    }
     changed = [
         (turn, it)
         for turn, words in places

@@ -54,12 +54,17 @@ class Program(Child):
         of one line."""
         self.send(lines)
         data = bytearray()
-        wanted = len(lines) * reply_lines
-        while data.count(b"\n") < wanted - data.count(b"refused ") * (reply_lines - 1):
+        ends, wanted, may_be_refused = 0, len(lines) * reply_lines, False
+        while ends < wanted:
             part = cast(BufferedReader, self.written).read1(ROOM_OF_A_PIPE)
             if not part:
                 raise self.ended()
             data += part
+            ends += part.count(b"\n")
+            may_be_refused = may_be_refused or b"f" in part
+            if may_be_refused and reply_lines > 1:
+                refusals = data.count(b"refused ")
+                wanted = len(lines) * reply_lines - refusals * (reply_lines - 1)
         return bytes(data)
 
 
