@@ -115,6 +115,7 @@ class Picture:
 
 def guessed_last(machine: Machine, first: int) -> int:
     """The last turn of a picture if nothing is said: soon after the halt, or after many turns."""
+    machine.registers(first)  # a turn that is too large is refused here, before a long run
     end = min(first + GUESSED_TURNS, LAST_TURN)
     if machine.registers(end).state != "halted":
         return end - 1
