@@ -272,7 +272,14 @@ class Machine:
         return text_of(self.read(f"text {turn}"))
 
     def text_length(self, turn: int) -> int:
-        return int(self.read(f"text {turn}").split(":")[0].split()[1])
+        return next(self.text_lengths([turn]))
+
+    def text_lengths(self, turns: Sequence[int]) -> Iterator[int]:
+        """How many bytes were printed before each of these turns."""
+        for turn, reply in zip(turns, self.ask_all([f"text {it}" for it in turns])):
+            if reply.startswith("refused"):
+                raise Refused(f"text {turn}: {reply}")
+            yield int(reply.split(":")[0].split()[1])
 
     def turn(self, turn: int) -> Turn:
         """What the machine does in this turn."""

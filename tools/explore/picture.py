@@ -231,12 +231,13 @@ Part = Tuple[int, int, int, int]
 
 
 def halved(machine: Machine, parts: Sequence[Part]) -> Iterator[Part]:
+    wide = [(low + high) // 2 for low, high, _, _ in parts if high - low > 1]
+    lengths = machine.text_lengths(wide)
     for low, high, first, stop in parts:
         if high - low == 1:
             yield low, high, first, stop
         else:
-            middle = (low + high) // 2
-            length = machine.text_length(middle)
+            middle, length = (low + high) // 2, next(lengths)
             yield low, middle, first, length
             yield middle, high, length, stop
 
