@@ -1,7 +1,8 @@
 """What the checks share: the lines of the session language, and the stored sessions of a folder.
 NAME.session is standard input, NAME.args the arguments (one a line), NAME.expected standard output,
 NAME.status the exit status (no file: 0), NAME.stderr standard error (no file: empty). A session is
-run in its folder, which has the files that its arguments name."""
+run in its folder, which has the files that its arguments name. NAME.search is one for the program
+search alone."""
 import argparse
 import os
 import re
@@ -38,7 +39,7 @@ class Line(NamedTuple):
     reply: str
 
 
-EDIT, QUESTION, LIST = "edit", "question", "list"
+EDIT, QUESTION, LIST, SEARCH = "edit", "question", "list", "search"
 ONE_LINE, COUNTED_LINES = "one line", "a line with a count, and as many lines"
 LANGUAGE = [
     Line("core A W", EDIT, ONE_LINE),
@@ -63,6 +64,18 @@ LANGUAGE = [
     Line("disk D I W", EDIT, ONE_LINE),
     Line("dsk N D I C", QUESTION, ONE_LINE),
 ]
+# The further lines of the program search.
+SEARCHES = [
+    Line("first N M at A", SEARCH, ONE_LINE),
+    Line("first N M at A MODE", SEARCH, ONE_LINE),
+    Line("first N M vector V", SEARCH, ONE_LINE),
+    Line("writes N M A", SEARCH, COUNTED_LINES),
+    Line("change N M I", SEARCH, ONE_LINE),
+    Line("change N M D I", SEARCH, ONE_LINE),
+    Line("text N from F", SEARCH, ONE_LINE),
+    Line("punched N from F", SEARCH, ONE_LINE),
+    Line("when N F", SEARCH, ONE_LINE),
+]
 
 
 def command_of(line: Line) -> bytes:
@@ -72,7 +85,7 @@ def command_of(line: Line) -> bytes:
 
 QUESTIONS = {command_of(line) for line in LANGUAGE if line.kind == QUESTION}
 # The reply begins with the command.
-COUNTED = {command_of(line) for line in LANGUAGE if line.reply == COUNTED_LINES}
+COUNTED = {command_of(it) for it in LANGUAGE + SEARCHES if it.reply == COUNTED_LINES}
 
 
 def existing_program(path: str) -> str:
@@ -107,18 +120,19 @@ def stored(path: str, default: bytes = b"") -> bytes:
         return file.read()
 
 
-def sessions_of(folder: str) -> List[Session]:
-    """Every session in the folder and the folders below it, in the order of their names."""
+def sessions_of(folder: str, wanted: str = ".session") -> List[Session]:
+    """Every session in the folder and the folders below it whose file has the wanted ending, in the
+    order of their names."""
     found = []
     for at, folders, files in os.walk(folder):
         folders.sort()
         for file in sorted(files):
             base, ending = os.path.splitext(os.path.join(at, file))
-            if ending == ".session":
+            if ending == wanted:
                 args = stored(base + ".args").decode().splitlines()
                 status = int(stored(base + ".status", b"0"))
                 expected = Ended(stored(base + ".expected"), status, stored(base + ".stderr"))
-                found.append(Session(base, at, stored(base + ".session"), args, expected))
+                found.append(Session(base, at, stored(base + wanted), args, expected))
     return found
 
 

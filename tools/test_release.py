@@ -14,7 +14,7 @@ from typing import List, Optional
 
 ROOT = Path(__file__).resolve().parents[1]
 SECONDS = 60
-TOOLS = ["pdp11", "tools/program", "tools/build", "tools/sources-sum", "tools/release", ".ci/run"]
+TOOLS = ["pdp11", "tools/start", "tools/program", "tools/build", "tools/sources-sum", "tools/release", ".ci/run"]
 STORED_HELP = "rows/program/help.expected"
 RELEASE = "release/pdp11-linux-x86_64"
 BUILT = "crates/pdp11/out/pdp11"
