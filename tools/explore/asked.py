@@ -6,15 +6,16 @@ from typing import Iterable, Optional, Tuple
 
 import sessions
 
-QUESTIONS = frozenset(it.decode() for it in sessions.QUESTIONS)
+QUESTIONS = sessions.QUESTIONS | {sessions.command_of(it) for it in sessions.SEARCHES}
+NAMES = frozenset(it.decode() for it in QUESTIONS)
 MOST_DIGITS = 10
 
 
 def turns_of_question(line: str) -> Optional[Tuple[int, int]]:
     """The turns that the machine must be at before and after its reply, or None for another line.
-    A trail begins at the first turn that it lists."""
+    A trail begins at the first turn that it lists. Where a search ends its reply tells."""
     words = line.split(None, 3)
-    if len(words) < 2 or words[0] not in QUESTIONS or not words[1].isdigit():
+    if len(words) < 2 or words[0] not in NAMES or not words[1].isdigit():
         return None
     turn = int(words[1][:MOST_DIGITS])
     if words[0] == "trail" and len(words) == 3 and words[2].isdigit():
@@ -30,6 +31,10 @@ class Asked:
     turn: int = 0
     greatest: int = 0
     went_back: int = 0
+
+    def reach(self, turn: int) -> None:
+        """A search took the machine to this turn."""
+        self.turn, self.greatest = turn, max(self.greatest, turn)
 
     def note(self, lines: Iterable[str]) -> None:
         for line in lines:

@@ -7,13 +7,13 @@ from typing import Dict, Iterator, List, Mapping, Optional, Sequence
 
 from .commands import Explorer, check_drive
 from .crew import Progress
+from .finder import parts_of
 from .listing import turns_in_words
 from .machine import Machine
 from .replies import SECTOR_WORDS, Devices, DiskFunction
 
-MOST_LOOKS, COARSE_LOOKS = 200_000, 256
 DEVICES_BYTES = 180
-LOOKS_OF_A_WINDOW, FIRST_STEPS_BACK, MOST_STEPS_BACK = 1_024, 16, 65_536
+FIRST_STEPS_BACK, MOST_STEPS_BACK = 16, 65_536
 
 
 @dataclass
@@ -55,16 +55,6 @@ class DiskWord:
         delay = self.machine.past.delays["disk"]
         return (len(turns) // delay if delay else 0) + 2 * len(self.machine.past.disk_events())
 
-    def exact_part(self, turns: range) -> range:
-        """The first of the turns, so many that not too many looks show each change."""
-        delay = self.machine.past.delays["disk"]
-        looks = max(1, MOST_LOOKS - 2 * len(self.machine.past.disk_events()))
-        return turns[: looks * delay] if delay else turns
-
-    def coarse_looks(self, turns: range) -> List[int]:
-        step = max(1, len(turns) // COARSE_LOOKS)
-        return [*range(turns.start, turns.stop, step), turns.stop]
-
     def values(self, looks: List[int]) -> Iterator[int]:
         """The word before each of these turns, which ascend."""
         lines = [self.machine.disk_line(it, self.drive, self.index) for it in looks]
@@ -85,41 +75,14 @@ class DiskWord:
                 low = middle
         return low
 
-    def first_value(self, looks: List[int], wanted: int) -> Optional[int]:
-        """A turn that makes the word so, before the first of these looks, but for the first, that
-        finds it so."""
-        for before, look, value in zip(looks, looks[1:], list_from_second(self.values(looks))):
-            if value == wanted:
-                return self.change_between(before, look)
-        return None
-
-    def first_change(self, turns: range) -> Optional[int]:
-        """The first turn of these that changes the word."""
-        looks = self.looks(turns)
-        values = self.values(looks)
-        old = next(values)
-        for before, look, value in zip(looks, looks[1:], values):
-            if value != old:
-                return self.change_between(before, look)
-        return None
-
-    def last_change_exactly(self, turns: range) -> Optional[int]:
-        """The last turn of these that changes the word. The looks are asked window by window, the
-        last window first, and each window upwards."""
-        looks = self.looks(turns)
-        while len(looks) > 1:
-            window = looks[-LOOKS_OF_A_WINDOW:]
-            values = list(self.values(window))
-            for at in range(len(window) - 1, 0, -1):
-                if values[at - 1] != values[at]:
-                    return self.change_between(window[at - 1], window[at])
-            looks = looks[: 1 - len(window)]
-        return None
-
-
-def list_from_second(values: Iterator[int]) -> Iterator[int]:
-    next(values)
-    return values
+    def changes(self, turns: range) -> Iterator[int]:
+        """The turns of these that change the word."""
+        for part in parts_of(turns):
+            found = self.machine.change(part, self.drive, self.index)
+            while found is not None:
+                yield found
+                part = range(found + 1, part.stop)
+                found = self.machine.change(part, self.drive, self.index)
 
 
 def functions_in_words(
@@ -168,30 +131,16 @@ def begin_of(machine: Machine, turn: int) -> Optional[int]:
     return None
 
 
-@dataclass(frozen=True)
-class Change:
-    """The last change of a word, if there is one, whether it is surely the last, and how many
-    looks show that."""
-
-    turn: Optional[int]
-    is_exact: bool
-    looks: int
-
-
-def last_change(word: DiskWord, turn: int, all_of_them: bool) -> Change:
-    """The last change before the turn. A first guess is found by steps that double and halving;
-    then all turns after it are looked at, if they aren't too many."""
+def last_change(word: DiskWord, turn: int) -> Optional[int]:
+    """The last change before the turn, if there is one. A first guess is found by steps that double
+    and halving; changes after it that were undone are then searched for."""
     value, low, step = word.value(turn), turn, 1
     while low > 0 and word.value(low) == value:
         low, step = max(0, low - step), step * 2
-    guess = word.change_between(low, turn) if word.value(low) != value else None
-    rest = range(0 if guess is None else guess + 1, turn)
-    if not rest:
-        return Change(guess, True, 0)
-    if not all_of_them and word.look_count(rest) > MOST_LOOKS:
-        return Change(guess, False, word.look_count(rest))
-    found = word.last_change_exactly(rest)
-    return Change(guess if found is None else found, True, word.look_count(rest))
+    found = word.change_between(low, turn) if word.value(low) != value else None
+    for later in word.changes(range(0 if found is None else found + 1, turn)):
+        found = later
+    return found
 
 
 def change_lines(explorer: Explorer, word: DiskWord, turn: int) -> Iterator[str]:

@@ -5,7 +5,7 @@ from contextlib import contextmanager
 from dataclasses import dataclass, field, replace
 from io import BufferedReader
 from pathlib import Path
-from typing import Iterator, List, Optional, Sequence, cast
+from typing import Iterator, List, Optional, Sequence, Tuple, cast
 
 import sessions
 
@@ -38,7 +38,7 @@ class Program(Child):
         """The next reply, with all its lines, without the last LF."""
         lines = [self.line()]
         words = lines[0].split()
-        if len(words) == 2 and words[0] in COUNTED and words[1].isdigit():
+        if len(words) > 1 and words[0] in COUNTED and words[1].isdigit():
             lines += [self.line() for _ in range(int(words[1]))]
         return "\n".join(lines)
 
@@ -267,6 +267,38 @@ class Machine:
 
     def last(self, turn: int, address: int) -> Optional[LastWrite]:
         return LastWrite.of(self.read(f"last {turn} {address:o}"))
+
+    # Searches, of the turns of a range
+
+    def found(self, line: str, end: int) -> Optional[int]:
+        """The turn that a search replies, or None. The machine is at the turn after it, or at the
+        end of what was searched."""
+        turn = self.read(line).split()[1]
+        found = None if turn == "none" else int(turn)
+        self.asked.reach(end if found is None else found + 1)
+        return found
+
+    def first(self, turns: range, sought: str) -> Optional[int]:
+        """The first turn of these that is what is sought, in the words of the line `first`."""
+        return self.found(f"first {turns.start} {turns.stop} {sought}", turns.stop)
+
+    def change(self, turns: range, drive: int, index: int) -> Optional[int]:
+        """The first turn of these that changes a word of a drive."""
+        named = f"{drive:o} " if self.past.version == 2 else ""
+        return self.found(f"change {turns.start} {turns.stop} {named}{index:o}", turns.stop)
+
+    def printed_in(self, before: int, byte: int) -> Optional[int]:
+        """The turn before this one in which the byte of this number, from 0 on, was printed."""
+        return self.found(f"when {before} {byte}", before)
+
+    def writes(self, turns: range, address: int) -> Tuple[List[LastWrite], range]:
+        """The first writes to a core word in these turns, and the turns that are left."""
+        head, *lines = self.read(f"writes {turns.start} {turns.stop} {address:o}").splitlines()
+        writes = [LastWrite.of_line(it) for it in lines]
+        is_all = len(head.split()) == 2
+        left = range(turns.stop if is_all else writes[-1].turn + 1, turns.stop)
+        self.asked.reach(left.start)
+        return writes, left
 
     def text(self, turn: int) -> bytes:
         return text_of(self.read(f"text {turn}"))

@@ -59,7 +59,7 @@ def arguments(words: List[str]) -> argparse.Namespace:
         help="does one part of a sweep, as `sweep --jobs` writes it, and ends",
     )
     parser.add_argument(
-        "--program", metavar="FILE", help="a built pdp11, in place of what tools/program finds"
+        "--program", metavar="FILE", help="a built search, in place of what tools/program finds"
     )
     parser.add_argument(
         "--disassembler", metavar="FILE", help="a built disassemble, in the same way"
@@ -170,7 +170,7 @@ def begun(found: argparse.Namespace) -> Explorer:
     taken_up = resumed(found) if found.resume is not None else None
     session = Path(found.session) if found.session else None
     options = options_of(found, taken_up or session)
-    program = existing_program(found.program) if found.program else found_program("pdp11")
+    program = existing_program(found.program) if found.program else found_program("search")
     machine = Machine(Start(program, options, Path.cwd()))
     explorer = Explorer(machine, disassembler_of(found.disassembler))
     explorer.is_terminal = sys.stdin.isatty()

@@ -1,5 +1,6 @@
 """What a picture of a run shows: turns, interrupts, text and words, as questions tell them. What
 isn't known of each turn is kept as samples, and says so."""
+import itertools
 import re
 from dataclasses import dataclass, field
 from typing import Dict, Iterator, List, Optional, Sequence, Tuple
@@ -262,7 +263,8 @@ def core_history(explorer: Explorer, address: int, turns: range, disk: DiskLane)
     """All writes to a core word, or the values at sampled turns if there are too many."""
     machine, name = explorer.machine, f"core {address:06o}"
     begin = machine.word(turns.start, address)
-    writes = explorer.finder.writes(turns, address, MOST_WRITES)
+    found = explorer.finder.writes(turns, address)
+    writes = list(itertools.islice(found, MOST_WRITES + 1))
     if len(writes) > MOST_WRITES:
         looks = turns[:: block_size(turns)]
         words = machine.single_words([f"mem {it} {address:o} 1" for it in looks])

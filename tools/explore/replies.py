@@ -190,7 +190,13 @@ class LastWrite:
         fields = reply.split()
         if fields[1] == "never":
             return None
-        return cls(int(fields[1]), fields[2], int(fields[3], 8))
+        return cls.of_line(" ".join(fields[1:]))
+
+    @classmethod
+    def of_line(cls, line: str) -> "LastWrite":
+        """A line of the reply of `writes`."""
+        turn, writer, word = line.split()
+        return cls(int(turn), writer, int(word, 8))
 
 
 INSTRUCTION, INTERRUPT = "instr", "irq"

@@ -1,10 +1,10 @@
 """The turn in which something happens: `until`, `next`, `first`, `where`."""
-from typing import Iterator
+from typing import Iterator, Optional
 
 from .commands import Arguments, Explorer, command, searched_range
 from .children import ExploreError
 from .disk_words import DiskWord, change_lines, functions_in_words, last_change
-from .finder import Search, instruction_at, interrupt_by, mode_is, register_with
+from .finder import mode_is, register_with
 from .listing import turn_in_words
 from .replies import LastWrite, Mode
 from .script import typed_bytes
@@ -23,15 +23,17 @@ def not_found(turns: range, line: str, what: str = "not") -> str:
     return f"{what} in the turns {turns.start} to {turns.stop - 1}; on: {line} from {turns.stop}"
 
 
-def search_of(arguments: Arguments) -> Search:
-    """What `until` looks for in each turn."""
+def turn_of(explorer: Explorer, arguments: Arguments, turns: range) -> Optional[int]:
+    """The first turn that has what `until` looks for."""
+    finder = explorer.finder
     if arguments.optional("address"):
-        return instruction_at(word_of(arguments, "address"))
+        return finder.first(turns, f"at {arguments.octal('address'):o}")
     if arguments.optional("vector"):
-        return interrupt_by(arguments.octal("vector"))
+        return finder.first(turns, f"vector {arguments.octal('vector'):o}")
     if arguments.optional("mode"):
-        return mode_is(Mode(arguments.text("mode")))
-    return register_with(arguments.text("register").upper(), word_of(arguments, "word"))
+        return finder.first_turn(turns, mode_is(Mode(arguments.text("mode"))))
+    name, word = arguments.text("register").upper(), word_of(arguments, "word")
+    return finder.first_turn(turns, register_with(name, word))
 
 
 UNTIL = ("PC X", "vector V", "mode user|kernel", "R = W", "text STRING")
@@ -49,13 +51,13 @@ def until(explorer: Explorer, arguments: Arguments) -> Iterator[str]:
     the program has it; that is an interrupt by vector V; that begins in user or kernel mode; before
     which R, one of R0 to R5, KSP, USP and PS, is W; or that prints the last byte of STRING, which
     is written as in `type`. Without `from` N is 0. Without `to` M is a million turns past the
-    greatest turn that was asked so far. It is exact: each turn is looked at, by trails of 64 or by
-    `regs`; and a text only grows, so it is halved."""
+    greatest turn that was asked so far. It is exact. A mode and a register are looked for by `regs`
+    of each turn, which takes longest."""
     turns, what = searched_range(explorer, arguments), arguments.text("what")
     if arguments.optional("text"):
         yield until_text(explorer, arguments.text("text"), turns)
         return
-    found = explorer.finder.first_turn(turns, search_of(arguments))
+    found = turn_of(explorer, arguments, turns)
     if found is None:
         yield not_found(turns, f"until {what}")
     else:
@@ -102,9 +104,8 @@ def disk_word_of(explorer: Explorer, arguments: Arguments) -> DiskWord:
 def next_command(explorer: Explorer, arguments: Arguments) -> Iterator[str]:
     """Finds the first of the turns N to M that writes the core word at A, and who wrote it,
     also if the word stays the same; or that changes word I of a drive. Without `from` N is 0.
-    Without `to` M is a million turns past the greatest turn that was asked so far. It is exact,
-    by `last` and halving, or by a look in each delay of the disk. An image and a patch are no
-    writes."""
+    Without `to` M is a million turns past the greatest turn that was asked so far. It is exact.
+    An image and a patch are no writes."""
     turns, address = searched_range(explorer, arguments), arguments.octal("address")
     if arguments.optional("kind"):
         yield from next_on_disk(explorer, disk_word_of(explorer, arguments), turns)
@@ -117,32 +118,27 @@ def next_command(explorer: Explorer, arguments: Arguments) -> Iterator[str]:
 
 
 def next_on_disk(explorer: Explorer, word: DiskWord, turns: range) -> Iterator[str]:
-    looked_at = word.exact_part(turns)
-    found = word.first_change(looked_at)
+    found = next(word.changes(turns), None)
     if found is None:
-        yield not_found(looked_at, f"next {word.in_a_line}", "no change")
+        yield not_found(turns, f"next {word.in_a_line}", "no change")
     else:
         yield from change_lines(explorer, word, found)
 
 
 @command(
-    "first core A = W [from N] [to M]  or  first disk [D] I = W [from N] [to M] [exactly]",
-    rf"(?P<kind>core|disk) {WORD_OF_DISK}<address:octal>\s*=\s*<value:octal>"
-    r"{from}{to}(?P<exactly> exactly)?",
+    "first core A = W [from N] [to M]  or  first disk [D] I = W [from N] [to M]",
+    rf"(?P<kind>core|disk) {WORD_OF_DISK}<address:octal>\s*=\s*<value:octal>{{from}}{{to}}",
     "the first turn that makes a word W",
 )
 def first(explorer: Explorer, arguments: Arguments) -> Iterator[str]:
     """Finds the first of the turns N to M that makes the word W, if it isn't W before turn N.
     Without `from` N is 0. Without `to` M is a million turns past the greatest turn that was asked
-    so far. For a core word it is exact, by `last`. A word of a drive has no such list, but changes
-    only when a function completes: so it is looked at once in each delay of the disk, and at the
-    events `disk`, which is exact. If there are more than 200,000 such looks, they are asked of the
-    first turns, of the others some; the reply says so. With `exactly` all are asked."""
+    so far. It is exact."""
     value, turns = word_of(arguments, "value"), searched_range(explorer, arguments)
     machine, address = explorer.machine, arguments.octal("address")
     if arguments.text("kind") == "disk":
         word = disk_word_of(explorer, arguments)
-        yield from first_on_disk(explorer, word, value, turns, bool(arguments.optional("exactly")))
+        yield from first_on_disk(explorer, word, value, turns)
         return
     if machine.word(turns.start, address) == value:
         yield f"core {address:06o} is {value:06o} before turn {turns.start} already"
@@ -155,55 +151,31 @@ def first(explorer: Explorer, arguments: Arguments) -> Iterator[str]:
 
 
 def first_on_disk(
-    explorer: Explorer, word: DiskWord, value: int, turns: range, all_of_them: bool
+    explorer: Explorer, word: DiskWord, value: int, turns: range
 ) -> Iterator[str]:
-    """Looks at all changes of the first turns, and of the others at some turns."""
     if word.value(turns.start) == value:
         yield f"{word.name} is {value:06o} before turn {turns.start} already"
         return
-    exact = turns if all_of_them else word.exact_part(turns)
-    found = word.first_value(word.looks(exact), value)
-    if found is not None:
-        yield from change_lines(explorer, word, found)
-        return
-    rest = range(exact.stop, turns.stop)
-    yield f"not in the turns {exact.start} to {exact.stop - 1}"
-    if rest:
-        yield from first_by_samples(explorer, word, value, rest)
-        yield f"with exactly, {word.look_count(rest)} more questions show the first"
-
-
-def first_by_samples(
-    explorer: Explorer, word: DiskWord, value: int, turns: range
-) -> Iterator[str]:
-    looks = word.coarse_looks(turns)
-    found = word.first_value(looks, value)
-    ends = f"{turns.start} to {turns.stop - 1}"
+    found = next((it for it in word.changes(turns) if word.value(it + 1) == value), None)
     if found is None:
-        not_there = f"before none of them it is {value:06o}"
-        yield f"of the turns {ends} {len(looks)} were looked at: {not_there}"
+        yield f"not in the turns {turns.start} to {turns.stop - 1}"
     else:
         yield from change_lines(explorer, word, found)
-        yield f"of the turns {ends} {len(looks)} were looked at: it needn't be the first"
 
 
 @command(
-    "where disk [D] I N [exactly]",
-    rf"disk {WORD_OF_DISK}<address:octal> <turn:decimal>(?P<exactly> exactly)?",
+    "where disk [D] I N",
+    rf"disk {WORD_OF_DISK}<address:octal> <turn:decimal>",
     "the turn in which a disk word last got another value",
 )
 def where(explorer: Explorer, arguments: Arguments) -> Iterator[str]:
     """Finds the last change of a word of a drive before turn N: the turn, the disk's function
     that did it, the core word it came from, and the PC and mode that began it. A write of the
-    same value is no change. It is exact if few enough questions show that no two changes lie
-    between the change and turn N, or with `exactly`; otherwise the reply says that it isn't."""
+    same value is no change. It is exact."""
     turn = arguments.decimal("turn")
     word = disk_word_of(explorer, arguments)
-    found = last_change(word, turn, bool(arguments.optional("exactly")))
-    if found.turn is None:
+    found = last_change(word, turn)
+    if found is None:
         yield f"{word.name} has been {word.value(turn):06o} since power-up"
     else:
-        yield from change_lines(explorer, word, found.turn)
-    if not found.is_exact:
-        yield f"found by halving: a change that was undone before turn {turn} isn't seen"
-        yield f"with exactly, {found.looks} questions show each"
+        yield from change_lines(explorer, word, found)
