@@ -144,7 +144,7 @@ class Exported(Case):
         return [int(found[it], 8) for it in names]
 
     def goes_on(self, session: str, turn: int, steps: int) -> None:
-        self.explore(f"export it.ini at {turn}\n", f"examples/{session}.session")
+        self.explore(f"export! it.ini at {turn}\n", f"examples/{session}.session")
         reply = self.explore(f"regs {turn + steps}\n", f"examples/{session}.session").split()
         ours = [
             int(reply[reply.index(it) + 1], 8)
