@@ -9,13 +9,13 @@ HERE = os.path.dirname(os.path.abspath(__file__))
 ROOT = os.path.join(HERE, "..")
 
 
-def found_program():
+def found_program(name="pdp11"):
     """The program that was built here last, whatever the sources are now, or the release file; an
     empty path if there is none."""
-    built = os.path.join(ROOT, "crates", "pdp11", "out", "pdp11")
+    built = os.path.join(ROOT, "crates", name, "out", name)
     if os.access(built, os.X_OK):
         return built
-    command = [os.path.join(ROOT, "tools", "program"), "--at-hand", "pdp11"]
+    command = [os.path.join(ROOT, "tools", "program"), "--at-hand", name]
     found = subprocess.run(command, stdout=subprocess.PIPE)
     return os.fsdecode(found.stdout.removesuffix(b"\n"))
 
