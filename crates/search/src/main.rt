@@ -27,8 +27,8 @@ the turns from N on and before M are searched; F is a byte, counted from 0:
   first N M at A       the first turn that runs the instruction at A
   first N M at A MODE  the same in one mode of the processor, kernel or user
   first N M vector V   the first turn that serves an interrupt through V
-  writes N M A         the writes to the core word at A, at most 256: turn, who
-                       wrote and the word; 'more' if turns were left to search
+  writes N M A         the writes to the core word at A: turn, who wrote and the
+                       word; after 256 it ends, with 'or more' if turns are left
   change N M I         the first turn that changes word I of the drive
   change N M D I       the same of drive D, in version 2
   text N from F        what was printed before turn N, from byte F on
