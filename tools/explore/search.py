@@ -27,9 +27,9 @@ def turn_of(explorer: Explorer, arguments: Arguments, turns: range) -> Optional[
     """The first turn that has what `until` looks for."""
     finder = explorer.finder
     if arguments.optional("address"):
-        return finder.first(turns, f"at {arguments.octal('address'):o}")
+        return finder.first(turns, f"at {word_of(arguments, 'address'):o}")
     if arguments.optional("vector"):
-        return finder.first(turns, f"vector {arguments.octal('vector'):o}")
+        return finder.first(turns, f"vector {word_of(arguments, 'vector'):o}")
     if arguments.optional("mode"):
         return finder.first_turn(turns, mode_is(Mode(arguments.text("mode"))))
     name, word = arguments.text("register").upper(), word_of(arguments, "word")

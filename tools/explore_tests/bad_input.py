@@ -25,7 +25,7 @@ class BadInput(Case):
         self.fails("explore: missing: no such program", "--program", "missing")
 
     def test_no_disk(self) -> None:
-        self.fails("pdp11: input or output", "--disk", "missing.disk")
+        self.fails("search: input or output", "--disk", "missing.disk")
 
     def test_an_odd_image(self) -> None:
         (self.folder / "odd").write_bytes(b"123")

@@ -55,9 +55,9 @@ class Depth(Case):
     def test_until(self) -> None:
         explorer = self.explorer(LEDGER)
         self.done(explorer, "until PC 7776 to 60000", 0)
-        self.assertIn("turn 138127: kernel", self.done(explorer, "until PC 1454 from 128000", 5)[0])
-        self.assertIn("user 000002", self.done(explorer, "until mode user from 1000", 5)[0])
-        self.done(explorer, "until text =000110", 20)
+        self.assertIn("turn 138127: kernel", self.done(explorer, "until PC 1454 from 128000", 2)[0])
+        self.assertIn("user 000002", self.done(explorer, "until mode user from 1000", 3)[0])
+        self.done(explorer, "until text =000110", 1)
 
     def test_page(self) -> None:
         explorer = self.explorer(LEDGER)
@@ -69,13 +69,13 @@ class Depth(Case):
 
     def test_first_core(self) -> None:
         explorer = self.explorer(LEDGER)
-        found = self.done(explorer, "first core 30000 = 132", 30)
+        found = self.done(explorer, "first core 30000 = 132", 2)
         self.assertEqual(found, ["turn 127850: cpu 000132, by user 000012 ADD R2,@#20000"])
         counting = self.explorer("", [f"core {it}" for it in COUNTING])
-        self.assertIn("turn 1023: cpu 001000", self.done(counting, "first core 2000 = 1000", 20)[0])
-        found = self.done(counting, "first core 2000 = 1001 to 5000", 20)
+        self.assertIn("turn 1023: cpu 001000", self.done(counting, "first core 2000 = 1000", 2)[0])
+        found = self.done(counting, "first core 2000 = 1001 to 5000", 1)
         self.assertEqual(found, ["not in the turns 0 to 5000"])
-        writes = counting.finder.writes(range(3000), 0o2000)
+        writes = list(counting.finder.writes(range(3000), 0o2000))
         self.assertEqual([it.turn for it in writes], list(range(1, 1024, 2)))
         self.assertEqual([it.word for it in writes], list(range(1, 513)))
 
