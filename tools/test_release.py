@@ -315,7 +315,7 @@ class WithoutTheKit(Tree):
         self.assertEqual((ended.stdout, ended.stderr, ended.returncode), (wanted, "", 0))
 
     def test_the_first_prompt(self) -> None:
-        ended = self.run_in("./explore", given="core 1000 5201\nlist 1000 1\n")
+        ended = self.run_in("./explore", given="core 1000 5201\nlist 1000 1 at 0\n")
         self.assertEqual((ended.stderr, ended.returncode), ("", 0))
         self.assertIn("INC R1", ended.stdout)
 
