@@ -3,6 +3,8 @@ import re
 from dataclasses import dataclass
 from typing import Dict, FrozenSet, List, Optional
 
+import sessions
+
 from .past import LINE_DEVICES, Past
 
 OCTAL, DECIMAL = frozenset("01234567"), frozenset("0123456789")
@@ -69,6 +71,7 @@ FORMS = {
     "trail": "N C",
     "version": "2",
 }
+SEARCHES = frozenset(sessions.command_of(it).decode() for it in sessions.SEARCHES)
 FORMS_OF_EIGHT_DRIVES = {"disk": "D I W", "dsk": "N D I C"}
 EVENTS = {
     "key": "B",
@@ -137,12 +140,19 @@ def fault_of_word(letter: str, word: str) -> Optional[str]:
     return NUMBERS[letter].fault(letter, word)
 
 
+def forms_of_searches(word: str) -> List[str]:
+    """The lines of searches that begin with this word."""
+    return [it.form for it in sessions.SEARCHES if it.form.split()[0] == word]
+
+
 def explanation(line: str, reply: str, past: Past) -> str:
     """Why this line got this refusal."""
     number = reply.split()[1]
     if number != "10":
         return MEANINGS.get(number, "")
     word, *words = line.split()
+    if word in SEARCHES and (word not in FORMS or len(words) > 1):
+        return f"the forms are: {'; '.join(forms_of_searches(word))}"
     if word not in FORMS:
         return f"there is no line '{word}'; help lists the commands"
     form = form_of(word, past)

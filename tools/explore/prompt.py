@@ -5,12 +5,14 @@ import sys
 from pathlib import Path
 from typing import Iterable, List, Optional
 
+import sessions
+
 # these add commands
 from . import compare, edits, export, listing, page, screen, script, search  # noqa: F401
 from . import stepping, sweep  # noqa: F401
 from .at_work import AtWork
 from .commands import COMMANDS, Explorer
-from .language import FORMS, explanation, form_of
+from .language import FORMS, SEARCHES, explanation, form_of, forms_of_searches
 from .children import ExploreError
 from .files import OUTPUT
 from .interrupts import INTERRUPTS
@@ -45,6 +47,7 @@ OWN_HELP = {
     "quit": ("quit", "ends, as q, exit and Ctrl-D do; quit! drops edits that weren't saved"),
 }
 ENDS = {"quit", "q", "exit"}
+SEARCH_HELP = "Searches of the turns from N on and before M. Details: docs/LANGUAGE.md, Searches"
 # With `!` these overwrite a file that this run hasn't written.
 WRITING = {"save", "page", "export", "sweep"}
 NUMBERS = (
@@ -150,6 +153,8 @@ class Prompt:
         lines: List[str] = []
         if word in FORMS:
             lines += [form_of(word, past), "", f"{LINE_HELP[word]}. Details: docs/LANGUAGE.md"]
+        if word in SEARCHES:
+            lines += [*([""] if lines else []), *forms_of_searches(word), "", SEARCH_HELP]
         if word in COMMANDS:
             found = COMMANDS[word]
             lines += [*([""] if lines else []), found.form, "", *found.detail.splitlines()]
@@ -169,11 +174,15 @@ class Prompt:
             lines.append(f"      {summary}")
         lines += ["", "lines of the session language (docs/LANGUAGE.md):"]
         lines += [f"  {form_of(word, past):<16}  {text}" for word, text in LINE_HELP.items()]
+        lines += ["", "lines of searches (docs/LANGUAGE.md):"]
+        lines += [f"  {it.form}" for it in sessions.SEARCHES]
         return [*lines, "", NUMBERS]
 
 
 def is_own(word: str, rest: str) -> bool:
     """Whether a line is a command of explore. A line of the language may begin with its word."""
+    if word in SEARCHES and rest[:1].isdigit():
+        return False
     if word in FORMS:
         return word in COMMANDS and rest.startswith("from")
     return word in COMMANDS or word[-1] == "!" and word[:-1] in WRITING
@@ -181,7 +190,7 @@ def is_own(word: str, rest: str) -> bool:
 
 def words_from(text: str) -> List[str]:
     """The commands and lines that begin so."""
-    return sorted(it for it in {*COMMANDS, *OWN_HELP, *FORMS} if it.startswith(text))
+    return sorted(it for it in {*COMMANDS, *OWN_HELP, *FORMS, *SEARCHES} if it.startswith(text))
 
 
 def paths_from(text: str) -> List[str]:
