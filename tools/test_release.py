@@ -314,6 +314,11 @@ class WithoutTheKit(Tree):
         wanted = (ROOT / "examples/first-run.expected").read_text()
         self.assertEqual((ended.stdout, ended.stderr, ended.returncode), (wanted, "", 0))
 
+    def test_help_shows_the_name_of_the_program(self) -> None:
+        for name, stored in ("pdp11", "rows/program"), ("search", "rows/searches"):
+            wanted = (ROOT / stored / "help.expected").read_text()
+            self.assertEqual(self.run_in(f"./{name}", "--help").stdout, wanted)
+
     def test_the_first_prompt(self) -> None:
         ended = self.run_in("./explore", given="core 1000 5201\nlist 1000 1 at 0\n")
         self.assertEqual((ended.stderr, ended.returncode), ("", 0))
