@@ -1,4 +1,5 @@
 pub mod AbortLaws
+pub mod Holding
 pub mod Keeping
 pub mod PageLaws
 pub mod ReadBackLaws

@@ -119,7 +119,7 @@ written_descriptor word page =
     descriptor_of_word word (expansion_bit (expansion_of (has_bit 3 word))) (access_bits (access_control_of (word / 2 % 4)))
     (expansion_back (has_bit 3 word) ∙ bit_of_flag (word / 8 % 2) (omega arith)) (access_back (word / 2 % 4) (omega arith))
 
-same_page : (space : Space) (number : PageNumber) → is_same_page space number space number ≡ true
+pub same_page : (space : Space) (number : PageNumber) → is_same_page space number space number ≡ true
 same_page space.Kernel P0 = refl
 same_page space.Kernel P1 = refl
 same_page space.Kernel P2 = refl

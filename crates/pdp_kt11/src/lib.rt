@@ -18,12 +18,16 @@
 //! - SR0 tells the first abort and no other, and an abort leaves the pages
 //!   (`the_first_abort_is_told`, `aborts_leave_the_pages`).
 //!
-//! - Which translations are kept changes no result: a contract sees the registers alone, and that
-//!   each kept translation is right is an invariant of `Kt`.
+//! - Which translations are kept changes no result: a public contract sees the registers alone, and
+//!   that each kept translation is right is an invariant of `Kt`.
+//! - An access with mapping on that isn't aborted leaves the translation of its page kept, and of
+//!   other pages what was kept; a write to a register and RESET leave none (`KeptMapping`, which
+//!   only this crate sees).
 //!
 //! # What is only tested
 //!
-//! - That a translation is kept after an access with mapping on (`Kt::held`).
+//! - That `Kt` tells it: its contracts don't say that its functions call those of `KeptMapping`
+//!   (`Kt::held`).
 //!
 //! The reference itself, its odd addresses and its trap are left to pdp_operand, the bus cycle to
 //! pdp_unibus.
@@ -31,6 +35,7 @@
 
 mod apr;
 mod bits;
+mod kept_mapping;
 mod kept_translation;
 mod kt;
 mod laws;
