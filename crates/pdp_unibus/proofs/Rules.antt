@@ -1,10 +1,12 @@
 -- What attributes cite: lemmas by their subject, and definitions that are opened together, as an
 -- `unfolding` of a name opens all that stands on the name's own line.
+use Rattle.std.proofs.lemmas.List.{length-map}
 use Rattle.pdp_kt11.specs.Kt.{kt_fetched}
 use Rattle.pdp_unibus.proofs.Directs.{fetched_status, written_both}
 use Rattle.pdp_unibus.proofs.RequestLaws.{first_of_all, without_requests_none_is_chosen}
 use Rattle.pdp_unibus.proofs.SavedDrives.{none_loaded, size_at, one_loaded, all_loaded}
-use Rattle.pdp_unibus.proofs.SavedDrives.{seen, put_one, same_for_one}
+use Rattle.pdp_unibus.proofs.SavedDrives.{count_at, count_one, count_past, count_there}
+use Rattle.pdp_unibus.proofs.SavedDrives.{none_counted, seen, put_one, same_for_one}
 use Rattle.pdp_unibus.proofs.Watching.{begun_quietly}
 use Rattle.pdp_unibus.specs.Calm.{IsCalm}
 use Rattle.pdp_unibus.specs.Source.{requests}
@@ -20,6 +22,11 @@ pub ruleset drive_loads = (none_loaded, size_at, one_loaded, all_loaded)
 
 -- for goals on a list of drives of which one is changed
 pub ruleset changed_drive = (seen, put_one, same_for_one)
+
+-- for goals on who numbers a patched page
+pub ruleset numbered_drive = (same_for_one, count_at, count_one)
+
+pub ruleset numbered_pages = (length-map, count_there, count_past, none_counted)
 
 -- opens what a fetch on a calm bus leaves as it was, and what it doesn't
 unfoldable pub calm_fetch : Type 0

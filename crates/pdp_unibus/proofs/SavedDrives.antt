@@ -5,6 +5,8 @@ use Rattle.std.proofs.Math.ListN.{drop_of_length-le}
 use Rattle.std.proofs.lemmas.List.{get_or-map, take_all, length-map, length-take-le, map-append, map-set}
 use Rattle.std.specs.Prelude.{Option, slice_index_or}
 use Rattle.pdp_store.specs.declared.Stamp.{Stamp}
+use Rattle.pdp_store.specs.Pages.{next_given}
+use Rattle.pdp_unibus.specs.PatchedPages.{given_by_drives}
 use Rattle.pdp_unibus.specs.SavedBusData.{SavedBusData}
 use Rattle.pdp_unibus.specs.SavedDrives.{AreUnstamped, PageList, pages_lasts, pages_words}
 
@@ -18,6 +20,33 @@ same_for_one f xs i x d is = map-set_same f xs i x d is
 
 pub put_one : {X Z : Type 0} (f : X → List Z) (xs : List X) (i : ℕ) (x : X) (ys : List Z) → f x ≡ ys → map f (slice_set xs i x) ≡ slice_set (map f xs) i ys
 put_one f xs i x ys is = map-set f xs i x ∙ ap (slice_set (map f xs) i) is
+
+-- the count of the drive of a number, and one more of it
+pub count_at : {X : Type 0} (f : X → ℕ) (xs : List X) (i : ℕ) (d : X) → i < length xs → f (get_or xs i d) ≡ slice_index_or (map f xs) i 0
+count_at f xs i d below = sym (get_or-map f xs i d 0 below)
+
+pub count_one : {X : Type 0} (f : X → ℕ) (xs : List X) (i : ℕ) (x d : X) → i < length xs → f x ≡ next_given (f (get_or xs i d))
+    → map f (slice_set xs i x) ≡ given_by_drives i (map f xs)
+count_one f xs i x d below is = map-set f xs i x ∙ ap (slice_set (map f xs) i) (is ∙ ap next_given (count_at f xs i d below))
+
+-- a drive of the number is there: core doesn't count
+pub count_there : (xs : List ℕ) (i core : ℕ) → i < length xs → slice_index_or xs i core ≡ slice_index_or xs i 0
+count_there [] i core below = absurd (omega (arith, below))
+count_there (x ∷ xs) zero core below = refl
+count_there (x ∷ xs) (suc i) core below = count_there xs i core (omega (arith, below))
+
+-- none is there: core counts alone
+pub count_past : (xs : List ℕ) (i core : ℕ) → length xs ≤ i → slice_index_or xs i core ≡ core
+count_past [] i core over = refl
+count_past (x ∷ xs) zero core over = absurd (omega (arith, over))
+count_past (x ∷ xs) (suc i) core over = count_past xs i core (omega (arith, over))
+
+pub none_counted : (xs : List ℕ) (i : ℕ) → length xs ≤ i → xs ≡ given_by_drives i xs
+none_counted xs i over = sym (past xs i _ over) where
+  past : (xs : List ℕ) (i n : ℕ) → length xs ≤ i → slice_set xs i n ≡ xs
+  past [] i n over = refl
+  past (x ∷ xs) zero n over = absurd (omega (arith, over))
+  past (x ∷ xs) (suc i) n over = ap (λ ys. x ∷ ys) (past xs i n (omega (arith, over)))
 
 -- one more is taken of a list, as it is seen through g
 pub one_more : {Y Z : Type 0} (g : Y → List Z) (all : List (List Z)) (taken : List Y) (i : ℕ) (p : Y)

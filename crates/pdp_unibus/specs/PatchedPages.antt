@@ -1,9 +1,10 @@
 -- A page of 256 words with one word changed, put into each saved bus that has this page alike (this
 -- project's profile).
 use Rattle.std.specs.Prelude.{ℕ, ◌≡◌, ◌/◌, ◌%◌, List, [], Option, Some, None, slice_index_or}
-use Rattle.std.specs.Prelude.{slice_set}
+use Rattle.std.specs.Prelude.{if◌then◌else◌, length, nat_lt, slice_set}
 use Rattle.pdp_store.specs.Parts.{words_of_drive}
-use Rattle.pdp_store.specs.Pages.{SharedPage, page_lasts, page_words}
+use Rattle.pdp_store.specs.Pages.{SharedPage, next_given, next_serial, page_lasts, page_serial}
+use Rattle.pdp_store.specs.Pages.{page_words}
 use Rattle.pdp_store.specs.Pieces.{piece}
 use Rattle.pdp_store.specs.declared.Stamp.{Stamp}
 use Rattle.pdp_unibus.specs.SavedBusData.{SavedBusData, SavedBusHasWord}
@@ -33,6 +34,20 @@ pub record IsPageWith (word value : ℕ) (words : List ℕ) (lasts : List (Optio
     (page : SharedPage) : Type 0 where
   pub changed : page_words page ≡ slice_set (piece (word / 256) words) (word % 256) value
   pub stamps : page_lasts page ≡ piece (word / 256) lasts
+
+-- the drive of this number numbers the page, or core if there is no such drive: the page has its
+-- next serial. So many were given before by core and by each drive
+abbrev pub IsNumberedBy : ℕ → ℕ → List ℕ → SharedPage → Type 0
+IsNumberedBy number core drives page = page_serial page
+    ≡ next_serial (slice_index_or drives number core)
+
+-- how many are given then, by core and by each drive
+abbrev pub given_by_core : ℕ → ℕ → List ℕ → ℕ
+given_by_core number core drives = if nat_lt number (length drives) then core else next_given core
+
+abbrev pub given_by_drives : ℕ → List ℕ → List ℕ
+given_by_drives number drives = slice_set drives number
+    (next_given (slice_index_or drives number 0))
 
 -- a patched page is for this word and this value
 pub record IsPatchOf (drive : Option ℕ) (word value : ℕ) (p : PatchedPage) : Type 0 where

@@ -1,7 +1,7 @@
 -- What is saved of a bus: all but the bytes of its tape, which no turn changes, and first touches
 -- (this project's profile).
-use Rattle.std.specs.Prelude.{ℕ, ◌≡◌, ◌<◌, List, [], Option, Some, None, length, map}
-use Rattle.std.specs.Prelude.{slice_index_or, slice_set}
+use Rattle.std.specs.Prelude.{ℕ, ◌≡◌, ◌<◌, List, Option, Some, None, length, map}
+use Rattle.std.specs.Prelude.{slice_set}
 use Rattle.pdp_store.specs.Parts.{words_of_drive}
 use Rattle.pdp_store.specs.Firsts.{no_firsts}
 use Rattle.pdp_store.specs.Pages.{SharedPage, lasts_of, words_of}

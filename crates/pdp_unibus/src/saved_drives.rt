@@ -1,7 +1,8 @@
 //! The drives as shared pages: taken, and loaded again.
 
 ghost use Rattle.std.specs.Prelude.{◌≡◌, ◌<◌, [], length, map, slice_index_or, slice_set, IfOk};
-ghost use Rattle.pdp_unibus.specs.PatchedPages.{IsPageWith};
+ghost use Rattle.pdp_unibus.specs.PatchedPages.{IsNumberedBy, IsPageWith, given_by_core};
+ghost use Rattle.pdp_unibus.specs.PatchedPages.{given_by_drives};
 ghost use Rattle.pdp_unibus.specs.SavedDrives.{pages_lasts, pages_words};
 
 use pdp_store::{Page, Pages, Paging, SharedPaging, page_with_word};
@@ -94,6 +95,7 @@ fn load_one<D: SharedPaging>(drives: &mut Vec<D>, pages: &Vec<Pages>, number: us
 /// changed. The drive of this number here gives the serial of the page, and core if there is none.
 ///
 /// Err(NoMemory) if a growth was refused; the words of core and of the drives stay in any case.
+#[tactic(auto, using(crate::proofs::Rules::numbered_pages))]
 pub(crate) fn patch_one<S: Paging, D: Paging>(
     alloc: Global,
     core: &mut S,
@@ -111,6 +113,12 @@ pub(crate) fn patch_one<S: Paging, D: Paging>(
     ensures drive_words { map D.words drives.new.items ≡ map D.words drives.old.items }
     ensures drive_firsts { map D.firsts drives.new.items ≡ map D.firsts drives.old.items }
     ensures page { IfOk result (λ page. IsPageWith word value (pages_words pages.now) [] page) }
+    ensures serial { IfOk result (λ page. IsNumberedBy number (S.given core.old)
+        (map D.given drives.old.items) page) }
+    ensures core_given { IfOk result (λ _. S.given core.new ≡ given_by_core number
+        (S.given core.old) (map D.given drives.old.items)) }
+    ensures drives_given { IfOk result (λ _. map D.given drives.new.items ≡ given_by_drives number
+        (map D.given drives.old.items)) }
 {
     if number < drives.len() {
         patch_by(alloc, drives, number, pages, word, value)
@@ -122,7 +130,7 @@ pub(crate) fn patch_one<S: Paging, D: Paging>(
 // The same page; the drive of this number gives its serial.
 //
 // Err(NoMemory) as above.
-#[tactic(auto, using(crate::proofs::SavedDrives::same_for_one))]
+#[tactic(auto, using(crate::proofs::Rules::numbered_drive))]
 fn patch_by<D: Paging>(
     alloc: Global,
     drives: &mut Vec<D>,
@@ -137,6 +145,10 @@ fn patch_by<D: Paging>(
     ensures drive_words { map D.words drives.new.items ≡ map D.words drives.old.items }
     ensures drive_firsts { map D.firsts drives.new.items ≡ map D.firsts drives.old.items }
     ensures page { IfOk result (λ page. IsPageWith word value (pages_words pages.now) [] page) }
+    ensures serial { IfOk result (λ page. IsNumberedBy number 0 (map D.given drives.old.items)
+        page) }
+    ensures given { IfOk result (λ _. map D.given drives.new.items ≡ given_by_drives number
+        (map D.given drives.old.items)) }
 {
     page_with_word(&mut drives[number], alloc, pages, word, value)
 }

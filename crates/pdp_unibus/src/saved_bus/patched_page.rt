@@ -1,10 +1,13 @@
 //! One page with a word changed, which many saved buses share.
 
-ghost use Rattle.std.specs.Prelude.{◌≡◌, ◌<◌, Some, None, [], length, slice_index_or, IfOk};
+ghost use Rattle.std.specs.Prelude.{◌≡◌, ◌<◌, Some, None, [], length, map, slice_index_or, IfOk};
+ghost use Rattle.pdp_store.specs.Pages.{next_given, next_serial, page_serial};
 ghost use Rattle.pdp_store.specs.Parts.{words_of_drive};
+ghost use Rattle.pdp_store.specs.Unchanged.{SameStored};
 ghost use Rattle.pdp_unibus.specs.SavedBusData.{SavedBusHasWord, saved_bus_with_word};
-ghost use Rattle.pdp_unibus.specs.PatchedPages.{AreNewPages, IsNewList, IsNewPage, IsPatchIn};
-ghost use Rattle.pdp_unibus.specs.PatchedPages.{IsPatchOf};
+ghost use Rattle.pdp_unibus.specs.PatchedPages.{AreNewPages, IsNewList, IsNewPage};
+ghost use Rattle.pdp_unibus.specs.PatchedPages.{IsNumberedBy, IsPatchIn, IsPatchOf, given_by_core};
+ghost use Rattle.pdp_unibus.specs.PatchedPages.{given_by_drives};
 
 use super::SavedBus;
 use crate::bus::Bus;
@@ -39,7 +42,9 @@ pub enum NewPages {
 
 impl SavedBus {
     /// The page of a word of core, or of the drive of this number, with this value in the word. Its
-    /// stamps are kept. The bus numbers the page, and stays as it is. (This project's profile.)
+    /// stamps are kept. (This project's profile.)
+    ///
+    /// The bus numbers the page, and stays as a contract sees it: its value has no serials.
     ///
     /// # Errors
     ///
@@ -59,28 +64,34 @@ impl SavedBus {
         ensures page { IfOk result (λ page. IsPatchIn self.now page) }
     {
         match drive {
-            None => self.page_of_core(alloc, bus, word, value),
-            Some(number) => self.page_of_drive(alloc, bus, number, word, value),
+            None => self.page_of_core(alloc, &mut bus.words, word, value),
+            Some(number) => {
+                let drives = &mut bus.drives;
+                self.page_of_drive(alloc, &mut bus.words, drives, number, word, value)
+            }
         }
     }
 
-    // The page of a word of core.
+    // The page of a word of core, under the next serial of core.
     //
     // Err(NoMemory) as above.
     #[tactic(auto, unfolding(crate::specs::SavedBusData::SavedBusHasWord))]
     fn page_of_core(
         &self,
         alloc: Global,
-        bus: &mut Bus<Paged, PagedDrive>,
+        core: &mut Paged,
         word: usize,
         value: u16,
     ) -> Result<PatchedPage, NoMemory>
         requires { word < length self.now.core }
-        ensures same { bus.new ≡ bus.old }
+        ensures same { SameStored core.new.words core.old.words core.new.lasts core.old.lasts
+            core.new.firsts core.old.firsts }
         ensures patch { IfOk result (λ page. IsPatchOf None word value page) }
         ensures page { IfOk result (λ page. IsPatchIn self.now page) }
+        ensures serial { IfOk result (λ page. page_serial page.page ≡ next_serial core.old.given) }
+        ensures given { IfOk result (λ _. core.new.given ≡ next_given core.old.given) }
     {
-        let page = page_with_word(&mut bus.words, alloc, &self.core, word, value)?;
+        let page = page_with_word(core, alloc, &self.core, word, value)?;
         Ok(PatchedPage {
             drive: None,
             word,
@@ -89,33 +100,38 @@ impl SavedBus {
         })
     }
 
-    // The page of a word of the drive of this number.
+    // The page of a word of the drive of this number, which the drive of this number here numbers,
+    // and core if there is none.
     //
     // Err(NoMemory) as above.
     #[tactic(auto, unfolding(crate::specs::SavedBusData::SavedBusHasWord))]
     fn page_of_drive(
         &self,
         alloc: Global,
-        bus: &mut Bus<Paged, PagedDrive>,
+        core: &mut Paged,
+        drives: &mut Vec<PagedDrive>,
         number: usize,
         word: usize,
         value: u16,
     ) -> Result<PatchedPage, NoMemory>
         requires { word < length (words_of_drive self.now.drives number) }
-        ensures same { bus.new ≡ bus.old }
+        ensures core { SameStored core.new.words core.old.words core.new.lasts core.old.lasts
+            core.new.firsts core.old.firsts }
+        ensures drive_words { map (λ d. d.words) drives.new.items ≡ map (λ d. d.words)
+            drives.old.items }
+        ensures drive_firsts { map (λ d. d.firsts) drives.new.items ≡ map (λ d. d.firsts)
+            drives.old.items }
         ensures patch { IfOk result (λ page. IsPatchOf (Some number) word value page) }
         ensures page { IfOk result (λ page. IsPatchIn self.now page) }
+        ensures serial { IfOk result (λ page. IsNumberedBy number core.old.given
+            (map (λ d. d.given) drives.old.items) page.page) }
+        ensures core_given { IfOk result (λ _. core.new.given ≡ given_by_core number core.old.given
+            (map (λ d. d.given) drives.old.items)) }
+        ensures drives_given { IfOk result (λ _. map (λ d. d.given) drives.new.items
+            ≡ given_by_drives number (map (λ d. d.given) drives.old.items)) }
     {
         let pages = &self.drives[number];
-        let page = patch_one(
-            alloc,
-            &mut bus.words,
-            &mut bus.drives,
-            number,
-            pages,
-            word,
-            value,
-        )?;
+        let page = patch_one(alloc, core, drives, number, pages, word, value)?;
         Ok(PatchedPage {
             drive: Some(number),
             word,
