@@ -11,8 +11,9 @@ use std::alloc::Global;
 
 impl Saved {
     /// The page of a word with this value in the word: a word of core, or of the drive of this
-    /// number (from 0). The word counts from 0 there, and the page keeps its stamps. `machine`
-    /// numbers the page, and stays as it is. (This project's profile.)
+    /// number (from 0). The word counts from 0 there, and the page keeps its stamps. The bus of
+    /// `machine` numbers the page; as a contract sees it, `machine` stays as it is, since its value
+    /// has no serials. (This project's profile.)
     ///
     /// # Errors
     ///
