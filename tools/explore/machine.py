@@ -96,6 +96,10 @@ def is_taken(reply: str) -> bool:
     return reply == "ok" or reply.startswith("event ")
 
 
+def is_refused(reply: str) -> bool:
+    return reply.startswith("refused ")
+
+
 @dataclass
 class Machine:
     """A program with the edits that it took. If it ends, or is stopped, the next question starts it
@@ -197,8 +201,9 @@ class Machine:
         with self._started_again():
             for at in range(0, len(lines), ahead):
                 part = lines[at : at + ahead]
-                self.asked.note(part)
-                yield from self.program.ask_all(part, ahead)
+                replies = list(self.program.ask_all(part, ahead))
+                self.asked.note(it for it, reply in zip(part, replies) if not is_refused(reply))
+                yield from replies
 
     def blocks(
         self, lines: Sequence[str], reply_bytes: int, reply_lines: int = 1
@@ -209,12 +214,12 @@ class Machine:
         with self._started_again():
             for at in range(0, len(lines), ahead):
                 part = lines[at : at + ahead]
-                self.asked.note(part)
                 block = self.program.block(part, reply_lines)
                 refusal = block.find(b"refused ")
                 if refusal >= 0:
                     reply = block[refusal:].splitlines()[0].decode("ascii")
                     raise Refused(f"{part[0]}: {reply}")
+                self.asked.note(part)
                 yield block
 
     @contextmanager
@@ -232,7 +237,7 @@ class Machine:
     def read(self, line: str) -> str:
         """The reply to a question, which mustn't be refused."""
         reply = self.ask(line)
-        if reply.startswith("refused"):
+        if is_refused(reply):
             raise Refused(f"{line}: {reply}")
         return reply
 
@@ -309,7 +314,7 @@ class Machine:
     def text_lengths(self, turns: Sequence[int]) -> Iterator[int]:
         """How many bytes were printed before each of these turns."""
         for turn, reply in zip(turns, self.ask_all([f"text {it}" for it in turns])):
-            if reply.startswith("refused"):
+            if is_refused(reply):
                 raise Refused(f"text {turn}: {reply}")
             yield int(reply.split(":")[0].split()[1])
 
@@ -326,7 +331,7 @@ class Machine:
     def turns(self, first: int, count: int) -> Iterator[Turn]:
         """These turns, by as many trails as it takes. A reply of a trail has some 1,300 bytes."""
         for reply in self.ask_all(self.trail_lines(first, count)):
-            if reply.startswith("refused"):
+            if is_refused(reply):
                 raise Refused(f"turns {first} to {first + count - 1}: {reply}")
             yield from turns_of(reply)
 
