@@ -157,8 +157,12 @@ class Machine:
             past = copy.deepcopy(self.past)
             return Machine(start, list(self.journal), past, list(self.replies))
         twin = Machine(self.start)
-        for line in edits:
-            twin.ask(line)
+        try:
+            for line in edits:
+                twin.ask(line)
+        except BaseException:
+            twin.close()
+            raise
         return twin
 
     def close(self) -> None:

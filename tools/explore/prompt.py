@@ -15,7 +15,7 @@ from .commands import COMMANDS, Explorer
 from .language import FORMS, SEARCHES, explanation, form_of, forms_of_searches
 from .children import ExploreError
 from .files import OUTPUT
-from .interrupts import INTERRUPTS
+from .interrupts import INTERRUPTS, typed_line
 from .journal import counted, state_folder
 from .machine import is_refused
 from .output import Unwritable, fault_in_words, put
@@ -239,7 +239,7 @@ def read_at_terminal(prompt: Prompt) -> None:
     while not is_last:
         try:
             with INTERRUPTS.allowed():
-                line = input(PROMPT)
+                line = typed_line(PROMPT)
         except EOFError:
             put("")
             prompt.end()

@@ -16,7 +16,7 @@ from .children import ExploreError
 from .commands import Arguments, Explorer, check_turn, command
 from .crew import Progress, each_of, processors
 from .files import write_whole
-from .interrupts import INTERRUPTS
+from .interrupts import INTERRUPTS, typed_line
 from .language import comma_fault, explanation
 from .machine import EDITS, Machine, is_refused
 from .script import session_lines
@@ -287,7 +287,7 @@ def ask_first(explorer: Explorer, turns: range) -> None:
     if not explorer.is_terminal:
         raise ExploreError(f"{said}; sweep -y .. does them")
     try:
-        answer = input(f"{said}; begin? (y or n) ")
+        answer = typed_line(f"{said}; begin? (y or n) ")
     except EOFError:
         answer = ""
     if answer.strip() not in ("y", "yes"):
