@@ -129,15 +129,17 @@ class Machine:
         return self.begin()
 
     def _started(self) -> Program:
-        with INTERRUPTS.held():
-            program = Program(self.start.command(), self.start.folder)
+        program: Optional[Program] = None
         try:
+            with INTERRUPTS.held():
+                program = Program(self.start.command(), self.start.folder)
             _, *replies = program.ask_all(["regs 0", *self.journal], SHORT_SENT_AHEAD)
             for line, before, now in zip(self.journal, self.replies, replies):
                 if before != now:
                     raise ExploreError(f"{line}: was answered {before}, and now {now}")
         except BaseException:
-            program.close()
+            if program is not None:
+                program.close()
             raise
         return program
 
