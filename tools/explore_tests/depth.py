@@ -84,7 +84,7 @@ class Depth(Case):
         self.assertEqual([it.turn for it in writes], list(range(1, 1024, 2)))
         self.assertEqual([it.word for it in writes], list(range(1, 513)))
 
-    def test_first_disk_of_very_many_looks(self) -> None:
+    def test_disk_words_of_very_many_looks(self) -> None:
         """The disk takes three turns, so a million looks would be needed."""
         explorer = self.explorer(LEDGER, ["delay disk 3"])
         words = list(explorer.machine.single_words([f"dsk {it} 0 1" for it in range(240_000)]))
@@ -92,6 +92,10 @@ class Depth(Case):
         for word in sorted(set(words) - {words[0]}):
             found = self.done(explorer, f"first disk 0 = {word:o} to 3000000", 12)[0]
             self.assertTrue(found.startswith(f"turn {words.index(word) - 1}: "), found)
+        changes = [at for at, pair in enumerate(zip(words, words[1:])) if pair[0] != pair[1]]
+        for first, turn in zip([0, *(it + 1 for it in changes)], changes):
+            found = self.done(explorer, f"next disk 0 from {first}", 12)[0]
+            self.assertTrue(found.startswith(f"turn {turn}: disk 0000000 goes from "), found)
 
     def test_a_sweep_runs_no_program_but_those_that_work(self) -> None:
         explorer = self.explorer()
