@@ -11,6 +11,11 @@ from .terminal import AtTerminal
 GAPS = (0.0, 0.001, 0.003, 0.005, 0.007, 0.01, 0.03, 0.1)
 
 
+def is_not_ignored() -> None:
+    """A shell starts what is in its background with Ctrl-C ignored."""
+    signal.signal(signal.SIGINT, signal.SIG_DFL)
+
+
 class Interrupts(AtTerminal):
     """Signals one after another, at a terminal and at the start."""
 
@@ -96,6 +101,7 @@ class Interrupts(AtTerminal):
                 stdin=subprocess.PIPE,
                 stdout=subprocess.PIPE,
                 stderr=subprocess.PIPE,
+                preexec_fn=is_not_ignored,
             )
             time.sleep(0.003 * number)
             child.send_signal(signal.SIGINT)
