@@ -37,6 +37,7 @@ class Asked:
         self.turn, self.greatest = turn, max(self.greatest, turn)
 
     def note(self, lines: Iterable[str]) -> None:
+        """These lines were asked, and none was refused."""
         for line in lines:
             turns = turns_of_question(line)
             if turns is not None:

@@ -97,7 +97,7 @@ class Command:
             commas = comma_fault(words)
             raise ExploreError(f"{commas}; {self.form}" if commas else f"the form is: {self.form}")
         parts = match.groupdict()
-        for name in ("first", "last"):
+        for name in ("first", "last", "turn"):
             check_turn(int(parts.get(name) or 0))
         if parts.get("drive"):
             check_drive(explorer.machine)

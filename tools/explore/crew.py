@@ -4,6 +4,7 @@ import queue
 import sys
 import threading
 import time
+from contextlib import closing
 from dataclasses import dataclass
 from operator import length_hint
 from typing import Callable, ClassVar, Dict, Iterable, Iterator, List, Optional, Tuple, TypeVar
@@ -74,12 +75,12 @@ def each_of(
 
     def hand() -> None:
         try:
-            twin = machine.twin(stride=stride)
-            twins.append(twin)
-            while not stop.is_set():
-                with taking:
-                    task = next(left)
-                results.put((task, work(twin, task)))
+            with closing(machine.twin(stride=stride)) as twin:
+                twins.append(twin)
+                while not stop.is_set():
+                    with taking:
+                        task = next(left)
+                    results.put((task, work(twin, task)))
         except StopIteration:
             pass
         except Exception as error:  # it is raised again by the one who reads the results

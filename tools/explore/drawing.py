@@ -108,7 +108,7 @@ class Labels:
                 ends[row] = left + CHARACTER * len(label.text) + 5
             yield label, row
 
-    def draw(self, what: str = "labels", instead: str = "") -> None:
+    def draw(self, what: str = "label", instead: str = "") -> None:
         """Draws the labels, and ends the lane below them. If some have no room, their number is
         shown, or the text `instead` of all."""
         placed = list(self.placed())
@@ -128,7 +128,7 @@ class Labels:
             self.canvas.text(self.left(label), y, label.text, label.kind)
         bottom = self.top + ROW * max((row + 1 for _, row in drawn), default=0) + 6
         if left_out:
-            told = f"{left_out} {what} have no room"
+            told = f"{left_out} {what}s have no room" if left_out > 1 else f"1 {what} has no room"
             self.canvas.text(self.canvas.left, bottom + 6, told, "faint")
             bottom += ROW
         self.canvas.bottom = max(self.canvas.bottom, bottom)
@@ -305,7 +305,7 @@ def draw_text(canvas: Canvas, picture: Picture) -> None:
     canvas.add(f'<path class="tick" d="{"".join(f"M{x} {top + 4:.1f}v6" for x in ticks)}"/>')
     for begin, label in console_labels(canvas, picture.text.shown):
         labels.put(begin, label, "", len(label))
-    labels.draw("bytes")
+    labels.draw("byte")
     if picture.text.cut:
         text = f"{picture.text.cut} further bytes aren't drawn"
         canvas.text(canvas.left, canvas.bottom + 6, text, "faint")

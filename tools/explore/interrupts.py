@@ -3,7 +3,14 @@ that no edit is cut in two, and a second Ctrl-C finds nothing half done."""
 import signal
 import threading
 from contextlib import contextmanager
-from typing import Iterator
+from types import FrameType
+from typing import Iterator, Optional
+
+
+def typed_line(prompt: str) -> str:
+    """A line that is typed at the prompt. Each Ctrl-C raises here, since `input` drops one that
+    comes while it flushes, and fails if the handler returns after another has raised."""
+    return input(prompt)
 
 
 class Interrupts:
@@ -15,7 +22,10 @@ class Interrupts:
     def install(self) -> None:
         signal.signal(signal.SIGINT, self.handle)
 
-    def handle(self, *ignored: object) -> None:
+    def handle(self, number: int, frame: Optional[FrameType]) -> None:
+        if frame is not None and frame.f_code is typed_line.__code__:
+            self.ends = False
+            signal.default_int_handler(number, frame)  # `raise` fails if another has raised
         if self.ends:
             self.ends = False
             raise KeyboardInterrupt

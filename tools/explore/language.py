@@ -13,7 +13,7 @@ LONGEST_LINE, MOST_DIGITS = 200, 10
 
 def comma_fault(words: str) -> str:
     """What is wrong with the first number that is written with commas, if there is one."""
-    match = re.search(r"(?<!\S)\d{1,3}(,\d{3})+(?!\S)", words)
+    match = re.search(r"(?<!\S)\d{1,3}(,\d{3})+(?![^\s:])", words)
     return f"{match[0]} is written {match[0].replace(',', '')}, without commas" if match else ""
 
 

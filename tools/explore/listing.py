@@ -6,7 +6,7 @@ from typing import Dict, Iterator, List, Optional, Sequence
 
 from .commands import Arguments, Explorer, command
 from .children import ExploreError
-from .machine import SHORT_SENT_AHEAD, Machine
+from .machine import SHORT_SENT_AHEAD, Machine, is_refused
 from .replies import (
     INSTRUCTION,
     INTERRUPT,
@@ -71,7 +71,7 @@ def fetches_of(machine: Machine, turns: Sequence[Turn]) -> List[Fetch]:
     found: List[Fetch] = []
     for turn, registers, pages in zip(turns, replies, replies):
         for reply in (registers, pages):
-            if reply.startswith("refused"):
+            if is_refused(reply):
                 raise ExploreError(f"turn {turn.turn}: {reply}")
         if pages not in known:
             known[pages] = Pages.of(pages)

@@ -96,6 +96,10 @@ def is_taken(reply: str) -> bool:
     return reply == "ok" or reply.startswith("event ")
 
 
+def is_refused(reply: str) -> bool:
+    return reply.startswith("refused ")
+
+
 @dataclass
 class Machine:
     """A program with the edits that it took. If it ends, or is stopped, the next question starts it
@@ -125,15 +129,17 @@ class Machine:
         return self.begin()
 
     def _started(self) -> Program:
-        with INTERRUPTS.held():
-            program = Program(self.start.command(), self.start.folder)
+        program: Optional[Program] = None
         try:
+            with INTERRUPTS.held():
+                program = Program(self.start.command(), self.start.folder)
             _, *replies = program.ask_all(["regs 0", *self.journal], SHORT_SENT_AHEAD)
             for line, before, now in zip(self.journal, self.replies, replies):
                 if before != now:
                     raise ExploreError(f"{line}: was answered {before}, and now {now}")
         except BaseException:
-            program.close()
+            if program is not None:
+                program.close()
             raise
         return program
 
@@ -153,8 +159,12 @@ class Machine:
             past = copy.deepcopy(self.past)
             return Machine(start, list(self.journal), past, list(self.replies))
         twin = Machine(self.start)
-        for line in edits:
-            twin.ask(line)
+        try:
+            for line in edits:
+                twin.ask(line)
+        except BaseException:
+            twin.close()
+            raise
         return twin
 
     def close(self) -> None:
@@ -197,8 +207,9 @@ class Machine:
         with self._started_again():
             for at in range(0, len(lines), ahead):
                 part = lines[at : at + ahead]
-                self.asked.note(part)
-                yield from self.program.ask_all(part, ahead)
+                replies = list(self.program.ask_all(part, ahead))
+                self.asked.note(it for it, reply in zip(part, replies) if not is_refused(reply))
+                yield from replies
 
     def blocks(
         self, lines: Sequence[str], reply_bytes: int, reply_lines: int = 1
@@ -209,12 +220,12 @@ class Machine:
         with self._started_again():
             for at in range(0, len(lines), ahead):
                 part = lines[at : at + ahead]
-                self.asked.note(part)
                 block = self.program.block(part, reply_lines)
                 refusal = block.find(b"refused ")
                 if refusal >= 0:
                     reply = block[refusal:].splitlines()[0].decode("ascii")
                     raise Refused(f"{part[0]}: {reply}")
+                self.asked.note(part)
                 yield block
 
     @contextmanager
@@ -232,7 +243,7 @@ class Machine:
     def read(self, line: str) -> str:
         """The reply to a question, which mustn't be refused."""
         reply = self.ask(line)
-        if reply.startswith("refused"):
+        if is_refused(reply):
             raise Refused(f"{line}: {reply}")
         return reply
 
@@ -309,7 +320,7 @@ class Machine:
     def text_lengths(self, turns: Sequence[int]) -> Iterator[int]:
         """How many bytes were printed before each of these turns."""
         for turn, reply in zip(turns, self.ask_all([f"text {it}" for it in turns])):
-            if reply.startswith("refused"):
+            if is_refused(reply):
                 raise Refused(f"text {turn}: {reply}")
             yield int(reply.split(":")[0].split()[1])
 
@@ -326,7 +337,7 @@ class Machine:
     def turns(self, first: int, count: int) -> Iterator[Turn]:
         """These turns, by as many trails as it takes. A reply of a trail has some 1,300 bytes."""
         for reply in self.ask_all(self.trail_lines(first, count)):
-            if reply.startswith("refused"):
+            if is_refused(reply):
                 raise Refused(f"turns {first} to {first + count - 1}: {reply}")
             yield from turns_of(reply)
 

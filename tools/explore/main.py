@@ -14,7 +14,7 @@ from .disassembly import Disassembler
 from .interrupts import INTERRUPTS
 from .journal import OF_SESSION, Contents, Journal, counted, newest, state_folder, told
 from .language import explanation
-from .machine import EDITS, Machine, Start, existing_program
+from .machine import EDITS, Machine, Start, existing_program, is_refused
 from .options import FILES, VALUES, option_lines, options_of_session, options_of_words
 from .options import words_of_options
 from .output import Unwritable, complain, drop_output, fault_in_words, flush, prepare_streams, put
@@ -116,7 +116,7 @@ def read_session(machine: Machine, path: Path) -> None:
         if not sessions.has_reply(line) or text.split()[:1] and text.split()[0] in asked:
             continue
         reply = machine.ask(text)
-        if reply.startswith("refused"):
+        if is_refused(reply):
             why = explanation(text, reply, machine.past) if text.split()[0] in EDITS else ""
             complain(f"{path}:{number}: {text}: {reply} {why}".rstrip())
 
@@ -152,7 +152,7 @@ def take_up(explorer: Explorer, path: Path, is_kept_on: bool) -> Iterator[str]:
     journal = Journal.taken_up(path, path.parent == state_folder()) if is_kept_on else None
     contents = Contents.of(path)
     replies = machine.edit_all([*contents.of_session, *contents.edits])
-    refused = [it for it in replies if it.startswith("refused")]
+    refused = [it for it in replies if is_refused(it)]
     if refused:
         raise ExploreError(f"{path} has {counted(len(refused))} that can't be made: {refused[0]}")
     machine.file = journal

@@ -4,10 +4,11 @@ import re
 from pathlib import Path
 from typing import Dict, Iterator, List, Sequence, Tuple
 
-from .commands import Arguments, Explorer, command
+from .commands import Arguments, Explorer, check_turn, command
 from . import styles
 from .drawing import shown, svg
 from .children import ExploreError
+from .language import comma_fault
 from .past import DELAYS
 from .picture import Byte, Picture, WordHistory, guessed_last, picture_of
 from .replies import VECTORS, Mode
@@ -168,7 +169,8 @@ def keyed(words: Sequence[str]) -> Dict[str, List[str]]:
         if word in KEYS:
             key = word
         elif not key or not re.fullmatch(KEYS[key], word):
-            raise ExploreError(f"'{word}' is wrong; the form is: {FORM}")
+            wrong = comma_fault(word) or f"'{word}' is wrong"
+            raise ExploreError(f"{wrong}; the form is: {FORM}")
         else:
             found[key].append(word)
     empty = next((it for it in KEYS if it in words and not found[it]), None)
@@ -189,8 +191,10 @@ def page(explorer: Explorer, arguments: Arguments) -> Iterator[str]:
     machine, path = explorer.machine, Path(arguments.text("file"))
     found = keyed(arguments.text("rest").split())
     first = int((found["from"] or ["0"])[-1])
+    check_turn(first)
     last = int(found["to"][-1]) if found["to"] else guessed_last(machine, first)
     turns = range(first, last + 1)
+    check_turn(last)
     if not turns:
         raise ExploreError(f"turn {last} comes before turn {first}")
     addresses = [int(it, 8) for it in found["words"]]

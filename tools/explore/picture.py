@@ -184,7 +184,7 @@ def drives_before(machine: Machine, looks: Sequence[int]) -> Iterator[Tuple[int,
         for block in machine.blocks([f"devices {it}" for it in looks], DEVICES_BYTES):
             replies = block.decode("ascii").splitlines()
             progress.step(len(replies))
-            for turn, reply in zip(turns, replies):
+            for reply, turn in zip(replies, turns):  # the replies end first: no turn is left out
                 found = BUSY.search(reply)
                 drive = found.groups() if found else ()
                 if drive not in titles:

@@ -15,8 +15,9 @@ from .commands import COMMANDS, Explorer
 from .language import FORMS, SEARCHES, explanation, form_of, forms_of_searches
 from .children import ExploreError
 from .files import OUTPUT
-from .interrupts import INTERRUPTS
+from .interrupts import INTERRUPTS, typed_line
 from .journal import counted, state_folder
+from .machine import is_refused
 from .output import Unwritable, fault_in_words, put
 
 PROMPT = "explore> "
@@ -128,7 +129,8 @@ class Prompt:
         """The completion of a word with this number, for readline."""
         if number == 0:
             before = readline.get_line_buffer()[: readline.get_begidx()]
-            self.completions = paths_from(text) if before.strip() else words_from(text)
+            is_word = before.strip() in ("", "help", "?")
+            self.completions = words_from(text) if is_word else paths_from(text)
         return self.completions[number] if number < len(self.completions) else None
 
     # What a line does
@@ -145,7 +147,7 @@ class Prompt:
     def pass_on(self, line: str) -> None:
         machine = self.explorer.machine
         reply = machine.ask(line)
-        why = explanation(line, reply, machine.past) if reply.startswith("refused") else ""
+        why = explanation(line, reply, machine.past) if is_refused(reply) else ""
         self.show([reply, f"  {why}"] if why else [reply])
 
     def help_lines(self, word: str) -> List[str]:
@@ -189,8 +191,9 @@ def is_own(word: str, rest: str) -> bool:
 
 
 def words_from(text: str) -> List[str]:
-    """The commands and lines that begin so."""
-    return sorted(it for it in {*COMMANDS, *OWN_HELP, *FORMS, *SEARCHES} if it.startswith(text))
+    """The commands and lines that begin so. After the only one comes a space."""
+    found = [it for it in {*COMMANDS, *OWN_HELP, *FORMS, *SEARCHES} if it.startswith(text)]
+    return sorted(found) if len(found) > 1 else [f"{it} " for it in found]
 
 
 def paths_from(text: str) -> List[str]:
@@ -236,7 +239,7 @@ def read_at_terminal(prompt: Prompt) -> None:
     while not is_last:
         try:
             with INTERRUPTS.allowed():
-                line = input(PROMPT)
+                line = typed_line(PROMPT)
         except EOFError:
             put("")
             prompt.end()

@@ -3,10 +3,11 @@ import re
 from pathlib import Path
 from typing import Iterator, List, Optional
 
-from .commands import Arguments, Explorer, command
+from .commands import Arguments, Explorer, check_turn, command
 from .children import ExploreError
 from .files import write_whole as write_whole
-from .machine import LAST_TURN, Machine
+from .language import comma_fault
+from .machine import LAST_TURN, Machine, is_refused
 from .options import option_lines, options_of_words
 
 ESCAPES = {"r": 0o15, "n": 0o12, "t": 0o11, "e": 0o33, "\\": 0o134, '"': 0o42}
@@ -60,7 +61,8 @@ def typed_bytes(text: str) -> List[int]:
     if len(text) > 1 and text[0] == text[-1] == '"':
         text = text[1:-1]
     elif re.search(r" (from|every)( |$)", text):
-        raise ExploreError("a turn is missing; a TEXT with ' from ' or ' every ' stands in quotes")
+        wrong = comma_fault(text) or "a turn is missing"
+        raise ExploreError(f"{wrong}; a TEXT with ' from ' or ' every ' stands in quotes")
     found: List[int] = []
     for octal, escape, plain in re.findall(r"\\([0-3][0-7]{2})|\\(.?)|([^\\]+)", text):
         if octal:
@@ -122,9 +124,10 @@ def type_text(explorer: Explorer, arguments: Arguments) -> Iterator[str]:
     typed = 0
     try:
         for byte in keys:
+            check_turn(turn)
             turn = first_free(machine, turn)
             reply = machine.ask(f"at {turn} key {byte:o}")
-            if reply.startswith("refused"):
+            if is_refused(reply):
                 raise ExploreError(reply)
             yield f"{reply} at {turn} key {byte:o}"
             typed, turn = typed + 1, turn + max(1, every)

@@ -2,10 +2,11 @@
 from typing import Iterator
 
 from .children import ExploreError
-from .commands import COMMANDS, Arguments, Explorer, command
+from .commands import COMMANDS, Arguments, Explorer, check_turn, command
 
 
 def shown(explorer: Explorer, turn: int) -> Iterator[str]:
+    check_turn(turn)
     return COMMANDS["show"].lines(explorer, str(turn))
 
 

@@ -9,14 +9,16 @@ from dataclasses import dataclass, field
 from pathlib import Path
 from typing import Container, Dict, Iterator, List, Optional, Sequence, Tuple
 
+from sessions import has_reply
+
 from .asked import turns_of_question
 from .children import ExploreError
 from .commands import Arguments, Explorer, check_turn, command
 from .crew import Progress, each_of, processors
 from .files import write_whole
-from .interrupts import INTERRUPTS
-from .language import explanation
-from .machine import EDITS, Machine
+from .interrupts import INTERRUPTS, typed_line
+from .language import comma_fault, explanation
+from .machine import EDITS, Machine, is_refused
 from .script import session_lines
 
 SWEEP = re.compile(
@@ -41,7 +43,9 @@ class Sweep:
     def of(cls, machine: Machine, text: str) -> "Sweep":
         match = SWEEP.fullmatch(" ".join(text.split()))
         if match is None:
-            raise ExploreError("the form is: sweep EVENT|E from N to M [step K]: QUESTION")
+            form = "the form is: sweep EVENT|E from N to M [step K]: QUESTION"
+            commas = comma_fault(text)
+            raise ExploreError(f"{commas}; {form}" if commas else form)
         for turn in (match["first"], match["last"]):
             check_turn(int(turn))
         turns = range(int(match["first"]), int(match["last"]) + 1, int(match["step"] or 1) or 1)
@@ -49,33 +53,39 @@ class Sweep:
         if number is not None and number not in machine.past.events:
             raise ExploreError(f"no event has the number {number}; events lists them")
         event = match["event"] if number is None else machine.past.events[number].text
-        if match["question"].split()[0] in EDITS or not turns:
-            raise ExploreError(
-                "an edit is no question" if turns else "there is no turn from N to M"
-            )
-        return cls(event, number, turns, match["question"])
+        question = match["question"]
+        if not turns:
+            raise ExploreError("there is no turn from N to M")
+        is_comment = not has_reply(question.encode(errors="surrogateescape"))
+        if is_comment or question.split()[0] in EDITS:
+            raise ExploreError(f"{'a comment' if is_comment else 'an edit'} is no question")
+        return cls(event, number, turns, question)
 
     def check(self, machine: Machine) -> None:
         """Tries the event and the question, once, on a twin."""
         twin = machine.twin()
         try:
-            for line in (f"at {self.turns[0]} {self.event}", self.question):
-                reply = twin.ask(line)
-                if reply.startswith("refused"):
-                    raise ExploreError(f"{line}: {reply}: {explanation(line, reply, machine.past)}")
+            self.asked_of(twin, f"at {self.turns[0]} {self.event}")
         finally:
             twin.close()
 
     def work(self, twin: Machine, turn: int) -> str:
         """The reply with the event at this turn. A twin has the event once, and moves it on."""
         number = self.number or self.numbers.get(id(twin))
-        line = (
-            f"at {turn} {self.event}" if number is None else f"alter {number} {turn} {self.event}"
-        )
-        edited, reply = twin.ask_all([line, self.question])
-        if number is None and edited.startswith("event "):
+        edit = "at" if number is None else f"alter {number}"
+        edited, reply = self.asked_of(twin, f"{edit} {turn} {self.event}")
+        if number is None:
             self.numbers[id(twin)] = int(edited.split()[1])
-        return (edited if edited.startswith("refused") else reply).replace("\n", " / ")
+        return reply.replace("\n", " / ")
+
+    def asked_of(self, twin: Machine, edit: str) -> List[str]:
+        """The replies to an edit and the question. An error if one is refused."""
+        lines = [edit, self.question]
+        replies = list(twin.ask_all(lines))
+        for line, reply in zip(lines, replies):
+            if is_refused(reply):
+                raise ExploreError(f"{line}: {reply}: {explanation(line, reply, twin.past)}")
+        return replies
 
     def stride(self) -> Optional[int]:
         """A stride with which a state is kept shortly before the first turn, so that each further
@@ -148,7 +158,7 @@ class ResultFile:
     """The file of `-o`: results are added to it, and no other sweep writes to it meanwhile."""
 
     def __init__(self, results: Results, path: Path):
-        self.path = path
+        self.path, self.heading = path, results.heading
         try:
             self.handle = os.open(path, os.O_RDWR | os.O_APPEND | os.O_CREAT, 0o666)
         except OSError as error:
@@ -161,7 +171,8 @@ class ResultFile:
             raise
 
     def take(self, results: Results) -> None:
-        """Takes in what is there. A last line without its end was cut off, and goes."""
+        """Takes in what is there. A last line without its end was cut off, and goes. Without any
+        the heading is written before the first result."""
         try:
             fcntl.flock(self.handle, fcntl.LOCK_EX | fcntl.LOCK_NB)
         except BlockingIOError:
@@ -170,11 +181,13 @@ class ResultFile:
         whole = data[: data.rfind(b"\n") + 1]
         results.take(self.path, whole.decode(errors="replace"))
         os.ftruncate(self.handle, len(whole))
-        if not whole:
-            self.add(results.heading)
+        if whole:
+            self.heading = ""
 
-    def add(self, line: str) -> None:
-        data = f"{line}\n".encode(errors="surrogateescape")
+    def add(self, turn: int, reply: str) -> None:
+        heading = f"{self.heading}\n" if self.heading else ""
+        data = f"{heading}{turn} {reply}\n".encode(errors="surrogateescape")
+        self.heading = ""
         try:
             while data:
                 data = data[os.write(self.handle, data) :]
@@ -206,23 +219,27 @@ def sweep_lines(
     machine = explorer.machine
     results = Results(sweep.heading(machine))
     file = ResultFile(results, path) if path else None
-    is_stopped = False
+    stopped = ""
     try:
         for turn, reply in swept(machine, sweep, results.replies, hands):
             results.add(turn, reply)
             if file:
-                file.add(f"{turn} {reply}")
+                file.add(turn, reply)
     except KeyboardInterrupt:
-        is_stopped = True
+        stopped = "stopped"
+    except ExploreError as error:
+        if not results.replies:
+            raise
+        stopped = str(error)
     finally:
         if file:
             file.close()
     INTERRUPTS.again()
     results.replies = {turn: it for turn, it in results.replies.items() if turn in sweep.turns}
     yield from results.lines(sweep.turns.step)
-    if is_stopped:
+    if stopped:
         kept = f"; the same line goes on from {path}" if path else "; with -o FILE it could go on"
-        yield f"stopped: {len(results.replies)} of {len(sweep.turns)} turns are done{kept}"
+        yield f"{stopped}: {len(results.replies)} of {len(sweep.turns)} turns are done{kept}"
 
 
 def job_lines(explorer: Explorer, sweep: Sweep, path: Path) -> Iterator[str]:
@@ -270,7 +287,7 @@ def ask_first(explorer: Explorer, turns: range) -> None:
     if not explorer.is_terminal:
         raise ExploreError(f"{said}; sweep -y .. does them")
     try:
-        answer = input(f"{said}; begin? (y or n) ")
+        answer = typed_line(f"{said}; begin? (y or n) ")
     except EOFError:
         answer = ""
     if answer.strip() not in ("y", "yes"):
@@ -307,8 +324,8 @@ def sweep_command(explorer: Explorer, arguments: Arguments) -> Iterator[str]:
     sweep = Sweep.of(explorer.machine, words)
     if len(sweep.turns) > MOST_TURNS_UNASKED and not options.keys() & {"-y", "--jobs"}:
         ask_first(explorer, sweep.turns)
-    sweep.check(explorer.machine)
     if "--jobs" in options:
+        sweep.check(explorer.machine)
         yield from job_lines(explorer, sweep, Path(options["--jobs"]))
     else:
         path = Path(options["-o"]) if "-o" in options else None

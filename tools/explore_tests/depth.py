@@ -1,4 +1,5 @@
 """Searches ask upwards: how often a command asks about an earlier turn than just before."""
+import unittest.mock
 from pathlib import Path
 from typing import List, Sequence
 
@@ -44,6 +45,10 @@ class Depth(Case):
         for line in lines.split(","):
             machine.read(line)
         self.assertEqual((machine.asked.went_back, machine.asked.greatest), (2, 9))
+        # a question that is refused was not asked
+        for line in ("regs 9999999999", "mem 900 1 1"):
+            self.assertTrue(machine.ask(line).startswith("refused"))
+        self.assertEqual(machine.asked.greatest, 9)
 
     def test_see(self) -> None:
         explorer = self.explorer(LEDGER)
@@ -78,6 +83,26 @@ class Depth(Case):
         writes = list(counting.finder.writes(range(3000), 0o2000))
         self.assertEqual([it.turn for it in writes], list(range(1, 1024, 2)))
         self.assertEqual([it.word for it in writes], list(range(1, 513)))
+
+    def test_disk_words_of_very_many_looks(self) -> None:
+        """The disk takes three turns, so a million looks would be needed."""
+        explorer = self.explorer(LEDGER, ["delay disk 3"])
+        words = list(explorer.machine.single_words([f"dsk {it} 0 1" for it in range(240_000)]))
+        self.assertGreater(len(set(words)), 10)
+        for word in sorted(set(words) - {words[0]}):
+            found = self.done(explorer, f"first disk 0 = {word:o} to 3000000", 12)[0]
+            self.assertTrue(found.startswith(f"turn {words.index(word) - 1}: "), found)
+        changes = [at for at, pair in enumerate(zip(words, words[1:])) if pair[0] != pair[1]]
+        for first, turn in zip([0, *(it + 1 for it in changes)], changes):
+            found = self.done(explorer, f"next disk 0 from {first}", 12)[0]
+            self.assertTrue(found.startswith(f"turn {turn}: disk 0000000 goes from "), found)
+
+    def test_a_sweep_runs_no_program_but_those_that_work(self) -> None:
+        explorer = self.explorer()
+        with unittest.mock.patch.object(Machine, "twin", autospec=True, side_effect=Machine.twin):
+            written = self.done(explorer, "sweep -j 2 key 101 from 5 to 9: regs 20", 0)
+            self.assertEqual(Machine.twin.call_count, 2)
+        self.assertEqual(written[-1], "5 turns, 1 run of equal replies")
 
     def test_a_sweep_keeps_a_state_shortly_before_its_first_turn(self) -> None:
         machine = self.explorer().machine

@@ -1,12 +1,19 @@
 """Ctrl-C at any time: no edit is lost, and there is no traceback."""
+import os
 import signal
 import subprocess
 import time
+from typing import List
 
 from .common import SECONDS
 from .terminal import AtTerminal
 
 GAPS = (0.0, 0.001, 0.003, 0.005, 0.007, 0.01, 0.03, 0.1)
+
+
+def is_not_ignored() -> None:
+    """A shell starts what is in its background with Ctrl-C ignored."""
+    signal.signal(signal.SIGINT, signal.SIG_DFL)
 
 
 class Interrupts(AtTerminal):
@@ -51,6 +58,40 @@ class Interrupts(AtTerminal):
         self.wait_for(b"patches 2\r\ncore 001000 000001\r\ncore 001002 000007\r\n")
         self.end()
 
+    def test_several_at_the_prompt_drop_the_line(self) -> None:
+        self.begin("examples/first-run.session")
+        self.wait_for(b"explore> ")
+        for gap in GAPS[:4] * 40:
+            os.write(self.ours, b"core 1000 1")
+            for _ in range(3):
+                self.interrupt()
+                time.sleep(gap)
+            self.assertIsNone(self.child.poll(), self.seen)
+        self.settle()
+        self.type("patches\n")
+        self.wait_for(b"patches 3")
+        self.end()
+
+    def children(self) -> List[str]:
+        """The programs that this explore has started, and that haven't ended."""
+        found = subprocess.run(
+            ["ps", "-o", "pid=,stat=", "--ppid", str(self.child.pid)], capture_output=True, text=True
+        )
+        return [it for it in found.stdout.splitlines() if "Z" not in it.split()[1]]
+
+    def test_no_program_is_left(self) -> None:
+        """One has what is at work now, or what is at work next."""
+        self.begin("examples/one-key-sooner.session")
+        lines = ("until mode user to 400000\n", "sweep -j 3 key 101 from 5 to 900: regs 900000\n")
+        for number in range(40):
+            self.type(lines[number % 2])
+            time.sleep(0.01 * number)
+            self.interrupt()
+            self.settle()
+        time.sleep(0.2)
+        self.assertLessEqual(len(self.children()), 2)  # the machine's and the disassembler
+        self.end()
+
     def test_at_the_start(self) -> None:
         for number in range(50):
             child = subprocess.Popen(
@@ -60,6 +101,7 @@ class Interrupts(AtTerminal):
                 stdin=subprocess.PIPE,
                 stdout=subprocess.PIPE,
                 stderr=subprocess.PIPE,
+                preexec_fn=is_not_ignored,
             )
             time.sleep(0.003 * number)
             child.send_signal(signal.SIGINT)

@@ -23,9 +23,26 @@ class Messages(Case):
             "sweep tick from 0 to 9999999999: regs 5",
             "type x from 9999999999",
             "compare from 1000000001",
+            "see 1000000001",
+            "show 9999999999",
+            "step 1000000001",
+            "screen 9999999999",
+            "list 1000 3 at 9999999999",
+            "where disk 5 9999999999",
+            "export it at 9999999999",
+            "drop from 9999999999",
+            "page it.html from 1000000001",
+            "page it.html to 1000000001",
         ):
             turn = line.split(":")[0].split()[-1]
             self.refuses(f"core 0 1\n{line}", f"{line.split()[0]}: turn {turn} {ABOVE}\n")
+
+    def test_a_key_that_comes_after_the_last_turn(self) -> None:
+        # TSTB @#177560; BPL .-4; MOVB @#177562,R0; BR: each key is taken
+        words = ("105737", "177560", "100375", "113700", "177562", "772")
+        taking = "".join(f"core {0o1000 + 2 * at:o} {it}\n" for at, it in enumerate(words))
+        message = "type: turn 1000000010 is above 1000000000; 1 of 2 keys are typed\n"
+        self.refuses(f"{taking}type ab from 11 every 999999999", message)
 
     def test_a_drive_in_version_1(self) -> None:
         for line in ("first disk 3 5 = 0", "where disk 3 5 60", "page it.html to 5 disk 3:5"):
@@ -45,6 +62,12 @@ class Messages(Case):
         self.refuses("regs 1,000", "N, a turn, or a count of turns: 1,000 is written 1000, without")
         message = "see: 1,000,000 is written 1000000, without commas; see N [C]"
         self.refuses("see 1,000,000", message)
+        for line in (
+            "page it.html from 1,000",
+            "sweep tick from 1 to 1,000: regs 5",
+            "type x from 1,000",
+        ):
+            self.refuses(line, f"{line.split()[0]}: 1,000 is written 1000, without commas; ")
 
     def test_type_begins_after_the_last_event(self) -> None:
         self.refuses("at 30 tick\ntype a", "event 2 at 31 key 141\n")

@@ -90,6 +90,28 @@ class Pages(Case):
         bars = self.bars(self.page("page it.html to 4999\n", session)[1])
         self.assertEqual([(it[2], it[4]) for it in bars[:1]], [("1.0", "read: turn 6 to turn 9")])
 
+    def test_words_and_transfers_are_what_questions_tell(self) -> None:
+        """Of more turns than are asked at once."""
+        ledger = "examples/ledger/ledger.session"
+        self.page("page it.html from 126700 to 128700 words 30000 disk 0\n", ledger)
+        bars = self.bars(self.written)
+        ends = [tuple(map(int, re.findall(r"turn (\d+)", it[4]))) for it in bars]
+        self.assertEqual(len(ends), 8)
+        asked = [at + 1 for pair in ends for at in (pair[0] - 1, *pair, pair[1] - 1)]
+        lines = "".join(f"devices {it}\n" for it in asked)
+        replies = self.explore(lines, ledger).splitlines()
+        ready = [int(it.split()[it.split().index("RKCS") + 1], 8) >> 7 & 1 for it in replies]
+        self.assertEqual(ready, [1, 0, 1, 0] * len(ends))
+        for title, question in (("core 030000", "mem {} 30000 1"), ("disk 0000000", "dsk {} 0 1")):
+            section = re.search(f"<h2>{title}</h2>(.*?)</table>", self.written)
+            rows = re.findall(r"<tr><td>(\d+)</td><td>(\d+)</td><td>(\w+)", section[1])
+            self.assertGreater(len(rows), 1)
+            lines = "".join(f"{question.format(int(turn) + 1)}\n" for turn, _, _ in rows)
+            replies = self.explore(lines, ledger).splitlines()
+            self.assertEqual([it.split()[1] for it in replies], [word for _, word, _ in rows])
+        writes = re.findall(r"a write of 256 words from core (\d+) to sector 0", self.written)
+        self.assertEqual(writes, 3 * ["040000", "030000"])
+
     def bars(self, drawing: str) -> List[tuple]:
         return [it for it in RECTANGLE.findall(drawing) if it[0] == "bar"]
 

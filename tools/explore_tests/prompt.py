@@ -28,6 +28,15 @@ class Terminal(AtTerminal):
         self.wait_for(b" symbols\r\n")
         self.end()
 
+    def test_after_a_word_that_is_completed_comes_a_space(self) -> None:
+        self.begin("examples/first-run.session")
+        self.type("see\t2\n")
+        self.wait_for(b"see 2")
+        self.wait_for(b"1  kernel  001004  001004  HALT")
+        self.type("help scr\t\n")
+        self.wait_for(b"screen N [LAST]")
+        self.end()
+
     def test_the_history_is_there_the_next_time(self) -> None:
         self.begin()
         self.type("mem 0 1000 3\n")

@@ -58,6 +58,34 @@ class Sweeps(AtTerminal):
         third = self.explore("sweep -o kept key 101 from 0 to 3: regs 90001\n", SESSION)
         self.assertIn("4 turns, ", third)
 
+    def test_what_is_refused_ends_it(self) -> None:
+        """Of a file of results nothing is taken then, so a sweep that is right can go to it."""
+        lines = "sweep -o kept kex from 1 to 2: regs 5\nsweep -o kept tick from 1 to 2: regs x\n"
+        lines += "sweep tick from 1 to 2: # regs 5\nsweep -o kept tick from 1 to 2: regs 5\n"
+        written = self.explore(lines).splitlines()
+        self.assertTrue(written[0].startswith("sweep: at 1 kex: refused 10 BadLine: at T event: "))
+        self.assertTrue(written[1].startswith("sweep: regs x: refused 10 BadLine: regs N: N, a "))
+        self.assertEqual(written[2], "sweep: a comment is no question")
+        self.assertEqual(written[4], "2 turns, 1 run of equal replies")
+        self.assertEqual(len(self.results()), 3)
+
+    def test_what_ends_in_the_midst_shows_what_is_done(self) -> None:
+        """The limit of a file's size stands in for the end of a disk."""
+        limited = ["bash", "-c", 'ulimit -f 1; trap "" XFSZ; exec "$@"', "bash"]
+        ended = subprocess.run(
+            [*limited, *self.command(SESSION)],
+            input="sweep -j 1 -o kept key 101 from 0 to 90: regs 95\n",
+            cwd=self.folder,
+            env=self.environment(),
+            capture_output=True,
+            text=True,
+            timeout=SECONDS,
+        )
+        *runs, last = ended.stdout.splitlines()
+        self.assertRegex(runs[-1], r"^\d+ turns, 1 run of equal replies$")
+        self.assertIn("kept can't be written: File too large: ", last)
+        self.assertIn(" of 91 turns are done; the same line goes on from kept", last)
+
     def test_many_turns_take_little_memory(self) -> None:
         line = "sweep -y -j 1 -o kept key 101 from 0 to 1000000000: regs 9\nevents\n"
         child = self.begin_sweep(line)
