@@ -1,5 +1,5 @@
-"""Finds turns, by the searches of the program search, by questions upwards, or by halving. None goes
-back and forth between a turn and the next."""
+"""Finds turns, by the searches of the program search, by questions upwards, or by halving. None
+goes back and forth between a turn and the next."""
 import re
 from dataclasses import dataclass
 from typing import Callable, Iterator, List, Optional, Tuple

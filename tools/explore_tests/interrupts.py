@@ -74,9 +74,8 @@ class Interrupts(AtTerminal):
 
     def children(self) -> List[str]:
         """The programs that this explore has started, and that haven't ended."""
-        found = subprocess.run(
-            ["ps", "-o", "pid=,stat=", "--ppid", str(self.child.pid)], capture_output=True, text=True
-        )
+        command = ["ps", "-o", "pid=,stat=", "--ppid", str(self.child.pid)]
+        found = subprocess.run(command, capture_output=True, text=True)
         return [it for it in found.stdout.splitlines() if "Z" not in it.split()[1]]
 
     def test_no_program_is_left(self) -> None:
