@@ -1,12 +1,12 @@
 -- The turns that change a word of a drive.
-use Rattle.std.proofs.Common.{◌≡◌, ◌∙◌, ℕ, zero, suc, ◌+◌, ◌<◌, ◌≤◌, ◌==◌, Bool, List, [], ◌∷◌, ap, ap₂, arith, false, length, map, not, refl, slice_index_or, subst, sym, true}
+use Rattle.std.proofs.Common.{◌≡◌, ◌∙◌, ℕ, zero, suc, ◌+◌, ◌<◌, ◌==◌, List, [], ◌∷◌, ap, ap₂, arith, length, map, not, refl, slice_index_or, sym}
 use Rattle.pdp_cpu.proofs.DriveSizes.{turn_keeps_drives}
 use Rattle.pdp_cpu.specs.Turns.MachineState.{MachineState, MachineWithTexts, after_turn}
 use Rattle.pdp_unibus.specs.declared.event.Event.{Event}
 use Rattle.pdp_replay.specs.Past.{Past}
 use Rattle.pdp_replay.specs.Past.Setup.{drive_words}
 use Rattle.pdp_replay.specs.Run.Checkpoints.{IsBuiltFrom}
-use Rattle.pdp_replay.specs.Run.States.{at, disk_of, state_at}
+use Rattle.pdp_replay.specs.Run.States.{at, disk_of}
 use Rattle.pdp_replay.specs.Ask.DiskChanges.{word_changes, word_on}
 use Rattle.pdp_replay.proofs.DriveSizes.{length_of_drive}
 

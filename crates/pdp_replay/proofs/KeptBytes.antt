@@ -147,7 +147,7 @@ text_is kept text out all (suc n) =
     ∙ ap₂ ◌++◌ (text_is kept text out all n) (bytes_of n (out n))
     ∙ sym (all.grows n)
 
-as_long : (bytes : List KeptByte) → length (without_turns bytes) ≡ length bytes
+pub as_long : (bytes : List KeptByte) → length (without_turns bytes) ≡ length bytes
 as_long [] = refl
 as_long (b ∷ bytes) = ap suc (as_long bytes)
 

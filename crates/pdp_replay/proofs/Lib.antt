@@ -48,3 +48,4 @@ pub mod EditedSetups
 pub mod Engines
 pub mod MoreDrives
 pub mod CalmWays
+pub mod Watches

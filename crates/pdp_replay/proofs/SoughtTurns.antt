@@ -1,24 +1,21 @@
 -- Turns that a search passes, and the turn that it looks at.
-use Rattle.std.proofs.Common.{◌≡◌, ◌∙◌, ℕ, ◌+◌, ◌-◌, ◌<◌, ◌≤◌, ◌==◌, ◌&&◌, [], Bool, List, Option, None, ap, arith, false, refl, subst, sym, true}
+use Rattle.std.proofs.Common.{◌≡◌, ◌∙◌, ℕ, ◌+◌, ◌-◌, ◌≤◌, ◌==◌, ◌&&◌, [], Bool, Option, ap, arith, false, refl, sym, true}
 use Rattle.pdp_kt11.specs.declared.mode.Mode.{Mode}
-use Rattle.pdp_unibus.specs.declared.event.Event.{Event}
 use Rattle.pdp_operand.specs.Handbook.Processor.{register_of}
 use Rattle.pdp_operand.specs.Phases.World.{World}
 use Rattle.pdp_cpu.specs.Turns.CalmTurns.{InstructsFor, PassesNone, after_calm_turns}
 use Rattle.pdp_cpu.specs.Turns.MachineState.{MachineState, MachineWithTexts}
 use Rattle.pdp_cpu.specs.Turns.Regs.{regs_of}
 use Rattle.pdp_cpu.specs.Turns.Turn.{turn_act}
-use Rattle.pdp_cpu.specs.declared.act.Act.{Act}
 use Rattle.pdp_script.specs.Entries.{events_at}
 use Rattle.pdp_replay.specs.Past.{Past}
 use Rattle.pdp_replay.specs.Run.KeptRuns.{IsUnderWay, IsWithoutEvents}
 use Rattle.pdp_replay.specs.Run.States.{at, state_at}
-use Rattle.pdp_replay.specs.Ask.Searches.{HoldsNowhere, IsFirst, or_turn}
-use Rattle.pdp_replay.specs.Ask.SoughtTurns.{NoneIsSought, is_instruction, is_interrupt, is_mode, is_pending_trap, is_sought, is_sought_at, turn_is_sought}
+use Rattle.pdp_replay.specs.Ask.Searches.{HoldsNowhere}
+use Rattle.pdp_replay.specs.Ask.SoughtTurns.{NoneIsSought, is_instruction, is_interrupt, is_mode, is_pending_trap, is_sought_at, turn_is_sought}
 use Rattle.pdp_replay.specs.declared.ask.sought.Sought.{Sought}
 use Rattle.pdp_replay.specs.declared.ask.sought.Sought.TheVariants.{Instruction, Interrupt, PendingTrap}
 use Rattle.pdp_replay.proofs.CalmWays.{turn_after, way_on_calmly}
-use Rattle.pdp_replay.proofs.Searches.{first_turn}
 
 pc_of : (w : World) → (regs_of w).pc ≡ w.processor.counter
 unfolding register_of
@@ -63,32 +60,3 @@ passed_calmly p sought known to n m within quiet way none =
     ap (λ es. turn_is_sought sought turn es (state_at p turn)) none_happen
     ∙ sym (ap (λ (s : MachineState). turn_is_sought sought s.turn [] s.world) there)
     ∙ none k (omega (arith, number, below))
-
--- what a machine finds in its next turn
-found_there : (sought : Sought) (events : List Event) (before ready : MachineState) (pc : ℕ) (mode : Mode) (act : Act) (met : Bool)
-    → ready ≡ before → pc ≡ (regs_of ready.world).pc → mode ≡ ready.world.bus.io_page.status.mode
-    → act ≡ turn_act ready.turn events ready.world → met ≡ is_sought sought act pc mode
-    → met ≡ turn_is_sought sought before.turn events before.world
-found_there sought events before ready pc mode act met same pc_is mode_is act_is met_is =
-    met_is
-    ∙ ap (λ a. is_sought sought a pc mode) act_is
-    ∙ ap (λ c. is_sought sought (turn_act ready.turn events ready.world) c mode) pc_is
-    ∙ ap (λ k. is_sought sought (turn_act ready.turn events ready.world) (regs_of ready.world).pc k) mode_is
-    ∙ ap (λ (s : MachineState). turn_is_sought sought s.turn events s.world) same
-
-pub first_found : (p : Past) (sought : Sought) (known : ℕ) (events : List Event) (m ready : MachineWithTexts) (turn now pc : ℕ) (mode : Mode) (act : Act)
-    (met : Bool) → events ≡ events_at p.script.entries m.state.turn → IsUnderWay p known m → ready.state ≡ m.state → turn ≡ ready.state.turn
-    → pc ≡ (regs_of ready.state.world).pc → mode ≡ ready.state.world.bus.io_page.status.mode
-    → act ≡ turn_act ready.state.turn events ready.state.world → met ≡ is_sought sought act pc mode → now ≡ m.state.turn + 1
-    → IsFirst (is_sought_at p sought) m.state.turn now (or_turn None met turn)
-first_found p sought known events m ready turn now pc mode act met happen way same number pc_is mode_is act_is met_is next =
-    let first : ℕ = m.state.turn in
-    let is : met ≡ turn_is_sought sought first events m.state.world
-    = found_there sought events m.state ready.state pc mode act met same pc_is mode_is act_is met_is in
-    let there : is_sought_at p sought first ≡ met
-    = ap (λ es. turn_is_sought sought first es (state_at p first)) (sym happen)
-    ∙ ap (λ (s : MachineState). turn_is_sought sought first events s.world) (sym way.here)
-    ∙ sym is in
-    let here : first ≡ turn = sym (number ∙ ap (λ (s : MachineState). s.turn) same) in
-    subst (λ t. IsFirst (is_sought_at p sought) first now (or_turn None met t)) here
-    (first_turn (is_sought_at p sought) first now met there next)

@@ -1,6 +1,6 @@
 -- The bytes of a text from one of them on, and the turn in which a byte came out.
-use Rattle.std.proofs.Common.{◌≡◌, ◌∙◌, ℕ, zero, suc, ◌+◌, ◌-◌, ◌<◌, ◌≤◌, ◌&&◌, ⊎_elim, Bool, List, [], ◌∷◌, ◌++◌, Option, None, Some, add-one, ap, arith, drop, false, length, length-append, option_map, nat_le, nat_lt, refl, slice_get, subst, sym, take, true}
-use Rattle.std.proofs.lemmas.Bool.{and_from, and_right, cases_lt, le-leb, le-ltb, lt-ltb}
+use Rattle.std.proofs.Common.{◌≡◌, ◌∙◌, ℕ, zero, suc, ◌+◌, ◌-◌, ◌<◌, ◌≤◌, ◌&&◌, ⊎_elim, Bool, List, [], ◌∷◌, ◌++◌, Option, None, Some, add-one, ap, arith, drop, false, length, length-append, max, option_map, nat_le, nat_lt, refl, slice_get, subst, sym, take, true}
+use Rattle.std.proofs.lemmas.Bool.{and_from, and_right, cases_lt, le-leb, le-ltb, lt-ltb, ltb-false}
 use Rattle.std.proofs.lemmas.List.{drop-map}
 use Rattle.std.proofs.lemmas.Option.{slice_get_past}
 use Rattle.pdp_cpu.specs.KeptTexts.{without_turns}
@@ -8,14 +8,15 @@ use Rattle.pdp_cpu.specs.Turns.MachineState.{MachineState, MachineWithTexts}
 use Rattle.pdp_cpu.specs.declared.kept_text.KeptByte.{KeptByte}
 use Rattle.pdp_replay.specs.Past.{Past}
 use Rattle.pdp_replay.specs.Run.Checkpoints.{KeepsTexts, punched_kept_at, text_kept_at, with_turn}
-use Rattle.pdp_replay.specs.Run.KeptRuns.{IsKeptRun}
+use Rattle.pdp_replay.specs.Run.KeptRuns.{Advances, ArrivesAt, IsKeptRun, IsOnWay}
 use Rattle.pdp_replay.specs.Run.States.{at, punched_at, text_at}
 use Rattle.pdp_replay.specs.Ask.Searches.{HoldsNowhere, IsFirst, IsFirstTurn}
-use Rattle.pdp_replay.specs.Ask.TextParts.{bytes_at, comes_out, shown_of}
+use Rattle.pdp_replay.specs.Ask.TextParts.{bytes_at, comes_out, is_out_after, shown_of}
 use Rattle.pdp_replay.specs.declared.ask.text_part.TextKind.{TextKind}
 use Rattle.pdp_replay.specs.declared.ask.text_part.TextKind.TheVariants.{Printed, Punched}
 use Rattle.pdp_replay.specs.declared.run.kept_run.KeptRun.{KeptRun}
 use Rattle.pdp_replay.proofs.KeptBytes.{KeepsAll, length_is, length_reaches}
+use Rattle.pdp_replay.proofs.Searches.{first_on}
 use Rattle.pdp_replay.proofs.KeptTexts.{printed_of, punched_keeps, punched_kept_first, punched_kept_is, punched_of, text_keeps, text_kept_first, text_kept_is}
 
 -- a byte of one list and more, where it stands in the first, and where it stands after it
@@ -54,6 +55,43 @@ came_nowhere kept text out all number n past =
     let long = length_reaches kept text out all (turn + 1) n (omega (arith, below)) in
     let late : nat_lt number (length (text (turn + 1))) ≡ false = le-ltb number (length (text (turn + 1))) (omega (arith, long, past)) in
     and_right (nat_le (length (text turn)) number) (nat_lt number (length (text (turn + 1)))) late
+
+-- is a byte of a text that grows out after this turn?
+abbrev is_out : (ℕ → List ℕ) → ℕ → ℕ → Bool
+is_out text number t = nat_lt number (length (text (t + 1)))
+
+-- a byte that is out after no turn comes out in none
+came_never : (text : ℕ → List ℕ) (number from to : ℕ) → HoldsNowhere (is_out text number) from to → HoldsNowhere (came text number) from to
+came_never text number from to none =
+    λ turn least below. and_right (nat_le (length (text turn)) number) (nat_lt number (length (text (turn + 1)))) (none turn least below)
+
+-- a byte that is not out at a turn, and after no turn from there on, is not out then
+not_yet : (text : ℕ → List ℕ) (number from t : ℕ) → length (text from) ≤ number → from ≤ t → HoldsNowhere (is_out text number) from t
+    → length (text t) ≤ number
+not_yet text number from zero before least none =
+    let here : from ≡ zero = omega (arith, least) in subst (λ n. length (text n) ≤ number) here before
+not_yet text number from (suc t) before least none =
+    ⊎_elim
+    (λ earlier.
+    let after : length (text (t + 1)) ≤ number = ltb-false number (length (text (t + 1))) (none t (omega (arith, earlier)) (omega arith)) in
+    let next : t + 1 ≡ suc t = omega arith in
+    subst (λ n. length (text n) ≤ number) next after)
+    (λ late.
+    let here : from ≡ suc t = omega (arith, least, late) in subst (λ n. length (text n) ≤ number) here before)
+    (cases_lt from (suc t))
+
+-- a byte comes out in the first turn after which it is out
+came_first : (text : ℕ → List ℕ) (number from to : ℕ) (found : Option ℕ) → length (text from) ≤ number → IsFirst (is_out text number) from to found
+    → IsFirst (came text number) from to found
+came_first text number from to (Some t) before is =
+    let yet : nat_le (length (text t)) number ≡ true = le-leb (length (text t)) number (not_yet text number from t before is.least is.none) in
+    record {
+      least = is.least;
+      most = is.most;
+      there = and_from (nat_le (length (text t)) number) (nat_lt number (length (text (t + 1)))) yet is.there;
+      none = came_never text number from t is.none;
+    }
+came_first text number from to None before is = came_never text number from to is
 
 -- a byte came out in its turn
 record CameIn (kept : ℕ → List KeptByte) (text : ℕ → List ℕ) (number n : ℕ) : Type 0 where
@@ -150,3 +188,62 @@ byte_turn_is kind p number n r found le here run is =
     let same : found ≡ turn_in (kept_at kind p n) number =
     is ∙ ap (λ bytes. turn_in bytes number) (shown_is kind p n r.known r.machine le here run.kept.texts) in
     subst (λ t. IsFirst (comes_out kind number p) 0 n t) (sym same) (turn_kept kind p number n)
+
+-- more turns only add bytes
+longer : (kept : ℕ → List KeptByte) (text out : ℕ → List ℕ) → KeepsAll kept text out → (n now : ℕ) → n ≤ now
+    → length (text n) ≤ length (text now)
+longer kept text out all n now le =
+    let reaches = length_reaches kept text out all n now le in
+    let size = length_is kept text out all now in
+    omega (arith, reaches, size)
+
+pub bytes_grow : (kind : TextKind) (p : Past) (n now : ℕ) → n ≤ now → length (bytes_at kind p n) ≤ length (bytes_at kind p now)
+bytes_grow Printed p n now le = longer (text_kept_at p) (text_at p) (printed_of p) (text_keeps p) n now le
+bytes_grow Punched p n now le = longer (punched_kept_at p) (punched_at p) (punched_of p) (punched_keeps p) n now le
+
+none_kept : (kept : List KeptByte) (number : ℕ) → None ≡ turn_in kept number → length kept ≤ number
+none_kept [] number none = omega arith
+none_kept (b ∷ kept) zero none = absurd (cc none)
+none_kept (b ∷ kept) (suc number) none = let less = none_kept kept number none in omega (arith, less)
+
+kept_length : (kind : TextKind) (p : Past) (n : ℕ) → length (kept_at kind p n) ≡ length (bytes_at kind p n)
+kept_length Printed p n = length_is (text_kept_at p) (text_at p) (printed_of p) (text_keeps p) n
+kept_length Punched p n = length_is (punched_kept_at p) (punched_at p) (punched_of p) (punched_keeps p) n
+
+-- a byte that a machine at turn n doesn't show came out in no turn before
+not_before : (kind : TextKind) (p : Past) (number n : ℕ) → length (kept_at kind p n) ≤ number → HoldsNowhere (comes_out kind number p) 0 n
+not_before Printed p number n past = came_nowhere (text_kept_at p) (text_at p) (printed_of p) (text_keeps p) number n past
+not_before Punched p number n past = came_nowhere (punched_kept_at p) (punched_at p) (punched_of p) (punched_keeps p) number n past
+
+-- and it comes out in the first turn from there on after which it is out
+pub later_turn_is : (kind : TextKind) (p : Past) (number n to : ℕ) (r : KeptRun) (found : Option ℕ) → n ≤ r.known → r.machine.state ≡ at p n
+    → IsKeptRun p r → None ≡ turn_in (shown_of kind r.machine) number → IsFirst (is_out_after kind number p) n to found
+    → IsFirst (comes_out kind number p) 0 to found
+later_turn_is kind p number n to r found le here run none is =
+    let same : shown_of kind r.machine ≡ kept_at kind p n = shown_is kind p n r.known r.machine le here run.kept.texts in
+    let past : length (kept_at kind p n) ≤ number = none_kept (kept_at kind p n) number (none ∙ ap (λ bytes. turn_in bytes number) same) in
+    let before : length (bytes_at kind p n) ≤ number = omega (arith, past, kept_length kind p n) in
+    first_on (comes_out kind number p) 0 n to found (omega arith) (not_before kind p number n past)
+    (came_first (bytes_at kind p) number n to found before is)
+
+-- a run that came to the known turn came to the turn after that of an earlier byte, or past it
+pub arrives_past : (known turn : ℕ) (before after : KeptRun) → turn < known → ArrivesAt known before after → ArrivesAt (max known (turn + 1)) before after
+arrives_past known turn before after below there =
+    let same : known ≡ max known (turn + 1) = omega (arith, below) in subst (λ n. ArrivesAt n before after) same there
+
+-- and one that then went on to another turn came to that one
+pub arrives_later : (known most to : ℕ) (before r after : KeptRun) → ArrivesAt known before r → Advances r.machine.state.turn most r after → ArrivesAt to r after
+    → ArrivesAt (max known to) before after
+arrives_later known most to before r after there on then =
+    let here = there.turn in
+    let known_there = there.known in
+    let ran = on.ran in
+    let counted = on.counted in
+    let turn = then.turn in
+    let known_then = then.known in
+    record { turn = omega (arith, here, ran, counted, turn); short = then.short; known = omega (arith, known_there, known_then) }
+
+-- a run that came to a turn is on its way there
+pub on_way_there : (p : Past) (from most to : ℕ) (before r : KeptRun) → IsKeptRun p r → Advances from most before r → ArrivesAt to before r → IsOnWay p r
+on_way_there p from most to before r run on there =
+    let now = run.current (on.come.current there.short) in record { kept = run.kept; here = now.here; reached = now.reached }

@@ -1,5 +1,5 @@
 -- The last write to a word of core in one turn, and that before the next turn.
-use Rattle.std.proofs.Common.{◌≡◌, ◌∙◌, ℕ, zero, suc, ◌+◌, ◌<◌, ◌==◌, ◌++◌, ◌&&◌, ◌∷◌, [], Bool, true, false, List, Option, None, Some, All, ap, arith, length, refl, slice_index, if◌then◌else◌, add-one}
+use Rattle.std.proofs.Common.{◌≡◌, ◌∙◌, ℕ, zero, suc, ◌+◌, ◌<◌, ◌==◌, ◌++◌, ◌&&◌, ◌∷◌, [], Bool, true, false, List, Option, None, Some, All, ap, arith, length, refl, slice_index, if◌then◌else◌, is_some, ◌≤◌, subst, sym, add-one}
 use Rattle.std.proofs.lemmas.Bool.Decides.{nat_tests}
 use Rattle.std.proofs.lemmas.List.Elements.{All-append, All-nil}
 use Rattle.pdp_store.proofs.Traces.{last_write-append}
@@ -7,13 +7,21 @@ use Rattle.pdp_store.specs.TracedAccess.{TracedAccess, is_core, last_write, stam
 use Rattle.pdp_store.specs.declared.Stamp.{Stamp}
 use Rattle.pdp_unibus.specs.Touched.{IsOfTurn}
 use Rattle.pdp_cpu.proofs.TurnLaws.{turn_touches}
+use Rattle.pdp_cpu.specs.Turns.MachineState.{MachineState}
 use Rattle.pdp_cpu.specs.Turns.Turn.{turn_trace}
 use Rattle.pdp_script.specs.Entries.{events_at}
 use Rattle.pdp_replay.specs.Past.{Past}
-use Rattle.pdp_replay.specs.Run.States.{state_at, trace_at}
+use Rattle.pdp_replay.specs.Run.States.{at, state_at, trace_at}
+use Rattle.pdp_replay.specs.Ask.Searches.{HoldsNowhere, IsFirst, IsFirstTurn, turn_reached}
 use Rattle.pdp_replay.specs.Ask.LastWrites.{last_write_at, last_write_of}
-use Rattle.pdp_replay.specs.Ask.Writes.{of_turn, write_in}
+use Rattle.pdp_replay.specs.Ask.Watches.{is_of_turn}
+use Rattle.pdp_replay.specs.Ask.Writes.{IsNextWrite, IsWriteFound, is_written, turn_after_write, write_in}
 use Rattle.pdp_replay.specs.declared.ask.last_write.LastWrite.{LastWrite}
+
+-- a last write, if it is of this turn
+abbrev pub of_turn : ℕ → Option LastWrite → Option LastWrite
+of_turn t None = None
+of_turn t (Some write) = if write.turn == t then Some write else None
 
 -- a stamp, if it is of this turn
 abbrev kept_if : Bool → Stamp → Option Stamp
@@ -106,3 +114,75 @@ last_in_turn p number t =
     ∙ ap (λ s. last_write_of s word)
     (in_turn t (length (state_at p t).bus.core) number (trace_in p t) before (turn_touches t (events_at p.script.entries t) (state_at p t))
     ∙ ap (last_write (trace_in p t) number) (none_in t before (stays_before t number (trace_at p t) None (traced_before p t) tt)))
+
+-- whether a turn writes a word, told by the stamp after it
+some_if : (b : Bool) (write : LastWrite) → is_some (if b then Some write else None) ≡ b
+some_if true write = refl
+some_if false write = refl
+
+some_of : (t : ℕ) (last : Option Stamp) (word : ℕ) → is_some (of_turn t (last_write_of last word)) ≡ is_of_turn t last
+some_of t None word = refl
+some_of t (Some stamp) word = some_if (stamp.turn == t) (with_word stamp word)
+
+pub written_if : (p : Past) (number t : ℕ) (stamp : Option Stamp) → stamp ≡ last_write (trace_at p (t + 1)) number None
+    → is_written p number t ≡ is_of_turn t stamp
+written_if p number t stamp is =
+    sym (ap is_some (last_in_turn p number t))
+    ∙ some_of t (last_write (trace_at p (t + 1)) number None) (slice_index (state_at p (t + 1)).bus.core number)
+    ∙ ap (is_of_turn t) (sym is)
+
+not_of : (t first : ℕ) (stamp : Option Stamp) → IsBefore first stamp → first ≤ t → is_of_turn t stamp ≡ false
+not_of t first None is le = refl
+not_of t first (Some stamp) is le = grind (arith, nat_tests, is, le)
+
+-- a turn after which the word still has the stamp that it had before an earlier turn doesn't write it
+pub not_written : (p : Past) (number first t : ℕ) (stamp : Option Stamp) → first ≤ t → stamp ≡ last_write (trace_at p first) number None
+    → stamp ≡ last_write (trace_at p (t + 1)) number None → is_written p number t ≡ false
+not_written p number first t stamp le was is =
+    written_if p number t stamp is
+    ∙ not_of t first stamp
+    (subst (IsBefore first) (sym was) (stays_before first number (trace_at p first) None (traced_before p first) tt)) le
+
+-- a write that was read after its turn
+abbrev pub IsReadIn : Past → ℕ → ℕ → Option LastWrite → Type 0
+IsReadIn p number t None = is_written p number t ≡ false
+IsReadIn p number t (Some write) = is_written p number t ≡ true → (write.turn ≡ t) × (Some write ≡ write_in p number t)
+
+read_if : (p : Past) (number t : ℕ) (write : LastWrite) (b : Bool) → (write.turn == t) ≡ b
+    → (if b then Some write else None) ≡ write_in p number t → is_written p number t ≡ true
+    → (write.turn ≡ t) × (Some write ≡ write_in p number t)
+read_if p number t write true same is written = (grind (arith, nat_tests, same), is)
+read_if p number t write false same is written = absurd (cc (ap is_some is, written))
+
+pub read_in : (p : Past) (number t : ℕ) (write : Option LastWrite) → write ≡ last_write_at p (t + 1) number → IsReadIn p number t write
+read_in p number t None is = ap is_some (sym (ap (of_turn t) is ∙ last_in_turn p number t))
+read_in p number t (Some write) is =
+    read_if p number t write (write.turn == t) refl (ap (of_turn t) is ∙ last_in_turn p number t)
+
+-- the first write of some turns, read where a search for it ended
+abbrev pub IsReadNext : Past → ℕ → ℕ → ℕ → Option ℕ → MachineState → Option LastWrite → Type 0
+IsReadNext p number from to found machine write =
+    (IsNextWrite p number from machine.turn write) × (turn_reached found to ≡ turn_after_write write to)
+
+read_first : (p : Past) (number from to t : ℕ) (machine : MachineState) (write : Option LastWrite) → machine.turn ≡ t + 1
+    → IsFirstTurn (is_written p number) from to t → IsReadIn p number t write → IsReadNext p number from to (Some t) machine write
+read_first p number from to t machine None turn first read = absurd (cc (sym read, first.there))
+read_first p number from to t machine (Some write) turn first read =
+    let is = read first.there in (
+      (
+        subst (IsFirstTurn (is_written p number) from machine.turn) (sym is.0)
+            (record { least = first.least; most = omega (arith, turn); there = first.there; none = first.none }),
+        is.1 ∙ ap (write_in p number) (sym is.0),
+      ),
+      ap (λ n. n + 1) (sym is.0),
+    )
+
+pub read_next : (p : Past) (number from to : ℕ) (found : Option ℕ) (machine : MachineState) (write : Option LastWrite)
+    → machine ≡ at p machine.turn → machine.turn ≡ turn_reached found to → IsFirst (is_written p number) from to found
+    → IsWriteFound machine number found write → IsReadNext p number from to found machine write
+read_next p number from to (Some t) machine write here turn first read =
+    read_first p number from to t machine write turn first
+    (read_in p number t write (read p (t + 1) (here ∙ ap (at p) turn)))
+read_next p number from to None machine write here turn first none =
+    subst (IsReadNext p number from to None machine) (sym none)
+    (subst (HoldsNowhere (is_written p number) from) (sym turn) first, refl)

@@ -1,14 +1,12 @@
 -- The writes to a word of core, turn by turn.
-use Rattle.std.proofs.Common.{⊎_elim, min, suc, take, zero, ◌≡◌, ◌∙◌, ℕ, ◌+◌, ◌-◌, ◌<◌, ◌≤◌, ◌++◌, ◌∷◌, [], List, Option, None, Some, IfSome, length, length-append, option_to_list, slice_get, get_or, add-one, ap, arith, refl, sym}
+use Rattle.std.proofs.Common.{⊎_elim, min, suc, take, zero, ◌≡◌, ◌∙◌, ℕ, ◌+◌, ◌-◌, ◌<◌, ◌≤◌, ◌++◌, ◌∷◌, [], List, Option, None, Some, length, length-append, option_to_list, slice_get, get_or, add-one, ap, append-nil, arith, false, is_some, refl, sym}
 use Rattle.std.proofs.Math.Seq.{get_or-append_seam}
 use Rattle.std.proofs.lemmas.Bool.{cases_lt}
 use Rattle.std.proofs.lemmas.List.{length-take, take-append-le, take_all}
 use Rattle.std.proofs.lemmas.Option.{slice_get-get_or, slice_get_past}
-use Rattle.pdp_cpu.proofs.TurnLaws.{turn_keeps_words}
-use Rattle.pdp_cpu.specs.Turns.MachineState.{MachineState, after_turn}
-use Rattle.pdp_unibus.specs.declared.event.Event.{Event}
 use Rattle.pdp_replay.specs.Past.{Past}
-use Rattle.pdp_replay.specs.Ask.Writes.{turn_after_write, turn_listed, write_in, writes_in_turns}
+use Rattle.pdp_replay.specs.Ask.Searches.{HoldsNowhere}
+use Rattle.pdp_replay.specs.Ask.Writes.{IsNextWrite, is_written, turn_after_write, turn_listed, write_in, writes_in_turns}
 use Rattle.pdp_replay.specs.declared.ask.last_write.LastWrite.{LastWrite}
 
 pub writes_none : (p : Past) (number first n : ℕ) → n ≡ 0 → writes_in_turns p number first n ≡ []
@@ -21,7 +19,7 @@ unfolding writes_in_turns
 writes_next p number first n = rw add-one refl
 
 -- with one turn more
-pub writes_further : (p : Past) (number first turn next : ℕ) (write : Option LastWrite) (xs ys : List LastWrite) → first ≤ turn → next ≡ turn + 1
+writes_further : (p : Past) (number first turn next : ℕ) (write : Option LastWrite) (xs ys : List LastWrite) → first ≤ turn → next ≡ turn + 1
     → write ≡ write_in p number turn → xs ≡ writes_in_turns p number first (turn - first) → ys ≡ xs ++ option_to_list write
     → ys ≡ writes_in_turns p number first (next - first)
 writes_further p number first turn next write xs ys least is one listed more =
@@ -34,12 +32,46 @@ writes_further p number first turn next write xs ys least is one listed more =
     ∙ sym (writes_next p number first n)
     ∙ ap (writes_in_turns p number first) now
 
--- a word stays in core
-pub inside_next : (number : ℕ) (events : List Event) (before after : MachineState) → after ≡ after_turn events before
-    → number < length before.world.bus.core → number < length after.world.bus.core
-inside_next number events before after is below =
-    let size = ap (λ (m : MachineState). length m.world.bus.core) is ∙ turn_keeps_words before.turn events before.world in
-    omega (arith, size, below)
+nothing : (write : Option LastWrite) → is_some write ≡ false → option_to_list write ≡ []
+nothing None is = refl
+nothing (Some write) is = absurd (cc is)
+
+-- turns that don't write the word add nothing
+skipped : (p : Past) (number first n k : ℕ) → HoldsNowhere (is_written p number) (first + n) (first + n + k)
+    → writes_in_turns p number first (n + k) ≡ writes_in_turns p number first n
+skipped p number first n zero none = ap (writes_in_turns p number first) (omega arith)
+skipped p number first n (suc k) none =
+    let same : n + suc k ≡ n + k + 1 = omega arith in
+    let write : Option LastWrite = write_in p number (first + (n + k)) in
+    let xs : List LastWrite = writes_in_turns p number first (n + k) in
+    let last : option_to_list write ≡ [] = nothing write (none (first + (n + k)) (omega arith) (omega arith)) in
+    ap (writes_in_turns p number first) same
+    ∙ writes_next p number first (n + k)
+    ∙ ap (λ ys. xs ++ ys) last
+    ∙ append-nil xs
+    ∙ skipped p number first n k (λ turn least below. none turn least (omega (arith, below)))
+
+skipped_to : (p : Past) (number first turn now : ℕ) (xs : List LastWrite) → first ≤ turn → turn ≤ now → HoldsNowhere (is_written p number) turn now
+    → xs ≡ writes_in_turns p number first (turn - first) → xs ≡ writes_in_turns p number first (now - first)
+skipped_to p number first turn now xs least order none is =
+    let n : ℕ = turn - first in
+    let k : ℕ = now - turn in
+    let from : first + n ≡ turn = omega (arith, least) in
+    let to : first + n + k ≡ now = omega (arith, least, order) in
+    let all : n + k ≡ now - first = omega (arith, least, order) in
+    is ∙ sym (skipped p number first n k (λ t low high. none t (omega (arith, low, from)) (omega (arith, high, to))))
+    ∙ ap (writes_in_turns p number first) all
+
+-- with the next write more
+pub next_listed : (p : Past) (number first turn now to : ℕ) (write : Option LastWrite) (xs ys : List LastWrite) → first ≤ turn → turn ≤ now
+    → IsNextWrite p number turn now write → now ≡ turn_after_write write to → xs ≡ writes_in_turns p number first (turn - first)
+    → ys ≡ xs ++ option_to_list write → ys ≡ writes_in_turns p number first (now - first)
+next_listed p number first turn now to None xs ys least order none end listed more =
+    more ∙ append-nil xs ∙ skipped_to p number first turn now xs least order none listed
+next_listed p number first turn now to (Some write) xs ys least order next end listed more =
+    let on = next.0.least in
+    writes_further p number first write.turn now (Some write) xs ys (omega (arith, least, on)) end next.1
+    (skipped_to p number first turn write.turn xs least on next.0.none listed) more
 
 -- more turns only add writes
 writes_begin : (p : Past) (number first n k : ℕ) (xs : List LastWrite) → length xs ≡ 256 → xs ≡ writes_in_turns p number first n
@@ -87,15 +119,14 @@ last_of xs write n is =
     ∙ ap (λ w. Some w) (get_or-append_seam xs write [] write)
 
 -- once the last write that may be listed is added, the search ends after its turn
-pub listed_end : (xs ys : List LastWrite) (write : Option LastWrite) (turn now to : ℕ) → ys ≡ xs ++ option_to_list write
-    → length xs < 256 → IfSome write (λ w. w.turn ≡ turn) → now ≡ turn + 1 → length ys ≡ 256 → now ≡ turn_listed ys to
-listed_end xs ys None turn now to is short of next full =
+pub listed_end : (xs ys : List LastWrite) (write : Option LastWrite) (now to : ℕ) → ys ≡ xs ++ option_to_list write
+    → length xs < 256 → now ≡ turn_after_write write to → length ys ≡ 256 → now ≡ turn_listed ys to
+listed_end xs ys None now to is short end full =
     let none = ap length is ∙ length_without xs in absurd (omega (arith, none, short, full))
-listed_end xs ys (Some write) turn now to is short of next full =
+listed_end xs ys (Some write) now to is short end full =
     let more = ap length is ∙ length_with xs write in
     let last : 255 ≡ length xs = omega (arith, more, full) in
-    next ∙ ap (λ t. t + 1) (sym of)
-    ∙ sym (ap (λ ws. turn_listed ws to) is ∙ ap (λ w. turn_after_write w to) (last_of xs write 255 last))
+    end ∙ sym (ap (λ ws. turn_listed ws to) is ∙ ap (λ w. turn_after_write w to) (last_of xs write 255 last))
 
 -- a search that listed less ends at the turn before which it looks
 pub unlisted_end : (xs : List LastWrite) (now to : ℕ) → length xs < 256 → now ≡ to → now ≡ turn_listed xs to

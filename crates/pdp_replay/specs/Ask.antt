@@ -8,3 +8,4 @@ pub mod SoughtTurns
 pub mod Writes
 pub mod TextParts
 pub mod DiskChanges
+pub mod Watches

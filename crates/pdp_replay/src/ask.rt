@@ -10,6 +10,7 @@ mod search_turns;
 mod sought;
 mod text_part;
 mod trail;
+mod watch;
 mod writes;
 
 pub use items::{Bytes, Items, Words};

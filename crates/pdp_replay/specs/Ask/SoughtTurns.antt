@@ -12,15 +12,11 @@ use Rattle.pdp_cpu.specs.Turns.Turn.{turn_act}
 use Rattle.pdp_cpu.specs.declared.act.Act.{Act}
 use Rattle.pdp_cpu.specs.declared.act.Act.TheVariants.{Instr, Trace, Stack, Irq}
 use Rattle.pdp_script.specs.Entries.{events_at}
-use Rattle.pdp_script.specs.Script.{ScriptData}
 use Rattle.pdp_replay.specs.Past.{Past}
-use Rattle.pdp_replay.specs.Run.KeptRuns.{IsOnWay, IsUnderWay, IsWithoutEvents}
 use Rattle.pdp_replay.specs.Run.States.{state_at}
-use Rattle.pdp_replay.specs.Ask.Searches.{IsFirst}
 use Rattle.pdp_replay.specs.declared.ask.sought.Sought.{Sought}
 use Rattle.pdp_replay.specs.declared.ask.sought.Sought.TheVariants.{Instruction, Interrupt}
 use Rattle.pdp_replay.specs.declared.ask.sought.Sought.TheVariants.{PendingTrap}
-use Rattle.pdp_replay.specs.declared.run.kept_run.KeptRun.{KeptRun}
 
 -- is the act an instruction?
 abbrev pub is_instruction : Act → Bool
@@ -64,33 +60,3 @@ abbrev pub NoneIsSought : Sought → ℕ → MachineWithTexts → Type 0
 NoneIsSought sought n m =
     (k : ℕ) → k < n → turn_is_sought sought (after_calm_turns k m).state.turn []
     (after_calm_turns k m).state.world ≡ false
-
--- this is the first turn that is sought of those that took a machine from one state to another, in
--- every run in whose next turn these events happen
-abbrev pub IsFirstWith : List Event → Sought → MachineWithTexts → MachineWithTexts → Option ℕ
-    → Type 0
-IsFirstWith events sought before after found = (p : Past) (known : ℕ)
-    → events ≡ events_at p.script.entries before.state.turn → IsUnderWay p known before
-    → IsFirst (is_sought_at p sought) before.state.turn after.state.turn found
-
--- in every run without events before turn `to`
-abbrev pub IsFirstQuietly : ℕ → Sought → MachineWithTexts → MachineWithTexts → Option ℕ → Type 0
-IsFirstQuietly to sought before after found = (p : Past) (known : ℕ)
-    → IsWithoutEvents p before.state.turn to → IsUnderWay p known before
-    → IsFirst (is_sought_at p sought) before.state.turn after.state.turn found
-
--- in every run with this script
-abbrev pub IsFirstOnWay : ScriptData → Sought → MachineWithTexts → MachineWithTexts → Option ℕ
-    → Type 0
-IsFirstOnWay script sought before after found = (p : Past) (known : ℕ) → p.script ≡ script
-    → IsUnderWay p known before
-    → IsFirst (is_sought_at p sought) before.state.turn after.state.turn found
-
--- and in every run with this script that is kept, of those from its machine's turn to another one
-abbrev pub IsFirstTo : ℕ → ScriptData → Sought → KeptRun → Option ℕ → Type 0
-IsFirstTo to script sought r found = (p : Past) → p.script ≡ script → IsOnWay p r
-    → IsFirst (is_sought_at p sought) r.machine.state.turn to found
-
-abbrev pub IsFirstInRun : ScriptData → Sought → KeptRun → KeptRun → Option ℕ → Type 0
-IsFirstInRun script sought before after found =
-    IsFirstTo after.machine.state.turn script sought before found

@@ -1,7 +1,7 @@
 -- The writes to a word of core in some turns (this project's profile).
-use Rattle.std.specs.Prelude.{ℕ, ◌≡◌, ◌+◌, ◌-◌, ◌==◌, ◌<◌, ◌++◌, zero, suc, List, []}
-use Rattle.std.specs.Prelude.{Option, None, Some, Result, Ok, Err, true, option_to_list, slice_get}
-use Rattle.std.specs.Prelude.{slice_index, if◌then◌else◌, max}
+use Rattle.std.specs.Prelude.{ℕ, ◌≡◌, ◌+◌, ◌-◌, ◌<◌, ◌++◌, zero, suc, List, []}
+use Rattle.std.specs.Prelude.{Option, None, Some, Result, Ok, Err, option_to_list, slice_get}
+use Rattle.std.specs.Prelude.{slice_index, max, Bool, is_some, true}
 use Rattle.pdp_store.specs.TracedAccess.{last_write}
 use Rattle.pdp_cpu.specs.Turns.MachineState.{MachineState}
 use Rattle.pdp_cpu.specs.Turns.Turn.{turn_trace}
@@ -11,20 +11,15 @@ use Rattle.pdp_script.specs.Script.{ScriptData}
 use Rattle.pdp_script.specs.declared.faults.Fault.{Fault}
 use Rattle.pdp_replay.specs.Past.{Past}
 use Rattle.pdp_replay.specs.Past.Setup.{SetupData, core_size}
-use Rattle.pdp_replay.specs.Run.States.{at, state_at}
-use Rattle.pdp_replay.specs.Run.KeptRuns.{IsKeptRun}
-use Rattle.pdp_replay.specs.Ask.LastWrites.{last_write_of}
+use Rattle.pdp_replay.specs.Run.States.{state_at}
+use Rattle.pdp_replay.specs.Run.KeptRuns.{IsKeptRun, IsOnWay}
+use Rattle.pdp_replay.specs.Ask.LastWrites.{IsLastWriteIn, last_write_of}
 use Rattle.pdp_replay.specs.Past.Edit.{core_word_at}
-use Rattle.pdp_replay.specs.Ask.Searches.{search_checked}
+use Rattle.pdp_replay.specs.Ask.Searches.{HoldsNowhere, IsFirstTurn, search_checked}
 use Rattle.pdp_replay.specs.Timeline.{Timeline}
 use Rattle.pdp_replay.specs.declared.ask.last_write.LastWrite.{LastWrite}
 use Rattle.pdp_replay.specs.declared.ask.writes.Written.{Written}
 use Rattle.pdp_replay.specs.declared.run.kept_run.KeptRun.{KeptRun}
-
--- a last write, if it is of this turn
-abbrev pub of_turn : ℕ → Option LastWrite → Option LastWrite
-of_turn t None = None
-of_turn t (Some write) = if write.turn == t then Some write else None
 
 -- the last write in turn t to the core word of this number, with the word as it is after the turn;
 -- None if the turn doesn't write the word
@@ -32,6 +27,10 @@ abbrev pub write_in : Past → ℕ → ℕ → Option LastWrite
 write_in p number t = last_write_of
     (last_write (turn_trace t (events_at p.script.entries t) (state_at p t)) number None)
     (slice_index (state_at p (t + 1)).bus.core number)
+
+-- is the word written in turn t?
+abbrev pub is_written : Past → ℕ → ℕ → Bool
+is_written p number t = is_some (write_in p number t)
 
 -- those of n turns from this one on, in their order
 unfoldable pub writes_in_turns : Past → ℕ → ℕ → ℕ → List LastWrite
@@ -49,17 +48,41 @@ turn_after_write None to = to
 abbrev pub turn_listed : List LastWrite → ℕ → ℕ
 turn_listed writes to = turn_after_write (slice_get writes 255) to
 
--- these are the writes of the turns from one on and before another, of every past with this script
--- whose machine before the turns is this one
-abbrev pub AreWritesFrom : ScriptData → ℕ → ℕ → ℕ → MachineState → List LastWrite → Type 0
-AreWritesFrom script number from to machine writes = (p : Past) → p.script ≡ script → machine
-    ≡ at p from → writes ≡ writes_in_turns p number from (to - from)
+-- these are the writes of the turns from a run's on and before another, of every past with this
+-- script whose run it is
+abbrev pub AreWritesFrom : ScriptData → ℕ → ℕ → KeptRun → List LastWrite → Type 0
+AreWritesFrom script number to r writes = (p : Past) → p.script ≡ script → IsOnWay p r
+    → writes ≡ writes_in_turns p number r.machine.state.turn (to - r.machine.state.turn)
+
+-- this is the first write of the turns from one on and before another; None if there is none
+abbrev pub IsNextWrite : Past → ℕ → ℕ → ℕ → Option LastWrite → Type 0
+IsNextWrite p number from to (Some write) =
+    (IsFirstTurn (is_written p number) from to write.turn)
+    × (Some write ≡ write_in p number write.turn)
+IsNextWrite p number from to None = HoldsNowhere (is_written p number) from to
+
+-- in every run with this script that is kept, of those from its machine's turn to another one
+abbrev pub IsNextWriteTo : ℕ → ScriptData → ℕ → KeptRun → Option LastWrite → Type 0
+IsNextWriteTo to script number r write = (p : Past) → p.script ≡ script → IsOnWay p r
+    → IsNextWrite p number r.machine.state.turn to write
+
+-- this is what a machine tells of the last write to a word, if a turn was found
+abbrev pub IsWriteFound : MachineState → ℕ → Option ℕ → Option LastWrite → Type 0
+IsWriteFound machine number (Some t) write = IsLastWriteIn machine number write
+IsWriteFound machine number None write = write ≡ None
 
 -- a word can be searched for writes in a run with this script: it is in core
 pub record CanSearch (number : ℕ) (script : ScriptData) (r : KeptRun) : Type 0 where
   pub past : Past
   pub same : past.script ≡ script
   pub run : IsKeptRun past r
+  pub within : number < core_size past.setup
+
+-- its writes can be listed from the machine's turn on, which is in a state of the run
+pub record CanList (number : ℕ) (script : ScriptData) (r : KeptRun) : Type 0 where
+  pub past : Past
+  pub same : past.script ≡ script
+  pub run : IsOnWay past r
   pub within : number < core_size past.setup
 
 -- one test after another

@@ -15,7 +15,7 @@ ghost use Rattle.pdp_replay.specs.Ask.DiskChanges.{CanWatch, IsFirstChange};
 
 use crate::ask::Found;
 use crate::ask::search::check_search;
-use crate::ask::search_turns::turn_if;
+use crate::ask::watch::turn_if;
 use crate::engine::Engine;
 use crate::past::{DRIVE_WORDS, disk_word};
 use crate::run::KeptRun;

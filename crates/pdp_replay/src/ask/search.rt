@@ -8,10 +8,12 @@ ghost use Rattle.pdp_replay.specs.Run.KeptRuns.{IsKeptRun, IsRunOf, KeepsRun, Le
 ghost use Rattle.pdp_replay.specs.Ask.Known.{LeavesPast, RunsFor};
 ghost use Rattle.pdp_replay.specs.Ask.Searches.{first_turn_of, search_checked, turn_reached};
 ghost use Rattle.pdp_replay.specs.Ask.Searches.{EndsAfter, IsFirst, IsFound, IsWithinSearch};
-ghost use Rattle.pdp_replay.specs.Ask.SoughtTurns.{is_sought_at, IsFirstInRun, IsFirstTo};
+ghost use Rattle.pdp_replay.specs.Ask.SoughtTurns.{is_sought_at};
+ghost use Rattle.pdp_replay.specs.Ask.Watches.{IsFirstInRun, IsFirstTo, IsInside};
 
 use crate::ask::Sought;
 use crate::ask::search_turns::search_part;
+use crate::ask::watch::Watch;
 use crate::engine::Engine;
 use crate::run::KeptRun;
 use pdp_cpu::Meter;
@@ -126,30 +128,35 @@ fn find_first(
         ≤ run.old.meter + max from run.new.machine.state.turn + run.old.ladder.stride }
 {
     run.reach(alloc, script, from)?;
-    search(alloc, run, script, sought, to)
+    search(alloc, run, script, Watch::Act(sought), to)
 }
 
-/// Runs turns to the end of the first that is sought, or to turn `to`. Returns the turn that is
-/// sought, and keeps what is to be kept.
+/// Runs turns to the end of the first that is watched for, or to turn `to`. Returns the turn that
+/// is watched for, and keeps what is to be kept.
 ///
 /// Err if memory was refused; what was kept until then stays.
-fn search(
+pub(crate) fn search(
     alloc: Global,
     run: &mut KeptRun,
     script: &Script,
-    sought: Sought,
+    watch: Watch,
     to: u32,
 ) -> Result<Option<u32>, NoMemory>
     requires ready { CanGoOn run.old }
     requires order { run.old.machine.state.turn ≤ to }
     requires limit { to ≤ LAST_TURN }
-    ensures found { IfOk result (IsFirstTo to script.now sought run.old) }
+    requires inside { IsInside watch run.old.machine }
+    ensures found { IfOk result (IsFirstTo to script.now watch run.old) }
+    ensures inside { OnOk result (IsInside watch run.new.machine) }
+    ensures on { OnOk result (run.old.machine.state.turn < to
+        → run.old.machine.state.turn < run.new.machine.state.turn) }
+    ensures way { OnOk result (GoesOn script.now run.old run.new) }
     ensures kept { LeavesKept script.now run.old run.new }
     ensures arrives { IfOk result (λ found. ArrivesAt (turn_reached found to) run.old run.new) }
     ensures advances { Advances run.old.machine.state.turn to run.old run.new }
 {
     while run.machine.turns() < to {
-        let found = search_leg(alloc, run, script, sought, to)?;
+        let found = search_leg(alloc, run, script, watch, to)?;
         if found.is_some() {
             return Ok(found);
         }
@@ -162,15 +169,17 @@ fn search_leg(
     alloc: Global,
     run: &mut KeptRun,
     script: &Script,
-    sought: Sought,
+    watch: Watch,
     to: u32,
 ) -> Result<Option<u32>, NoMemory>
     requires ready { CanGoOn run.old }
     requires order { run.old.machine.state.turn < to }
     requires limit { to ≤ LAST_TURN }
-    ensures found { IfOk result (IsFirstInRun script.now sought run.old run.new) }
+    requires inside { IsInside watch run.old.machine }
+    ensures found { IfOk result (IsFirstInRun script.now watch run.old run.new) }
     ensures ends { IfOk result (EndsAfter run.new.machine.state.turn) }
     ensures on { OnOk result (run.old.machine.state.turn < run.new.machine.state.turn) }
+    ensures inside { OnOk result (IsInside watch run.new.machine) }
     ensures kept { LeavesKept script.now run.old run.new }
     ensures way { OnOk result (GoesOn script.now run.old run.new) }
     ensures arrives { OnOk result (ArrivesAt run.new.machine.state.turn run.old run.new) }
@@ -184,7 +193,7 @@ fn search_leg(
         &run.words,
         script,
         &mut counting,
-        sought,
+        watch,
         end,
     );
     run.meter = counting;

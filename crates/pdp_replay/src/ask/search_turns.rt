@@ -1,21 +1,20 @@
-//! Turns of a machine with the events of a script, up to one that is sought.
+//! Turns of a machine with the events of a script, up to one that is watched for.
 
-ghost use Rattle.std.specs.Prelude.{◌≡◌, ◌+◌, ◌≤◌, ◌<◌, ℕ, IfOk, OnOk, OnErr, None};
-ghost use Rattle.pdp_script.specs.Entries.{events_at};
-ghost use Rattle.pdp_replay.specs.Run.KeptRuns.{IsUnderWay, IsWithoutEvents};
-ghost use Rattle.pdp_replay.specs.Past.{Past};
-ghost use Rattle.pdp_replay.specs.Ask.Searches.{or_turn, EndsAfter};
-ghost use Rattle.pdp_replay.specs.Ask.SoughtTurns.{IsFirstOnWay, IsFirstQuietly, IsFirstWith};
+ghost use Rattle.std.specs.Prelude.{◌≡◌, ◌+◌, ◌≤◌, ◌<◌, false, None, IfOk, OnOk, OnErr};
+ghost use Rattle.pdp_replay.specs.Ask.Searches.{EndsAfter};
+ghost use Rattle.pdp_replay.specs.Ask.Watches.{IsFirstOnWay, IsFirstQuietly, IsFirstWith};
+ghost use Rattle.pdp_replay.specs.Ask.Watches.{IsInside, SearchesTo, StaysOnWay, StaysQuietly};
+ghost use Rattle.pdp_replay.specs.Ask.Watches.{StaysWith};
 
-use crate::ask::Sought;
+use crate::ask::watch::{Watch, turn_if};
 use crate::run::quiet_until;
-use pdp_cpu::{Meter, PagedMachine, WordTable};
+use pdp_cpu::{Act, Meter, PagedMachine, WordTable};
 use pdp_script::Script;
 use pdp_unibus::{Event, LAST_TURN};
 use pdp_word::NoMemory;
 
-/// Runs the machine, with the events of the script, to the end of the first turn that is sought,
-/// or to turn `to`; the meter counts each turn. Returns the turn that is sought.
+/// Runs the machine, with the events of the script, to the end of the first turn that is watched
+/// for, or to turn `to`; the meter counts each turn. Returns the turn that is watched for.
 ///
 /// Err if a turn's room was refused; the machine is then in the state of the turn that it came to.
 pub(crate) fn search_part(
@@ -23,23 +22,20 @@ pub(crate) fn search_part(
     words: &WordTable,
     script: &Script,
     meter: &mut Meter,
-    sought: Sought,
+    watch: Watch,
     to: u32,
 ) -> Result<Option<u32>, NoMemory>
     requires forward { machine.old.state.turn < to }
     requires limit { to ≤ LAST_TURN }
-    ensures found { IfOk result (IsFirstOnWay script.now sought machine.old machine.new) }
+    requires inside { IsInside watch machine.old }
+    ensures found { IfOk result (IsFirstOnWay script.now watch machine.old machine.new) }
     ensures ends { IfOk result (EndsAfter machine.new.state.turn) }
     ensures on { OnOk result (machine.old.state.turn < machine.new.state.turn) }
-    ensures way { (p : Past) (known : ℕ) → p.script ≡ script.now → IsUnderWay p known machine.old
-        → IsUnderWay p known machine.new }
-    ensures least { machine.old.state.turn ≤ machine.new.state.turn }
-    ensures most { machine.new.state.turn ≤ to }
-    ensures ran { meter.new + machine.old.state.turn ≤ meter.old + machine.new.state.turn }
-    ensures counted { meter.old ≤ meter.new }
+    ensures way { StaysOnWay script.now machine.old machine.new }
+    ensures runs { SearchesTo to watch machine.old machine.new meter.old meter.new }
 {
     while machine.turns() < to {
-        let found = search_stretch(machine, words, script, meter, sought, to)?;
+        let found = search_stretch(machine, words, script, meter, watch, to)?;
         if found.is_some() {
             return Ok(found);
         }
@@ -54,54 +50,49 @@ fn search_stretch(
     words: &WordTable,
     script: &Script,
     meter: &mut Meter,
-    sought: Sought,
+    watch: Watch,
     to: u32,
 ) -> Result<Option<u32>, NoMemory>
     requires forward { machine.old.state.turn < to }
     requires limit { to ≤ LAST_TURN }
-    ensures found { IfOk result (IsFirstOnWay script.now sought machine.old machine.new) }
+    requires inside { IsInside watch machine.old }
+    ensures found { IfOk result (IsFirstOnWay script.now watch machine.old machine.new) }
     ensures ends { IfOk result (EndsAfter machine.new.state.turn) }
     ensures on { OnOk result (machine.old.state.turn < machine.new.state.turn) }
-    ensures way { (p : Past) (known : ℕ) → p.script ≡ script.now → IsUnderWay p known machine.old
-        → IsUnderWay p known machine.new }
-    ensures least { machine.old.state.turn ≤ machine.new.state.turn }
-    ensures most { machine.new.state.turn ≤ to }
-    ensures ran { meter.new + machine.old.state.turn ≤ meter.old + machine.new.state.turn }
-    ensures counted { meter.old ≤ meter.new }
+    ensures way { StaysOnWay script.now machine.old machine.new }
+    ensures runs { SearchesTo to watch machine.old machine.new meter.old meter.new }
 {
     let turn = machine.turns();
     let quiet = quiet_until(script, turn, to);
     if turn < quiet {
-        return search_quiet(machine, words, meter, sought, quiet);
+        return search_quiet(machine, words, meter, watch, quiet);
     }
-    search_turn(machine, meter, script.at(turn), sought)
+    let looked = look(machine, meter, script.at(turn), watch)?;
+    Ok(looked.found)
 }
 
-/// Runs the machine, without events, to the end of the first turn that is sought, or to turn `to`;
-/// the meter counts each turn. Returns the turn that is sought.
+/// Runs the machine, without events, to the end of the first turn that is watched for, or to turn
+/// `to`; the meter counts each turn. Returns the turn that is watched for.
 ///
 /// Err if a turn's room was refused; the machine is then in the state of the turn that it came to.
 fn search_quiet(
     machine: &mut PagedMachine,
     words: &WordTable,
     meter: &mut Meter,
-    sought: Sought,
+    watch: Watch,
     to: u32,
 ) -> Result<Option<u32>, NoMemory>
     requires forward { machine.old.state.turn < to }
     requires limit { to ≤ LAST_TURN }
-    ensures found { IfOk result (IsFirstQuietly to sought machine.old machine.new) }
+    requires inside { IsInside watch machine.old }
+    ensures found { IfOk result (IsFirstQuietly to watch machine.old machine.new) }
     ensures ends { IfOk result (EndsAfter machine.new.state.turn) }
     ensures on { OnOk result (machine.old.state.turn < machine.new.state.turn) }
-    ensures way { (p : Past) (known : ℕ) → IsWithoutEvents p machine.old.state.turn to
-        → IsUnderWay p known machine.old → IsUnderWay p known machine.new }
-    ensures least { machine.old.state.turn ≤ machine.new.state.turn }
-    ensures most { machine.new.state.turn ≤ to }
-    ensures ran { meter.new + machine.old.state.turn ≤ meter.old + machine.new.state.turn }
-    ensures counted { meter.old ≤ meter.new }
+    ensures way { StaysQuietly to machine.old machine.new }
+    ensures runs { SearchesTo to watch machine.old machine.new meter.old meter.new }
 {
     while machine.turns() < to {
-        let found = search_some(machine, words, meter, sought, to)?;
+        let found = search_some(machine, words, meter, watch, to)?;
         if found.is_some() {
             return Ok(found);
         }
@@ -109,65 +100,101 @@ fn search_quiet(
     Ok(None)
 }
 
-/// The same, but only as long as the machine passes turns that aren't sought, or its next turn if
-/// it passes none.
+/// The same, but only as long as the machine is calm, or only as long as it is idle.
+#[inline(always)]
 fn search_some(
     machine: &mut PagedMachine,
     words: &WordTable,
     meter: &mut Meter,
-    sought: Sought,
+    watch: Watch,
     to: u32,
 ) -> Result<Option<u32>, NoMemory>
     requires forward { machine.old.state.turn < to }
     requires limit { to ≤ LAST_TURN }
-    ensures found { IfOk result (IsFirstQuietly to sought machine.old machine.new) }
+    requires inside { IsInside watch machine.old }
+    ensures found { IfOk result (IsFirstQuietly to watch machine.old machine.new) }
     ensures ends { IfOk result (EndsAfter machine.new.state.turn) }
     ensures on { OnOk result (machine.old.state.turn < machine.new.state.turn) }
-    ensures way { (p : Past) (known : ℕ) → IsWithoutEvents p machine.old.state.turn to
-        → IsUnderWay p known machine.old → IsUnderWay p known machine.new }
-    ensures least { machine.old.state.turn ≤ machine.new.state.turn }
-    ensures most { machine.new.state.turn ≤ to }
-    ensures ran { meter.new + machine.old.state.turn ≤ meter.old + machine.new.state.turn }
-    ensures counted { meter.old ≤ meter.new }
+    ensures way { StaysQuietly to machine.old machine.new }
+    ensures runs { SearchesTo to watch machine.old machine.new meter.old meter.new }
 {
-    if sought.pass(machine, words, meter, to) > 0 {
-        return Ok(None);
+    if watch.pass(machine, words, meter, to) > 0 {
+        return Ok(watch.last_met(machine));
     }
-    search_turn(machine, meter, &[], sought)
+    search_idle(machine, meter, watch, to)
 }
 
-/// Runs the machine through its next turn, with these events; the meter counts it. Returns the
-/// turn if it is sought.
+/// The same, but only through the turns up to the first that isn't idle.
+fn search_idle(
+    machine: &mut PagedMachine,
+    meter: &mut Meter,
+    watch: Watch,
+    to: u32,
+) -> Result<Option<u32>, NoMemory>
+    requires forward { machine.old.state.turn < to }
+    requires limit { to ≤ LAST_TURN }
+    requires inside { IsInside watch machine.old }
+    ensures found { IfOk result (IsFirstQuietly to watch machine.old machine.new) }
+    ensures ends { IfOk result (EndsAfter machine.new.state.turn) }
+    ensures on { OnOk result (machine.old.state.turn < machine.new.state.turn) }
+    ensures way { StaysQuietly to machine.old machine.new }
+    ensures runs { SearchesTo to watch machine.old machine.new meter.old meter.new }
+{
+    while machine.turns() < to {
+        let looked = look(machine, meter, &[], watch)?;
+        if looked.is_last() {
+            return Ok(looked.found);
+        }
+    }
+    Ok(None)
+}
+
+/// A turn that was looked at: its act, and its number if it is watched for.
+#[derive(Clone, Copy)]
+struct Looked {
+    act: Act,
+    found: Option<u32>,
+}
+
+impl Looked {
+    /// Whether idle turns end with this one: it isn't idle, or is watched for.
+    #[inline(always)]
+    fn is_last(self) -> bool
+        ensures { result ≡ false → self.found ≡ None }
+    {
+        match self.act {
+            Act::Idle => self.found.is_some(),
+            Act::Instr | Act::Trace | Act::Stack | Act::Irq(_) => true,
+        }
+    }
+}
+
+/// Runs the machine through its next turn, with these events; the meter counts it.
 ///
 /// Err if the turn's room was refused; the machine is then as it was.
-fn search_turn(
+#[inline(always)]
+fn look(
     machine: &mut PagedMachine,
     meter: &mut Meter,
     events: &[Event],
-    sought: Sought,
-) -> Result<Option<u32>, NoMemory>
+    watch: Watch,
+) -> Result<Looked, NoMemory>
     requires limit { machine.old.state.turn < LAST_TURN }
-    ensures found { IfOk result (IsFirstWith events.now sought machine.old machine.new) }
-    ensures ends { IfOk result (EndsAfter machine.new.state.turn) }
-    ensures way { (p : Past) (known : ℕ)
-        → events.now ≡ events_at p.script.entries machine.old.state.turn
-        → IsUnderWay p known machine.old → IsUnderWay p known machine.new }
-    ensures turn { OnOk result (machine.new.state.turn ≡ machine.old.state.turn + 1) }
+    requires inside { IsInside watch machine.old }
+    ensures found { IfOk result
+        (λ looked. IsFirstWith events.now watch machine.old machine.new looked.found) }
+    ensures ends { IfOk result (λ looked. EndsAfter machine.new.state.turn looked.found) }
+    ensures on { OnOk result (machine.new.state.turn ≡ machine.old.state.turn + 1) }
     ensures same { OnErr result (machine.new.state.turn ≡ machine.old.state.turn) }
-    ensures ran { meter.new + machine.old.state.turn ≤ meter.old + machine.new.state.turn }
-    ensures counted { meter.old ≤ meter.new }
+    ensures way { StaysWith events.now machine.old machine.new }
+    ensures runs { SearchesTo (machine.old.state.turn + 1) watch machine.old machine.new
+        meter.old meter.new }
 {
     machine.ready()?;
     let turn = machine.turns();
     let pc = machine.pc();
     let mode = machine.mode();
     let act = machine.turn(meter, events);
-    Ok(turn_if(turn, sought.is_met(act, pc, mode)))
-}
-
-/// This turn, if it is sought.
-pub(crate) fn turn_if(turn: u32, is_sought: bool) -> Option<u32>
-    ensures { result ≡ or_turn None is_sought turn }
-{
-    if is_sought { Some(turn) } else { None }
+    let found = turn_if(turn, watch.is_met(turn, act, pc, mode, machine));
+    Ok(Looked { act, found })
 }

@@ -39,6 +39,7 @@ impl Sought {
 
     /// Runs turns without events that aren't sought, as long as the machine is calm, and before
     /// turn `to`; the meter counts them. Returns how many were run, which may be none.
+    #[inline(always)]
     pub(crate) fn pass(
         self,
         machine: &mut PagedMachine,

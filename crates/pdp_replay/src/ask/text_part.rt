@@ -1,5 +1,5 @@
-ghost use Rattle.std.specs.Prelude.{◌≡◌, ◌+◌, ◌≤◌, drop, length, max, min, option_map, slice_get};
-ghost use Rattle.std.specs.Prelude.{false, IfOk, IsErr, Ok, OnOk};
+ghost use Rattle.std.specs.Prelude.{◌≡◌, ◌+◌, ◌≤◌, drop, length, max, min, option_map};
+ghost use Rattle.std.specs.Prelude.{slice_get, false, IfOk, IsErr, Ok, OnOk};
 ghost use Rattle.pdp_cpu.specs.KeptTexts.{without_turns};
 ghost use Rattle.pdp_script.specs.Refusal.{for_memory, question_answer, result_map};
 ghost use Rattle.pdp_replay.specs.declared.ask.question.Question.TheVariants.{Regs};
@@ -8,11 +8,14 @@ ghost use Rattle.pdp_replay.specs.Run.Checkpoints.{punched_kept_at, text_kept_at
 ghost use Rattle.pdp_replay.specs.Run.KeptRuns.{resumed_turn, Advances, ArrivesAt};
 ghost use Rattle.pdp_replay.specs.Run.KeptRuns.{IsKeptRun, IsRunOf, KeepsRun};
 ghost use Rattle.pdp_replay.specs.Ask.Known.{IsWithinBound, LeavesPast, RunsFor};
-ghost use Rattle.pdp_replay.specs.Ask.Searches.{first_turn_of, IsFirst};
-ghost use Rattle.pdp_replay.specs.Ask.TextParts.{bytes_at, comes_out, shown_of, turn_checked};
-ghost use Rattle.pdp_replay.specs.Ask.TextParts.{IsToldAt};
+ghost use Rattle.pdp_replay.specs.Ask.Searches.{first_turn_of, turn_reached, IsFirst};
+ghost use Rattle.pdp_replay.specs.Ask.Searches.{IsWithinSearch};
+ghost use Rattle.pdp_replay.specs.Ask.TextParts.{byte_checked, bytes_at, comes_out, shown_of};
+ghost use Rattle.pdp_replay.specs.Ask.TextParts.{turn_checked, IsByteFound, IsToldAt};
 
 use crate::ask::items::read_bytes;
+use crate::ask::search::search;
+use crate::ask::watch::Watch;
 use crate::ask::{Bytes, Found};
 use crate::engine::Engine;
 use crate::run::KeptRun;
@@ -95,36 +98,33 @@ impl Engine {
         })
     }
 
-    /// The turn in which the byte of this number, counted from 0, was printed or punched, if that
-    /// was before turn `to`, of the run from power-up of the past as it is now. The machine goes to
-    /// turn `to`.
+    /// The first turn in which the byte of this number, counted from 0, was printed or punched, of
+    /// the run from power-up of the past as it is now; None if that isn't before turn
+    /// 1,000,000,000. A byte that came out before the known turn is in the text that is kept.
+    /// Otherwise the machine runs on from the known turn to the end of the turn that is found, or
+    /// to turn 1,000,000,000.
     ///
-    /// Err(TurnTooLarge) if `to` is above 1,000,000,000; otherwise Err(NoMemory) if memory was
-    /// refused. No refusal changes the past, and one for another cause than memory changes nothing.
-    /// (This project's profile.)
+    /// Err(NoMemory) if memory was refused, and no other. No refusal changes the past. (This
+    /// project's profile.)
     pub fn turn_of_byte(
         &mut self,
         alloc: Global,
         kind: TextKind,
         number: u32,
-        to: u32,
     ) -> Result<Found, Fault>
         ensures refusal { result_map (λ _. tt) result
-            ≡ question_answer (turn_checked to) (for_memory result) }
+            ≡ question_answer byte_checked (for_memory result) }
         ensures turn { IfOk result
-            (λ found. IsFirst (comes_out kind number self.old.past) 0 to found.turn) }
+            (λ found. IsFirst (comes_out kind number self.old.past) 0 LAST_TURN found.turn) }
         ensures value { IfOk result (λ found. found.turn
-            ≡ first_turn_of (comes_out kind number self.old.past) 0 to) }
-        ensures bound { IsWithinBound (Regs to) self.old self.new.turns }
-        ensures leaves { LeavesPast (Regs to) self.old self.new }
-        ensures runs { turn_checked to ≡ Ok tt → RunsFor (Regs to) self.old self.new }
-        ensures told { IfOk result (λ found. IsToldAt to found.ran found.known found.stride
-            self.old self.new) }
-        ensures refused { IsErr result → for_memory result ≡ false → self.new ≡ self.old }
+            ≡ first_turn_of (comes_out kind number self.old.past) 0 LAST_TURN) }
+        ensures bound { IsWithinSearch self.old.known self.old self.new }
+        ensures leaves { LeavesPast (Regs LAST_TURN) self.old self.new }
+        ensures runs { RunsFor (Regs self.old.known) self.old self.new }
+        ensures told { IfOk result (λ found. IsByteFound found self.old self.new) }
     {
         let before = self.run.meter.count();
-        check_turn(to)?;
-        let found = find_byte(alloc, &mut self.run, &self.script, kind, number, to);
+        let found = find_byte(alloc, &mut self.run, &self.script, kind, number);
         self.highest = self.highest.max(self.run.known);
         let turn = found?;
         Ok(Found {
@@ -184,8 +184,8 @@ fn after_first(bytes: &[KeptByte], count: u32) -> &[KeptByte]
     rest
 }
 
-/// Takes the machine to turn `to`, and returns the turn in which the byte of this number came out,
-/// if it did.
+/// The turn in which the byte of this number came out: from the text of the known turn, which the
+/// machine is taken to, or from the turns from there on.
 ///
 /// Err if memory was refused; what was kept until then stays.
 fn find_byte(
@@ -194,23 +194,33 @@ fn find_byte(
     script: &Script,
     kind: TextKind,
     number: u32,
-    to: u32,
 ) -> Result<Option<u32>, NoMemory>
     requires run { IsRunOf script.now run.old }
-    requires limit { to ≤ LAST_TURN }
+    requires limit { run.old.known ≤ LAST_TURN }
     ensures found { IfOk result (λ found. (p : Past) → p.script ≡ script.now → IsKeptRun p run.old
-        → IsFirst (comes_out kind number p) 0 to found) }
+        → IsFirst (comes_out kind number p) 0 LAST_TURN found) }
     ensures kept { KeepsRun script.now run.old run.new }
-    ensures arrives { OnOk result (ArrivesAt to run.old run.new) }
-    ensures advances { Advances (resumed_turn run.old to) to run.old run.new }
-    ensures bound { run.new.meter + min to run.old.known + 1
-        ≤ run.old.meter + to + run.old.ladder.stride }
+    ensures arrives { IfOk result (λ found. ArrivesAt
+        (max run.old.known (turn_reached found LAST_TURN)) run.old run.new) }
+    ensures advances { Advances (resumed_turn run.old run.old.known) LAST_TURN run.old run.new }
+    ensures bound { run.new.meter + run.old.known + 1
+        ≤ run.old.meter + max run.old.known run.new.machine.state.turn + run.old.ladder.stride }
 {
-    run.reach(alloc, script, to)?;
-    Ok(turn_at(kind.shown(&run.machine), number))
+    let known = run.known;
+    run.reach(alloc, script, known)?;
+    match turn_at(kind.shown(&run.machine), number) {
+        Some(turn) => Ok(Some(turn)),
+        None => search(
+            alloc,
+            run,
+            script,
+            Watch::Output { kind, number },
+            LAST_TURN,
+        ),
+    }
 }
 
-/// The turn of the byte of this number, if there are so many.
+/// The turn of the byte of this number, if there is one.
 fn turn_at(bytes: &[KeptByte], number: u32) -> Option<u32>
     ensures { result ≡ option_map (λ b. b.turn) (slice_get bytes.now number) }
 {

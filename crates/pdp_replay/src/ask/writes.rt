@@ -1,24 +1,24 @@
 ghost use Rattle.std.specs.Prelude.{◌≡◌, ◌+◌, ◌<◌, ◌≤◌, ◌++◌, ℕ, length, min, max, option_to_list};
-ghost use Rattle.std.specs.Prelude.{◌-◌, ◌*◌, ◌/◌, IfOk, IfSome, IsErr, Ok, OnOk, false, take};
-ghost use Rattle.pdp_cpu.specs.Turns.MachineState.{after_turn};
-ghost use Rattle.pdp_script.specs.Entries.{events_at};
+ghost use Rattle.std.specs.Prelude.{◌-◌, ◌*◌, ◌/◌, IfOk, IsErr, Ok, OnOk, false, take};
 ghost use Rattle.pdp_replay.specs.Past.{Past};
 ghost use Rattle.pdp_replay.specs.Run.KeptRuns.{resumed_turn, Advances, ArrivesAt, CanGoOn, GoesOn};
 ghost use Rattle.pdp_replay.specs.Run.KeptRuns.{IsKeptRun, KeepsRun, LeavesKept};
-ghost use Rattle.pdp_replay.specs.Run.States.{at};
 ghost use Rattle.pdp_script.specs.Refusal.{for_memory, question_answer, result_map};
 ghost use Rattle.pdp_replay.specs.declared.ask.question.Question.TheVariants.{Regs};
 ghost use Rattle.pdp_replay.specs.Past.Setup.{SetupData};
 ghost use Rattle.pdp_replay.specs.Ask.Known.{LeavesPast, RunsFor};
 ghost use Rattle.pdp_replay.specs.Ask.Searches.{IsWithinSearch};
-ghost use Rattle.pdp_replay.specs.Ask.Writes.{of_turn, turn_listed, write_in, writes_checked};
-ghost use Rattle.pdp_replay.specs.Ask.Writes.{writes_in_turns, AreWritesFrom, CanSearch, IsWritten};
+ghost use Rattle.pdp_replay.specs.Ask.Writes.{turn_after_write, turn_listed, writes_checked};
+ghost use Rattle.pdp_replay.specs.Ask.Writes.{writes_in_turns, AreWritesFrom, CanList, CanSearch};
+ghost use Rattle.pdp_replay.specs.Ask.Writes.{IsNextWriteTo, IsWriteFound, IsWritten};
 
 use crate::ask::LastWrite;
-use crate::ask::search::check_search;
+use crate::ask::search::{check_search, search};
+use crate::ask::watch::Watch;
 use crate::engine::Engine;
 use crate::past::{UNIT_WORDS, core_word};
 use crate::run::KeptRun;
+use pdp_cpu::PagedMachine;
 use pdp_script::{Fault, Script};
 use pdp_unibus::LAST_TURN;
 use pdp_word::NoMemory;
@@ -159,11 +159,11 @@ fn list_writes(
     to: u32,
 ) -> Result<Vec<LastWrite>, NoMemory>
     requires ready { CanGoOn run.old }
-    requires inside { number < length run.old.machine.state.world.bus.core }
+    requires can { CanList number script.now run.old }
     requires order { run.old.machine.state.turn ≤ to }
     requires limit { to ≤ LAST_TURN }
     ensures writes { IfOk result (λ writes. AreWritesFrom script.now number
-        run.old.machine.state.turn run.new.machine.state.turn run.old.machine.state writes.items) }
+        run.new.machine.state.turn run.old writes.items) }
     ensures ends { IfOk result (λ writes. run.new.machine.state.turn < to
         → MOST_WRITES ≤ length writes.items) }
     ensures end { IfOk result (λ writes. run.new.machine.state.turn ≡ turn_listed writes.items to) }
@@ -175,7 +175,7 @@ fn list_writes(
 {
     let mut writes = Vec::new(alloc);
     while run.machine.turns() < to && writes.len() < MOST_WRITES {
-        let write = run_and_look(alloc, run, script, number)?;
+        let write = next_write(alloc, run, script, number, to)?;
         add(&mut writes, write)?;
     }
     Ok(writes)
@@ -192,52 +192,41 @@ fn add(writes: &mut Vec<LastWrite>, write: Option<LastWrite>) -> Result<(), NoMe
     Ok(())
 }
 
-/// Runs one turn with the events of the script, and returns its write to the core word of this
-/// number. Keeps what is to be kept of the turn.
+/// Runs turns to the end of the first that writes the core word of this number, or to turn `to`.
+/// Returns its last write to the word, and keeps what is to be kept of the turns.
 ///
 /// Err if memory was refused; what was kept until then stays.
-fn run_and_look(
+fn next_write(
     alloc: Global,
     run: &mut KeptRun,
     script: &Script,
     number: usize,
+    to: u32,
 ) -> Result<Option<LastWrite>, NoMemory>
     requires ready { CanGoOn run.old }
-    requires inside { number < length run.old.machine.state.world.bus.core }
-    requires limit { run.old.machine.state.turn < LAST_TURN }
-    ensures write { IfOk result (λ write. (p : Past) → p.script ≡ script.now
-        → run.old.machine.state ≡ at p run.old.machine.state.turn
-        → write ≡ write_in p number run.old.machine.state.turn) }
-    ensures turn { IfOk result
-        (λ write. IfSome write (λ last. last.turn ≡ run.old.machine.state.turn)) }
-    ensures inside { OnOk result (number < length run.new.machine.state.world.bus.core) }
-    ensures machine { OnOk result (run.new.machine.state ≡ after_turn
-        (events_at script.now.entries run.old.machine.state.turn) run.old.machine.state) }
+    requires can { CanList number script.now run.old }
+    requires order { run.old.machine.state.turn < to }
+    requires limit { to ≤ LAST_TURN }
+    ensures write { IfOk result
+        (IsNextWriteTo run.new.machine.state.turn script.now number run.old) }
+    ensures can { OnOk result (CanList number script.now run.new) }
+    ensures on { OnOk result (run.old.machine.state.turn < run.new.machine.state.turn) }
     ensures kept { LeavesKept script.now run.old run.new }
     ensures way { OnOk result (GoesOn script.now run.old run.new) }
-    ensures arrives { OnOk result (ArrivesAt (run.old.machine.state.turn + 1) run.old run.new) }
-    ensures advances { Advances run.old.machine.state.turn (run.old.machine.state.turn + 1)
-        run.old run.new }
+    ensures arrives { IfOk result (λ write. ArrivesAt (turn_after_write write to) run.old run.new) }
+    ensures advances { Advances run.old.machine.state.turn to run.old run.new }
 {
-    let turn = run.machine.turns();
-    run.step(alloc, script)?;
-    let last = LastWrite::read(&run.machine, number);
-    Ok(of_turn(last, turn))
+    let found = search(alloc, run, script, Watch::Write { number }, to)?;
+    Ok(write_found(found, &run.machine, number))
 }
 
-/// A last write, if it is of this turn.
-fn of_turn(last: Option<LastWrite>, turn: u32) -> Option<LastWrite>
-    ensures write { result ≡ of_turn turn last }
-    ensures turn { IfSome result (λ write. write.turn ≡ turn) }
+/// The last write to the core word of this number, if a turn that writes it was found.
+fn write_found(found: Option<u32>, machine: &PagedMachine, number: usize) -> Option<LastWrite>
+    requires inside { number < length machine.now.state.world.bus.core }
+    ensures { IsWriteFound machine.now.state number found result }
 {
-    match last {
-        Some(write) => {
-            if write.turn == turn {
-                Some(write)
-            } else {
-                None
-            }
-        }
+    match found {
+        Some(_) => LastWrite::read(machine, number),
         None => None,
     }
 }

@@ -1,6 +1,4 @@
-use Rattle.std.proofs.Common.{◌≡◌, ◌∙◌, ◌==◌, ◌+◌, None, ap, ap₂, not, subst, sym}
-use Rattle.pdp_replay.specs.Past.{Past}
-use Rattle.pdp_replay.specs.Run.States.{at}
+use Rattle.std.proofs.Common.{◌∙◌, ◌==◌, None, ap, ap₂, not, subst, sym}
 use Rattle.pdp_replay.specs.Ask.DiskChanges.{word_changes}
 use Rattle.pdp_replay.specs.Ask.Searches.{EndsAfter, IsFirst, or_turn}
 use Rattle.pdp_replay.proofs.DiskChanges.{changes_here, word_stays}

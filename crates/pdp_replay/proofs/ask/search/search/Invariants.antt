@@ -2,7 +2,7 @@ use Rattle.std.proofs.Common.{◌≡◌, ◌-◌, ◌≤◌}
 use Rattle.pdp_replay.specs.Run.KeptRuns.{Advances, ArrivesAt, GoesOn, IsOnWay}
 use Rattle.pdp_replay.specs.Past.{Past}
 use Rattle.pdp_replay.specs.Ask.Searches.{HoldsNowhere}
-use Rattle.pdp_replay.specs.Ask.SoughtTurns.{is_sought_at}
+use Rattle.pdp_replay.specs.Ask.Watches.{IsInside, is_watched_at}
 use Rattle.pdp_replay.proofs.ask.search.search.Given as goal
 
 abbrev pub invariant-loop-alloc : goal.invariant-loop-alloc
@@ -11,8 +11,9 @@ invariant-loop-alloc l = record {
   there : ArrivesAt l.run.machine.state.turn l.fn.run l.run;
   on : Advances l.fn.run.machine.state.turn l.to l.fn.run l.run;
   begun : l.fn.run.machine.state.turn ≤ l.run.machine.state.turn;
+  inside : IsInside l.watch l.run.machine;
   none : (p : Past) → p.script ≡ l.script → IsOnWay p l.fn.run
-      → HoldsNowhere (is_sought_at p l.sought) l.fn.run.machine.state.turn l.run.machine.state.turn;
+      → HoldsNowhere (is_watched_at p l.watch) l.fn.run.machine.state.turn l.run.machine.state.turn;
 }
 
 abbrev pub decreases-loop-alloc : goal.decreases-loop-alloc

@@ -4,7 +4,7 @@ use Rattle.pdp_cpu.specs.Turns.MachineState.{MachineWithTexts}
 use Rattle.pdp_replay.specs.Past.{Past}
 use Rattle.pdp_replay.specs.Run.KeptRuns.{Advances, IsOnWay, IsUnderWay}
 use Rattle.pdp_replay.specs.Ask.Searches.{EndsAfter}
-use Rattle.pdp_replay.specs.Ask.SoughtTurns.{IsFirstInRun, IsFirstOnWay, IsFirstTo}
+use Rattle.pdp_replay.specs.Ask.Watches.{IsFirstInRun, IsFirstOnWay, IsFirstTo, IsInside}
 use Rattle.pdp_replay.proofs.Coming.{advances_from, arrives_from, arrives_where}
 use Rattle.pdp_replay.proofs.OnWay.{on_way_settled}
 use Rattle.pdp_replay.proofs.UnderWay.{way_of_run}
@@ -19,10 +19,10 @@ came c p same on = c.search_part-found.ensures.way p c.args.run.now.known same (
 -- and once it settled it is as far on
 advanced : (c : After-settle) → Advances c.args.run.now.machine.state.turn c.args.to c.args.run.now c.settle.new.self
 advanced c =
-    let part = c.search_part-found.ensures in
+    let part = c.search_part-found.ensures.runs in
     let before = c.replace-counting.ensures.value in
     let ran = part.ran in
-    let counted = part.counted in
+    let counted = part.counted_least in
     let most = part.most in
     let end = c.min-end.ensures in
     advances_from _ _ _ c.args.run.now _ c.settle.new.self refl refl (omega (arith, ran, before)) (omega (arith, counted, before)) c.settle.ensures.advances (omega (arith, most, end))
@@ -55,9 +55,9 @@ returns-clause-found c =
     let run = c.args.run.now in
     let now = c.settle.new.self in
     let turn = ap (λ (m : MachineWithTexts). m.state.turn) c.in_ok-settle.ensures.machine in
-    IfOk-weaker c.search_part-found.result (IsFirstOnWay c.args.script.now c.args.sought run.machine c.search_part-found.new.machine)
-    (IsFirstInRun c.args.script.now c.args.sought run now)
-    (λ found is. subst (λ t. IsFirstTo t c.args.script.now c.args.sought run found) (sym turn) (λ p same on. is p run.known same (way_of_run p run on)))
+    IfOk-weaker c.search_part-found.result (IsFirstOnWay c.args.script.now c.args.watch run.machine c.search_part-found.new.machine)
+    (IsFirstInRun c.args.script.now c.args.watch run now)
+    (λ found is. subst (λ t. IsFirstTo t c.args.script.now c.args.watch run found) (sym turn) (λ p same on. is p run.known same (way_of_run p run on)))
     c.search_part-found.ensures.found
 
 pub returns-clause-ends : goal.returns-clause-ends
@@ -72,3 +72,9 @@ returns-in_err-settle-clause-advances c = advanced (goal.at.returns-in_err-settl
 
 pub returns-clause-advances : goal.returns-clause-advances
 returns-clause-advances c = advanced (goal.at.returns-clause-advances c).After-settle
+
+pub returns-clause-inside : goal.returns-clause-inside
+returns-clause-inside c =
+    let runs = c.search_part-found.ensures.runs in
+    on_ok_weaker c.search_part-found.result (λ _. subst (IsInside c.args.watch) (sym c.in_ok-settle.ensures.machine) runs.inside)
+    c.search_part-found.ensures.on

@@ -1,65 +1,88 @@
-use Rattle.std.proofs.Common.{◌≡◌, ◌∙◌, [], ap, arith, subst, sym, ℕ}
-use Rattle.std.proofs.lemmas.Result.{IfOk-weaker}
-use Rattle.pdp_script.specs.Entries.{events_at}
-use Rattle.pdp_replay.specs.Past.{Past}
-use Rattle.pdp_replay.specs.Run.KeptRuns.{IsUnderWay, IsWithoutEvents}
-use Rattle.pdp_replay.specs.Ask.Searches.{HoldsNowhere}
-use Rattle.pdp_replay.specs.Ask.SoughtTurns.{IsFirstQuietly, IsFirstWith, is_sought_at}
-use Rattle.pdp_replay.proofs.CalmWays.{ran_calmly, ran_within}
-use Rattle.pdp_replay.proofs.Searches.{first_on}
-use Rattle.pdp_replay.proofs.SoughtTurns.{passed_calmly}
+use Rattle.std.proofs.Common.{◌≡◌, ◌∙◌, ◌-◌, IfOk, ap, arith, subst, sym}
+use Rattle.pdp_cpu.proofs.CalmTurns.{calm_none}
+use Rattle.pdp_cpu.specs.Turns.CalmTurns.{after_calm_turns}
+use Rattle.pdp_replay.specs.Ask.Searches.{IsFirst, turn_reached}
+use Rattle.pdp_replay.specs.Ask.Watches.{IsFirstQuietly, IsInside, StaysQuietly, is_met_last, is_watched_at}
+use Rattle.pdp_replay.proofs.CalmWays.{ran_calmly}
+use Rattle.pdp_replay.proofs.Searches.{ends_after_turn}
+use Rattle.pdp_replay.proofs.Watches.{first_passed, inside_calmly}
 use Rattle.pdp_replay.proofs.ask.search_turns.search_some.Goals as goal
 use Rattle.pdp_replay.proofs.ask.search_turns.search_some.Goals.{After-pass}
 
--- the machine is on its way after the turns that it passed
-came : (c : After-pass) (p : Past) (known : ℕ) → IsWithoutEvents p c.args.machine.now.state.turn c.args.to
-    → IsUnderWay p known c.args.machine.now → IsUnderWay p known c.pass.new.machine
-came c p known quiet way =
+-- after the turns that it passed the machine can be watched
+inside : (c : After-pass) → IsInside c.args.watch c.pass.new.machine
+inside c = inside_calmly c.args.watch c.pass.result c.args.machine.now c.pass.new.machine c.pass.ensures.turns c.requires.inside
+
+-- if it passed none it is as it was
+still : (c : After-pass) → c.pass.result ≡ 0 → c.pass.new.machine ≡ c.args.machine.now
+still c none = c.pass.ensures.turns ∙ ap (λ n. after_calm_turns n c.args.machine.now) none ∙ calm_none c.args.machine.now
+
+pub last_met-requires-clause-inside : goal.last_met-requires-clause-inside
+last_met-requires-clause-inside c = inside (goal.at.last_met-requires-clause-inside c).After-pass
+
+pub search_idle-requires-clause-inside : goal.search_idle-requires-clause-inside
+search_idle-requires-clause-inside c = inside (goal.at.search_idle-requires-clause-inside c).After-pass
+
+pub returns-then-pass-gt0-clause-found : goal.returns-then-pass-gt0-clause-found
+returns-then-pass-gt0-clause-found c = λ p known quiet way.
+    let some = c.if-pass-gt0.true in
+    let turn = c.pass.ensures.turn in
+    let most = c.pass.ensures.most some in
+    subst (λ found. IsFirst (is_watched_at p c.args.watch) c.args.machine.now.state.turn c.pass.new.machine.state.turn found) (sym c.last_met.ensures)
+    (first_passed p c.args.watch known c.args.to c.pass.result c.args.machine.now c.pass.new.machine c.pass.ensures.turns turn some most quiet way
+    c.requires.inside c.pass.ensures.none)
+
+pub returns-then-pass-gt0-clause-ends : goal.returns-then-pass-gt0-clause-ends
+returns-then-pass-gt0-clause-ends c =
+    let now = c.pass.new.machine in
+    let turn = c.pass.ensures.turn in
+    let some = c.if-pass-gt0.true in
+    subst (λ found. now.state.turn ≡ turn_reached found now.state.turn) (sym c.last_met.ensures)
+    (ends_after_turn (now.state.turn - 1) now.state.turn (is_met_last c.args.watch (now.state.turn - 1) now) (omega (arith, turn, some)))
+
+pub returns-then-pass-gt0-clause-way : goal.returns-then-pass-gt0-clause-way
+returns-then-pass-gt0-clause-way c = λ p known quiet way.
     ran_calmly p known c.args.to c.pass.result c.args.machine.now c.pass.new.machine c.pass.ensures.turns
     c.requires.forward c.pass.ensures.turn c.pass.ensures.most quiet way
 
--- and none of these is sought
-passed : (c : After-pass) (p : Past) (known : ℕ) → IsWithoutEvents p c.args.machine.now.state.turn c.args.to
-    → IsUnderWay p known c.args.machine.now
-    → HoldsNowhere (is_sought_at p c.args.sought) c.args.machine.now.state.turn c.pass.new.machine.state.turn
-passed c p known quiet way =
-    let m = c.args.machine.now in
-    subst (HoldsNowhere (is_sought_at p c.args.sought) m.state.turn) (sym c.pass.ensures.turn)
-    (passed_calmly p c.args.sought known c.args.to c.pass.result m
-    (ran_within c.pass.result m.state.turn c.args.to c.pass.new.machine.state.turn c.requires.forward c.pass.ensures.turn c.pass.ensures.most)
-    quiet way c.pass.ensures.none)
-
-pub returns-then-pass-gt0-clause-found : goal.returns-then-pass-gt0-clause-found
-returns-then-pass-gt0-clause-found c = λ p known quiet way. passed (goal.at.returns-then-pass-gt0-clause-found c).After-pass p known quiet way
-
-pub returns-then-pass-gt0-clause-way : goal.returns-then-pass-gt0-clause-way
-returns-then-pass-gt0-clause-way c = λ p known quiet way. came (goal.at.returns-then-pass-gt0-clause-way c).After-pass p known quiet way
-
--- the next turn is without events too
-quiet_there : (c : After-pass) (p : Past) → c.pass.result ≡ 0 → IsWithoutEvents p c.args.machine.now.state.turn c.args.to
-    → [] ≡ events_at p.script.entries c.pass.new.machine.state.turn
-quiet_there c p none quiet =
+pub returns-then-pass-gt0-clause-runs : goal.returns-then-pass-gt0-clause-runs
+returns-then-pass-gt0-clause-runs c =
     let turn = c.pass.ensures.turn in
-    let below = c.requires.forward in
-    sym (quiet c.pass.new.machine.state.turn (omega (arith, turn)) (omega (arith, turn, none, below)))
+    let counted = c.pass.ensures.ran in
+    record {
+      inside = inside (goal.at.returns-then-pass-gt0-clause-runs c).After-pass;
+      least = omega (arith, turn);
+      most = c.pass.ensures.most c.if-pass-gt0.true;
+      ran = omega (arith, turn, counted);
+      counted_least = c.pass.ensures.counted;
+    }
 
 pub returns-clause-found : goal.returns-clause-found
 returns-clause-found c =
-    let m = c.args.machine.now in
-    let now = c.search_turn.new.machine in
-    let turn = c.pass.ensures.turn in
     let none = c.if-pass-gt0.false in
-    IfOk-weaker c.search_turn.result (IsFirstWith [] c.args.sought c.pass.new.machine now)
-    (IsFirstQuietly c.args.to c.args.sought m now)
-    (λ found is p known quiet way.
-    let after = (goal.at.returns-clause-found c).After-pass in
-    first_on (is_sought_at p c.args.sought) m.state.turn c.pass.new.machine.state.turn now.state.turn found (omega (arith, turn))
-    (passed after p known quiet way)
-    (is p known (quiet_there after p (omega (arith, none)) quiet) (came after p known quiet way)))
-    c.search_turn.ensures.found
+    let same = still (goal.at.returns-clause-found c).After-pass (omega (arith, none)) in
+    subst (λ m. IfOk c.search_idle.result (IsFirstQuietly c.args.to c.args.watch m c.search_idle.new.machine)) same c.search_idle.ensures.found
 
 pub returns-clause-way : goal.returns-clause-way
-returns-clause-way c = λ p known quiet way.
+returns-clause-way c =
     let none = c.if-pass-gt0.false in
-    let after = (goal.at.returns-clause-way c).After-pass in
-    c.search_turn.ensures.way p known (quiet_there after p (omega (arith, none)) quiet) (came after p known quiet way)
+    let same = still (goal.at.returns-clause-way c).After-pass (omega (arith, none)) in
+    subst (λ m. StaysQuietly c.args.to m c.search_idle.new.machine) same c.search_idle.ensures.way
+
+pub returns-clause-runs : goal.returns-clause-runs
+returns-clause-runs c =
+    let none = c.if-pass-gt0.false in
+    let turn = c.pass.ensures.turn in
+    let counted = c.pass.ensures.ran in
+    let grows = c.pass.ensures.counted in
+    let runs = c.search_idle.ensures.runs in
+    let least = runs.least in
+    let ran = runs.ran in
+    let counted_least = runs.counted_least in
+    record {
+      inside = runs.inside;
+      least = omega (arith, turn, least);
+      most = runs.most;
+      ran = omega (arith, turn, none, counted, ran);
+      counted_least = omega (arith, grows, counted_least);
+    }

@@ -1,10 +1,10 @@
-use Rattle.std.proofs.Common.{◌≡◌, ◌∙◌, ap, arith, subst, sym}
+use Rattle.std.proofs.Common.{◌≡◌, ◌∙◌, ap, arith, sym}
 use Rattle.std.proofs.lemmas.Result.{IfOk-weaker}
 use Rattle.pdp_script.specs.Entries.{events_at}
 use Rattle.pdp_script.specs.Script.{ScriptData}
 use Rattle.pdp_replay.specs.Past.{Past}
 use Rattle.pdp_replay.specs.Run.KeptRuns.{IsWithoutEvents}
-use Rattle.pdp_replay.specs.Ask.SoughtTurns.{IsFirstOnWay, IsFirstQuietly, IsFirstWith}
+use Rattle.pdp_replay.specs.Ask.Watches.{IsFirstOnWay, IsFirstQuietly}
 use Rattle.pdp_replay.proofs.ask.search_turns.search_stretch.Goals as goal
 use Rattle.pdp_replay.proofs.ask.search_turns.search_stretch.Goals.{After-quiet_until-quiet}
 
@@ -20,8 +20,8 @@ pub returns-then-turn-quiet-clause-found : goal.returns-then-turn-quiet-clause-f
 returns-then-turn-quiet-clause-found c =
     let m = c.args.machine.now in
     let now = c.search_quiet.new.machine in
-    IfOk-weaker c.search_quiet.result (IsFirstQuietly c.quiet_until-quiet.result c.args.sought m now)
-    (IsFirstOnWay c.args.script.now c.args.sought m now)
+    IfOk-weaker c.search_quiet.result (IsFirstQuietly c.quiet_until-quiet.result c.args.watch m now)
+    (IsFirstOnWay c.args.script.now c.args.watch m now)
     (λ found is p known same way. is p known (quiet (goal.at.returns-then-turn-quiet-clause-found c).After-quiet_until-quiet p same) way)
     c.search_quiet.ensures.found
 
@@ -30,20 +30,15 @@ returns-then-turn-quiet-clause-way c = λ p known same way.
     c.search_quiet.ensures.way p known (quiet (goal.at.returns-then-turn-quiet-clause-way c).After-quiet_until-quiet p same) way
 
 pub returns-clause-found : goal.returns-clause-found
-returns-clause-found c =
-    let m = c.args.machine.now in
-    let now = c.search_turn.new.machine in
-    IfOk-weaker c.search_turn.result (IsFirstWith c.at.result.now c.args.sought m now)
-    (IsFirstOnWay c.args.script.now c.args.sought m now)
-    (λ found is p known same way.
-    is p known
-    (c.at.ensures.events ∙ ap (events_at c.args.script.now.entries) c.turns-turn.ensures ∙ ap (λ (s : ScriptData). events_at s.entries m.state.turn) (sym same))
-    way)
-    c.search_turn.ensures.found
+returns-clause-found c = λ p known same way.
+    c.in_ok-looked.ensures.found p known
+    (c.at.ensures.events ∙ ap (events_at c.args.script.now.entries) c.turns-turn.ensures
+    ∙ ap (λ (s : ScriptData). events_at s.entries c.args.machine.now.state.turn) (sym same))
+    way
 
 pub returns-clause-way : goal.returns-clause-way
 returns-clause-way c = λ p known same way.
-    c.search_turn.ensures.way p known
+    c.look.ensures.way p known
     (c.at.ensures.events ∙ ap (events_at c.args.script.now.entries) c.turns-turn.ensures
     ∙ ap (λ (s : ScriptData). events_at s.entries c.args.machine.now.state.turn) (sym same))
     way

@@ -1,0 +1,133 @@
+ghost use Rattle.std.specs.Prelude.{◌≡◌, ◌+◌, ◌-◌, ◌<◌, ◌≤◌, length, None};
+ghost use Rattle.pdp_cpu.specs.Turns.CalmTurns.{after_calm_turns};
+ghost use Rattle.pdp_replay.specs.Ask.Searches.{or_turn};
+ghost use Rattle.pdp_replay.specs.Ask.Watches.{bytes_of, is_met, is_met_last, is_of_turn};
+ghost use Rattle.pdp_replay.specs.Ask.Watches.{IsInside, PassesTo};
+ghost use Rattle.pdp_replay.specs.declared.ask.watch.Watch.TheVariants.{Output};
+
+use crate::ask::{Sought, TextKind};
+use pdp_cpu::{Act, Meter, Mode, PagedMachine, WordTable};
+use pdp_store::Stamp;
+
+/// What a search watches for, turn by turn.
+#[derive(Clone, Copy)]
+pub(crate) enum Watch {
+    /// A turn that begins with what is sought.
+    Act(Sought),
+    /// A turn that writes the core word of this number (half its byte address).
+    Write { number: usize },
+    /// A turn after which more than this many bytes of a text came out.
+    Output { kind: TextKind, number: u32 },
+}
+
+impl Watch {
+    /// Whether this turn is watched for, which had this act, with PC and the mode before it, and
+    /// left this machine.
+    #[inline(always)]
+    pub(crate) fn is_met(self, turn: u32, act: Act, pc: u16, mode: Mode, now: &PagedMachine) -> bool
+        requires inside { IsInside self now.now }
+        ensures { result ≡ is_met self turn act pc mode now.now }
+    {
+        match self {
+            Watch::Act(sought) => sought.is_met(act, pc, mode),
+            Watch::Write { number } => is_of_turn(turn, now.last(number)),
+            Watch::Output { kind, number } => count_out(kind, now) > number as usize,
+        }
+    }
+
+    /// Runs turns without events as long as the machine is calm, and before turn `to`; the meter
+    /// counts them. Returns how many were run, which may be none. None of them is watched for, but
+    /// maybe the last (`last_met`).
+    #[inline(always)]
+    pub(crate) fn pass(
+        self,
+        machine: &mut PagedMachine,
+        words: &WordTable,
+        meter: &mut Meter,
+        to: u32,
+    ) -> u32
+        requires inside { IsInside self machine.old }
+        ensures turns { machine.new ≡ after_calm_turns result machine.old }
+        ensures turn { machine.new.state.turn ≡ machine.old.state.turn + result }
+        ensures most { 0 < result → machine.new.state.turn ≤ to }
+        ensures none { PassesTo self result machine.old }
+        ensures ran { meter.new ≤ meter.old + result }
+        ensures counted { meter.old ≤ meter.new }
+    {
+        match self {
+            Watch::Act(sought) => sought.pass(machine, words, meter, to),
+            Watch::Write { number } => machine.run_calmly_to_write(words, meter, to, number),
+            Watch::Output { kind, number } => pass_output(machine, words, meter, to, kind, number),
+        }
+    }
+
+    /// The last turn, if it is watched for, of a machine that ran turns only by `pass`.
+    #[inline(always)]
+    pub(crate) fn last_met(self, now: &PagedMachine) -> Option<u32>
+        requires inside { IsInside self now.now }
+        requires some { 0 < now.now.state.turn }
+        ensures { result ≡ or_turn None (is_met_last self (now.now.state.turn - 1) now.now)
+            (now.now.state.turn - 1) }
+    {
+        match self {
+            Watch::Write { number } => {
+                let turn = now.turns() - 1;
+                turn_if(turn, is_of_turn(turn, now.last(number)))
+            }
+            Watch::Act(_) | Watch::Output { .. } => None,
+        }
+    }
+}
+
+/// `Watch::pass` for a turn after which more than `number` bytes of a text came out: none is run if
+/// so many did before.
+fn pass_output(
+    machine: &mut PagedMachine,
+    words: &WordTable,
+    meter: &mut Meter,
+    to: u32,
+    kind: TextKind,
+    number: u32,
+) -> u32
+    ensures turns { machine.new ≡ after_calm_turns result machine.old }
+    ensures turn { machine.new.state.turn ≡ machine.old.state.turn + result }
+    ensures most { 0 < result → machine.new.state.turn ≤ to }
+    ensures none { PassesTo (Output kind number) result machine.old }
+    ensures ran { meter.new ≤ meter.old + result }
+    ensures counted { meter.old ≤ meter.new }
+{
+    if count_out(kind, machine) > number as usize {
+        return 0;
+    }
+    machine.run_calmly(words, meter, to)
+}
+
+/// How many bytes of this kind came out of the machine since power-up.
+#[inline(always)]
+fn count_out(kind: TextKind, machine: &PagedMachine) -> usize
+    ensures { result ≡ length (bytes_of kind machine.now.state) }
+{
+    match kind {
+        TextKind::Printed => machine.text().len(),
+        TextKind::Punched => machine.punched().len(),
+    }
+}
+
+/// Whether a stamp is of this turn.
+#[inline(always)]
+fn is_of_turn(turn: u32, stamp: Option<Stamp>) -> bool
+    ensures { result ≡ is_of_turn turn stamp }
+{
+    match stamp {
+        Some(stamp) => stamp.turn == turn,
+        None => false,
+    }
+}
+
+/// This turn, if it is watched for.
+#[inline(always)]
+pub(crate) fn turn_if(turn: u32, is_watched: bool) -> Option<u32>
+    ensures { result ≡ or_turn None is_watched turn }
+{
+    if is_watched { Some(turn) } else { None }
+}
