@@ -74,7 +74,7 @@ SEARCHES = [
     Line("change N M D I", SEARCH, ONE_LINE),
     Line("text N from F", SEARCH, ONE_LINE),
     Line("punched N from F", SEARCH, ONE_LINE),
-    Line("when N F", SEARCH, ONE_LINE),
+    Line("when F", SEARCH, ONE_LINE),
 ]
 
 

@@ -6,7 +6,8 @@ from typing import Iterable, Optional, Tuple
 
 import sessions
 
-QUESTIONS = sessions.QUESTIONS | {sessions.command_of(it) for it in sessions.SEARCHES}
+SEARCHES = [it for it in sessions.SEARCHES if it.form.split()[1] == "N"]  # not `when F`
+QUESTIONS = sessions.QUESTIONS | {sessions.command_of(it) for it in SEARCHES}
 NAMES = frozenset(it.decode() for it in QUESTIONS)
 MOST_DIGITS = 10
 

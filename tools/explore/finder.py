@@ -134,5 +134,4 @@ class Finder:
         if at < 0:
             return None
         wanted = at + len(string)
-        turn = self.machine.printed_in(turns.stop, wanted - 1)
-        return None if turn is None else (turn, wanted)
+        return self.machine.printed_in(wanted - 1), wanted

@@ -298,9 +298,12 @@ class Machine:
         named = f"{drive:o} " if self.past.version == 2 else ""
         return self.found(f"change {turns.start} {turns.stop} {named}{index:o}", turns.stop)
 
-    def printed_in(self, before: int, byte: int) -> Optional[int]:
-        """The turn before this one in which the byte of this number, from 0 on, was printed."""
-        return self.found(f"when {before} {byte}", before)
+    def printed_in(self, byte: int) -> int:
+        """The turn in which the byte of this number, from 0 on, was printed. It must be one of the
+        bytes before a turn that was asked about: the machine would run on to another one."""
+        turn = int(self.read(f"when {byte}").split()[1])
+        self.asked.reach(max(self.asked.greatest, turn + 1))
+        return turn
 
     def writes(self, turns: range, address: int) -> Tuple[List[LastWrite], range]:
         """The first writes to a core word in these turns, and the turns that are left."""

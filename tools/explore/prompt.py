@@ -48,7 +48,10 @@ OWN_HELP = {
     "quit": ("quit", "ends, as q, exit and Ctrl-D do; quit! drops edits that weren't saved"),
 }
 ENDS = {"quit", "q", "exit"}
-SEARCH_HELP = "Searches of the turns from N on and before M. Details: docs/LANGUAGE.md, Searches"
+SEARCH_HELP = (
+    "Searches of the turns from N on and before M; `when` may go on to turn 1000000000."
+    " Details: docs/LANGUAGE.md, Searches"
+)
 # With `!` these overwrite a file that this run hasn't written.
 WRITING = {"save", "page", "export", "sweep"}
 NUMBERS = (

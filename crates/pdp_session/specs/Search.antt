@@ -2,12 +2,13 @@
 use Rattle.std.specs.Prelude.{ℕ, ◌-◌, ◌/◌, ◌++◌, Bool, true, false, List, codes, decimal, drop, length}
 use Rattle.std.specs.Prelude.{nat_lt, take, Option, None, Some, Result, Ok, Err}
 use Rattle.std.specs.List.{flat_map}
+use Rattle.pdp_unibus.specs.LastTurn.{last_turn}
 use Rattle.pdp_script.specs.Refusal.{result_map}
 use Rattle.pdp_script.specs.declared.faults.Fault.{Fault}
 use Rattle.pdp_replay.specs.Ask.DiskChanges.{change_checked, word_changes}
 use Rattle.pdp_replay.specs.Ask.Searches.{first_turn_of, search_checked}
 use Rattle.pdp_replay.specs.Ask.SoughtTurns.{is_sought_at}
-use Rattle.pdp_replay.specs.Ask.TextParts.{bytes_at, comes_out, turn_checked}
+use Rattle.pdp_replay.specs.Ask.TextParts.{byte_checked, bytes_at, comes_out, turn_checked}
 use Rattle.pdp_replay.specs.Ask.Writes.{turn_listed, writes_checked, writes_in_turns}
 use Rattle.pdp_replay.specs.Past.{Past}
 use Rattle.pdp_replay.specs.declared.ask.last_write.LastWrite.{LastWrite}
@@ -37,8 +38,8 @@ finding (search.Change from to drive number) past = found.Change (first_turn_of
     (word_changes drive number past) from (to - from))
 finding (search.TextFrom kind turn first) past = found.TextFrom kind (drop first
     (bytes_at kind past turn))
-finding (search.When turn number) past = found.When (first_turn_of (comes_out Printed number past) 0
-    turn)
+finding (search.When number) past = found.When (first_turn_of (comes_out Printed number past) 0
+    last_turn)
 
 -- can the search be made?
 abbrev pub search_permitted : Search → Past → Result (Unit {0}) Fault
@@ -47,7 +48,7 @@ search_permitted (search.Writes from to address) past = writes_checked address f
 search_permitted (search.Change from to drive number) past = change_checked drive number from to
     past.setup
 search_permitted (search.TextFrom kind turn first) past = turn_checked turn
-search_permitted (search.When turn number) past = turn_checked turn
+search_permitted (search.When number) past = byte_checked
 
 -- what it finds, or why it can't be made
 unfoldable pub search_result : Search → Past → Result Finding Fault

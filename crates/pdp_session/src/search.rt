@@ -41,9 +41,8 @@ pub enum Search {
         turn: u32,
         first: u32,
     },
-    // The turn before a turn in which a byte was printed, counted from 0.
+    // The turn in which a byte was printed, counted from 0.
     When {
-        turn: u32,
         number: u32,
     },
 }
@@ -76,7 +75,7 @@ impl Search {
                 number,
             } => find_change(alloc, engine, from, to, drive, number),
             Search::TextFrom { kind, turn, first } => find_text(alloc, engine, kind, turn, first),
-            Search::When { turn, number } => find_turn_of_byte(alloc, engine, turn, number),
+            Search::When { number } => find_turn_of_byte(alloc, engine, number),
         }
     }
 }

@@ -33,7 +33,8 @@ the turns from N on and before M are searched; F is a byte, counted from 0:
   change N M D I       the same of drive D, in version 2
   text N from F        what was printed before turn N, from byte F on
   punched N from F     what was punched before turn N, from byte F on
-  when N F             the turn before N in which byte F was printed
+  when F               the turn in which byte F was printed; the run goes on to
+                       that turn, or to turn 1000000000
 ";
 
 fn main(rt: HostRuntime) -> ExitCode {

@@ -93,13 +93,12 @@ abbrev pub text_from_form : TextKind → List (List ℕ) → Option Search
 text_from_form kind arguments = option_map (λ part. TextFrom kind part.0 part.1)
     (part_named arguments)
 
--- `when N F`: a turn, and a byte by its number, in decimal
+-- `when F`: a byte by its number, in decimal
 abbrev pub when_form : List (List ℕ) → Option Search
 when_form arguments = do
-  (turn, number) ← two_of arguments
-  n ← turn_named turn
+  number ← one_of arguments
   f ← count_named number
-  Some (When n f)
+  Some (When f)
 
 -- a search by its name and the words that follow it
 unfoldable pub search_with : Version → List ℕ → List (List ℕ) → Option Search

@@ -197,12 +197,10 @@ fn read_text_from(kind: TextKind, arguments: &[u8]) -> Option<Search>
     Some(Search::TextFrom { kind, turn, first })
 }
 
-// `when N F`
+// `when F`
 fn read_when(arguments: &[u8]) -> Option<Search>
     ensures { result ≡ when_form (words_of_line arguments.now) }
 {
-    let (turn, number) = two_words(arguments)?;
-    let turn = read_turn(turn)?;
-    let number = read_count(number)?;
-    Some(Search::When { turn, number })
+    let number = read_count(one_word(arguments)?)?;
+    Some(Search::When { number })
 }

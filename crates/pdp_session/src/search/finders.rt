@@ -72,17 +72,12 @@ pub fn find_text(
     Ok(Finding::TextFrom(kind, part.bytes))
 }
 
-// The turn before a turn in which a byte was printed.
-pub fn find_turn_of_byte(
-    alloc: Global,
-    engine: &mut Engine,
-    turn: u32,
-    number: u32,
-) -> Result<Finding, Fault>
+// The turn in which a byte was printed.
+pub fn find_turn_of_byte(alloc: Global, engine: &mut Engine, number: u32) -> Result<Finding, Fault>
     ensures finding { result ≡ question_answer
-        (search_result (Search.When turn number) engine.old.past) (for_memory result) }
+        (search_result (Search.When number) engine.old.past) (for_memory result) }
     ensures past { engine.new.past ≡ engine.old.past }
 {
-    let found = engine.turn_of_byte(alloc, TextKind::Printed, number, turn)?;
+    let found = engine.turn_of_byte(alloc, TextKind::Printed, number)?;
     Ok(Finding::When(found.turn))
 }

@@ -8,8 +8,8 @@ use Rattle.pdp_session.proofs.search.finders.find_turn_of_byte.Goals as goal
 pub returns-in_err-found-clause-finding : goal.returns-in_err-found-clause-finding
 returns-in_err-found-clause-finding c =
     let (fault, is, same) = err_from_is_err_and c.from_residual.result c.from_residual.ensures.1 in
-    rw (is, same) (search_refused (When c.args.turn c.args.number) c.args.engine.now.past c.in_err-found.field-0.0 c.in_err-found.ensures.refusal)
+    rw (is, same) (search_refused (When c.args.number) c.args.engine.now.past c.in_err-found.field-0.0 c.in_err-found.ensures.refusal)
 
 pub returns-clause-finding : goal.returns-clause-finding
 returns-clause-finding c =
-    search_answered (When c.args.turn c.args.number) c.args.engine.now.past (found.When c.in_ok-found.found.turn) c.in_ok-found.ensures.refusal (ap found.When c.in_ok-found.ensures.value)
+    search_answered (When c.args.number) c.args.engine.now.past (found.When c.in_ok-found.found.turn) c.in_ok-found.ensures.refusal (ap found.When c.in_ok-found.ensures.value)
