@@ -1,7 +1,6 @@
 //! Tests of the engine, and of the session as a call: what no reply tells. That is how many turns
-//! are run for a question, the known turn, the stride, which states are kept, what searches find,
-//! which turns begin quietly, a machine without decoded lines, a full script, and streams that
-//! fail.
+//! are run for a question or a search, the known turn, the stride, which states are kept, which
+//! turns begin quietly, a machine without decoded lines, a full script, and streams that fail.
 //!
 //! They stand in a crate of their own, since a crate that has tests is proved once more for them.
 //! What lines make of an engine is in the rows and tables of sessions.
@@ -9,8 +8,6 @@
 
 #[cfg(test)]
 mod cut_streams;
-#[cfg(test)]
-mod disk_changes;
 #[cfg(test)]
 mod dropped_lines;
 #[cfg(test)]
@@ -25,7 +22,5 @@ mod script;
 mod searches;
 #[cfg(test)]
 mod steps;
-#[cfg(test)]
-mod text_parts;
 #[cfg(test)]
 mod turns;
