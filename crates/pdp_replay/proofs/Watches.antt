@@ -23,8 +23,8 @@ use Rattle.pdp_replay.specs.Ask.TextParts.{bytes_at}
 use Rattle.pdp_replay.specs.Ask.Watches.{IsInside, PassesTo, bytes_of, is_met, is_met_last, is_watched_at}
 use Rattle.pdp_replay.specs.declared.ask.text_part.TextKind.{TextKind}
 use Rattle.pdp_replay.specs.declared.ask.text_part.TextKind.TheVariants.{Printed, Punched}
-use Rattle.pdp_replay.specs.declared.ask.watch.Watch.{Watch}
-use Rattle.pdp_replay.specs.declared.ask.watch.Watch.TheVariants as watch
+use Rattle.pdp_replay.specs.declared.ask.watch.Watchpoint.{Watchpoint}
+use Rattle.pdp_replay.specs.declared.ask.watch.Watchpoint.TheVariants as watch
 use Rattle.pdp_replay.proofs.CalmWays.{turn_after, way_on_calmly}
 use Rattle.pdp_replay.proofs.CoreSizes.{core_keeps_size}
 use Rattle.pdp_replay.proofs.KeptBytes.{as_long}
@@ -35,14 +35,14 @@ use Rattle.pdp_replay.proofs.TextParts.{bytes_grow}
 use Rattle.pdp_replay.proofs.TurnWrites.{not_written, written_if}
 
 -- a machine can be watched in the same state, after its next turn, and after turns without events
-pub inside_same : (watching : Watch) (before after : MachineWithTexts) → after.state ≡ before.state → IsInside watching before
+pub inside_same : (watching : Watchpoint) (before after : MachineWithTexts) → after.state ≡ before.state → IsInside watching before
     → IsInside watching after
 inside_same (watch.Act sought) before after same inside = tt
 inside_same (watch.Write number) before after same inside =
     let size = ap (λ (s : MachineState). length s.world.bus.core) same in omega (arith, size, inside)
 inside_same (watch.Output kind number) before after same inside = tt
 
-pub inside_turn : (watching : Watch) (events : List Event) (before ready after : MachineWithTexts) → ready.state ≡ before.state
+pub inside_turn : (watching : Watchpoint) (events : List Event) (before ready after : MachineWithTexts) → ready.state ≡ before.state
     → after.state ≡ after_turn events ready.state → IsInside watching before → IsInside watching after
 inside_turn (watch.Act sought) events before ready after same is inside = tt
 inside_turn (watch.Write number) events before ready after same is inside =
@@ -51,7 +51,7 @@ inside_turn (watch.Write number) events before ready after same is inside =
     omega (arith, size, was, inside)
 inside_turn (watch.Output kind number) events before ready after same is inside = tt
 
-pub inside_calmly : (watching : Watch) (n : ℕ) (before after : MachineWithTexts) → after ≡ after_calm_turns n before
+pub inside_calmly : (watching : Watchpoint) (n : ℕ) (before after : MachineWithTexts) → after ≡ after_calm_turns n before
     → IsInside watching before → IsInside watching after
 inside_calmly (watch.Act sought) n before after is inside = tt
 inside_calmly (watch.Write number) n before after is inside =
@@ -88,7 +88,7 @@ few_out kind number n m now count is text punched counted few =
     subst (λ (w : MachineWithTexts). length (bytes_of kind w.state) ≤ number) is (omega (arith, size, counted, few))
 
 -- whether a turn is watched for, told by its act and what it left
-pub met_there : (p : Past) (watching : Watch) (known : ℕ) (events : List Event) (before ready now : MachineWithTexts) (turn pc : ℕ) (mode : Mode) (act : Act)
+pub met_there : (p : Past) (watching : Watchpoint) (known : ℕ) (events : List Event) (before ready now : MachineWithTexts) (turn pc : ℕ) (mode : Mode) (act : Act)
     → events ≡ events_at p.script.entries before.state.turn → IsUnderWay p known before → IsUnderWay p known now → ready.state ≡ before.state
     → turn ≡ ready.state.turn → pc ≡ (regs_of ready.state.world).pc → mode ≡ ready.state.world.bus.io_page.status.mode
     → act ≡ turn_act ready.state.turn events ready.state.world → now.state.turn ≡ before.state.turn + 1 → IsInside watching now
@@ -111,7 +111,7 @@ met_there p (watch.Output kind number) known events before ready now turn pc mod
     ap (λ bytes. nat_lt number (length bytes)) (sym (bytes_there kind p (before.state.turn + 1) now.state there))
 
 -- and so the first of one turn
-pub first_met : (p : Past) (watching : Watch) (known : ℕ) (events : List Event) (before ready now : MachineWithTexts) (turn pc : ℕ) (mode : Mode) (act : Act)
+pub first_met : (p : Past) (watching : Watchpoint) (known : ℕ) (events : List Event) (before ready now : MachineWithTexts) (turn pc : ℕ) (mode : Mode) (act : Act)
     (met : Bool) → events ≡ events_at p.script.entries before.state.turn → IsUnderWay p known before → IsUnderWay p known now
     → ready.state ≡ before.state → turn ≡ ready.state.turn → pc ≡ (regs_of ready.state.world).pc
     → mode ≡ ready.state.world.bus.io_page.status.mode → act ≡ turn_act ready.state.turn events ready.state.world
@@ -151,7 +151,7 @@ silent_nowhere p kind number first now m here few =
     le-ltb number (length (bytes_at kind p (turn + 1))) (omega (arith, grows, size, few))
 
 -- the first of the turns that a machine passed on its way
-pub first_passed : (p : Past) (watching : Watch) (known to n : ℕ) (m now : MachineWithTexts) → now ≡ after_calm_turns n m
+pub first_passed : (p : Past) (watching : Watchpoint) (known to n : ℕ) (m now : MachineWithTexts) → now ≡ after_calm_turns n m
     → now.state.turn ≡ m.state.turn + n → 0 < n → now.state.turn ≤ to → IsWithoutEvents p m.state.turn to → IsUnderWay p known m
     → IsInside watching m → PassesTo watching n m
     → IsFirst (is_watched_at p watching) m.state.turn now.state.turn (or_turn None (is_met_last watching (now.state.turn - 1) now) (now.state.turn - 1))

@@ -17,19 +17,19 @@ use Rattle.pdp_replay.specs.Ask.TextParts.{is_out_after}
 use Rattle.pdp_replay.specs.Ask.Writes.{is_written}
 use Rattle.pdp_replay.specs.declared.ask.text_part.TextKind.{TextKind}
 use Rattle.pdp_replay.specs.declared.ask.text_part.TextKind.TheVariants.{Printed, Punched}
-use Rattle.pdp_replay.specs.declared.ask.watch.Watch.{Watch}
-use Rattle.pdp_replay.specs.declared.ask.watch.Watch.TheVariants as watch
+use Rattle.pdp_replay.specs.declared.ask.watch.Watchpoint.{Watchpoint}
+use Rattle.pdp_replay.specs.declared.ask.watch.Watchpoint.TheVariants as watch
 use Rattle.pdp_replay.specs.declared.run.kept_run.KeptRun.{KeptRun}
 
 -- is turn t what a search watches for? A turn that begins with what is sought; one that writes the
 -- core word of this number; or one after which more than so many bytes of a text came out
-abbrev pub is_watched_at : Past → Watch → ℕ → Bool
+abbrev pub is_watched_at : Past → Watchpoint → ℕ → Bool
 is_watched_at p (watch.Act sought) t = is_sought_at p sought t
 is_watched_at p (watch.Write number) t = is_written p number t
 is_watched_at p (watch.Output kind number) t = is_out_after kind number p t
 
 -- a machine can be watched: a word is in its core
-abbrev pub IsInside : Watch → MachineWithTexts → Type 0
+abbrev pub IsInside : Watchpoint → MachineWithTexts → Type 0
 IsInside (watch.Write number) m = number < length m.state.world.bus.core
 IsInside _ m = Unit {0}
 
@@ -46,7 +46,7 @@ is_of_turn t (Some stamp) = stamp.turn == t
 
 -- was this turn watched for, which had this act, with PC and the mode before it, and left this
 -- machine?
-abbrev pub is_met : Watch → ℕ → Act → ℕ → Mode → MachineWithTexts → Bool
+abbrev pub is_met : Watchpoint → ℕ → Act → ℕ → Mode → MachineWithTexts → Bool
 is_met (watch.Act sought) t act pc mode now = is_sought sought act pc mode
 is_met (watch.Write number) t act pc mode now = is_of_turn t (word_stamp number now)
 is_met (watch.Output kind number) t act pc mode now = nat_lt number (length (bytes_of kind
@@ -54,44 +54,45 @@ is_met (watch.Output kind number) t act pc mode now = nat_lt number (length (byt
 
 -- of a machine's next n turns without events none is watched for, but maybe the last, if that
 -- writes the word
-abbrev pub PassesTo : Watch → ℕ → MachineWithTexts → Type 0
+abbrev pub PassesTo : Watchpoint → ℕ → MachineWithTexts → Type 0
 PassesTo (watch.Act sought) n m = NoneIsSought sought n m
 PassesTo (watch.Write number) n m = StampStays number n m
 PassesTo (watch.Output kind number) n m = 0 < n → length (bytes_of kind (after_calm_turns n
     m).state) ≤ number
 
 -- was the last of them, which left this machine?
-abbrev pub is_met_last : Watch → ℕ → MachineWithTexts → Bool
+abbrev pub is_met_last : Watchpoint → ℕ → MachineWithTexts → Bool
 is_met_last (watch.Write number) t now = is_of_turn t (word_stamp number now)
 is_met_last _ t now = false
 
 -- this is the first turn that is watched for of those that took a machine from one state to
 -- another, in every run in whose next turn these events happen
-abbrev pub IsFirstWith : List Event → Watch → MachineWithTexts → MachineWithTexts → Option ℕ
+abbrev pub IsFirstWith : List Event → Watchpoint → MachineWithTexts → MachineWithTexts → Option ℕ
     → Type 0
 IsFirstWith events watch before after found = (p : Past) (known : ℕ)
     → events ≡ events_at p.script.entries before.state.turn → IsUnderWay p known before
     → IsFirst (is_watched_at p watch) before.state.turn after.state.turn found
 
 -- in every run without events before turn `to`
-abbrev pub IsFirstQuietly : ℕ → Watch → MachineWithTexts → MachineWithTexts → Option ℕ → Type 0
+abbrev pub IsFirstQuietly : ℕ → Watchpoint → MachineWithTexts → MachineWithTexts → Option ℕ
+    → Type 0
 IsFirstQuietly to watch before after found = (p : Past) (known : ℕ)
     → IsWithoutEvents p before.state.turn to → IsUnderWay p known before
     → IsFirst (is_watched_at p watch) before.state.turn after.state.turn found
 
 -- in every run with this script
-abbrev pub IsFirstOnWay : ScriptData → Watch → MachineWithTexts → MachineWithTexts → Option ℕ
+abbrev pub IsFirstOnWay : ScriptData → Watchpoint → MachineWithTexts → MachineWithTexts → Option ℕ
     → Type 0
 IsFirstOnWay script watch before after found = (p : Past) (known : ℕ) → p.script ≡ script
     → IsUnderWay p known before
     → IsFirst (is_watched_at p watch) before.state.turn after.state.turn found
 
 -- and in every run with this script that is kept, of those from its machine's turn to another one
-abbrev pub IsFirstTo : ℕ → ScriptData → Watch → KeptRun → Option ℕ → Type 0
+abbrev pub IsFirstTo : ℕ → ScriptData → Watchpoint → KeptRun → Option ℕ → Type 0
 IsFirstTo to script watch r found = (p : Past) → p.script ≡ script → IsOnWay p r
     → IsFirst (is_watched_at p watch) r.machine.state.turn to found
 
-abbrev pub IsFirstInRun : ScriptData → Watch → KeptRun → KeptRun → Option ℕ → Type 0
+abbrev pub IsFirstInRun : ScriptData → Watchpoint → KeptRun → KeptRun → Option ℕ → Type 0
 IsFirstInRun script watch before after found =
     IsFirstTo after.machine.state.turn script watch before found
 
@@ -114,7 +115,7 @@ StaysOnWay script before after = (p : Past) (known : ℕ) → p.script ≡ scrip
 -- A part of a search took a machine from one state to another, of turn `to` at the latest, and a
 -- meter from one count to another: it counted no more than the turns that were run. The machine can
 -- still be watched.
-pub record SearchesTo (to : ℕ) (watch : Watch) (before after : MachineWithTexts)
+pub record SearchesTo (to : ℕ) (watch : Watchpoint) (before after : MachineWithTexts)
     (metered counted : ℕ) : Type 0 where
   pub inside : IsInside watch after
   pub least : before.state.turn ≤ after.state.turn

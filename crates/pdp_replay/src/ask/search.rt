@@ -13,7 +13,7 @@ ghost use Rattle.pdp_replay.specs.Ask.Watches.{IsFirstInRun, IsFirstTo, IsInside
 
 use crate::ask::Sought;
 use crate::ask::search_turns::search_part;
-use crate::ask::watch::Watch;
+use crate::ask::watch::Watchpoint;
 use crate::engine::Engine;
 use crate::run::KeptRun;
 use pdp_cpu::Meter;
@@ -128,7 +128,7 @@ fn find_first(
         ≤ run.old.meter + max from run.new.machine.state.turn + run.old.ladder.stride }
 {
     run.reach(alloc, script, from)?;
-    search(alloc, run, script, Watch::Act(sought), to)
+    search(alloc, run, script, Watchpoint::Act(sought), to)
 }
 
 /// Runs turns to the end of the first that is watched for, or to turn `to`. Returns the turn that
@@ -139,7 +139,7 @@ pub(crate) fn search(
     alloc: Global,
     run: &mut KeptRun,
     script: &Script,
-    watch: Watch,
+    watch: Watchpoint,
     to: u32,
 ) -> Result<Option<u32>, NoMemory>
     requires ready { CanGoOn run.old }
@@ -169,7 +169,7 @@ fn search_leg(
     alloc: Global,
     run: &mut KeptRun,
     script: &Script,
-    watch: Watch,
+    watch: Watchpoint,
     to: u32,
 ) -> Result<Option<u32>, NoMemory>
     requires ready { CanGoOn run.old }

@@ -6,7 +6,7 @@ ghost use Rattle.pdp_replay.specs.Ask.Watches.{IsFirstOnWay, IsFirstQuietly, IsF
 ghost use Rattle.pdp_replay.specs.Ask.Watches.{IsInside, SearchesTo, StaysOnWay, StaysQuietly};
 ghost use Rattle.pdp_replay.specs.Ask.Watches.{StaysWith};
 
-use crate::ask::watch::{Watch, turn_if};
+use crate::ask::watch::{Watchpoint, turn_if};
 use crate::run::quiet_until;
 use pdp_cpu::{Act, Meter, PagedMachine, WordTable};
 use pdp_script::Script;
@@ -22,7 +22,7 @@ pub(crate) fn search_part(
     words: &WordTable,
     script: &Script,
     meter: &mut Meter,
-    watch: Watch,
+    watch: Watchpoint,
     to: u32,
 ) -> Result<Option<u32>, NoMemory>
     requires forward { machine.old.state.turn < to }
@@ -50,7 +50,7 @@ fn search_stretch(
     words: &WordTable,
     script: &Script,
     meter: &mut Meter,
-    watch: Watch,
+    watch: Watchpoint,
     to: u32,
 ) -> Result<Option<u32>, NoMemory>
     requires forward { machine.old.state.turn < to }
@@ -79,7 +79,7 @@ fn search_quiet(
     machine: &mut PagedMachine,
     words: &WordTable,
     meter: &mut Meter,
-    watch: Watch,
+    watch: Watchpoint,
     to: u32,
 ) -> Result<Option<u32>, NoMemory>
     requires forward { machine.old.state.turn < to }
@@ -106,7 +106,7 @@ fn search_some(
     machine: &mut PagedMachine,
     words: &WordTable,
     meter: &mut Meter,
-    watch: Watch,
+    watch: Watchpoint,
     to: u32,
 ) -> Result<Option<u32>, NoMemory>
     requires forward { machine.old.state.turn < to }
@@ -128,7 +128,7 @@ fn search_some(
 fn search_idle(
     machine: &mut PagedMachine,
     meter: &mut Meter,
-    watch: Watch,
+    watch: Watchpoint,
     to: u32,
 ) -> Result<Option<u32>, NoMemory>
     requires forward { machine.old.state.turn < to }
@@ -177,7 +177,7 @@ fn look(
     machine: &mut PagedMachine,
     meter: &mut Meter,
     events: &[Event],
-    watch: Watch,
+    watch: Watchpoint,
 ) -> Result<Looked, NoMemory>
     requires limit { machine.old.state.turn < LAST_TURN }
     requires inside { IsInside watch machine.old }

@@ -15,7 +15,7 @@ ghost use Rattle.pdp_replay.specs.Ask.TextParts.{turn_checked, IsByteFound, IsTo
 
 use crate::ask::items::read_bytes;
 use crate::ask::search::search;
-use crate::ask::watch::Watch;
+use crate::ask::watch::Watchpoint;
 use crate::ask::{Bytes, Found};
 use crate::engine::Engine;
 use crate::run::KeptRun;
@@ -214,7 +214,7 @@ fn find_byte(
             alloc,
             run,
             script,
-            Watch::Output { kind, number },
+            Watchpoint::Output { kind, number },
             LAST_TURN,
         ),
     }

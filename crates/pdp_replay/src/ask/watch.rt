@@ -3,7 +3,7 @@ ghost use Rattle.pdp_cpu.specs.Turns.CalmTurns.{after_calm_turns};
 ghost use Rattle.pdp_replay.specs.Ask.Searches.{or_turn};
 ghost use Rattle.pdp_replay.specs.Ask.Watches.{bytes_of, is_met, is_met_last, is_of_turn};
 ghost use Rattle.pdp_replay.specs.Ask.Watches.{IsInside, PassesTo};
-ghost use Rattle.pdp_replay.specs.declared.ask.watch.Watch.TheVariants.{Output};
+ghost use Rattle.pdp_replay.specs.declared.ask.watch.Watchpoint.TheVariants.{Output};
 
 use crate::ask::{Sought, TextKind};
 use pdp_cpu::{Act, Meter, Mode, PagedMachine, WordTable};
@@ -11,7 +11,7 @@ use pdp_store::Stamp;
 
 /// What a search watches for, turn by turn.
 #[derive(Clone, Copy)]
-pub(crate) enum Watch {
+pub(crate) enum Watchpoint {
     /// A turn that begins with what is sought.
     Act(Sought),
     /// A turn that writes the core word of this number (half its byte address).
@@ -20,7 +20,7 @@ pub(crate) enum Watch {
     Output { kind: TextKind, number: u32 },
 }
 
-impl Watch {
+impl Watchpoint {
     /// Whether this turn is watched for, which had this act, with PC and the mode before it, and
     /// left this machine.
     #[inline(always)]
@@ -29,9 +29,9 @@ impl Watch {
         ensures { result ≡ is_met self turn act pc mode now.now }
     {
         match self {
-            Watch::Act(sought) => sought.is_met(act, pc, mode),
-            Watch::Write { number } => is_of_turn(turn, now.last(number)),
-            Watch::Output { kind, number } => count_out(kind, now) > number as usize,
+            Watchpoint::Act(sought) => sought.is_met(act, pc, mode),
+            Watchpoint::Write { number } => is_of_turn(turn, now.last(number)),
+            Watchpoint::Output { kind, number } => count_out(kind, now) > number as usize,
         }
     }
 
@@ -55,9 +55,11 @@ impl Watch {
         ensures counted { meter.old ≤ meter.new }
     {
         match self {
-            Watch::Act(sought) => sought.pass(machine, words, meter, to),
-            Watch::Write { number } => machine.run_calmly_to_write(words, meter, to, number),
-            Watch::Output { kind, number } => pass_output(machine, words, meter, to, kind, number),
+            Watchpoint::Act(sought) => sought.pass(machine, words, meter, to),
+            Watchpoint::Write { number } => machine.run_calmly_to_write(words, meter, to, number),
+            Watchpoint::Output { kind, number } => pass_output(
+                machine, words, meter, to, kind, number,
+            ),
         }
     }
 
@@ -70,17 +72,17 @@ impl Watch {
             (now.now.state.turn - 1) }
     {
         match self {
-            Watch::Write { number } => {
+            Watchpoint::Write { number } => {
                 let turn = now.turns() - 1;
                 turn_if(turn, is_of_turn(turn, now.last(number)))
             }
-            Watch::Act(_) | Watch::Output { .. } => None,
+            Watchpoint::Act(_) | Watchpoint::Output { .. } => None,
         }
     }
 }
 
-/// `Watch::pass` for a turn after which more than `number` bytes of a text came out: none is run if
-/// so many did before.
+/// `Watchpoint::pass` for a turn after which more than `number` bytes of a text came out: none is
+/// run if they did before.
 fn pass_output(
     machine: &mut PagedMachine,
     words: &WordTable,

@@ -14,7 +14,7 @@ ghost use Rattle.pdp_replay.specs.Ask.Writes.{IsNextWriteTo, IsWriteFound, IsWri
 
 use crate::ask::LastWrite;
 use crate::ask::search::{check_search, search};
-use crate::ask::watch::Watch;
+use crate::ask::watch::Watchpoint;
 use crate::engine::Engine;
 use crate::past::{UNIT_WORDS, core_word};
 use crate::run::KeptRun;
@@ -216,7 +216,7 @@ fn next_write(
     ensures arrives { IfOk result (λ write. ArrivesAt (turn_after_write write to) run.old run.new) }
     ensures advances { Advances run.old.machine.state.turn to run.old run.new }
 {
-    let found = search(alloc, run, script, Watch::Write { number }, to)?;
+    let found = search(alloc, run, script, Watchpoint::Write { number }, to)?;
     Ok(write_found(found, &run.machine, number))
 }
 
