@@ -231,18 +231,6 @@ pub arrives_past : (known turn : ℕ) (before after : KeptRun) → turn < known 
 arrives_past known turn before after below there =
     let same : known ≡ max known (turn + 1) = omega (arith, below) in subst (λ n. ArrivesAt n before after) same there
 
--- and one that then went on to another turn came to that one
-pub arrives_later : (known most to : ℕ) (before r after : KeptRun) → ArrivesAt known before r → Advances r.machine.state.turn most r after → ArrivesAt to r after
-    → ArrivesAt (max known to) before after
-arrives_later known most to before r after there on then =
-    let here = there.turn in
-    let known_there = there.known in
-    let ran = on.ran in
-    let counted = on.counted in
-    let turn = then.turn in
-    let known_then = then.known in
-    record { turn = omega (arith, here, ran, counted, turn); short = then.short; known = omega (arith, known_there, known_then) }
-
 -- a run that came to a turn is on its way there
 pub on_way_there : (p : Past) (from most to : ℕ) (before r : KeptRun) → IsKeptRun p r → Advances from most before r → ArrivesAt to before r → IsOnWay p r
 on_way_there p from most to before r run on there =
