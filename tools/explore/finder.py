@@ -112,16 +112,22 @@ class Finder:
                 low = middle + 1
         return found
 
-    def writes(self, turns: range, address: int) -> Iterator[LastWrite]:
-        """The writes to the word in these turns, in their order; of each turn the last."""
+    def write_lines(self, turns: range, address: int) -> Iterator[str]:
         for part in parts_of(turns):
             while part:
-                writes, part = self.machine.writes(part, address)
-                yield from writes
+                lines, part = self.machine.writes(part, address)
+                yield from lines
+
+    def writes(self, turns: range, address: int) -> Iterator[LastWrite]:
+        """The writes to the word in these turns, in their order; of each turn the last."""
+        return map(LastWrite.of_line, self.write_lines(turns, address))
 
     def first_write_of(self, turns: range, address: int, word: int) -> Optional[LastWrite]:
-        """The first write that makes the word this value."""
-        return next((it for it in self.writes(turns, address) if it.word == word), None)
+        """The first write that makes the word this value. Only its line is taken apart, since a
+        word may be written in each turn."""
+        end = f" {word:06o}"
+        lines = (it for it in self.write_lines(turns, address) if it.endswith(end))
+        return next(map(LastWrite.of_line, lines), None)
 
     # The text
 

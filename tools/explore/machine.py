@@ -305,14 +305,14 @@ class Machine:
         self.asked.reach(max(self.asked.greatest, turn + 1))
         return turn
 
-    def writes(self, turns: range, address: int) -> Tuple[List[LastWrite], range]:
-        """The first writes to a core word in these turns, and the turns that are left."""
+    def writes(self, turns: range, address: int) -> Tuple[List[str], range]:
+        """A line for each of the first writes to a core word in these turns, and the turns that are
+        left."""
         head, *lines = self.read(f"writes {turns.start} {turns.stop} {address:o}").splitlines()
-        writes = [LastWrite.of_line(it) for it in lines]
         is_all = len(head.split()) == 2
-        left = range(turns.stop if is_all else writes[-1].turn + 1, turns.stop)
+        left = range(turns.stop if is_all else LastWrite.of_line(lines[-1]).turn + 1, turns.stop)
         self.asked.reach(left.start)
-        return writes, left
+        return lines, left
 
     def text(self, turn: int) -> bytes:
         return text_of(self.read(f"text {turn}"))
