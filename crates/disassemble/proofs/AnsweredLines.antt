@@ -51,7 +51,7 @@ answered_more (Some text) (Some unread) left written now after was_line (more, o
       goes ∙ ap (λ l. out ++ answers_of l) (sym same) ∙ ap (λ l. out ++ l) (answers_next unread) ∙ sym (append_assoc out reply rest),
     )
 
--- where there was no further line, all are answered
+-- if there was no further line, all are answered
 pub answered_all : (unread rest left written now after : Option (List ℕ)) (was_line : Bool) → Answered unread rest written now
     → AnswersNext rest left now after was_line → was_line ≡ false → IfSome unread (λ text. Appends written after (answers_of text))
 answered_all None rest left written now after was_line done next ended = tt

@@ -88,7 +88,7 @@ lines_after : (front rest : List ℕ)
     → lines_of_parts (front ∷ slice_split is_feed rest) ≡ strip_carriage_return front ∷ lines rest
 lines_after front rest = parts_after front (slice_split is_feed rest) (split_has rest)
 
--- what was read up to the first LF, where there is none: the line is what was read
+-- what was read up to the first LF, if there is none: the line is what was read
 line_of_whole : (text : List ℕ) → 0 < length text → list_all is_inside text ≡ true → line_in text ≡ text
 line_of_whole text some inside = by_last (slice_index text (length text - 1) == 10) refl
   where

@@ -1,4 +1,4 @@
--- The answers to lines (this project's profile).
+-- The answers to lines [P].
 use Rattle.std.specs.Prelude.{◌≡◌, ℕ, ◌-◌, Bool, ◌==◌, not, if◌then◌else◌, List, [], ◌++◌, length}
 use Rattle.std.specs.Prelude.{slice_index, take, codes, decimal, Option, Some, Result, Ok, Err}
 use Rattle.std.specs.Prelude.{IfSome}

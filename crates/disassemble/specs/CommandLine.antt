@@ -1,4 +1,4 @@
--- What the words of the command line ask for (this project's profile).
+-- What the words of the command line ask for [P].
 use Rattle.std.specs.Prelude.{◌≡◌, ◌≢◌, [], Option, Some, None, Result, Ok, Err, codes}
 use Rattle.clap.specs.Words.{App, Kinds, IsAmong, new_app}
 use Rattle.clap.specs.declared.error.kind.ErrorKind.{ErrorKind}

@@ -1,4 +1,4 @@
--- The exit statuses and the lines on standard error (this project's profile).
+-- The exit statuses and the lines on standard error [P].
 use Rattle.std.specs.Prelude.{ℕ, List, [], codes}
 use Rattle.std.specs.declared.io.ErrorKind.{ErrorKind}
 use Rattle.std.specs.declared.io.ErrorKind.TheVariants.{OutOfMemory}

@@ -1,4 +1,4 @@
--- A line of input: an address and three words, in octal (this project's profile).
+-- A line of input: an address and three words, in octal [P].
 use Rattle.std.specs.Prelude.{ℕ, Bool, ◌||◌, ◌==◌, not, nat_lt, if◌then◌else◌, List, [], ◌∷◌}
 use Rattle.std.specs.Prelude.{length, filter, Option, Some, None, Result, Ok, Err}
 use Rattle.std.specs.List.{slice_split}

@@ -7,7 +7,7 @@ ghost use Rattle.disassemble.specs.declared.ending.Ending.TheVariants.{NoMemory}
 use std::alloc::AllocError;
 use std::io::{Error, ErrorKind};
 
-/// How a run of the program ends (this project's profile).
+/// How a run of the program ends [P].
 #[derive(Clone, Copy)]
 pub enum Ending {
     /// All lines were answered, or help was written.
@@ -21,7 +21,7 @@ pub enum Ending {
 }
 
 impl Ending {
-    /// The exit status: 0, 2, 3 and 4, as those of pdp11 (this project's profile).
+    /// The exit status: 0, 2, 3 and 4, as those of pdp11 [P].
     pub fn status(self) -> u8
         ensures { result ≡ ending_status self }
     {
@@ -33,7 +33,7 @@ impl Ending {
         }
     }
 
-    /// The line for standard error, without its line feed; empty where there is none.
+    /// The line for standard error, without its line feed; empty if there is none.
     pub fn line(self) -> &'static str
         ensures { result.now ≡ ending_line self }
     {

@@ -34,7 +34,7 @@ fn main(rt: HostRuntime) -> ExitCode {
     };
     let line = ending.line();
     if !line.is_empty() {
-        // where this can't be written there is nobody to tell
+        // if this can't be written, nobody can be told
         let _ = rt.eprintln(line);
     }
     ExitCode::from(ending.status())

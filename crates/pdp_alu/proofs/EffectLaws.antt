@@ -24,7 +24,7 @@ unfolding com_effect inc_effect neg_effect
 complement_plus_one Word operand codes fits = omega arith
 complement_plus_one Byte operand codes fits = omega arith
 
--- N exclusive or V after CMP, where it is known which operands have the top bit set
+-- N exclusive or V after CMP, if it is known which operands have the top bit set
 less_by_signs : (size : Size) (source destination : ℕ) → source < span size → destination < span size →
     (source < half size) ⊎ (half size ≤ source) → (destination < half size) ⊎ (half size ≤ destination) →
     differ (cmp_effect size source destination).codes.n (cmp_effect size source destination).codes.v

@@ -62,7 +62,7 @@ joined true once later all marked unmarked = refl
 joined false true later all marked unmarked = sym (marked refl)
 joined false false later all marked unmarked = unmarked refl
 
--- the sign changes on the way exactly where the product is too large
+-- the sign changes on the way exactly if the product is too large
 left_marks : (sign n : ℕ) (s : Shifting) → s.number < 2 * sign
     → (iterate (shifted_left sign) n s).sign_changed ≡ (s.sign_changed || is_beyond sign (signed_by sign s.number *ℤ pos (2 ^ n)))
 unfolding changed_once

@@ -60,7 +60,7 @@ left_before sign n s fits (kept, others) = (doubles.0, others ∙ ap (λ x. x *�
   doubles : (s.sign_changed ≡ false) × (signed_by sign (shifted_left sign s).number ≡ signed_by sign s.number +ℤ signed_by sign s.number)
   doubles = left_doubles sign s fits kept
 
--- so many shifts to the left multiply by a power of 2, where the sign never changed
+-- so many shifts to the left multiply by a power of 2, if the sign never changed
 left_multiplies : (sign n : ℕ) (s : Shifting) → s.number < 2 * sign
     → (iterate (shifted_left sign) n s).sign_changed ≡ false
     → (s.sign_changed ≡ false) × (signed_by sign (iterate (shifted_left sign) n s).number ≡ signed_by sign s.number *ℤ pos (2 ^ n))

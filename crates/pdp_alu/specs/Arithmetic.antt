@@ -1,5 +1,5 @@
--- The effects of ADD, SUB and CMP: the sum or the difference, V where the signed one does not fit,
--- C where the unsigned one does not (DEC PDP-11/40 Processor Handbook (1972), Instruction set).
+-- The effects of ADD, SUB and CMP: the sum or the difference, V if the signed one does not fit, C
+-- if the unsigned one does not (DEC PDP-11/40 Processor Handbook (1972), Instruction set).
 use Rattle.std.specs.Prelude.{ℕ, ◌+◌, ◌-◌, ◌%◌, ◌+ℤ◌, ◌-ℤ◌, nat_le, nat_lt}
 use Rattle.pdp_word.specs.declared.size.Size.{Size}
 use Rattle.pdp_word.specs.declared.size.Size.TheVariants.{Word}

@@ -21,7 +21,7 @@ swab_effect word =
       };
     }
 
--- SXT: N in every bit; Z where N is clear, N and C are kept, V is cleared
+-- SXT: N in every bit; Z if N is clear, N and C are kept, V is cleared
 unfoldable pub sxt_effect : Codes → Effect
 sxt_effect codes =
     record {

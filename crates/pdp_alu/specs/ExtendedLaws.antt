@@ -1,6 +1,5 @@
 -- What the laws of MUL, DIV, ASH and ASHC say, for all operands that fit: each name is the law's
--- sentence (DEC PDP-11/40 Processor Handbook (1972), Instruction set; what it leaves open is this
--- project's profile).
+-- sentence (DEC PDP-11/40 Processor Handbook (1972), Instruction set; what it leaves open is [P]).
 use Rattle.std.specs.Prelude.{◌≡◌, ℕ, ℤ, pos, ◌-◌, ◌*◌, ◌%◌, ◌^◌, ◌<◌, ◌≤◌, ◌*ℤ◌, ◌⊎◌, true, false}
 use Rattle.std.specs.Prelude.{int_div, int_rem, unsigned_abs, IsFalse}
 use Rattle.std.specs.Int.{int_div_euclid, int_rem_euclid}
@@ -31,8 +30,8 @@ QuotientsAreUnique = (dividend divisor quotient remainder other_quotient other_r
     → (quotient ≡ other_quotient) × (remainder ≡ other_remainder)
 
 -- what DIV may make of its operands: quotient and remainder as signed words, and codes that tell of
--- the quotient; or nothing, where the divisor is 0, or where it isn't and the one quotient that
--- there is is no signed word
+-- the quotient; or nothing, if the divisor is 0, or if it isn't and the one quotient that there is
+-- is no signed word
 abbrev pub IsWordDivision : ℕ → ℕ → Div → Type 0
 IsWordDivision dividend divisor (Done quotient remainder codes) =
     IsDivision (signed_long dividend) (signed_value divisor) (signed_value quotient)
@@ -44,30 +43,30 @@ IsWordDivision dividend divisor (Kept codes) =
     remainder
     → overflows Word quotient ≡ true) × (0 < divisor) × (codes ≡ overflow_codes)
 
--- DIV divides the signed numbers, where the quotient is a signed word
+-- DIV divides the signed numbers, if the quotient is a signed word
 abbrev pub DivisionsAreExact : Type 0
 DivisionsAreExact = (dividend divisor : ℕ) → dividend < 2 ^ 32 → divisor < 0o200000
     → IsWordDivision dividend divisor (div_effect dividend divisor)
 
--- ASH to the left: where V is clear, the signed word is multiplied by 2 to the count
+-- ASH to the left: if V is clear, the signed word is multiplied by 2 to the count
 abbrev pub WordShiftsMultiply : Type 0
 WordShiftsMultiply = (word count : ℕ) → word < 0o200000 → count < 0o40 → IsFalse
     (ash_effect word count).codes.v
     → signed_value (ash_effect word count).value ≡ signed_value word *ℤ pos (2 ^ count)
 
--- ASHC to the left: where V is clear, the signed number is multiplied by 2 to the count
+-- ASHC to the left: if V is clear, the signed number is multiplied by 2 to the count
 abbrev pub LongShiftsMultiply : Type 0
 LongShiftsMultiply = (long count : ℕ) → long < 2 ^ 32 → count < 0o40 → IsFalse
     (ashc_effect long count).codes.v
     → signed_long (ashc_effect long count).value ≡ signed_long long *ℤ pos (2 ^ count)
 
--- ASH to the left: V is set exactly where the signed word times 2 to the count is no signed word
+-- ASH to the left: V is set exactly if the signed word times 2 to the count is no signed word
 abbrev pub OverflowMarksWordMultiples : Type 0
 OverflowMarksWordMultiples = (word count : ℕ) → word < 0o200000 → count < 0o40
     → (ash_effect word count).codes.v ≡ overflows Word (signed_value word *ℤ pos (2 ^ count))
 
--- ASHC to the left: V is set exactly where the signed number times 2 to the count is no signed
--- number of 32 bits
+-- ASHC to the left: V is set exactly if the signed number times 2 to the count is no signed number
+-- of 32 bits
 abbrev pub OverflowMarksLongMultiples : Type 0
 OverflowMarksLongMultiples = (long count : ℕ) → long < 2 ^ 32 → count < 0o40
     → (ashc_effect long count).codes.v ≡ overflows_long (signed_long long *ℤ pos (2 ^ count))
@@ -133,7 +132,7 @@ ProductsAreExact = (multiplicand multiplier : ℕ) → multiplicand < 0o200000 �
     → signed_long (mul_effect multiplicand multiplier).value ≡ signed_value multiplicand *ℤ
     signed_value multiplier
 
--- MUL: where C is clear, the low word alone is the product of the signed words
+-- MUL: if C is clear, the low word alone is the product of the signed words
 abbrev pub LowProductsAreExact : Type 0
 LowProductsAreExact = (multiplicand multiplier : ℕ) → multiplicand < 0o200000 → multiplier
     < 0o200000
@@ -141,7 +140,7 @@ LowProductsAreExact = (multiplicand multiplier : ℕ) → multiplicand < 0o20000
     → signed_value (low_word (mul_effect multiplicand multiplier).value)
     ≡ signed_value multiplicand *ℤ signed_value multiplier
 
--- MUL: C is set exactly where the product is no signed word, and V is clear
+-- MUL: C is set exactly if the product is no signed word, and V is clear
 abbrev pub CarryMarksLongProducts : Type 0
 CarryMarksLongProducts = (multiplicand multiplier : ℕ) → multiplicand < 0o200000 → multiplier
     < 0o200000

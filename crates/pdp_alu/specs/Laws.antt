@@ -1,6 +1,5 @@
 -- What the laws of the effects say, for all operands that fit: each name is the law's sentence (DEC
--- PDP-11/40 Processor Handbook (1972), Instruction set; what it leaves open is this project's
--- profile).
+-- PDP-11/40 Processor Handbook (1972), Instruction set; what it leaves open is [P]).
 use Rattle.std.specs.Prelude.{◌≡◌, ℕ, pos, ◌+◌, ◌*◌, ◌<◌, ◌==◌, ◌+ℤ◌, ◌-ℤ◌, ◌*ℤ◌, neg_ℤ, int_lt}
 use Rattle.std.specs.Prelude.{nat_lt, Bool, false, not, ◌&&◌, ◌||◌, IsFalse}
 use Rattle.pdp_word.specs.Bits.{bit_of, has_bit}
@@ -25,14 +24,14 @@ SumsAreExact = (source destination : ℕ) → source < 0o200000 → destination 
     destination).codes.c
     ≡ destination + source
 
--- ADD: where V is clear, the signed sum is that of the signed operands
+-- ADD: if V is clear, the signed sum is that of the signed operands
 abbrev pub SignedSumsAreExact : Type 0
 SignedSumsAreExact = (source destination : ℕ) → source < 0o200000 → destination < 0o200000
     → IsFalse (add_effect source destination).codes.v
     → signed_value (add_effect source destination).value ≡ signed_value destination +ℤ signed_value
     source
 
--- ADD: V is set exactly where the signed sum is no signed word
+-- ADD: V is set exactly if the signed sum is no signed word
 abbrev pub OverflowMarksSums : Type 0
 OverflowMarksSums = (source destination : ℕ) → source < 0o200000 → destination < 0o200000
     → (add_effect source destination).codes.v ≡ overflows Word (signed_value destination +ℤ
@@ -44,14 +43,14 @@ DifferencesAreExact = (source destination : ℕ) → source < 0o200000 → desti
     → (sub_effect source destination).value + source
     ≡ destination + 0o200000 * bit_of (sub_effect source destination).codes.c
 
--- SUB: where V is clear, the signed difference is that of the signed operands
+-- SUB: if V is clear, the signed difference is that of the signed operands
 abbrev pub SignedDifferencesAreExact : Type 0
 SignedDifferencesAreExact = (source destination : ℕ) → source < 0o200000 → destination < 0o200000
     → IsFalse (sub_effect source destination).codes.v
     → signed_value (sub_effect source destination).value ≡ signed_value destination -ℤ signed_value
     source
 
--- SUB: V is set exactly where the signed difference is no signed word
+-- SUB: V is set exactly if the signed difference is no signed word
 abbrev pub OverflowMarksDifferences : Type 0
 OverflowMarksDifferences = (source destination : ℕ) → source < 0o200000 → destination < 0o200000
     → (sub_effect source destination).codes.v ≡ overflows Word (signed_value destination -ℤ
@@ -77,7 +76,7 @@ ComparisonsTellLess = (size : Size) (source destination : ℕ) → source < span
     destination).codes.v
     ≡ int_lt (signed_at size source) (signed_at size destination)
 
--- CMP: V is set exactly where the signed difference is no signed number of the size
+-- CMP: V is set exactly if the signed difference is no signed number of the size
 abbrev pub OverflowMarksComparisons : Type 0
 OverflowMarksComparisons = (size : Size) (source destination : ℕ) → source < span size
     → destination < span size
@@ -100,35 +99,35 @@ NegativesAreComplementsPlusOne = (size : Size) (operand : ℕ) (codes : Codes) �
     → (inc_effect size (com_effect size operand).value codes).value ≡ (neg_effect size
     operand).value
 
--- INC: where V is clear, the signed result is one more
+-- INC: if V is clear, the signed result is one more
 abbrev pub IncrementsAddOne : Type 0
 IncrementsAddOne = (size : Size) (operand : ℕ) (codes : Codes) → operand < span size
     → IsFalse (inc_effect size operand codes).codes.v
     → signed_at size (inc_effect size operand codes).value ≡ signed_at size operand +ℤ pos 1
 
--- INC: V is set exactly where one more is no signed number of the size
+-- INC: V is set exactly if one more is no signed number of the size
 abbrev pub OverflowMarksIncrements : Type 0
 OverflowMarksIncrements = (size : Size) (operand : ℕ) (codes : Codes) → operand < span size
     → (inc_effect size operand codes).codes.v ≡ overflows size (signed_at size operand +ℤ pos 1)
 
--- DEC: where V is clear, the signed result is one less
+-- DEC: if V is clear, the signed result is one less
 abbrev pub DecrementsTakeOne : Type 0
 DecrementsTakeOne = (size : Size) (operand : ℕ) (codes : Codes) → operand < span size
     → IsFalse (dec_effect size operand codes).codes.v
     → signed_at size (dec_effect size operand codes).value ≡ signed_at size operand -ℤ pos 1
 
--- DEC: V is set exactly where one less is no signed number of the size
+-- DEC: V is set exactly if one less is no signed number of the size
 abbrev pub OverflowMarksDecrements : Type 0
 OverflowMarksDecrements = (size : Size) (operand : ℕ) (codes : Codes) → operand < span size
     → (dec_effect size operand codes).codes.v ≡ overflows size (signed_at size operand -ℤ pos 1)
 
--- NEG: where V is clear, the signed result is the negative
+-- NEG: if V is clear, the signed result is the negative
 abbrev pub NegativesNegate : Type 0
 NegativesNegate = (size : Size) (operand : ℕ) → operand < span size → IsFalse
     (neg_effect size operand).codes.v
     → signed_at size (neg_effect size operand).value ≡ neg_ℤ (signed_at size operand)
 
--- NEG: V is set exactly where the negative is no signed number of the size
+-- NEG: V is set exactly if the negative is no signed number of the size
 abbrev pub OverflowMarksNegatives : Type 0
 OverflowMarksNegatives = (size : Size) (operand : ℕ) → operand < span size
     → (neg_effect size operand).codes.v ≡ overflows size (neg_ℤ (signed_at size operand))
@@ -140,7 +139,7 @@ CarriesRunOn = (size : Size) (operand : ℕ) (codes : Codes) → operand < span 
     codes).codes.c
     ≡ operand + bit_of codes.c
 
--- ADC: V is set exactly where the signed operand plus the old C is no signed number of the size
+-- ADC: V is set exactly if the signed operand plus the old C is no signed number of the size
 abbrev pub OverflowMarksCarries : Type 0
 OverflowMarksCarries = (size : Size) (operand : ℕ) (codes : Codes) → operand < span size
     → (adc_effect size operand codes).codes.v ≡ overflows size (signed_at size operand +ℤ pos
@@ -152,7 +151,7 @@ BorrowsRunOn = (size : Size) (operand : ℕ) (codes : Codes) → operand < span 
     → (sbc_effect size operand codes).value + bit_of codes.c
     ≡ operand + span size * bit_of (sbc_effect size operand codes).codes.c
 
--- SBC: V is set exactly where the signed operand less the old C is no signed number of the size
+-- SBC: V is set exactly if the signed operand less the old C is no signed number of the size
 abbrev pub OverflowMarksBorrows : Type 0
 OverflowMarksBorrows = (size : Size) (operand : ℕ) (codes : Codes) → operand < span size
     → (sbc_effect size operand codes).codes.v ≡ overflows size (signed_at size operand -ℤ pos
@@ -177,13 +176,13 @@ ShiftsHalve = (size : Size) (operand : ℕ) → operand < span size
     (asr_effect size operand).codes.c)
     ≡ signed_at size operand
 
--- ASL: where V is clear, the signed result is twice the signed operand
+-- ASL: if V is clear, the signed result is twice the signed operand
 abbrev pub ShiftsDouble : Type 0
 ShiftsDouble = (size : Size) (operand : ℕ) → operand < span size → IsFalse
     (asl_effect size operand).codes.v
     → signed_at size (asl_effect size operand).value ≡ pos 2 *ℤ signed_at size operand
 
--- ASL: V is set exactly where twice the signed operand is no signed number of the size
+-- ASL: V is set exactly if twice the signed operand is no signed number of the size
 abbrev pub OverflowMarksDoubles : Type 0
 OverflowMarksDoubles = (size : Size) (operand : ℕ) → operand < span size
     → (asl_effect size operand).codes.v ≡ overflows size (pos 2 *ℤ signed_at size operand)
@@ -248,8 +247,8 @@ MovesKeepTheSource = (size : Size) (source : ℕ) (codes : Codes) → source < s
     → ((mov_effect size source codes).value ≡ source)
     × ((mov_effect size source codes).codes ≡ codes_of_value size source false codes.c)
 
--- SXT: as a signed word -1 where N is set and 0 where it is clear, of which N and Z tell; V is
--- clear, C is kept
+-- SXT: as a signed word -1 if N is set and 0 if it is clear, of which N and Z tell; V is clear, C
+-- is kept
 abbrev pub ExtensionsSpreadTheSign : Type 0
 ExtensionsSpreadTheSign = (codes : Codes)
     → (signed_value (sxt_effect codes).value ≡ neg_ℤ (pos (bit_of codes.n)))

@@ -19,7 +19,7 @@ low_word long = long % 0o200000
 abbrev pub is_negative_long : ℕ → Bool
 is_negative_long long = nat_le (2 ^ 31) long
 
--- as a signed number: less 2 ^ 32 where bit 31 is set
+-- as a signed number: less 2 ^ 32 if bit 31 is set
 abbrev pub signed_long : ℕ → ℤ
 signed_long long = if is_negative_long long then pos long -ℤ pos (2 ^ 32) else pos long
 
@@ -27,7 +27,7 @@ signed_long long = if is_negative_long long then pos long -ℤ pos (2 ^ 32) else
 abbrev pub overflows_long : ℤ → Bool
 overflows_long number = is_beyond (2 ^ 31) number
 
--- a number of 32 bits: N where its bit 31 is set, Z where it is 0
+-- a number of 32 bits: N if its bit 31 is set, Z if it is 0
 abbrev pub long_effect : ℕ → Bool → Bool → LongEffect
 long_effect long overflow carry =
     record {

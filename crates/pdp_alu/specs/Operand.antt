@@ -25,7 +25,7 @@ abbrev pub width : Size → ℕ
 width Word = 16
 width Byte = 8
 
--- an operand below the span, as a signed number: less the span where its top bit is set
+-- an operand below the span, as a signed number: less the span if its top bit is set
 abbrev pub signed_at : Size → ℕ → ℤ
 signed_at size operand = if is_negative size operand then pos operand -ℤ pos
     (span size) else pos operand

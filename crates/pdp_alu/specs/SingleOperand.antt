@@ -17,33 +17,32 @@ clr_effect size = record { value = 0; codes = record { n = false; z = true; v = 
 unfoldable pub com_effect : Size → ℕ → Effect
 com_effect size operand = effect size (all_ones size - operand % span size) false true
 
--- INC: plus 1; V where it was the largest positive number, C is kept
+-- INC: plus 1; V if it was the largest positive number, C is kept
 unfoldable pub inc_effect : Size → ℕ → Codes → Effect
 inc_effect size operand codes =
     let old = operand % span size in effect size (old + 1) (old == most_positive size) codes.c
 
--- DEC: minus 1; V where it was the most negative number, C is kept
+-- DEC: minus 1; V if it was the most negative number, C is kept
 unfoldable pub dec_effect : Size → ℕ → Codes → Effect
 dec_effect size operand codes =
     let old = operand % span size in effect size (span size + old - 1) (old == most_negative size)
     codes.c
 
--- NEG: 0 minus it; V where the result is the most negative number, C unless the result is 0
+-- NEG: 0 minus it; V if the result is the most negative number, C unless the result is 0
 unfoldable pub neg_effect : Size → ℕ → Effect
 neg_effect size operand =
     let result = (span size - operand % span size) % span size in
     effect size result (result == most_negative size) (not (result == 0))
 
--- ADC: plus C; V where C was set and it was the largest positive number, C where C was set and it
--- was all ones
+-- ADC: plus C; V if C was set and it was the largest positive number, C if C was set and it was all
+-- ones
 unfoldable pub adc_effect : Size → ℕ → Codes → Effect
 adc_effect size operand codes =
     let old = operand % span size in
     effect size (old + bit_of codes.c) (codes.c && old == most_positive size)
     (codes.c && old == all_ones size)
 
--- SBC: minus C; V where C was set and it was the most negative number, C where C was set and it was
--- 0
+-- SBC: minus C; V if C was set and it was the most negative number, C if C was set and it was 0
 unfoldable pub sbc_effect : Size → ℕ → Codes → Effect
 sbc_effect size operand codes =
     let old = operand % span size in

@@ -7,7 +7,7 @@ use crate::effect::Effect;
 use crate::operand::{cut, is_negative};
 use pdp_word::Size;
 
-/// ADD: destination plus source, both words. N and Z are of the sum, V is set where the signed sum
+/// ADD: destination plus source, both words. N and Z are of the sum, V is set if the signed sum
 /// does not fit a word, C on a carry out of it (DEC PDP-11/40 Processor Handbook (1972),
 /// Instruction set, ADD).
 #[inline]
@@ -22,8 +22,8 @@ pub fn add(source: u16, destination: u16) -> Effect
     Effect::new(Size::Word, sum, overflow, sum < source)
 }
 
-/// SUB: destination minus source, both words. N and Z are of the difference, V is set where the
-/// signed difference does not fit a word, C on a borrow (DEC PDP-11/40 Processor Handbook (1972),
+/// SUB: destination minus source, both words. N and Z are of the difference, V is set if the signed
+/// difference does not fit a word, C on a borrow (DEC PDP-11/40 Processor Handbook (1972),
 /// Instruction set, SUB).
 #[inline]
 #[tactic(auto, unfolding(crate::specs::Arithmetic::sub_effect))]
@@ -33,9 +33,9 @@ pub fn sub(source: u16, destination: u16) -> Effect
     subtract(Size::Word, destination, source)
 }
 
-/// CMP and CMPB: source minus destination, of words the low bytes where the size is a byte; it is
-/// not stored. N and Z are of the difference, V is set where the signed difference does not fit the
-/// size, C on a borrow (DEC PDP-11/40 Processor Handbook (1972), Instruction set, CMP).
+/// CMP and CMPB: source minus destination, of words the low bytes if the size is a byte; it is not
+/// stored. N and Z are of the difference, V is set if the signed difference does not fit the size,
+/// C on a borrow (DEC PDP-11/40 Processor Handbook (1972), Instruction set, CMP).
 #[inline]
 #[tactic(auto, unfolding(crate::specs::Arithmetic::cmp_effect))]
 pub fn cmp(size: Size, source: u16, destination: u16) -> Effect

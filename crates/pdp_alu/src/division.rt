@@ -13,9 +13,9 @@ use pdp_word::{Codes, Size, signed};
 
 /// DIV: a signed number of 32 bits divided by a signed word, the quotient rounded towards 0, so
 /// that a remainder has the dividend's sign. N and Z are of the quotient, V and C are cleared.
-/// Nothing is divided where the divisor is 0, with the codes NZVC 0111, or where the quotient is no
+/// Nothing is divided if the divisor is 0, with the codes NZVC 0111, or if the quotient is no
 /// signed word, with the codes 0010 (DEC PDP-11/40 Processor Handbook (1972), Extended instruction
-/// set, DIV; the codes where nothing is divided are this project's profile).
+/// set, DIV; the codes if nothing is divided are [P]).
 #[inline]
 #[tactic(auto, unfolding(crate::specs::Division::div_effect))]
 pub fn div(dividend: u32, divisor: u16) -> Div
@@ -40,7 +40,7 @@ fn divide_signed(dividend: i32, divisor: i32) -> Div
     divided(word_of(quotient), word_of(remainder))
 }
 
-// Nothing is divided: V is set, and Z and C too where the divisor is 0.
+// Nothing is divided: V is set, and Z and C too if the divisor is 0.
 #[inline]
 fn kept(zero_divisor: bool) -> Div
     ensures { result ≡ Kept (if zero_divisor then zero_divisor_codes else overflow_codes) }

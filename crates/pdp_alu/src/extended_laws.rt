@@ -31,10 +31,10 @@ pub fn divisions_are_exact()
     ensures { DivisionsAreExact }
 {}
 
-/// A law and no code: where V is clear, ASH and ASHC to the left multiply the signed number by 2 to
-/// the count. V is set exactly where that product does not fit, so where the sign changes at any
-/// single shift. C is the last bit that was moved out. The count is the low six bits of the source,
-/// and 0 moves nothing.
+/// A law and no code: if V is clear, ASH and ASHC to the left multiply the signed number by 2 to
+/// the count. V is set exactly if that product does not fit, so if the sign changes at any single
+/// shift. C is the last bit that was moved out. The count is the low six bits of the source, and 0
+/// moves nothing.
 ///
 /// Source: DEC PDP-11/40 Processor Handbook (1972), Extended instruction set, ASH and ASHC.
 #[tactic(auto, using(crate::proofs::Rules::left_shifts), unfolding(crate::proofs::Rules::shifts))]
@@ -62,8 +62,8 @@ pub fn shifts_to_the_right_divide()
     ensures overflow { RightShiftsNeverOverflow }
 {}
 
-/// A law and no code: the product of MUL is that of the signed words, and where C is clear its low
-/// word alone is. C is set exactly where the product is no signed word, and V is clear.
+/// A law and no code: the product of MUL is that of the signed words, and if C is clear its low
+/// word alone is. C is set exactly if the product is no signed word, and V is clear.
 ///
 /// Source: DEC PDP-11/40 Processor Handbook (1972), Extended instruction set, MUL.
 #[tactic(auto, using(crate::proofs::Rules::products), unfolding(crate::specs::mul_effect))]

@@ -20,9 +20,9 @@ ghost use Rattle.pdp_alu.specs.Laws.{ClearingLeavesZero, TestsTellOfTheOperand, 
 ghost use Rattle.pdp_alu.specs.Laws.{ExtensionsSpreadTheSign};
 ghost use Rattle.pdp_alu.specs.Laws.{SwapsExchangeBytes, SwapsUndoThemselves};
 
-/// A law and no code: with C as the bit above the word, the sum of ADD is that of the operands.
-/// Where V is clear the signed sum is that of the signed operands, and V is set exactly where that
-/// is no signed word.
+/// A law and no code: with C as the bit above the word, the sum of ADD is that of the operands. If
+/// V is clear the signed sum is that of the signed operands, and V is set exactly if that is no
+/// signed word.
 ///
 /// Source: DEC PDP-11/40 Processor Handbook (1972), Instruction set, ADD.
 #[tactic(auto, unfolding(crate::specs::Arithmetic::add_effect))]
@@ -33,8 +33,8 @@ pub fn sums_are_exact()
 {}
 
 /// A law and no code: with C as a borrow from the bit above the word, the difference of SUB is that
-/// of the operands. Where V is clear the signed difference is that of the signed operands, and V is
-/// set exactly where that is no signed word.
+/// of the operands. If V is clear the signed difference is that of the signed operands, and V is
+/// set exactly if that is no signed word.
 ///
 /// Source: DEC PDP-11/40 Processor Handbook (1972), Instruction set, SUB.
 #[tactic(auto, unfolding(crate::specs::Arithmetic::sub_effect))]
@@ -46,7 +46,7 @@ pub fn differences_are_exact()
 
 /// A law and no code: after CMP, Z tells whether source equals destination, C whether it is below
 /// it, and N exclusive or V whether it is below it as a signed number, as the branches take them. V
-/// is set exactly where the signed difference does not fit.
+/// is set exactly if the signed difference does not fit.
 ///
 /// Source: DEC PDP-11/40 Processor Handbook (1972), Instruction set, CMP.
 #[tactic(auto, using(crate::proofs::Rules::signs), unfolding(crate::specs::cmp_effect))]
@@ -67,8 +67,8 @@ pub fn complements_and_negatives_undo_themselves()
     ensures complement_plus_one { NegativesAreComplementsPlusOne }
 {}
 
-/// A law and no code: where V is clear, INC, DEC and NEG have the signed result that their names
-/// say, and V is set exactly where that result does not fit.
+/// A law and no code: if V is clear, INC, DEC and NEG have the signed result that their names say,
+/// and V is set exactly if that result does not fit.
 ///
 /// Source: DEC PDP-11/40 Processor Handbook (1972), Instruction set, INC, DEC and NEG.
 #[tactic(auto, unfolding(crate::proofs::Rules::signed_effects))]
@@ -83,7 +83,7 @@ pub fn overflow_marks_wrong_signed_results()
 
 /// A law and no code: with the new C as the bit above the operand, ADC adds the old C to it and SBC
 /// takes the old C from it, so that sums and differences of many words can be formed word by word.
-/// V is set exactly where the signed result does not fit.
+/// V is set exactly if the signed result does not fit.
 ///
 /// Source: DEC PDP-11/40 Processor Handbook (1972), Instruction set, ADC and SBC.
 #[tactic(auto, unfolding(crate::specs::adc_effect, crate::specs::sbc_effect))]
@@ -103,8 +103,8 @@ pub fn rotations_undo_each_other()
     ensures carry { RotationsGiveCarryBack }
 {}
 
-/// A law and no code: ASR halves a signed number, with C as the rest. ASL doubles it where V is
-/// clear, and V is set exactly where the double does not fit.
+/// A law and no code: ASR halves a signed number, with C as the rest. ASL doubles it if V is clear,
+/// and V is set exactly if the double does not fit.
 ///
 /// Source: DEC PDP-11/40 Processor Handbook (1972), Instruction set, ASR and ASL.
 #[tactic(auto, unfolding(crate::specs::Shifts::asl_effect, crate::specs::Shifts::asr_effect))]

@@ -5,8 +5,8 @@ ghost use Rattle.pdp_alu.specs.Logic.{bic_effect, bis_effect, bit_effect, xor_ef
 use crate::effect::Effect;
 use pdp_word::{Codes, Size};
 
-/// BIT and BITB: the bits that destination and source both have, of words those of the low bytes
-/// where the size is a byte; they are not stored. N and Z are of them, V is cleared, C is kept (DEC
+/// BIT and BITB: the bits that destination and source both have, of words those of the low bytes if
+/// the size is a byte; they are not stored. N and Z are of them, V is cleared, C is kept (DEC
 /// PDP-11/40 Processor Handbook (1972), Instruction set, BIT).
 #[inline]
 #[tactic(auto, unfolding(crate::specs::Logic::bit_effect))]
@@ -17,9 +17,9 @@ pub fn bit(size: Size, source: u16, destination: u16, codes: Codes) -> Effect
     Effect::new(size, destination & source, false, codes.c)
 }
 
-/// BIC and BICB: the bits of destination that source lacks, of words those of the low bytes where
-/// the size is a byte. N and Z are of them, V is cleared, C is kept (DEC PDP-11/40 Processor
-/// Handbook (1972), Instruction set, BIC).
+/// BIC and BICB: the bits of destination that source lacks, of words those of the low bytes if the
+/// size is a byte. N and Z are of them, V is cleared, C is kept (DEC PDP-11/40 Processor Handbook
+/// (1972), Instruction set, BIC).
 #[inline]
 #[tactic(auto, unfolding(crate::specs::Logic::bic_effect))]
 pub fn bic(size: Size, source: u16, destination: u16, codes: Codes) -> Effect
@@ -29,7 +29,7 @@ pub fn bic(size: Size, source: u16, destination: u16, codes: Codes) -> Effect
     Effect::new(size, destination & !source, false, codes.c)
 }
 
-/// BIS and BISB: the bits that destination or source has, of words those of the low bytes where the
+/// BIS and BISB: the bits that destination or source has, of words those of the low bytes if the
 /// size is a byte. N and Z are of them, V is cleared, C is kept (DEC PDP-11/40 Processor Handbook
 /// (1972), Instruction set, BIS).
 #[inline]

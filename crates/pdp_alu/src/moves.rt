@@ -5,7 +5,7 @@ ghost use Rattle.pdp_alu.specs.Effect.{mov_effect};
 use crate::effect::Effect;
 use pdp_word::{Codes, Size};
 
-/// MOV and MOVB: the value itself, of a word the low byte where the size is a byte. N and Z are of
+/// MOV and MOVB: the value itself, of a word the low byte if the size is a byte. N and Z are of
 /// that value at that size, V is cleared, C is kept (DEC PDP-11/40 Processor Handbook (1972),
 /// Instruction set, MOV).
 #[inline]

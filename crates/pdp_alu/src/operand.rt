@@ -5,7 +5,7 @@ ghost use Rattle.pdp_alu.specs.Operand.{all_ones, most_negative, most_positive, 
 
 use pdp_word::Size;
 
-/// A number cut to the size: the whole word, or its low byte where the size is a byte.
+/// A number cut to the size: the whole word, or its low byte if the size is a byte.
 ///
 /// DEC PDP-11/40 Processor Handbook (1972), Addressing modes.
 #[inline(always)]

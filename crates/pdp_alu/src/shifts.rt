@@ -8,9 +8,9 @@ use crate::operand::{cut, is_negative, most_negative};
 use pdp_word::{Codes, Size};
 
 /// ROR and RORB: the bits of the value one place to the right through C, of a word those of the low
-/// byte where the size is a byte: C goes into the top bit, the lowest bit into C. N and Z are of
-/// the result, V is N exclusive or the new C (DEC PDP-11/40 Processor Handbook (1972), Instruction
-/// set, ROR).
+/// byte if the size is a byte: C goes into the top bit, the lowest bit into C. N and Z are of the
+/// result, V is N exclusive or the new C (DEC PDP-11/40 Processor Handbook (1972), Instruction set,
+/// ROR).
 #[inline]
 #[tactic(auto, unfolding(crate::specs::Shifts::ror_effect))]
 pub fn ror(size: Size, value: u16, codes: Codes) -> Effect
@@ -21,9 +21,9 @@ pub fn ror(size: Size, value: u16, codes: Codes) -> Effect
 }
 
 /// ROL and ROLB: the bits of the value one place to the left through C, of a word those of the low
-/// byte where the size is a byte: C goes into the lowest bit, the top bit into C. N and Z are of
-/// the result, V is N exclusive or the new C (DEC PDP-11/40 Processor Handbook (1972), Instruction
-/// set, ROL).
+/// byte if the size is a byte: C goes into the lowest bit, the top bit into C. N and Z are of the
+/// result, V is N exclusive or the new C (DEC PDP-11/40 Processor Handbook (1972), Instruction set,
+/// ROL).
 #[inline]
 #[tactic(auto, unfolding(crate::specs::Shifts::rol_effect))]
 pub fn rol(size: Size, value: u16, codes: Codes) -> Effect
@@ -33,10 +33,9 @@ pub fn rol(size: Size, value: u16, codes: Codes) -> Effect
     move_left(size, value, codes.c)
 }
 
-/// ASR and ASRB: the bits of the value one place to the right, of a word those of the low byte
-/// where the size is a byte: the top bit stays, the lowest bit goes into C. N and Z are of the
-/// result, V is N exclusive or the new C (DEC PDP-11/40 Processor Handbook (1972), Instruction set,
-/// ASR).
+/// ASR and ASRB: the bits of the value one place to the right, of a word those of the low byte if
+/// the size is a byte: the top bit stays, the lowest bit goes into C. N and Z are of the result, V
+/// is N exclusive or the new C (DEC PDP-11/40 Processor Handbook (1972), Instruction set, ASR).
 #[inline]
 #[tactic(auto, unfolding(crate::specs::Shifts::asr_effect))]
 pub fn asr(size: Size, value: u16) -> Effect
@@ -46,7 +45,7 @@ pub fn asr(size: Size, value: u16) -> Effect
     move_right(size, value, is_negative(size, cut(size, value)))
 }
 
-/// ASL and ASLB: the bits of the value one place to the left, of a word those of the low byte where
+/// ASL and ASLB: the bits of the value one place to the left, of a word those of the low byte if
 /// the size is a byte: 0 goes into the lowest bit, the top bit into C. N and Z are of the result, V
 /// is N exclusive or the new C (DEC PDP-11/40 Processor Handbook (1972), Instruction set, ASL).
 #[inline]

@@ -19,9 +19,9 @@ pub fn clr(size: Size) -> Effect
     Effect::new(size, 0, false, false)
 }
 
-/// COM and COMB: the complement of the value, of a word that of the low byte where the size is a
-/// byte. N and Z are of the result, V is cleared, C is set (DEC PDP-11/40 Processor Handbook
-/// (1972), Instruction set, COM).
+/// COM and COMB: the complement of the value, of a word that of the low byte if the size is a byte.
+/// N and Z are of the result, V is cleared, C is set (DEC PDP-11/40 Processor Handbook (1972),
+/// Instruction set, COM).
 #[inline]
 #[tactic(auto, unfolding(crate::specs::SingleOperand::com_effect))]
 pub fn com(size: Size, value: u16) -> Effect
@@ -31,9 +31,9 @@ pub fn com(size: Size, value: u16) -> Effect
     Effect::new(size, !value, false, true)
 }
 
-/// INC and INCB: the value plus 1, of a word the low byte where the size is a byte. N and Z are of
-/// the result, V is set where the value was 077777 (a byte: 177), C is kept (DEC PDP-11/40
-/// Processor Handbook (1972), Instruction set, INC).
+/// INC and INCB: the value plus 1, of a word the low byte if the size is a byte. N and Z are of the
+/// result, V is set if the value was 077777 (a byte: 177), C is kept (DEC PDP-11/40 Processor
+/// Handbook (1972), Instruction set, INC).
 #[inline]
 #[tactic(auto, unfolding(crate::specs::SingleOperand::inc_effect))]
 pub fn inc(size: Size, value: u16, codes: Codes) -> Effect
@@ -44,9 +44,9 @@ pub fn inc(size: Size, value: u16, codes: Codes) -> Effect
     Effect::new(size, value.wrapping_add(1), overflow, codes.c)
 }
 
-/// DEC and DECB: the value minus 1, of a word the low byte where the size is a byte. N and Z are of
-/// the result, V is set where the value was 100000 (a byte: 200), C is kept (DEC PDP-11/40
-/// Processor Handbook (1972), Instruction set, DEC).
+/// DEC and DECB: the value minus 1, of a word the low byte if the size is a byte. N and Z are of
+/// the result, V is set if the value was 100000 (a byte: 200), C is kept (DEC PDP-11/40 Processor
+/// Handbook (1972), Instruction set, DEC).
 #[inline]
 #[tactic(auto, unfolding(crate::specs::SingleOperand::dec_effect))]
 pub fn dec(size: Size, value: u16, codes: Codes) -> Effect
@@ -57,8 +57,8 @@ pub fn dec(size: Size, value: u16, codes: Codes) -> Effect
     Effect::new(size, value.wrapping_sub(1), overflow, codes.c)
 }
 
-/// NEG and NEGB: 0 minus the value, of a word the low byte where the size is a byte. N and Z are of
-/// the result, V is set where the result is 100000 (a byte: 200), C unless it is 0 (DEC PDP-11/40
+/// NEG and NEGB: 0 minus the value, of a word the low byte if the size is a byte. N and Z are of
+/// the result, V is set if the result is 100000 (a byte: 200), C unless it is 0 (DEC PDP-11/40
 /// Processor Handbook (1972), Instruction set, NEG).
 #[inline]
 #[tactic(auto, unfolding(crate::specs::SingleOperand::neg_effect))]
@@ -70,10 +70,10 @@ pub fn neg(size: Size, value: u16) -> Effect
     Effect::new(size, negated, negated == most_negative(size), negated != 0)
 }
 
-/// ADC and ADCB: the value plus C, of a word the low byte where the size is a byte. N and Z are of
-/// the result. Where C was set, V is set where the value was 077777 (a byte: 177) and C where it
-/// was 177777 (a byte: 377); else both are cleared (DEC PDP-11/40 Processor Handbook (1972),
-/// Instruction set, ADC).
+/// ADC and ADCB: the value plus C, of a word the low byte if the size is a byte. N and Z are of the
+/// result. If C was set, V is set if the value was 077777 (a byte: 177) and C if it was 177777 (a
+/// byte: 377); else both are cleared (DEC PDP-11/40 Processor Handbook (1972), Instruction set,
+/// ADC).
 #[inline]
 #[tactic(auto, unfolding(crate::specs::SingleOperand::adc_effect))]
 pub fn adc(size: Size, value: u16, codes: Codes) -> Effect
@@ -86,10 +86,9 @@ pub fn adc(size: Size, value: u16, codes: Codes) -> Effect
     Effect::new(size, old.wrapping_add(u16::from(codes.c)), overflow, carry)
 }
 
-/// SBC and SBCB: the value minus C, of a word the low byte where the size is a byte. N and Z are of
-/// the result. Where C was set, V is set where the value was 100000 (a byte: 200) and C where it
-/// was 0; else both are cleared (DEC PDP-11/40 Processor Handbook (1972), Instruction set, SBC; C
-/// is this project's profile).
+/// SBC and SBCB: the value minus C, of a word the low byte if the size is a byte. N and Z are of
+/// the result. If C was set, V is set if the value was 100000 (a byte: 200) and C if it was 0; else
+/// both are cleared (DEC PDP-11/40 Processor Handbook (1972), Instruction set, SBC; C is [P]).
 #[inline]
 #[tactic(auto, unfolding(crate::specs::SingleOperand::sbc_effect))]
 pub fn sbc(size: Size, value: u16, codes: Codes) -> Effect
@@ -102,9 +101,9 @@ pub fn sbc(size: Size, value: u16, codes: Codes) -> Effect
     Effect::new(size, old.wrapping_sub(u16::from(codes.c)), overflow, borrow)
 }
 
-/// TST and TSTB: the value itself, of a word the low byte where the size is a byte; it is not
-/// stored. N and Z are of that value at that size, V and C are cleared (DEC PDP-11/40 Processor
-/// Handbook (1972), Instruction set, TST).
+/// TST and TSTB: the value itself, of a word the low byte if the size is a byte; it is not stored.
+/// N and Z are of that value at that size, V and C are cleared (DEC PDP-11/40 Processor Handbook
+/// (1972), Instruction set, TST).
 #[inline]
 #[tactic(auto, unfolding(crate::specs::Effect::tst_effect))]
 pub fn tst(size: Size, value: u16) -> Effect

@@ -1,4 +1,4 @@
--- What a ladder keeps where its states are changed, but not their turns.
+-- What a ladder keeps if its states are changed, but not their turns.
 use Rattle.std.proofs.Common.{◌≡◌, ℕ, ◌*◌, List, [], ◌∷◌, length, map, refl, sym, ap, ◌∙◌, arith}
 use Rattle.std.proofs.lemmas.List.{length-map}
 use Rattle.pdp_checkpoint.specs.declared.checkpoint.Checkpoint.{Checkpoint}

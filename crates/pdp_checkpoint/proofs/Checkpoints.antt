@@ -210,7 +210,7 @@ pushed_at_full l m now turn saved pushed many =
     let size : length now.kept ≡ length l.kept + 1 = ap (λ n. length n.kept) is ∙ longer l (checkpoint_of m) in
     rw is (taken_at_full l (checkpoint_of m) pushed.checkpoints pushed.next (omega (arith, pushed.next, pushed.limit)) (omega arith))
 
--- the stride stays where there is room, and doubles where there is none
+-- the stride stays if there is room, and doubles if there is none
 pub stride_in_room : (l : LadderData) (c : Checkpoint) → length l.kept < most_kept → (kept_with l c).stride ≡ l.stride
 unfolding kept_with
 stride_in_room l c room = let yes = lt-ltb (length l.kept) most_kept room in rw yes refl

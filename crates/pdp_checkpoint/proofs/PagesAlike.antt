@@ -1,5 +1,5 @@
 -- When checkpoints have a page alike.
-use Rattle.std.proofs.Common.{◌≡◌, ◌∙◌, ℕ, zero, suc, ◌+◌, ◌-◌, ◌*◌, ◌/◌, ◌<◌, List, [], ◌∷◌, Option, None}
+use Rattle.std.proofs.Common.{◌≡◌, ◌∙◌, ℕ, zero, suc, ◌+◌, ◌-◌, ◌*◌, ◌/◌, ◌<◌, List, [], ◌∷◌, None}
 use Rattle.std.proofs.Common.{ap, arith, drop, get_or, length, min, nat_le, refl, subst, sym, take}
 use Rattle.std.specs.List.{filter}
 use Rattle.std.specs.Prelude.{slice_index_or}
@@ -8,8 +8,9 @@ use Rattle.std.proofs.lemmas.List.Elements.{All-filter}
 use Rattle.std.proofs.lemmas.List.{ext_get_or, get_or-drop, get_or-take, length-drop, length-take}
 use Rattle.pdp_store.specs.Parts.{SameWords}
 use Rattle.pdp_store.specs.Pieces.{piece}
-use Rattle.pdp_unibus.specs.SavedBusData.{SavedBusData}
-use Rattle.pdp_unibus.specs.PatchedPages.{HasPageOf, saved_lasts, saved_words}
+use Rattle.pdp_store.specs.declared.part.WordAt.{WordAt}
+use Rattle.pdp_unibus.specs.SavedBusData.{SavedBusData, saved_words}
+use Rattle.pdp_unibus.specs.PatchedPages.{HasPageOf, saved_stamps}
 use Rattle.pdp_checkpoint.specs.Ladder.{AreCheckpoints, LadderData}
 use Rattle.pdp_checkpoint.specs.Patched.{HavePageAlike}
 use Rattle.pdp_checkpoint.specs.declared.checkpoint.Checkpoint.{Checkpoint}
@@ -32,43 +33,43 @@ same_piece place d xs ys size same =
 
 -- a saved bus of the same sizes, with the same words in the page and the same last stamps, has the
 -- page of the other
-pub has_page : (drive : Option ℕ) (word : ℕ) (other c : SavedBusData)
-    → length (saved_words drive c) ≡ length (saved_words drive other)
-    → SameWords (word / 256) (saved_words drive c) (saved_words drive other)
-    → length (saved_lasts drive c) ≡ length (saved_lasts drive other)
-    → ((k : ℕ) → k / 256 ≡ word / 256 → slice_index_or (saved_lasts drive c) k None ≡ slice_index_or (saved_lasts drive other) k None)
-    → HasPageOf drive word other c
-has_page drive word other c size words count lasts = record {
-  words = same_piece (word / 256) 0 (saved_words drive c) (saved_words drive other) size words;
-  lasts = same_piece (word / 256) None (saved_lasts drive c) (saved_lasts drive other) count lasts;
+pub has_page : (at : WordAt) (other c : SavedBusData)
+    → length (saved_words at.part c) ≡ length (saved_words at.part other)
+    → SameWords (at.number / 256) (saved_words at.part c) (saved_words at.part other)
+    → length (saved_stamps at.part c) ≡ length (saved_stamps at.part other)
+    → ((k : ℕ) → k / 256 ≡ at.number / 256 → slice_index_or (saved_stamps at.part c) k None ≡ slice_index_or (saved_stamps at.part other) k None)
+    → HasPageOf at other c
+has_page at other c size words count stamps = record {
+  words = same_piece (at.number / 256) 0 (saved_words at.part c) (saved_words at.part other) size words;
+  stamps = same_piece (at.number / 256) None (saved_stamps at.part c) (saved_stamps at.part other) count stamps;
 }
 
 -- the state of turn 0 alone has each page alike
-alone_alike : (drive : Option ℕ) (word : ℕ) (kept : List Checkpoint) → 0 < length kept → HavePageAlike drive word (take 1 kept)
-alone_alike drive word [] some = absurd (omega (arith, some))
-alone_alike drive word (c ∷ cs) some = record {
+alone_alike : (at : WordAt) (kept : List Checkpoint) → 0 < length kept → HavePageAlike at (take 1 kept)
+alone_alike at [] some = absurd (omega (arith, some))
+alone_alike at (c ∷ cs) some = record {
   content = c.saved.bus;
   all = λ k d below. by k d below;
 }
   where
-    by : (k : ℕ) (d : Checkpoint) → k < 1 → HasPageOf drive word c.saved.bus (get_or (c ∷ []) k d).saved.bus
-    by zero d below = record { words = refl; lasts = refl }
+    by : (k : ℕ) (d : Checkpoint) → k < 1 → HasPageOf at c.saved.bus (get_or (c ∷ []) k d).saved.bus
+    by zero d below = record { words = refl; stamps = refl }
     by (suc k) d below = absurd (omega (arith, below))
 
-pub first_alone_alike : (drive : Option ℕ) (word : ℕ) (l : LadderData) → AreCheckpoints l → HavePageAlike drive word (filter (λ c. nat_le c.turn 0) l.kept)
-first_alone_alike drive word l checkpoints =
+pub first_alone_alike : (at : WordAt) (l : LadderData) → AreCheckpoints l → HavePageAlike at (filter (λ c. nat_le c.turn 0) l.kept)
+first_alone_alike at l checkpoints =
     let one : 0 / l.stride + 1 ≡ 1 = ap (λ n. n + 1) (zero-div l.stride) in
     let is : take 1 l.kept ≡ filter (λ c. nat_le c.turn 0) l.kept = sym (below_is_first l 0 checkpoints ∙ ap (λ n. take n l.kept) one) in
-    subst (HavePageAlike drive word) is (alone_alike drive word l.kept checkpoints.some)
+    subst (HavePageAlike at) is (alone_alike at l.kept checkpoints.some)
 
 -- and so has a checkpoint that is alone
-pub one_alike : (drive : Option ℕ) (word turn : ℕ) (c : Checkpoint) (kept : List Checkpoint) → kept ≡ c ∷ []
-    → HavePageAlike drive word (filter (λ x. nat_le x.turn turn) kept)
-one_alike drive word turn c kept is = rw is (record {
+pub one_alike : (at : WordAt) (turn : ℕ) (c : Checkpoint) (kept : List Checkpoint) → kept ≡ c ∷ []
+    → HavePageAlike at (filter (λ x. nat_le x.turn turn) kept)
+one_alike at turn c kept is = rw is (record {
   content = c.saved.bus;
-  all = All-filter (λ x. nat_le x.turn turn) (λ x. HasPageOf drive word c.saved.bus x.saved.bus) (c ∷ []) (λ k d below. by k d below);
+  all = All-filter (λ x. nat_le x.turn turn) (λ x. HasPageOf at c.saved.bus x.saved.bus) (c ∷ []) (λ k d below. by k d below);
 })
   where
-    by : (k : ℕ) (d : Checkpoint) → k < 1 → HasPageOf drive word c.saved.bus (get_or (c ∷ []) k d).saved.bus
-    by zero d below = record { words = refl; lasts = refl }
+    by : (k : ℕ) (d : Checkpoint) → k < 1 → HasPageOf at c.saved.bus (get_or (c ∷ []) k d).saved.bus
+    by zero d below = record { words = refl; stamps = refl }
     by (suc k) d below = absurd (omega (arith, below))

@@ -1,9 +1,10 @@
 -- What checkpoints with another value in a word keep of those before.
-use Rattle.std.proofs.Common.{◌≡◌, ℕ, ◌+◌, ◌/◌, min, nat_le, Option, List, length, map, take, refl, sym, ◌∙◌, arith}
+use Rattle.std.proofs.Common.{◌≡◌, ℕ, ◌+◌, ◌/◌, min, nat_le, List, length, map, take, refl, sym, ◌∙◌, arith}
 use Rattle.std.specs.List.{filter}
 use Rattle.std.proofs.lemmas.List.{take_min}
+use Rattle.pdp_store.specs.declared.part.WordAt.{WordAt}
 use Rattle.pdp_unibus.specs.PatchedPages.{IsPatchOf}
-use Rattle.pdp_unibus.specs.declared.saved_bus.patched_page.PatchedPage.{PatchedPage}
+use Rattle.pdp_unibus.specs.declared.save.saved_bus.patched_page.PatchedPage.{PatchedPage}
 use Rattle.pdp_checkpoint.specs.declared.checkpoint.Checkpoint.{Checkpoint}
 use Rattle.pdp_checkpoint.specs.Ladder.{LadderData, AreCheckpoints}
 use Rattle.pdp_checkpoint.specs.Patched.{checkpoint_with_word, patched_to}
@@ -11,8 +12,8 @@ use Rattle.pdp_checkpoint.proofs.Changed.{checkpoints_changed}
 use Rattle.pdp_checkpoint.proofs.Checkpoints.{below_is_first, checkpoints_cut}
 
 -- how a ladder is after its first states got another value in a word
-pub record IsPatchedTo (turn : ℕ) (drive : Option ℕ) (word value : ℕ) (before after : LadderData) : Type 0 where
-  pub is : after ≡ patched_to turn drive word value before
+pub record IsPatchedTo (turn : ℕ) (at : WordAt) (value : ℕ) (before after : LadderData) : Type 0 where
+  pub is : after ≡ patched_to turn at value before
   pub checkpoints : AreCheckpoints after
 
 -- the first so many are those of turns that are not above this one
@@ -20,19 +21,19 @@ pub first_are_low : (l : LadderData) (turn : ℕ) (first : List Checkpoint) → 
     → first ≡ take (min (turn / l.stride + 1) (length l.kept)) l.kept → first ≡ filter (λ c. nat_le c.turn turn) l.kept
 first_are_low l turn first checkpoints is = is ∙ take_min (turn / l.stride + 1) l.kept ∙ sym (below_is_first l turn checkpoints)
 
-pub is_patched_to : (l : LadderData) (turn : ℕ) (drive : Option ℕ) (word value : ℕ) (first now : List Checkpoint)
-    → AreCheckpoints l → first ≡ take (min (turn / l.stride + 1) (length l.kept)) l.kept → now ≡ map (checkpoint_with_word drive word value) first
-    → IsPatchedTo turn drive word value l (record l { kept = now })
-is_patched_to l turn drive word value first now checkpoints first_is now_is =
+pub is_patched_to : (l : LadderData) (turn : ℕ) (at : WordAt) (value : ℕ) (first now : List Checkpoint)
+    → AreCheckpoints l → first ≡ take (min (turn / l.stride + 1) (length l.kept)) l.kept → now ≡ map (checkpoint_with_word at value) first
+    → IsPatchedTo turn at value l (record l { kept = now })
+is_patched_to l turn at value first now checkpoints first_is now_is =
     let low : first ≡ take (turn / l.stride + 1) l.kept = first_is ∙ take_min (turn / l.stride + 1) l.kept in
     let below = first_are_low l turn first checkpoints first_is in
     let cut : AreCheckpoints (record l { kept = first }) = rw low (checkpoints_cut l (turn / l.stride + 1) checkpoints (omega arith)) in
     record {
       is = rw (now_is, below) refl;
-      checkpoints = rw now_is (checkpoints_changed (record l { kept = first }) (checkpoint_with_word drive word value) (λ c. refl) cut);
+      checkpoints = rw now_is (checkpoints_changed (record l { kept = first }) (checkpoint_with_word at value) (λ c. refl) cut);
     }
 
 -- a page for a word is put into states as the word is
-pub same_change : (p : PatchedPage) (drive : Option ℕ) (word value : ℕ) (kept : List Checkpoint) → IsPatchOf drive word value p
-    → map (checkpoint_with_word p.drive p.word p.value) kept ≡ map (checkpoint_with_word drive word value) kept
-same_change p drive word value kept is = rw (is.drive_is, is.word_is, is.value_is) refl
+pub same_change : (p : PatchedPage) (at : WordAt) (value : ℕ) (kept : List Checkpoint) → IsPatchOf at value p
+    → map (checkpoint_with_word p.at p.value) kept ≡ map (checkpoint_with_word at value) kept
+same_change p at value kept is = rw (is.at_is, is.value_is) refl

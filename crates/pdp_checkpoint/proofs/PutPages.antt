@@ -3,8 +3,8 @@ use Rattle.std.proofs.Common.{◌≡◌, ◌∙◌, ℕ, zero, suc, ◌<◌, ◌
 use Rattle.std.proofs.lemmas.List.{get_or_append_left, length-append}
 use Rattle.pdp_cpu.specs.Saved.{SavedMachineData, saved_machine_with_word}
 use Rattle.pdp_unibus.specs.PatchedPages.{AreNewPages}
-use Rattle.pdp_unibus.specs.declared.saved_bus.patched_page.NewPages.{NewPages}
-use Rattle.pdp_unibus.specs.declared.saved_bus.patched_page.PatchedPage.{PatchedPage}
+use Rattle.pdp_unibus.specs.declared.save.saved_bus.patched_page.NewPages.{NewPages}
+use Rattle.pdp_unibus.specs.declared.save.saved_bus.patched_page.PatchedPage.{PatchedPage}
 use Rattle.pdp_checkpoint.specs.Patched.{checkpoint_with_word}
 use Rattle.pdp_checkpoint.specs.declared.checkpoint.Checkpoint.{Checkpoint}
 
@@ -26,7 +26,7 @@ put_changed f (suc n) (x ∷ xs) c below is = ap (λ ys. x ∷ ys) (put_changed 
 
 -- a state with the word of the page
 abbrev patched_by : PatchedPage → Checkpoint → Checkpoint
-patched_by p c = checkpoint_with_word p.drive p.word p.value c
+patched_by p c = checkpoint_with_word p.at p.value c
 
 -- the pages that are left are for the first states, and these are as they were; the others have the
 -- word
@@ -51,7 +51,7 @@ state_there p first now left rest new c put is there =
     ∙ at_changed (patched_by p) (length left) (length rest) first c (omega (arith, more))
 
 one_put : (p : PatchedPage) (first now : List Checkpoint) (left rest : List NewPages) (new : NewPages) (c : Checkpoint) (saved : SavedMachineData)
-    → ArePut p first now left → left ≡ rest ++ new ∷ [] → c ≡ get_or now (length rest) c → saved ≡ saved_machine_with_word p.drive p.word p.value c.saved
+    → ArePut p first now left → left ≡ rest ++ new ∷ [] → c ≡ get_or now (length rest) c → saved ≡ saved_machine_with_word p.at p.value c.saved
     → ArePut p first (slice_set now (length rest) (record { turn = c.turn; saved = saved })) rest
 one_put p first now left rest new c saved put is there saved_is =
     let more = longer left rest new is in
@@ -71,7 +71,7 @@ one_put p first now left rest new c saved put is there saved_is =
     }
 
 pub put_at : (p : PatchedPage) (first now : List Checkpoint) (left rest : List NewPages) (new : NewPages) (n : ℕ) (c : Checkpoint) (saved : SavedMachineData)
-    → ArePut p first now left → left ≡ rest ++ new ∷ [] → n ≡ length rest → c ≡ get_or now n c → saved ≡ saved_machine_with_word p.drive p.word p.value c.saved
+    → ArePut p first now left → left ≡ rest ++ new ∷ [] → n ≡ length rest → c ≡ get_or now n c → saved ≡ saved_machine_with_word p.at p.value c.saved
     → ArePut p first (slice_set now n (record { turn = c.turn; saved = saved })) rest
 put_at p first now left rest new n c saved put is place there saved_is =
     subst (λ m. ArePut p first (slice_set now m (record { turn = c.turn; saved = saved })) rest) (sym place)

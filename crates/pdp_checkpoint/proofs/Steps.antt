@@ -48,7 +48,7 @@ steps_take s a (suc n) [] are = no_steps s a
 steps_take s a (suc n) (c ∷ cs) are =
     from_parts s a c (take n cs) (head_is s a c cs are) (steps_take s (a + s) n cs (tail_is s a c cs are))
 
--- where the first is too late, all are
+-- if the first is too late, all are
 none_below : (s a t : ℕ) (cs : List Checkpoint) → AreSteps s a cs → t < a → filter (λ c. nat_le c.turn t) cs ≡ []
 none_below s a t [] are late = refl
 none_below s a t (c ∷ cs) are late =

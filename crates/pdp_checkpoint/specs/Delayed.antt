@@ -1,4 +1,4 @@
--- The checkpoint of turn 0 with other delays of the devices (this project's profile).
+-- The checkpoint of turn 0 with other delays of the devices [P].
 use Rattle.std.specs.Prelude.{nat_le, map}
 use Rattle.std.specs.List.{filter}
 use Rattle.pdp_unibus.specs.declared.delays.Delays.{Delays}

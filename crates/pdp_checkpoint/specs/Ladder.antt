@@ -1,4 +1,4 @@
--- The checkpoints of a machine, at the multiples of a stride of turns (this project's profile).
+-- The checkpoints of a machine, at the multiples of a stride of turns [P].
 use Rattle.std.specs.Prelude.{ℕ, zero, suc, ◌≡◌, ◌+◌, ◌*◌, ◌/◌, ◌%◌, ◌-◌, ◌<◌, ◌≤◌, ◌==◌, min}
 use Rattle.std.specs.Prelude.{nat_lt, if◌then◌else◌, List, [], ◌∷◌, ◌++◌, length, map}
 use Rattle.std.specs.List.{filter}
@@ -57,7 +57,7 @@ with_last l c = record l { kept = l.kept ++ c ∷ [] }
 abbrev pub ladder_doubled : LadderData → LadderData
 ladder_doubled l = record { kept = at_multiples (l.stride * 2) l.kept; stride = l.stride * 2 }
 
--- with one more state; where that makes more than 256, at twice the stride
+-- with one more state; if that makes more than 256, at twice the stride
 unfoldable pub kept_with : LadderData → Checkpoint → LadderData
 kept_with l c = (if nat_lt (length l.kept) most_kept then with_last l c else ladder_doubled
     (with_last l c))

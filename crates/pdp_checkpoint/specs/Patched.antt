@@ -1,33 +1,30 @@
--- Checkpoints with another value in a word (this project's profile).
-use Rattle.std.specs.Prelude.{ℕ, ◌≡◌, ◌<◌, Option, List, nat_le, length, map, slice_index_or}
+-- Checkpoints with another value in a word [P].
+use Rattle.std.specs.Prelude.{ℕ, ◌≡◌, ◌<◌, List, nat_le, length, map, slice_index_or}
 use Rattle.std.specs.List.{All, filter}
+use Rattle.pdp_store.specs.declared.part.WordAt.{WordAt}
 use Rattle.pdp_unibus.specs.SavedBusData.{SavedBusData}
 use Rattle.pdp_unibus.specs.PatchedPages.{AreNewPages, HasPageOf}
-use Rattle.pdp_unibus.specs.declared.saved_bus.patched_page.NewPages.{NewPages}
-use Rattle.pdp_unibus.specs.declared.saved_bus.patched_page.PatchedPage.{PatchedPage}
+use Rattle.pdp_unibus.specs.declared.save.saved_bus.patched_page.NewPages.{NewPages}
+use Rattle.pdp_unibus.specs.declared.save.saved_bus.patched_page.PatchedPage.{PatchedPage}
 use Rattle.pdp_cpu.specs.Saved.{saved_machine_with_word}
 use Rattle.pdp_checkpoint.specs.declared.checkpoint.Checkpoint.{Checkpoint}
 use Rattle.pdp_checkpoint.specs.Ladder.{LadderData}
 
--- a state with this value in a word of core, or of a drive
-abbrev pub checkpoint_with_word : Option ℕ → ℕ → ℕ → Checkpoint → Checkpoint
-checkpoint_with_word drive word value c = record c {
-  saved = saved_machine_with_word drive word
-      value c.saved;
-}
+-- a state with this value in a word
+abbrev pub checkpoint_with_word : WordAt → ℕ → Checkpoint → Checkpoint
+checkpoint_with_word at value c = record c { saved = saved_machine_with_word at value c.saved }
 
 -- the states of turns that are not above this one, each with this value in the word
-abbrev pub patched_to : ℕ → Option ℕ → ℕ → ℕ → LadderData → LadderData
-patched_to turn drive word value l = record l {
-  kept = map (checkpoint_with_word drive word value)
-      (filter (λ c. nat_le c.turn turn) l.kept);
+abbrev pub patched_to : ℕ → WordAt → ℕ → LadderData → LadderData
+patched_to turn at value l = record l {
+  kept = map (checkpoint_with_word at value) (filter (λ c. nat_le c.turn turn) l.kept);
 }
 
 -- these states have the page of this word alike: there each has the words of one saved bus, and in
 -- core its last stamps
-pub record HavePageAlike (drive : Option ℕ) (word : ℕ) (kept : List Checkpoint) : Type 0 where
+pub record HavePageAlike (at : WordAt) (kept : List Checkpoint) : Type 0 where
   pub content : SavedBusData
-  pub all : All (λ c. HasPageOf drive word content c.saved.bus) kept
+  pub all : All (λ c. HasPageOf at content c.saved.bus) kept
 
 -- for each of these states, in their order, what takes the place of its page
 pub record AreNewPagesFor (p : PatchedPage) (kept : List Checkpoint) (pages : List NewPages) : Type

@@ -1,6 +1,7 @@
 ghost use Rattle.std.specs.Prelude.{◌≡◌, ◌+◌, ◌*◌, ◌/◌, ◌<◌, ◌≤◌, min, nat_le, Some, [], ◌∷◌};
 ghost use Rattle.std.specs.Prelude.{length, slice_get, IfOk, OnOk, OnErr};
 ghost use Rattle.std.specs.List.{All, filter};
+ghost use Rattle.pdp_store.specs.Parts.{part_of, word_at};
 ghost use Rattle.pdp_unibus.specs.LastTurn.{last_turn};
 ghost use Rattle.pdp_checkpoint.specs.Delayed.{ladder_with_delays};
 ghost use Rattle.pdp_checkpoint.specs.Patched.{HavePageAlike, patched_to};
@@ -12,19 +13,20 @@ use crate::checkpoint::Checkpoint;
 use crate::patched::ReadyPatch;
 use crate::thin::thin;
 use pdp_cpu::PagedMachine;
+use pdp_store::{Part, WordAt};
 use pdp_unibus::Delays;
 use pdp_word::NoMemory;
 use std::alloc::Global;
 use std::marker::Model;
 
-/// How many states a ladder keeps at most (this project's profile).
+/// How many states a ladder keeps at most [P].
 pub const MOST_KEPT: usize = 256;
 
-/// The widest stride of a ladder, in turns (this project's profile).
+/// The widest stride of a ladder, in turns [P].
 pub const WIDEST_STRIDE: u32 = 2_000_000_000;
 
-/// Checkpoints of a machine, at most 256, at the multiples of a stride from turn 0 on (this
-/// project's profile). A contract sees the list of them, the earliest first, and the stride.
+/// Checkpoints of a machine, at most 256, at the multiples of a stride from turn 0 on [P]. A
+/// contract sees the list of them, the earliest first, and the stride.
 #[derive(Drop)]
 pub struct Ladder {
     kept: Vec<Checkpoint>,
@@ -49,7 +51,7 @@ impl Ladder {
     ///
     /// # Errors
     ///
-    /// `NoMemory` where a growth was refused.
+    /// `NoMemory` if memory was refused.
     pub fn new(alloc: Global, stride: u32, machine: &mut PagedMachine) -> Result<Ladder, NoMemory>
         requires start { machine.old.state.turn ≡ 0 }
         requires some { 0 < stride }
@@ -98,13 +100,13 @@ impl Ladder {
         &self.kept[place]
     }
 
-    /// Keeps the state of this machine, which is at the turn of `next`. Where that is the 257th,
-    /// the stride doubles and the states at odd multiples of the old one go. The machine is left as
-    /// it is.
+    /// Keeps the state of this machine, which is at the turn of `next`. If that is the 257th, the
+    /// stride doubles and the states at odd multiples of the old one go. The machine is left as it
+    /// is.
     ///
     /// # Errors
     ///
-    /// `NoMemory` where a growth was refused. The ladder is then as it was.
+    /// `NoMemory` if memory was refused. The ladder is then as it was.
     pub fn take(&mut self, alloc: Global, machine: &mut PagedMachine) -> Result<(), NoMemory>
         requires next { machine.old.state.turn ≡ next_of self.old }
         requires limit { machine.old.state.turn ≤ last_turn }
@@ -137,7 +139,7 @@ impl Ladder {
     }
 
     /// Makes these the delays (turns) of the devices in the checkpoint of turn 0, and drops the
-    /// states of later turns. It takes no memory. (This project's profile.)
+    /// states of later turns. It takes no memory. [P]
     pub fn set_delays(&mut self, delays: Delays)
         ensures kept { self.new ≡ ladder_with_delays delays self.old }
         ensures count { length self.new.kept ≡ 1 }
@@ -150,12 +152,11 @@ impl Ladder {
     /// Gives a word of core, or of this drive, this value in the checkpoints up to `turn`, and
     /// drops those of turns above it. The states up to `turn` have the page of the word alike: they
     /// share the one page that is made. All that is needed for the new states is there before the
-    /// first is changed. The machine numbers the new page, and is left as it is. (This project's
-    /// profile.)
+    /// first is changed. The machine numbers the new page, and is left as it is. [P]
     ///
     /// # Errors
     ///
-    /// `NoMemory` if a growth was refused. The ladder is then as it was.
+    /// `NoMemory` if memory was refused. The ladder is then as it was.
     pub fn patch(
         &mut self,
         alloc: Global,
@@ -165,17 +166,23 @@ impl Ladder {
         word: usize,
         value: u16,
     ) -> Result<(), NoMemory>
-        requires there { All (λ c. HasWord drive word c.saved) self.old.kept }
-        requires alike { HavePageAlike drive word (filter (λ c. nat_le c.turn turn) self.old.kept) }
+        requires there { All (λ c. HasWord (word_at (part_of drive) word) c.saved) self.old.kept }
+        requires alike { HavePageAlike (word_at (part_of drive) word)
+            (filter (λ c. nat_le c.turn turn) self.old.kept) }
         ensures machine { machine.new ≡ machine.old }
-        ensures kept { OnOk result (self.new ≡ patched_to turn drive word value self.old) }
+        ensures kept { OnOk result (self.new
+            ≡ patched_to turn (word_at (part_of drive) word) value self.old) }
         ensures count { OnOk result
             (length self.new.kept ≡ min (length self.old.kept) (turn / self.old.stride + 1)) }
         ensures refused { OnErr result (self.new ≡ self.old) }
         ensures checkpoints { AreCheckpoints self.new }
     {
         let count = ((turn / self.stride) as usize + 1).min(self.kept.len());
-        let patch = ReadyPatch::new(alloc, machine, &self.kept[..count], drive, word, value)?;
+        let at = WordAt {
+            part: Part::of(drive),
+            number: word,
+        };
+        let patch = ReadyPatch::new(alloc, machine, &self.kept[..count], at, value)?;
         self.kept.truncate(count);
         patch.put(&mut self.kept);
         Ok(())

@@ -6,6 +6,7 @@ ghost use Rattle.pdp_checkpoint.specs.Patched.{AreNewPagesFor, HavePageAlike, ch
 
 use crate::checkpoint::Checkpoint;
 use pdp_cpu::PagedMachine;
+use pdp_store::WordAt;
 use pdp_unibus::{NewPages, PatchedPage};
 use pdp_word::NoMemory;
 use std::alloc::Global;
@@ -19,31 +20,27 @@ pub(crate) struct ReadyPatch {
 }
 
 impl ReadyPatch {
-    /// The patch of a word of core, or of a drive, for these states. They have the page of the word
-    /// alike, and share the one page that is made of it. The machine numbers this page, and is left
-    /// as it is.
+    /// The patch of a word for these states. They have the page of the word alike, and share the
+    /// one page that is made of it. The machine numbers this page, and is left as it is.
     ///
-    /// Err if a growth was refused.
+    /// Err if memory was refused.
     pub(crate) fn new(
         alloc: Global,
         machine: &mut PagedMachine,
         kept: &[Checkpoint],
-        drive: Option<u8>,
-        word: usize,
+        at: WordAt,
         value: u16,
     ) -> Result<ReadyPatch, NoMemory>
         requires some { 0 < length kept.now }
-        requires there { All (λ c. HasWord drive word c.saved) kept.now }
-        requires alike { HavePageAlike drive word kept.now }
+        requires there { All (λ c. HasWord at c.saved) kept.now }
+        requires alike { HavePageAlike at kept.now }
         ensures machine { machine.new ≡ machine.old }
-        ensures patch { IfOk result (λ patch. IsPatchOf drive word value patch.page) }
+        ensures patch { IfOk result (λ patch. IsPatchOf at value patch.page) }
         ensures pages { IfOk result
             (λ patch. AreNewPagesFor patch.page kept.now patch.pages.items) }
     {
         let first = &kept[0];
-        let page = first
-            .saved
-            .patched_page(alloc, machine, drive, word, value)?;
+        let page = first.saved.patched_page(alloc, machine, at, value)?;
         let pages = new_pages(alloc, kept, &page)?;
         Ok(ReadyPatch { page, pages })
     }
@@ -51,9 +48,7 @@ impl ReadyPatch {
     /// Gives the word its value in each of the states that the patch is for. It takes no memory.
     pub(crate) fn put(self, kept: &mut [Checkpoint])
         requires { AreNewPagesFor self.page kept.old self.pages.items }
-        ensures { kept.new ≡ map (checkpoint_with_word self.page.drive self.page.word
-            self.page.value)
-            kept.old }
+        ensures { kept.new ≡ map (checkpoint_with_word self.page.at self.page.value) kept.old }
     {
         let ReadyPatch { page, mut pages } = self;
         while let Some(new) = pages.pop() {

@@ -1,5 +1,5 @@
--- The keyboard: PDP-11 Peripherals Handbook, KL11 (what stays, and keys while done is set, are this
--- project's profile).
+-- The keyboard: PDP-11 Peripherals Handbook, KL11 (what stays, and keys while done is set, are
+-- [P]).
 use Rattle.std.specs.Prelude.{ℕ, true, false}
 use Rattle.pdp_device.specs.ReadyEnable.{init_ready_enable, with_ready}
 use Rattle.pdp_console.specs.declared.keyboard.Keyboard.{Keyboard}

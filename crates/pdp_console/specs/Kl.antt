@@ -1,5 +1,5 @@
 -- The console terminal: PDP-11 Peripherals Handbook, KL11 (when requests appear and go, and what a
--- write of the keyboard's buffer does, are this project's profile).
+-- write of the keyboard's buffer does, are [P]).
 use Rattle.std.specs.Prelude.{ℕ, ◌==◌, Option, Some, None, if◌then◌else◌}
 use Rattle.pdp_device.specs.ReadyEnable.{ready_enable_served, ready_enable_status, enable_written}
 use Rattle.pdp_device.specs.Transmitter.{byte_out, transmitter_completed, transmitter_read}

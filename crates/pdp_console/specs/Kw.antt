@@ -1,5 +1,4 @@
--- The line clock: PDP-11 Peripherals Handbook, KW11-L (when its request appears and goes is this
--- project's profile).
+-- The line clock: PDP-11 Peripherals Handbook, KW11-L (when its request appears and goes is [P]).
 use Rattle.std.specs.Prelude.{ℕ, ◌+◌, ◌*◌, true, false, ◌&&◌, ◌||◌}
 use Rattle.pdp_word.specs.Bits.{bit_of}
 use Rattle.pdp_word.specs.Mask.{is_set}
@@ -14,12 +13,11 @@ init_kw = record { monitor = true; enable = false; request = false }
 abbrev pub kw_value : Kw → ℕ
 kw_value c = bit_of c.monitor * lks_monitor + bit_of c.enable * lks_enable
 
--- a tick sets monitor, and requests where enable is set
+-- a tick sets monitor, and requests if enable is set
 abbrev pub kw_ticked : Kw → Kw
 kw_ticked c = record c { monitor = true; request = c.request || c.enable }
 
--- a write sets enable, clears monitor where bit 7 is clear, and drops a request where bit 6 is
--- clear
+-- a write sets enable, clears monitor if bit 7 is clear, and drops a request if bit 6 is clear
 abbrev pub kw_written : ℕ → Kw → Kw
 kw_written word c = record {
   monitor = c.monitor && is_set lks_monitor word;

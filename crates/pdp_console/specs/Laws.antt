@@ -1,6 +1,5 @@
 -- What the laws of the keyboard and of the line clock say: each name is the law's sentence (PDP-11
--- Peripherals Handbook, KL11 and KW11-L; what writes do to the clock's request is this project's
--- profile).
+-- Peripherals Handbook, KL11 and KW11-L; what writes do to the clock's request is [P]).
 use Rattle.std.specs.Prelude.{◌≡◌, ◌≢◌, ◌↔◌, ℕ, true, false}
 use Rattle.pdp_word.specs.Bits.{field}
 use Rattle.pdp_word.specs.Mask.{is_set}
@@ -50,15 +49,14 @@ OtherUsesLeaveTheKey = (register : KlRegister) (k : Kl) (word turn delay : ℕ)
     → ((kl_read register k).keyboard.ready_enable.ready ≡ k.keyboard.ready_enable.ready)
     × ((kl_read register k).keyboard.key ≡ k.keyboard.key))
 
--- where there is no request, a tick makes one exactly where enable is set; where there is one, a
--- tick keeps it
+-- if there is no request, a tick makes one exactly if enable is set; if there is one, a tick keeps
+-- it
 abbrev pub TicksRequest : Type 0
 TicksRequest = (c : Kw)
     → (c.request ≡ false → ((kw_ticked c).request ≡ true) ↔ (c.enable ≡ true))
     × (c.request ≡ true → (kw_ticked c).request ≡ true)
 
--- a write makes no request, and keeps one exactly where its bit 6 is set, which is enable from then
--- on
+-- a write makes no request, and keeps one exactly if its bit 6 is set, which is enable from then on
 abbrev pub WritesMakeNoRequest : Type 0
 WritesMakeNoRequest = (word : ℕ) (c : Kw)
     → (c.request ≡ false → (kw_written word c).request ≡ false)
@@ -72,8 +70,8 @@ monitor_bit c = field 7 1 (kw_value c)
 abbrev pub TicksSetMonitor : Type 0
 TicksSetMonitor = (c : Kw) → monitor_bit (kw_ticked c) ≡ 1
 
--- monitor, where it is set, is clear after a write exactly where bit 7 of the word is clear; no
--- write sets it
+-- monitor, if it is set, is clear after a write exactly if bit 7 of the word is clear; no write
+-- sets it
 abbrev pub MonitorStaysUntilCleared : Type 0
 MonitorStaysUntilCleared = (word : ℕ) (c : Kw)
     → (monitor_bit c ≡ 1 → monitor_bit (kw_written word c) ≡ field 7 1 word)

@@ -17,7 +17,7 @@ impl Keyboard {
     ghost use Rattle.pdp_console.specs.Keyboard.{key_struck, key_taken, keyboard_reset};
     ghost use Rattle.pdp_console.specs.Keyboard.{init_keyboard};
 
-    /// A keyboard at power-up: not done, not enabled, with key 0 (this project's profile).
+    /// A keyboard at power-up: not done, not enabled, with key 0 [P].
     pub fn init() -> Keyboard
         ensures { result ≡ init_keyboard }
     {
@@ -28,7 +28,7 @@ impl Keyboard {
     }
 
     /// A key is struck: it is kept, and done is set. One that comes while done is set replaces the
-    /// last (this project's profile).
+    /// last [P].
     pub fn strike(&mut self, key: u8)
         ensures { self.new ≡ key_struck key self.old }
     {
@@ -45,8 +45,7 @@ impl Keyboard {
         self.key
     }
 
-    /// RESET: done and enable are cleared and a request is dropped; the key stays (this project's
-    /// profile).
+    /// RESET: done and enable are cleared and a request is dropped; the key stays [P].
     pub fn reset(&mut self)
         ensures { self.new ≡ keyboard_reset self.old }
     {

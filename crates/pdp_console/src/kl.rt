@@ -10,12 +10,11 @@ use pdp_device::{Transmitter, TransmitterRegister};
 pub enum KlRegister {
     /// TKS: bit 7 done, bit 6 enable, which alone is written.
     KeyboardStatus,
-    /// TKB: the last key. A read clears done; a write does nothing (this project's profile).
+    /// TKB: the last key. A read clears done; a write does nothing [P].
     KeyboardBuffer,
     /// TPS: bit 7 ready, bit 6 enable, which alone is written.
     PrinterStatus,
-    /// TPB: a write clears ready and begins to print its low byte. Reads 0 (this project's
-    /// profile).
+    /// TPB: a write clears ready and begins to print its low byte. Reads 0 [P].
     PrinterBuffer,
 }
 
@@ -52,8 +51,7 @@ impl Kl {
     ghost use Rattle.pdp_console.specs.Kl.{kl_reset, kl_value};
     ghost use Rattle.pdp_console.specs.Kl.{kl_written, printer_served, init_kl, kl_struck};
 
-    /// A console terminal at power-up: as after RESET, with both buffers 0 (this project's
-    /// profile).
+    /// A console terminal at power-up: as after RESET, with both buffers 0 [P].
     pub fn init() -> Kl
         ensures { result ≡ init_kl }
     {
@@ -64,7 +62,7 @@ impl Kl {
     }
 
     /// A key is struck: its byte is in the buffer, and done is set. A key that comes while done is
-    /// set replaces the byte (this project's profile).
+    /// set replaces the byte [P].
     pub fn key(&mut self, key: u8)
         ensures { self.new ≡ kl_struck self.old key }
     {
@@ -95,8 +93,7 @@ impl Kl {
     }
 
     /// Writes a word to the register in turn `turn`. A byte written to the printer buffer is
-    /// printed `printer_delay` turns later; with delay 0 only its event completes it (this
-    /// project's profile).
+    /// printed `printer_delay` turns later; with delay 0 only its event completes it [P].
     pub fn write_reg(&mut self, register: KlRegister, word: u16, turn: u32, printer_delay: u32)
         ensures { self.new ≡ kl_written register word turn printer_delay self.old }
     {
@@ -112,8 +109,8 @@ impl Kl {
         }
     }
 
-    /// The byte that is being printed is out, and the printer is ready again. Gives the byte; where
-    /// none is being printed, nothing happens (this project's profile).
+    /// The byte that is being printed is out, and the printer is ready again. Gives the byte; if
+    /// none is being printed, nothing happens [P].
     pub fn complete(&mut self) -> Option<u8>
         ensures byte { result ≡ kl_printed self.old }
         ensures after { self.new ≡ kl_completed self.old }
@@ -122,7 +119,7 @@ impl Kl {
     }
 
     /// The keyboard's request is served: it goes, and nothing else changes. The next one appears
-    /// where done or enable was cleared and both are set again (this project's profile).
+    /// if done or enable was cleared and both are set again [P].
     pub fn serve_keyboard(&mut self)
         ensures { self.new ≡ keyboard_served self.old }
     {
@@ -130,7 +127,7 @@ impl Kl {
     }
 
     /// The printer's request is served: it goes, and nothing else changes. The next one appears
-    /// where ready or enable was cleared and both are set again (this project's profile).
+    /// if ready or enable was cleared and both are set again [P].
     pub fn serve_printer(&mut self)
         ensures { self.new ≡ printer_served self.old }
     {
@@ -138,7 +135,7 @@ impl Kl {
     }
 
     /// RESET: the keyboard is not done, the printer is ready, neither is enabled or requests, and a
-    /// byte that is being printed is dropped. The buffers stay (this project's profile).
+    /// byte that is being printed is dropped. The buffers stay [P].
     pub fn reset(&mut self)
         ensures { self.new ≡ kl_reset self.old }
     {

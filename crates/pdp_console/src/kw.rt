@@ -12,8 +12,8 @@ pub struct Kw {
     pub monitor: bool,
     /// Bit 6: ticks request an interrupt.
     pub enable: bool,
-    /// It requests an interrupt. A tick requests where enable is set; a request goes when it is
-    /// served, by RESET, and by a write with bit 6 clear (this project's profile).
+    /// It requests an interrupt. A tick requests if enable is set; a request goes when it is
+    /// served, by RESET, and by a write with bit 6 clear [P].
     pub request: bool,
 }
 
@@ -40,7 +40,7 @@ impl Kw {
     }
 
     /// A write of a word to LKS: bit 6 is enable, and a clear bit 7 clears monitor. With bit 6
-    /// clear a request is dropped (this project's profile).
+    /// clear a request is dropped [P].
     pub fn write_reg(&mut self, word: u16)
         ensures { self.new ≡ kw_written word self.old }
     {
@@ -52,7 +52,7 @@ impl Kw {
         };
     }
 
-    /// The clock ticks: monitor is set, and where enable is set it requests an interrupt.
+    /// The clock ticks: monitor is set, and if enable is set it requests an interrupt.
     pub fn tick(&mut self)
         ensures { self.new ≡ kw_ticked self.old }
     {

@@ -15,12 +15,12 @@ pub fn keys_set_done_and_reads_clear_it()
     ensures others { OtherUsesLeaveTheKey }
 {}
 
-/// A law and no code: a tick of the clock makes a request exactly where enable is set, and a write
-/// makes none; it keeps one exactly where its bit 6 is set. A tick sets monitor, which stays until
+/// A law and no code: a tick of the clock makes a request exactly if enable is set, and a write
+/// makes none; it keeps one exactly if its bit 6 is set. A tick sets monitor, which stays until
 /// a write has bit 7 clear.
 ///
-/// Source: PDP-11 Peripherals Handbook, KW11-L; that a write makes no request and drops one, this
-/// project's profile.
+/// Source: PDP-11 Peripherals Handbook, KW11-L; that a write makes no request and drops one
+/// [P].
 pub fn ticks_request_where_enabled()
     ensures ticks { TicksRequest }
     ensures writes { WritesMakeNoRequest }

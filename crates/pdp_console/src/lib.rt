@@ -1,5 +1,6 @@
 //! The console of the PDP-11/40: the terminal (KL11), with its keyboard and its printer, and the
 //! line clock (KW11-L). It stands on pdp_word and pdp_device.
+//! Of the handbook's devices KL11 and KW11-L are here, PC11 in pdp_tape, RK11 in pdp_rk11.
 //!
 //! # What is proved
 //!

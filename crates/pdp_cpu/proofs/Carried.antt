@@ -1,7 +1,7 @@
 -- A turn does the same whatever first touches are kept, and adds to them what its trace touches.
 use Rattle.std.proofs.Common.{◌≡◌, ℕ, List, ◌++◌, sym, ap, ap₂, ◌∙◌}
-use Rattle.pdp_store.specs.Firsts.{Firsts, firsts_after, no_firsts}
-use Rattle.pdp_store.proofs.FirstTouches.{firsts_after-append, no_firsts_after}
+use Rattle.pdp_store.specs.FirstTouches.{FirstTouches, first_touches_after, no_first_touches}
+use Rattle.pdp_store.proofs.FirstTouches.{first_touches_after-append, no_first_touches_after}
 use Rattle.pdp_unibus.proofs.Carried.{begun_carried}
 use Rattle.pdp_unibus.specs.BusWorld.{BusWorld}
 use Rattle.pdp_unibus.specs.Trace.{begun_touches}
@@ -14,36 +14,36 @@ use Rattle.pdp_operand.specs.Phases.World.{World, world}
 use Rattle.pdp_operand.specs.declared.processor.Processor.{Processor}
 use Rattle.pdp_cpu.specs.declared.due.Due.{Due}
 use Rattle.pdp_cpu.specs.Turns.Due.{act_of, course_of, due_now, due_of}
-use Rattle.pdp_cpu.specs.Turns.MachineState.{MachineState, after_turn, without_firsts}
-use Rattle.pdp_cpu.specs.Turns.MachineState.{world_with_firsts}
+use Rattle.pdp_cpu.specs.Turns.MachineState.{MachineState, after_turn, without_first_touches}
+use Rattle.pdp_cpu.specs.Turns.MachineState.{world_with_first_touches}
 use Rattle.pdp_cpu.specs.Turns.Turn.{act_end, beginning, clear_latch, course_at, one_turn}
 use Rattle.pdp_cpu.specs.Turns.Turn.{printed_in, processor_after_events, punched_in, initial_state}
 use Rattle.pdp_cpu.specs.Turns.Turn.{turn_act, turn_trace}
 
 -- turn t in a world, and the same over other first touches
-pub record TurnCarried (t : ℕ) (events : List Event) (w : World) (firsts : Firsts) : Type 0 where
-  pub world_is : one_turn t events (world_with_firsts w firsts)
-      ≡ world_with_firsts (one_turn t events w) (firsts_after (turn_trace t events w) firsts)
-  pub trace : turn_trace t events (world_with_firsts w firsts) ≡ turn_trace t events w
-  pub act : turn_act t events (world_with_firsts w firsts) ≡ turn_act t events w
-  pub printed : printed_in t events (world_with_firsts w firsts) ≡ printed_in t events w
-  pub punched : punched_in t events (world_with_firsts w firsts) ≡ punched_in t events w
+pub record TurnCarried (t : ℕ) (events : List Event) (w : World) (first_touches : FirstTouches) : Type 0 where
+  pub world_is : one_turn t events (world_with_first_touches w first_touches)
+      ≡ world_with_first_touches (one_turn t events w) (first_touches_after (turn_trace t events w) first_touches)
+  pub trace : turn_trace t events (world_with_first_touches w first_touches) ≡ turn_trace t events w
+  pub act : turn_act t events (world_with_first_touches w first_touches) ≡ turn_act t events w
+  pub printed : printed_in t events (world_with_first_touches w first_touches) ≡ printed_in t events w
+  pub punched : punched_in t events (world_with_first_touches w first_touches) ≡ punched_in t events w
 
-pub turn_carried : (t : ℕ) (events : List Event) (w : World) (firsts : Firsts)
-    → TurnCarried t events w firsts
+pub turn_carried : (t : ℕ) (events : List Event) (w : World) (first_touches : FirstTouches)
+    → TurnCarried t events w first_touches
 unfolding one_turn turn_trace turn_act printed_in punched_in
-turn_carried t events w firsts =
+turn_carried t events w first_touches =
     let xs = begun_touches t events w.bus in
-    let first = begun_carried t events w.bus firsts in
+    let first = begun_carried t events w.bus first_touches in
     let v = beginning t events w in
-    let begins : beginning t events (world_with_firsts w firsts)
-    ≡ world_with_firsts v (firsts_after xs firsts)
+    let begins : beginning t events (world_with_first_touches w first_touches)
+    ≡ world_with_first_touches v (first_touches_after xs first_touches)
     = ap (λ q. world (processor_after_events events w.processor) q.bus) first.is in
-    let course = carried_course (course_at (initial_state v)) (initial_state v) (firsts_after xs firsts) in
+    let course = carried_course (course_at (initial_state v)) (initial_state v) (first_touches_after xs first_touches) in
     let acts = trace_of (course_at (initial_state v)) (initial_state v) in
     record {
       world_is = ap act_end begins ∙ ap (λ s. s.world) course.is
-          ∙ ap (world_with_firsts (act_end v)) (sym (firsts_after-append xs acts firsts));
+          ∙ ap (world_with_first_touches (act_end v)) (sym (first_touches_after-append xs acts first_touches));
       trace = ap₂ ◌++◌ first.trace
           (ap (λ u. trace_of (course_at (initial_state u)) (initial_state u)) begins ∙ course.trace);
       act = ap (λ u. act_of (due_of (inner_of (initial_state u)))) begins;
@@ -51,42 +51,42 @@ turn_carried t events w firsts =
       punched = ap (λ q. q.punched) first.is;
     }
 
-none_stay : (t : ℕ) (events : List Event) (w : World) → w.bus.firsts ≡ no_firsts
-    → (one_turn t events w).bus.firsts ≡ no_firsts
+none_stay : (t : ℕ) (events : List Event) (w : World) → w.bus.first_touches ≡ no_first_touches
+    → (one_turn t events w).bus.first_touches ≡ no_first_touches
 none_stay t events w none =
-    let so = turn_carried t events w no_firsts in
-    let same : world_with_firsts w no_firsts ≡ w = ap (world_with_firsts w) (sym none) in
-    ap (λ u. u.bus.firsts) (sym (ap (one_turn t events) same) ∙ so.world_is)
-    ∙ no_firsts_after (turn_trace t events w)
+    let so = turn_carried t events w no_first_touches in
+    let same : world_with_first_touches w no_first_touches ≡ w = ap (world_with_first_touches w) (sym none) in
+    ap (λ u. u.bus.first_touches) (sym (ap (one_turn t events) same) ∙ so.world_is)
+    ∙ no_first_touches_after (turn_trace t events w)
 
 -- what is seen of a turn if first touches are seen apart from the world
-pub turn_seen : (t : ℕ) (events : List Event) (w v : World) (firsts now : Firsts)
-    → w.bus.firsts ≡ no_firsts → v.bus.firsts ≡ no_firsts
-    → world_with_firsts v now ≡ one_turn t events (world_with_firsts w firsts)
+pub turn_seen : (t : ℕ) (events : List Event) (w v : World) (first_touches now : FirstTouches)
+    → w.bus.first_touches ≡ no_first_touches → v.bus.first_touches ≡ no_first_touches
+    → world_with_first_touches v now ≡ one_turn t events (world_with_first_touches w first_touches)
     → v ≡ one_turn t events w
-turn_seen t events w v firsts now none nothing is =
-    let so = turn_carried t events w firsts in
-    ap (world_with_firsts v) nothing ∙ ap without_firsts (is ∙ so.world_is)
-    ∙ ap (world_with_firsts (one_turn t events w)) (sym (none_stay t events w none))
+turn_seen t events w v first_touches now none nothing is =
+    let so = turn_carried t events w first_touches in
+    ap (world_with_first_touches v) nothing ∙ ap without_first_touches (is ∙ so.world_is)
+    ∙ ap (world_with_first_touches (one_turn t events w)) (sym (none_stay t events w none))
 
-pub firsts_seen : (t : ℕ) (events : List Event) (w v : World) (firsts now : Firsts)
-    → world_with_firsts v now ≡ one_turn t events (world_with_firsts w firsts)
-    → now ≡ firsts_after (turn_trace t events w) firsts
-firsts_seen t events w v firsts now is =
-    ap (λ u. u.bus.firsts) (is ∙ (turn_carried t events w firsts).world_is)
+pub first_touches_seen : (t : ℕ) (events : List Event) (w v : World) (first_touches now : FirstTouches)
+    → world_with_first_touches v now ≡ one_turn t events (world_with_first_touches w first_touches)
+    → now ≡ first_touches_after (turn_trace t events w) first_touches
+first_touches_seen t events w v first_touches now is =
+    ap (λ u. u.bus.first_touches) (is ∙ (turn_carried t events w first_touches).world_is)
 
 -- a state with these first touches in its world
-abbrev pub touched_state : MachineState → Firsts → MachineState
-touched_state m firsts = record m { world = world_with_firsts m.world firsts }
+abbrev pub touched_state : MachineState → FirstTouches → MachineState
+touched_state m first_touches = record m { world = world_with_first_touches m.world first_touches }
 
-pub state_seen : (events : List Event) (m now : MachineState) (firsts left : Firsts)
-    → m.world.bus.firsts ≡ no_firsts → now.world.bus.firsts ≡ no_firsts
-    → touched_state now left ≡ after_turn events (touched_state m firsts)
+pub state_seen : (events : List Event) (m now : MachineState) (first_touches left : FirstTouches)
+    → m.world.bus.first_touches ≡ no_first_touches → now.world.bus.first_touches ≡ no_first_touches
+    → touched_state now left ≡ after_turn events (touched_state m first_touches)
     → now ≡ after_turn events m
-state_seen events m now firsts left none nothing is =
-    let so = turn_carried m.turn events m.world firsts in
+state_seen events m now first_touches left none nothing is =
+    let so = turn_carried m.turn events m.world first_touches in
     same_state now _ _ _ _ (ap (λ s. s.turn) is)
-    (turn_seen m.turn events m.world now.world firsts left none nothing (ap (λ s. s.world) is))
+    (turn_seen m.turn events m.world now.world first_touches left none nothing (ap (λ s. s.world) is))
     (ap (λ s. s.text) is ∙ ap (λ out. m.text ++ out) so.printed)
     (ap (λ s. s.punched) is ∙ ap (λ out. m.punched ++ out) so.punched)
   where

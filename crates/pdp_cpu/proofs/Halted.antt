@@ -63,13 +63,13 @@ words_stay_in_turn t events w is none quiet =
     record {
       disk = ap (λ v. v.bus.io_page.disk) same ∙ idles.disk;
       core = ap (λ v. v.bus.core) same ∙ ap (λ bus. bus.core) idles.leaves;
-      lasts = ap (λ v. v.bus.lasts) same ∙ ap (λ bus. bus.lasts) idles.leaves;
+      stamps = ap (λ v. v.bus.stamps) same ∙ ap (λ bus. bus.stamps) idles.leaves;
       drives = ap (λ v. v.bus.drives) same ∙ ap (λ bus. bus.drives) idles.leaves;
     }
 
 pub halted_words_stay : (events : ℕ → List Event) (t n : ℕ) (w : World) → w.processor.run ≡ Halted
     → ((k : ℕ) → NoneContinues (events k)) → is_disk_busy w.bus.io_page ≡ false → WordsStay w (world_after events t n w)
-halted_words_stay events t zero w is none quiet = record { disk = refl; core = refl; lasts = refl; drives = refl }
+halted_words_stay events t zero w is none quiet = record { disk = refl; core = refl; stamps = refl; drives = refl }
 halted_words_stay events t (suc n) w is none quiet =
     let halted = halted_stays events t n w is none in
     let before = halted_words_stay events t n w is none quiet in
@@ -78,6 +78,6 @@ halted_words_stay events t (suc n) w is none quiet =
     record {
       disk = turn.disk ∙ before.disk;
       core = turn.core ∙ before.core;
-      lasts = turn.lasts ∙ before.lasts;
+      stamps = turn.stamps ∙ before.stamps;
       drives = turn.drives ∙ before.drives;
     }

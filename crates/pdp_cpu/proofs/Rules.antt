@@ -4,7 +4,7 @@ use Rattle.pdp_operand.specs.Phases.Course.{follow}
 use Rattle.pdp_operand.specs.Phases.Phase.{run}
 use Rattle.pdp_cpu.proofs.CalmTurns.{calm_later, calm_start, stamp_stays_next, word_stays}
 use Rattle.pdp_cpu.proofs.KeptTexts.{kept_one, length_before, text_and_one, text_before}
-use Rattle.pdp_cpu.proofs.TurnLaws.{turn_keeps_lasts, turn_keeps_words}
+use Rattle.pdp_cpu.proofs.TurnLaws.{turn_keeps_stamps, turn_keeps_words}
 use Rattle.pdp_cpu.specs.Turns.Due.{serve, serving, take_stack, take_trace}
 use Rattle.pdp_cpu.specs.Turns.Turn.{one_turn, printed_in, punched_in, turn_act}
 
@@ -21,7 +21,7 @@ pub ruleset longer_texts = (kept_one, text_and_one)
 pub ruleset shorter_texts = (text_before, length_before)
 
 -- for goals on how many words and stamps a turn leaves
-pub ruleset sizes = (turn_keeps_words, turn_keeps_lasts)
+pub ruleset sizes = (turn_keeps_words, turn_keeps_stamps)
 
 -- opens what a turn prints and punches
 unfoldable pub texts_of_turn : Type 0

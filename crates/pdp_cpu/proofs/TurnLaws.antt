@@ -4,7 +4,8 @@ use Rattle.std.proofs.lemmas.List.Elements.{All-append}
 use Rattle.pdp_unibus.specs.BusWorld.{BusWorld}
 use Rattle.pdp_store.proofs.Traces.{Avoids-first, Avoids-second}
 use Rattle.pdp_store.specs.Parts.{AlikeWords}
-use Rattle.pdp_store.specs.TracedAccess.{Avoids, Part, TracedAccess, is_core, last_write}
+use Rattle.pdp_store.specs.TracedAccess.{Avoids, TracedAccess, is_core, last_write}
+use Rattle.pdp_store.specs.declared.part.Part.{Part}
 use Rattle.pdp_unibus.proofs.Kept.{KeepsStamps, begun_keeps_page, begun_keeps_stamps, begun_keeps_tape, begun_keeps_turn, keeps_stamps}
 use Rattle.pdp_unibus.proofs.Pairs.{begun_alike}
 use Rattle.pdp_unibus.specs.Beginning.{after_beginning, in_turn}
@@ -15,7 +16,7 @@ use Rattle.pdp_unibus.specs.declared.event.Event.{Event}
 use Rattle.pdp_operand.specs.Laws.Touched.{IsByProcessor}
 use Rattle.pdp_operand.specs.Laws.Trace.{trace_of}
 use Rattle.pdp_operand.specs.declared.processor.Processor.{Processor}
-use Rattle.pdp_operation.specs.declared.trap.Trap.{Trap}
+use Rattle.pdp_action.specs.declared.trap.Trap.{Trap}
 use Rattle.pdp_operand.specs.Phases.Phase.{Inner, Phase, inner_of}
 use Rattle.pdp_operand.proofs.Bound.{AtMost, course_length_le}
 use Rattle.pdp_instruction.proofs.PlanSizes.{size_of_plan}
@@ -32,13 +33,13 @@ use Rattle.pdp_cpu.specs.declared.due.Due.TheVariants as due
 use Rattle.pdp_instruction.specs.declared.saved_context.SavedContext.{SavedContext}
 use Rattle.pdp_decode.specs.declared.instruction.Instr.{Instr}
 use Rattle.pdp_operand.specs.Phases.Course.{Course, End, Go, ends, follow}
-use Rattle.pdp_operation.specs.declared.trap.Trap.TheVariants.{OddAddress, MappingAbort, BusTimeout, Reserved, JumpToRegister, StackLimit, Breakpoint, InputOutput, Emulator, TrapInstruction}
+use Rattle.pdp_action.specs.declared.trap.Trap.TheVariants.{OddAddress, MappingAbort, BusTimeout, Reserved, JumpToRegister, StackLimit, Breakpoint, InputOutput, Emulator, TrapInstruction}
 use Rattle.pdp_unibus.specs.Source.{vector_of}
 
 ends_at_most : (n : ℕ) → (i : Inner) → AtMost (ends i) n
 ends_at_most n i = tt
 
--- the red sequence has six phases, and one more where it can't go on
+-- the red sequence has six phases, and one more if it can't go on
 red_at_most : (context : SavedContext) → AtMost (red context) 7
 unfolding red red_plan
 red_at_most context = (1, omega arith, ends_at_most 1, λ _ _. (0, omega arith, λ _. tt, λ _ _. tt))
@@ -113,17 +114,17 @@ turn_touches t events w =
     All-append (IsOfTurn t (length w.bus.core)) (begun_touches t events w.bus) (act_trace t events w) after_beginning.touches
     (λ k d below. of_turn t (length w.bus.core) _ (rw (after_beginning.turn, after_beginning.words) at (course k d below)))
 
-turn_keeps_stamps : (t : ℕ) (events : List Event) (w : World)
+turn_keeps_last_stamps : (t : ℕ) (events : List Event) (w : World)
     → KeepsStamps (turn_trace t events w) (in_turn t w.bus) (one_turn t events w).bus
 unfolding one_turn turn_trace
-turn_keeps_stamps t events w =
+turn_keeps_last_stamps t events w =
     keeps_stamps.joins (begun_touches t events w.bus) (act_trace t events w) (in_turn t w.bus) (beginning t events w).bus
     (act_end (beginning t events w)).bus (begun_keeps_stamps t events w.bus)
     (course_keeps_stamps (course_at (at_turn t events w)) (at_turn t events w))
 
-pub turn_lasts : (t : ℕ) (events : List Event) (w : World) (k : ℕ) → k < length w.bus.lasts
-    → slice_index_or (one_turn t events w).bus.lasts k None ≡ last_write (turn_trace t events w) k (slice_index_or w.bus.lasts k None)
-turn_lasts t events w = (turn_keeps_stamps t events w).lasts
+pub turn_stamps : (t : ℕ) (events : List Event) (w : World) (k : ℕ) → k < length w.bus.stamps
+    → slice_index_or (one_turn t events w).bus.stamps k None ≡ last_write (turn_trace t events w) k (slice_index_or w.bus.stamps k None)
+turn_stamps t events w = (turn_keeps_last_stamps t events w).stamps
 
 pub turn_keeps_words : (t : ℕ) (events : List Event) (w : World) → length (one_turn t events w).bus.core ≡ length w.bus.core
 unfolding one_turn
@@ -135,8 +136,8 @@ unfolding one_turn
 turn_keeps_tape t events w =
     course_keeps_tape (course_at (at_turn t events w)) (at_turn t events w) ∙ begun_keeps_tape t events w.bus
 
-pub turn_keeps_lasts : (t : ℕ) (events : List Event) (w : World) → length (one_turn t events w).bus.lasts ≡ length w.bus.lasts
-turn_keeps_lasts t events w = (turn_keeps_stamps t events w).size
+pub turn_keeps_stamps : (t : ℕ) (events : List Event) (w : World) → length (one_turn t events w).bus.stamps ≡ length w.bus.stamps
+turn_keeps_stamps t events w = (turn_keeps_last_stamps t events w).size
 
 -- the act of a turn in world v, and a course on the same processor and bus c: they end in the same way, with the same
 -- trace, and leave each its own words of the page

@@ -1,7 +1,7 @@
--- The drives of a machine, exchanged for others (this project's profile).
+-- The drives of a machine, exchanged for others [P].
 use Rattle.std.specs.Prelude.{ℕ, List}
 use Rattle.pdp_operand.specs.Phases.World.{world}
-use Rattle.pdp_store.specs.Firsts.{firsts_of}
+use Rattle.pdp_store.specs.FirstTouches.{first_touches_of}
 use Rattle.pdp_unibus.specs.Drives.{with_drives}
 use Rattle.pdp_cpu.specs.Turns.MachineState.{MachineState, MachineWithTexts}
 
@@ -15,7 +15,7 @@ state_with_drives drives m = record m {
 -- the machine in that state, with these first touches of the pages of its drives
 abbrev pub machine_with_drives : List (List ℕ) → List (List ℕ) → MachineWithTexts
     → MachineWithTexts
-machine_with_drives drives firsts m = record m {
+machine_with_drives drives first_touches m = record m {
   state = state_with_drives drives m.state;
-  firsts = firsts_of m.firsts.core firsts;
+  first_touches = first_touches_of m.first_touches.core first_touches;
 }

@@ -1,4 +1,4 @@
--- Bytes that came out of a machine, kept with their turns (this project's profile).
+-- Bytes that came out of a machine, kept with their turns [P].
 use Rattle.std.specs.Prelude.{ℕ, ◌+◌, ◌++◌, List, [], ◌∷◌, drop, map, nat_le, take, if◌then◌else◌}
 use Rattle.pdp_cpu.specs.declared.kept_text.KeptByte.{KeptByte}
 
@@ -23,13 +23,13 @@ kept_over turn [] place bytes = bytes
 kept_over turn (byte ∷ out) place bytes = kept_over turn out (place + 1) (put_over place
     (record { byte = byte; turn = turn }) bytes)
 
--- a byte goes where it came out in this turn or later and none after it stays
+-- a byte goes if it came out in this turn or later and none after it stays
 abbrev pub kept_first : ℕ → KeptByte → List KeptByte → List KeptByte
 kept_first turn b (c ∷ cs) = b ∷ c ∷ cs
 kept_first turn b [] = if nat_le turn b.turn then [] else b ∷ []
 
--- the bytes up to the last that came out before this turn: where they came out in the order of
--- their turns, all of those
+-- the bytes up to the last that came out before this turn: if they came out in the order of their
+-- turns, all of those
 abbrev pub kept_before : ℕ → List KeptByte → List KeptByte
 kept_before turn [] = []
 kept_before turn (b ∷ bs) = kept_first turn b (kept_before turn bs)

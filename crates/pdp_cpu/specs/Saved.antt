@@ -1,5 +1,6 @@
--- What is saved of a machine (this project's profile).
-use Rattle.std.specs.Prelude.{ℕ, ◌≤◌, List, Option, length, take}
+-- What is saved of a machine [P].
+use Rattle.std.specs.Prelude.{ℕ, ◌≤◌, List, length, take}
+use Rattle.pdp_store.specs.declared.part.WordAt.{WordAt}
 use Rattle.pdp_operand.specs.Phases.World.{World, world}
 use Rattle.pdp_operand.specs.declared.processor.Processor.{Processor}
 use Rattle.pdp_unibus.specs.SavedBusData.{SavedBusData, HasSizesOf, saved_bus, bus_of}
@@ -52,15 +53,14 @@ pub record CanHold (m : MachineWithTexts) (c : SavedMachineData) : Type 0 where
 abbrev pub saved_machine_with_delays : Delays → SavedMachineData → SavedMachineData
 saved_machine_with_delays delays c = record c { bus = bus_with_delays delays c.bus }
 
--- there is such a word: of core, or of the drive of this number; and the saved machine with this
--- value in it
-unfoldable pub HasWord : Option ℕ → ℕ → SavedMachineData → Type 0
-HasWord drive word c = BusHasWord drive word c.bus
+-- there is such a word, and the saved machine with this value in it
+unfoldable pub HasWord : WordAt → SavedMachineData → Type 0
+HasWord at c = BusHasWord at c.bus
 
-unfoldable pub saved_machine_with_word : Option ℕ → ℕ → ℕ → SavedMachineData → SavedMachineData
-saved_machine_with_word drive word value c = record c { bus = bus_with_word drive word value c.bus }
+unfoldable pub saved_machine_with_word : WordAt → ℕ → SavedMachineData → SavedMachineData
+saved_machine_with_word at value c = record c { bus = bus_with_word at value c.bus }
 
--- the machine's state where only so many of its printed and punched bytes are left
+-- the machine's state if only so many of its printed and punched bytes are left
 abbrev pub state_cut : ℕ → ℕ → MachineState → MachineState
 state_cut printed punched m = record m {
   text = take printed m.text;

@@ -1,7 +1,7 @@
 /// The act that began a turn.
 #[derive(Clone, Copy)]
 pub enum Act {
-    /// One instruction, with its trap if it had one; also where its word could not be fetched.
+    /// One instruction, with its trap if it had one; also if its word could not be fetched.
     Instr,
     /// The trace trap.
     Trace,

@@ -59,8 +59,8 @@ impl Due {
 }
 
 /// Whether an instruction is due because the machine neither waits nor is halted, and nothing is
-/// pending or requested. Else one may be due all the same, where what is requested has no level
-/// above the priority. Each turn asks this, so its tests are joined without a jump for each.
+/// pending or requested. Else one may be due all the same, if what is requested has no level above
+/// the priority. Each turn asks this, so its tests are joined without a jump for each.
 #[inline(always)]
 #[tactic(auto, using(crate::proofs::Dues::instruction_is_due))]
 pub fn nothing_is_pending<S: Store, D: Store>(processor: &Processor, bus: &Bus<S, D>) -> bool

@@ -66,7 +66,7 @@ impl KeptText {
 
     /// Makes room for one more byte.
     ///
-    /// Err(NoMemory) where the growth was refused.
+    /// Err(NoMemory) if the memory was refused.
     pub fn make_room(&mut self) -> Result<(), NoMemory>
         ensures room { OnOk result (0 < self.new.room) }
         ensures bytes { self.new.bytes ≡ self.old.bytes }
@@ -77,7 +77,7 @@ impl KeptText {
     }
 
     /// Keeps the byte that came out in this turn, if any: over the one that is kept in its place,
-    /// where there is one.
+    /// if there is one.
     #[tactic(auto, using(crate::proofs::Rules::longer_texts))]
     pub fn keep(&mut self, turn: u32, byte: Option<u8>)
         requires { 0 < self.old.room }

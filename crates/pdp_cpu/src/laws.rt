@@ -4,7 +4,8 @@ ghost use Rattle.std.specs.Prelude.{◌≡◌, ◌<◌, ◌≤◌, ℕ, All, Lis
 ghost use Rattle.std.specs.Prelude.{slice_index_or};
 ghost use Rattle.pdp_unibus.specs.BusWorld.{BusWorld, is_disk_busy};
 ghost use Rattle.pdp_unibus.specs.declared.event.Event.{Event};
-ghost use Rattle.pdp_store.specs.TracedAccess.{Avoids, Part, last_write};
+ghost use Rattle.pdp_store.specs.TracedAccess.{Avoids, last_write};
+ghost use Rattle.pdp_store.specs.declared.part.Part.{Part};
 ghost use Rattle.pdp_unibus.specs.Page.{AlikeOutside};
 ghost use Rattle.pdp_unibus.specs.Touched.{IsOfTurn};
 ghost use Rattle.pdp_operand.specs.declared.processor.Processor.{Processor};
@@ -21,12 +22,12 @@ pub fn turns_end_within_32_phases()
 {}
 
 /// A law of turns: after a turn, the last stamp of each word is that of its last write in the trace
-/// of the turn, or the one from before where the turn did not write it.
-#[tactic(auto, using(crate::proofs::TurnLaws::turn_lasts))]
+/// of the turn, or the one from before if the turn did not write it.
+#[tactic(auto, using(crate::proofs::TurnLaws::turn_stamps))]
 pub fn stamps_are_last_writes()
-    ensures { (t : ℕ) (events : List Event) (w : World) (k : ℕ) → k < length w.bus.lasts →
-        slice_index_or (one_turn t events w).bus.lasts k None
-        ≡ last_write (turn_trace t events w) k (slice_index_or w.bus.lasts k None) }
+    ensures { (t : ℕ) (events : List Event) (w : World) (k : ℕ) → k < length w.bus.stamps →
+        slice_index_or (one_turn t events w).bus.stamps k None
+        ≡ last_write (turn_trace t events w) k (slice_index_or w.bus.stamps k None) }
 {}
 
 /// A law of turns: every access in the trace of a turn is in that turn; one of core is of a word
@@ -42,8 +43,8 @@ pub fn touches_are_of_their_turn()
 pub fn turns_keep_the_size_of_core()
     ensures words { (t : ℕ) (events : List Event) (w : World) →
         length (one_turn t events w).bus.core ≡ length w.bus.core }
-    ensures lasts { (t : ℕ) (events : List Event) (w : World) →
-        length (one_turn t events w).bus.lasts ≡ length w.bus.lasts }
+    ensures stamps { (t : ℕ) (events : List Event) (w : World) →
+        length (one_turn t events w).bus.stamps ≡ length w.bus.stamps }
 {}
 
 /// A law of turns: there are as many drives after a turn as before it, each with as many words.
@@ -69,8 +70,8 @@ pub fn turns_leave_what_they_never_touch()
 {}
 
 /// A law of turns: a halted machine stays. Without `Continue` its processor, the program status and
-/// the mapping registers are the same after any number of turns, whatever other events come; and
-/// where nothing is under way on the disk, so are core, its stamps and the drives.
+/// the mapping registers are the same after any number of turns, whatever other events come; and if
+/// nothing is under way on the disk, so are core, its stamps and the drives.
 pub fn halted_machines_stay()
     ensures stays { (events : ℕ → List Event) (t n : ℕ) (w : World) → w.processor.run ≡ Halted →
         ((k : ℕ) → NoneContinues (events k)) → Stays w (world_after events t n w) }

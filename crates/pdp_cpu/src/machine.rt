@@ -1,6 +1,6 @@
 ghost use Rattle.std.specs.Prelude.{◌≡◌, ◌<◌, length, map};
 ghost use Rattle.std.specs.Prelude.{slice_index, slice_index_or, take, [], None, Ok, OnOk};
-ghost use Rattle.pdp_store.specs.Firsts.{firsts_after, firsts_of, no_firsts};
+ghost use Rattle.pdp_store.specs.FirstTouches.{first_touches_after, first_touches_of, no_first_touches};
 ghost use Rattle.pdp_unibus.specs.BusWorld.{bus_at_power_up};
 ghost use Rattle.pdp_operand.specs.Phases.Phase.{inner_of};
 ghost use Rattle.pdp_cpu.specs.KeptTexts.{without_turns};
@@ -45,7 +45,7 @@ pub struct Machine<S: Store, D: Store> {
 }
 
 impl<S: Store, D: Store> Model for Machine<S, D> {
-    ghost use Rattle.pdp_cpu.specs.Turns.MachineState.{MachineWithTexts, without_firsts};
+    ghost use Rattle.pdp_cpu.specs.Turns.MachineState.{MachineWithTexts, without_first_touches};
     ghost use Rattle.pdp_operand.specs.Phases.World.{world};
 
     ghost Value = { MachineWithTexts };
@@ -53,7 +53,7 @@ impl<S: Store, D: Store> Model for Machine<S, D> {
     ghost view = { λ m. record {
       state = record {
         turn = m.turn;
-        world = without_firsts (world m.processor m.bus);
+        world = without_first_touches (world m.processor m.bus);
         text = m.text.text;
         punched = m.punched.text;
       };
@@ -61,15 +61,15 @@ impl<S: Store, D: Store> Model for Machine<S, D> {
       kept_punched = m.punched.bytes;
       text_room = m.text.room;
       punched_room = m.punched.room;
-      firsts = m.bus.firsts;
+      first_touches = m.bus.first_touches;
     } };
 }
 
 impl<S: Store, D: Store> Machine<S, D> {
     /// The machine as of power-up over this core and these drives, with this paper tape in the
     /// reader and these delays (turns): PC is the start address (octal, bytes), every other
-    /// register and the program status word 0, the devices as after RESET, no drive locked (this
-    /// project's profile). It has run no turn, and printed and punched nothing. Takes no memory.
+    /// register and the program status word 0, the devices as after RESET, no drive locked [P]. It
+    /// has run no turn, and printed and punched nothing. Takes no memory.
     pub fn power(
         alloc: Global,
         lines: Lines,
@@ -79,11 +79,12 @@ impl<S: Store, D: Store> Machine<S, D> {
         tape: Vec<u8>,
         delays: Delays,
     ) -> Self
-        ensures state { result.state ≡ powered_machine start (S.words words) (S.lasts words)
+        ensures state { result.state ≡ powered_machine start (S.words words) (S.stamps words)
             (map D.words drives.items) tape.items delays }
         ensures kept_text { result.kept_text ≡ [] }
         ensures kept_punched { result.kept_punched ≡ [] }
-        ensures firsts { result.firsts ≡ firsts_of (S.firsts words) (map D.firsts drives.items) }
+        ensures first_touches { result.first_touches
+            ≡ first_touches_of (S.first_touches words) (map D.first_touches drives.items) }
     {
         Machine {
             processor: Processor::power(start),
@@ -96,8 +97,8 @@ impl<S: Store, D: Store> Machine<S, D> {
 
     /// Makes the room that one turn may need: for one byte printed on the console and one punched.
     ///
-    /// Err(NoMemory) where a growth was refused, so never where there was room; all but the room is
-    /// then as before too. (This project's profile.)
+    /// Err(NoMemory) if memory was refused, so never if there was room; all but the room is then as
+    /// before too. [P]
     #[inline(always)]
     pub fn ready(&mut self) -> Result<(), NoMemory>
         ensures ready { OnOk result (IsReady self.new) }
@@ -105,7 +106,7 @@ impl<S: Store, D: Store> Machine<S, D> {
         ensures same { self.new.state ≡ self.old.state }
         ensures same_text { self.new.kept_text ≡ self.old.kept_text }
         ensures same_punched { self.new.kept_punched ≡ self.old.kept_punched }
-        ensures same_firsts { self.new.firsts ≡ self.old.firsts }
+        ensures same_first_touches { self.new.first_touches ≡ self.old.first_touches }
     {
         if self.text.has_room() && self.punched.has_room() {
             return Ok(());
@@ -121,7 +122,7 @@ impl<S: Store, D: Store> Machine<S, D> {
         ensures same { self.new.state ≡ self.old.state }
         ensures same_text { self.new.kept_text ≡ self.old.kept_text }
         ensures same_punched { self.new.kept_punched ≡ self.old.kept_punched }
-        ensures same_firsts { self.new.firsts ≡ self.old.firsts }
+        ensures same_first_touches { self.new.first_touches ≡ self.old.first_touches }
     {
         self.text.make_room()?;
         self.punched.make_room()?;
@@ -131,7 +132,7 @@ impl<S: Store, D: Store> Machine<S, D> {
     /// One whole turn, which the meter counts: the events of the turn in their order, a tick of the
     /// clock and the completions that are due, and then one act, of which it tells how it began:
     /// the trace trap or the stack trap that is pending, an interrupt, one instruction with its
-    /// trap if it has one, or nothing where the machine waits or is halted. `Continue` ends a halt,
+    /// trap if it has one, or nothing if the machine waits or is halted. `Continue` ends a halt,
     /// and the act of that turn is chosen after it; the turns of a halted machine begin like
     /// others. The bytes that come out are kept, over those of later turns that are kept in their
     /// places. Every access to a word of core or of a drive touches the page of the word. It asks
@@ -139,7 +140,7 @@ impl<S: Store, D: Store> Machine<S, D> {
     /// always takes place.
     ///
     /// DEC PDP-11/40 Processor Handbook (1972), Processor traps and Interrupts; that a turn is one
-    /// act, and their order, are this project's profile.
+    /// act, and their order, are [P].
     #[inline(always)]
     pub fn turn(&mut self, meter: &mut Meter, events: &[Event]) -> Act
         requires ready { IsReady self.old }
@@ -148,8 +149,9 @@ impl<S: Store, D: Store> Machine<S, D> {
         ensures turn { self.new.state ≡ after_turn events.now self.old.state }
         ensures kept_text { self.new.kept_text ≡ printed_kept events.now self.old }
         ensures kept_punched { self.new.kept_punched ≡ punched_kept events.now self.old }
-        ensures firsts { self.new.firsts ≡ firsts_after
-            (turn_trace self.old.state.turn events.now self.old.state.world) self.old.firsts }
+        ensures first_touches { self.new.first_touches ≡ first_touches_after
+            (turn_trace self.old.state.turn events.now self.old.state.world)
+            self.old.first_touches }
         ensures counted { Counts 1 meter.old meter.new }
     {
         // This read gives the prover the range of the turn.
@@ -166,7 +168,7 @@ impl<S: Store, D: Store> Machine<S, D> {
         ensures act { result ≡ turn_act self.old.state.turn events.now (machine_world self.old) }
         ensures turn { (touched_machine self.new).state
             ≡ after_turn events.now (touched_machine self.old).state }
-        ensures without_firsts { self.new.state.world.bus.firsts ≡ no_firsts }
+        ensures without_first_touches { self.new.state.world.bus.first_touches ≡ no_first_touches }
         ensures kept_text { self.new.kept_text ≡ printed_kept events.now
             (touched_machine self.old) }
         ensures kept_punched { self.new.kept_punched
@@ -202,7 +204,7 @@ impl<S: Store, D: Store> Machine<S, D> {
     fn act(&mut self) -> Act
         ensures act { result ≡ act_of (due_of (inner_of (initial_state (machine_world self.old)))) }
         ensures world { machine_world self.new ≡ act_end (machine_world self.old) }
-        ensures without_firsts { self.new.state.world.bus.firsts ≡ no_firsts }
+        ensures without_first_touches { self.new.state.world.bus.first_touches ≡ no_first_touches }
         ensures turn { self.new.state.turn ≡ self.old.state.turn }
         ensures text { self.new.state.text ≡ self.old.state.text }
         ensures punched { self.new.state.punched ≡ self.old.state.punched }
@@ -225,7 +227,7 @@ impl<S: Store, D: Store> Machine<S, D> {
     }
 
     /// How many turns it has run since power-up, which is the number of the turn that comes next
-    /// (this project's profile).
+    /// [P].
     pub fn turns(&self) -> u32
         ensures { result ≡ self.now.state.turn }
     {
@@ -280,11 +282,10 @@ impl<S: Store, D: Store> Machine<S, D> {
     }
 
     /// The turn and the agent of the last write to the core word of this number (half its byte
-    /// address); None where there was none since power-up. A byte write counts for its word (this
-    /// project's profile).
+    /// address); None if there was none since power-up. A byte write counts for its word [P].
     pub fn last(&self, number: usize) -> Option<Stamp>
         requires { number < length self.now.state.world.bus.core }
-        ensures { result ≡ slice_index_or self.now.state.world.bus.lasts number None }
+        ensures { result ≡ slice_index_or self.now.state.world.bus.stamps number None }
     {
         self.bus.last(number)
     }

@@ -1,4 +1,4 @@
--- Where a row stands in the table, the word of its instruction decodes back.
+-- If a row stands in the table, the word of its instruction decodes back.
 use Rattle.std.proofs.Common.{◌≡◌, ℕ, ℤ, ◌<◌, ◌+◌, ◌*◌, ◌/◌, ◌%◌, ◌∙◌, ap, arith}
 use Rattle.std.specs.Int.{w8}
 use Rattle.std.specs.Int.RustNames.{FitsSigned}

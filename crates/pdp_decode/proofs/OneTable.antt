@@ -18,7 +18,7 @@ skipped next limit (r ∷ rows) rest word h o =
           (elim o [ inl p ↦ inl (omega arith) | inr q ↦ inr q ])
     ]
 
--- the rows of a list come first; where none takes the word, those after it decide
+-- the rows of a list come first; if none takes the word, those after it decide
 joined : (rows rest : List Row) (word : ℕ) → decoded_by rest word ≡ Reserved → decoded_by (rows ++ rest) word ≡ decoded_by rows word
 joined [] rest word h = h
 joined (r ∷ rows) rest word h = let e = joined rows rest word h in grind (arith, nat_tests, e)

@@ -1,4 +1,4 @@
--- Where each row's meaning has its word, so has what the table decodes.
+-- If each row's meaning has its word, so has what the table decodes.
 use Rattle.std.proofs.Common.{ℕ, ◌≤◌, inl, inr, refl, sym, subst, List, [], ◌∷◌}
 use Rattle.pdp_decode.specs.declared.instruction.Instr.{Instr}
 use Rattle.pdp_decode.specs.Table.{Row, Section, decoded_by, decoded_in}

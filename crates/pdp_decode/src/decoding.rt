@@ -15,13 +15,12 @@ use control::{control_instr, trap_instr};
 use double_operand::{double_operand_instr, high_double_operand_instr, register_operand_instr};
 use single_operand::{byte_single_operand_instr, single_operand_instr};
 
-/// The instruction that a word means; `Reserved` where no row of the opcode table takes the word.
+/// The instruction that a word means; `Reserved` if no row of the opcode table takes the word.
 ///
 /// Every specifier in the result has a mode and a register below 8, every register is below 8, and
 /// the words of MARK and SOB are below 100 (octal).
 ///
-/// Source: DEC PDP-11/40 Processor Handbook (1972), Instruction set; what is reserved is this
-/// project's profile.
+/// Source: DEC PDP-11/40 Processor Handbook (1972), Instruction set; what is reserved is [P].
 #[inline(always)]
 #[tactic(auto, unfolding(crate::specs::Table::instr_of_word))]
 pub const fn decode(word: u16) -> Instr

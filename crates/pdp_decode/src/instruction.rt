@@ -47,7 +47,7 @@ pub enum Instr {
     Jsr { register: u8, destination: Spec },
     /// MARK, 0064NN: SP becomes PC plus that many words, PC becomes R5, and R5 is popped.
     Mark { words: u8 },
-    /// SOB, 077RNN: the register less 1; where that isn't 0, PC falls by that many words.
+    /// SOB, 077RNN: the register less 1; if that isn't 0, PC falls by that many words.
     Sob { register: u8, words: u8 },
     /// EMT, 104000 to 104377: a trap through 30; the code is left to the program.
     Emt { code: u8 },
@@ -59,33 +59,33 @@ pub enum Instr {
     SetCodes { codes: Codes },
     /// BR, 000400 to 000777: the offset counts words from the PC that follows the instruction.
     Br { offset: i8 },
-    /// BNE, 001000 to 001377: BR where Z is clear.
+    /// BNE, 001000 to 001377: BR if Z is clear.
     Bne { offset: i8 },
-    /// BEQ, 001400 to 001777: BR where Z is set.
+    /// BEQ, 001400 to 001777: BR if Z is set.
     Beq { offset: i8 },
-    /// BGE, 002000 to 002377: BR where N equals V.
+    /// BGE, 002000 to 002377: BR if N equals V.
     Bge { offset: i8 },
-    /// BLT, 002400 to 002777: BR where N differs from V.
+    /// BLT, 002400 to 002777: BR if N differs from V.
     Blt { offset: i8 },
-    /// BGT, 003000 to 003377: BR where Z is clear and N equals V.
+    /// BGT, 003000 to 003377: BR if Z is clear and N equals V.
     Bgt { offset: i8 },
-    /// BLE, 003400 to 003777: BR where Z is set or N differs from V.
+    /// BLE, 003400 to 003777: BR if Z is set or N differs from V.
     Ble { offset: i8 },
-    /// BPL, 100000 to 100377: BR where N is clear.
+    /// BPL, 100000 to 100377: BR if N is clear.
     Bpl { offset: i8 },
-    /// BMI, 100400 to 100777: BR where N is set.
+    /// BMI, 100400 to 100777: BR if N is set.
     Bmi { offset: i8 },
-    /// BHI, 101000 to 101377: BR where C and Z are clear.
+    /// BHI, 101000 to 101377: BR if C and Z are clear.
     Bhi { offset: i8 },
-    /// BLOS, 101400 to 101777: BR where C or Z is set.
+    /// BLOS, 101400 to 101777: BR if C or Z is set.
     Blos { offset: i8 },
-    /// BVC, 102000 to 102377: BR where V is clear.
+    /// BVC, 102000 to 102377: BR if V is clear.
     Bvc { offset: i8 },
-    /// BVS, 102400 to 102777: BR where V is set.
+    /// BVS, 102400 to 102777: BR if V is set.
     Bvs { offset: i8 },
-    /// BCC, 103000 to 103377: BR where C is clear.
+    /// BCC, 103000 to 103377: BR if C is clear.
     Bcc { offset: i8 },
-    /// BCS, 103400 to 103777: BR where C is set.
+    /// BCS, 103400 to 103777: BR if C is set.
     Bcs { offset: i8 },
     /// MOV, 01SSDD: the source goes to the destination.
     Mov { source: Spec, destination: Spec },
@@ -167,7 +167,7 @@ pub enum Instr {
     Asl { destination: Spec },
     /// ASLB, 1063DD: ASL of a byte.
     Aslb { destination: Spec },
-    /// SXT, 0067DD: the destination becomes 0, or 177777 where N is set.
+    /// SXT, 0067DD: the destination becomes 0, or 177777 if N is set.
     Sxt { destination: Spec },
     /// TST, 0057DD: the condition codes are set by the destination.
     Tst { destination: Spec },
@@ -177,14 +177,14 @@ pub enum Instr {
     Mfpi { source: Spec },
     /// MTPI, 0066DD: a word is popped to the destination, in the space of the previous mode.
     Mtpi { destination: Spec },
-    /// Any word that the table doesn't name (this project's profile).
+    /// Any word that the table doesn't name [P].
     Reserved,
 }
 
 /// The mnemonic of an instruction, as the handbook spells it; `Reserved` for a reserved word.
 ///
-/// The condition code operators have a mnemonic only where they change one code, or all: they are
-/// `CLx` where they clear and `SEx` where they set.
+/// The condition code operators have a mnemonic only if they change one code, or all: they are
+/// `CLx` if they clear and `SEx` if they set.
 ///
 /// Source: DEC PDP-11/40 Processor Handbook (1972), Instruction set.
 pub const fn name_of(instr: &Instr) -> &'static str

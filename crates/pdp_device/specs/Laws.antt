@@ -1,6 +1,5 @@
 -- What the laws of ready/enable pairs, operations and transmitters say: each name is the law's
--- sentence (when requests appear and go, when operations are due and which bytes come out are this
--- project's profile).
+-- sentence (when requests appear and go, when operations are due and which bytes come out are [P]).
 use Rattle.std.specs.Prelude.{◌≡◌, ◌<◌, ◌↔◌, ℕ, ◌+◌, Bool, true, false, Some, None, List, [], ◌∷◌}
 use Rattle.pdp_word.specs.Bits.{field}
 use Rattle.pdp_word.specs.Word.{low_byte}
@@ -39,13 +38,13 @@ ready_enable_after_uses [] c = c
 ready_enable_after_uses (use_of ∷ uses) c = ready_enable_after_uses uses
     (ready_enable_after_use use_of c)
 
--- where there is no request, a change makes one exactly where the condition goes from false to true
+-- if there is no request, a change makes one exactly if the condition goes from false to true
 abbrev pub RequestsAppearOnARise : Type 0
 RequestsAppearOnARise = (use_of : ReadyEnableUse) (c : ReadyEnable) → c.request ≡ false
     → ((ready_enable_after_use use_of c).request ≡ true)
     ↔ ((wants_interrupt c ≡ false) × (wants_interrupt (ready_enable_after_use use_of c) ≡ true))
 
--- where there is one, a change leaves it exactly where the condition holds after it
+-- if there is one, a change leaves it exactly if the condition holds after it
 abbrev pub RequestsGoWithTheCondition : Type 0
 RequestsGoWithTheCondition = (use_of : ReadyEnableUse) (c : ReadyEnable) → c.request ≡ true
     → (ready_enable_after_use use_of c).request ≡ wants_interrupt (ready_enable_after_use use_of c)
@@ -88,12 +87,12 @@ abbrev pub after_writes : List Write → Transmitter → Transmitter
 after_writes [] o = o
 after_writes (w ∷ ws) o = after_writes ws (transmitter_written w.register w.word w.turn w.delay o)
 
--- the byte after a write, where this one was there before it
+-- the byte after a write, if this one was there before it
 abbrev pub byte_after : TransmitterRegister → ℕ → ℕ → ℕ
 byte_after Status word byte = byte
 byte_after Buffer word byte = low_byte word
 
--- the last byte written, where this one was there before the writes
+-- the last byte written, if this one was there before the writes
 abbrev pub last_byte : List Write → ℕ → ℕ
 last_byte [] byte = byte
 last_byte (w ∷ ws) byte = last_byte ws (byte_after w.register w.word byte)
@@ -105,8 +104,8 @@ pub record ComesOutOnce (o : Transmitter) (byte : ℕ) : Type 0 where
   pub no_more : byte_out (transmitter_completed o) ≡ None
   pub unchanged : transmitter_completed (transmitter_completed o) ≡ transmitter_completed o
 
--- a byte is written where nothing is under way, and then whatever else: the last byte comes out,
--- when the first was due
+-- a byte is written if nothing is under way, and then whatever else: the last byte comes out, when
+-- the first was due
 abbrev pub BytesComeOutOnce : Type 0
 BytesComeOutOnce = (o : Transmitter) (byte turn delay : ℕ) (ws : List Write)
     → is_under_way o.operation ≡ false

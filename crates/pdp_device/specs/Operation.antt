@@ -1,4 +1,4 @@
--- What a device is doing, and when it is done (this project's profile).
+-- What a device is doing, and when it is done [P].
 use Rattle.std.specs.Prelude.{ℕ, ◌+◌, ◌==◌, nat_lt, Bool, true, false, Option, Some, None}
 use Rattle.std.specs.Prelude.{if◌then◌else◌}
 use Rattle.pdp_device.specs.declared.operation.Operation.{Operation}
@@ -18,7 +18,7 @@ abbrev pub is_due : ℕ → Operation → Bool
 is_due turn (At due) = due == turn
 is_due turn _ = false
 
--- the turn at whose start it completes by itself, where that is later than this turn
+-- the turn at whose start it completes by itself, if that is later than this turn
 abbrev pub due_after : ℕ → Operation → Option ℕ
 due_after turn (At due) = if nat_lt turn due then Some due else None
 due_after turn _ = None

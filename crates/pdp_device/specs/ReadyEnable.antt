@@ -1,5 +1,5 @@
 -- Ready, enable and the request of a device: PDP-11 Peripherals Handbook, KL11, PC11 and RK11 (when
--- a request appears and goes is this project's profile).
+-- a request appears and goes is [P]).
 use Rattle.std.specs.Prelude.{ℕ, ◌+◌, ◌*◌, Bool, false, ◌&&◌}
 use Rattle.pdp_word.specs.Bits.{bit_of}
 use Rattle.pdp_word.specs.Mask.{is_set}

@@ -1,7 +1,7 @@
--- Requests of devices for interrupts (this project's profile).
+-- Requests of devices for interrupts [P].
 use Rattle.std.specs.Prelude.{Bool, ◌&&◌, ◌||◌, not}
 
--- whether a device requests after one change of its condition: a request appears where the
--- condition goes from false to true, and goes where the condition is false
+-- whether a device requests after one change of its condition: a request appears if the condition
+-- goes from false to true, and goes if the condition is false
 abbrev pub request_after : Bool → Bool → Bool → Bool
 request_after before after request = after && (request || not before)

@@ -1,5 +1,5 @@
 -- The printer and the punch: PDP-11 Peripherals Handbook, KL11 and PC11 (bytes written while one is
--- on its way, and when a byte is out, are this project's profile).
+-- on its way, and when a byte is out, are [P]).
 use Rattle.std.specs.Prelude.{ℕ, true, false, Option, Some, None, if◌then◌else◌}
 use Rattle.pdp_word.specs.Word.{low_byte}
 use Rattle.pdp_device.specs.ReadyEnable.{ready_enable_served, ready_enable_status, enable_written}
@@ -26,7 +26,7 @@ byte_written byte turn delay o =
 abbrev pub byte_out : Transmitter → Option ℕ
 byte_out o = if is_under_way o.operation then Some o.byte else None
 
--- a completion sets ready; where nothing is under way it does nothing
+-- a completion sets ready; if nothing is under way it does nothing
 abbrev pub transmitter_completed : Transmitter → Transmitter
 transmitter_completed o =
     if is_under_way o.operation then record o {

@@ -4,11 +4,11 @@ ghost use Rattle.pdp_device.specs.Laws.{OperationsAreDueOnce, OperationsBeginUnd
 ghost use Rattle.pdp_device.specs.Laws.{RequestsAppearOnARise, RequestsGoWithTheCondition};
 ghost use Rattle.pdp_device.specs.Laws.{ServedRequestsStayAway};
 
-/// A law and no code: whatever changes of a ready/enable pair, a request appears exactly where its
-/// condition, ready and enable, goes from false to true, and one that is there goes exactly where
+/// A law and no code: whatever changes of a ready/enable pair, a request appears exactly if its
+/// condition, ready and enable, goes from false to true, and one that is there goes exactly if
 /// the condition does. One that was served stays away while the condition holds.
 ///
-/// Source: this project's profile.
+/// [P]
 pub fn requests_appear_on_a_rise()
     ensures condition { ConditionIsShown }
     ensures appear { RequestsAppearOnARise }
@@ -20,7 +20,7 @@ pub fn requests_appear_on_a_rise()
 /// turns later and in no other turn. With delay 0 it is due in no turn, and so is a device that
 /// does nothing.
 ///
-/// Source: this project's profile.
+/// [P]
 pub fn completions_come_in_their_turn()
     ensures begun { OperationsBeginUnderWay }
     ensures delayed { OperationsAreDueOnce }
@@ -32,7 +32,7 @@ pub fn completions_come_in_their_turn()
 /// whatever was written to its registers since, the last byte written comes out, when the first was
 /// due, and then nothing more does.
 ///
-/// Source: PDP-11 Peripherals Handbook, KL11 and PC11; what later bytes do, this project's profile.
+/// Source: PDP-11 Peripherals Handbook, KL11 and PC11; what later bytes do [P].
 pub fn a_byte_comes_out_once()
     ensures { BytesComeOutOnce }
 {}

@@ -1,5 +1,6 @@
 //! What the devices of the PDP-11/40 share: a ready/enable pair that requests interrupts, an
 //! operation that takes its time, and a transmitter, which puts bytes out. It stands on pdp_word.
+//! No device is here: KL11 and KW11-L are in pdp_console, PC11 in pdp_tape, RK11 in pdp_rk11.
 //!
 //! # What is proved
 //!

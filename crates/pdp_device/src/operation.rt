@@ -1,7 +1,6 @@
 ghost use Rattle.std.specs.Prelude.{◌≡◌};
 
-/// What a device is doing: nothing, or something that takes until a turn or an event (this
-/// project's profile).
+/// What a device is doing: nothing, or something that takes until a turn or an event [P].
 #[derive(Clone, Copy, Default)]
 pub enum Operation {
     /// Nothing is under way.
@@ -17,7 +16,7 @@ impl Operation {
     ghost use Rattle.pdp_device.specs.Operation.{begun_operation, due_after, is_due, is_under_way};
 
     /// An operation begun in turn `turn` that is complete `delay` turns later; with delay 0 only
-    /// its event completes it (this project's profile).
+    /// its event completes it [P].
     pub fn begin(turn: u32, delay: u32) -> Operation
         ensures { result ≡ begun_operation turn delay }
     {
@@ -45,7 +44,7 @@ impl Operation {
         }
     }
 
-    /// The turn at whose start it completes by itself, where that is later than this turn.
+    /// The turn at whose start it completes by itself, if that is later than this turn.
     pub fn due_after(&self, turn: u32) -> Option<u64>
         ensures { result ≡ due_after turn self.now }
     {

@@ -4,7 +4,7 @@ use crate::bits::{STATUS_ENABLE, STATUS_READY};
 use crate::request::request_after;
 use pdp_word::{bit_of, is_set};
 
-/// Ready, enable and the request of a device that interrupts where ready and enable are both set.
+/// Ready, enable and the request of a device that interrupts if ready and enable are both set.
 ///
 /// PDP-11 Peripherals Handbook, KL11, PC11 and RK11.
 #[derive(Clone, Copy, Default)]
@@ -13,9 +13,8 @@ pub struct ReadyEnable {
     pub ready: bool,
     /// Bit 6 of the status: its interrupts are enabled.
     pub enable: bool,
-    /// It requests an interrupt. A request appears where ready and enable are both set and were not
-    /// before, and goes when it is served or where they are not both set any more (this project's
-    /// profile).
+    /// It requests an interrupt. A request appears if ready and enable are both set and were not
+    /// before, and goes when it is served or if they are not both set any more [P].
     pub request: bool,
 }
 
@@ -44,7 +43,7 @@ impl ReadyEnable {
 
     /// Sets or clears ready and enable, both at once. A request appears if the condition didn't
     /// hold before this change and holds after it; it ends if the condition doesn't hold after it
-    /// (this project's profile).
+    /// [P].
     pub fn change(&mut self, ready: bool, enable: bool)
         ensures { self.new ≡ ready_enable_with ready enable self.old }
     {
@@ -76,8 +75,8 @@ impl ReadyEnable {
         bit_of(self.ready) * STATUS_READY + bit_of(self.enable) * STATUS_ENABLE
     }
 
-    /// The request is served: it goes, and nothing else changes. The next one appears where ready
-    /// or enable was cleared and both are set again (this project's profile).
+    /// The request is served: it goes, and nothing else changes. The next one appears if ready
+    /// or enable was cleared and both are set again [P].
     pub fn serve(&mut self)
         ensures { self.new ≡ ready_enable_served self.old }
     {

@@ -11,7 +11,7 @@ use pdp_word::low_byte;
 pub enum TransmitterRegister {
     /// Bit 7 ready, bit 6 enable, which alone is written.
     Status,
-    /// A write clears ready and begins to put its low byte out. Reads 0 (this project's profile).
+    /// A write clears ready and begins to put its low byte out. Reads 0 [P].
     Buffer,
 }
 
@@ -20,7 +20,7 @@ pub enum TransmitterRegister {
 /// PDP-11 Peripherals Handbook, KL11 and PC11.
 #[derive(Clone, Copy)]
 pub struct Transmitter {
-    /// Ready where no byte is on its way.
+    /// Ready if no byte is on its way.
     pub ready_enable: ReadyEnable,
     /// The byte that was written last.
     pub byte: u8,
@@ -35,8 +35,7 @@ impl Transmitter {
     ghost use Rattle.pdp_device.specs.Transmitter.{transmitter_value, transmitter_written};
     ghost use Rattle.pdp_device.specs.Transmitter.{init_transmitter};
 
-    /// A transmitter at power-up: ready, not enabled, with byte 0 and nothing under way (this
-    /// project's profile).
+    /// A transmitter at power-up: ready, not enabled, with byte 0 and nothing under way [P].
     pub fn init() -> Transmitter
         ensures { result ≡ init_transmitter }
     {
@@ -58,7 +57,7 @@ impl Transmitter {
     }
 
     /// Writes a word to the register in turn `turn`. A byte written to the buffer is out `delay`
-    /// turns later; with delay 0 only its event completes it (this project's profile).
+    /// turns later; with delay 0 only its event completes it [P].
     pub fn write_reg(&mut self, register: TransmitterRegister, word: u16, turn: u32, delay: u32)
         ensures { self.new ≡ transmitter_written register word turn delay self.old }
     {
@@ -69,7 +68,7 @@ impl Transmitter {
     }
 
     /// The byte that is on its way is out, and the transmitter is ready again. Gives the byte;
-    /// without one on its way, nothing happens (this project's profile).
+    /// without one on its way, nothing happens [P].
     pub fn complete(&mut self) -> Option<u8>
         ensures byte { result ≡ byte_out self.old }
         ensures after { self.new ≡ transmitter_completed self.old }
@@ -84,7 +83,7 @@ impl Transmitter {
     }
 
     /// RESET: ready, not enabled, no request, nothing under way. The byte stays, and does not come
-    /// out (this project's profile).
+    /// out [P].
     pub fn reset(&mut self)
         ensures { self.new ≡ transmitter_reset self.old }
     {

@@ -1,6 +1,6 @@
 -- The text of an instruction, in the syntax of MACRO-11 (DEC PDP-11/40 Processor Handbook (1972),
--- Instruction set and Addressing modes; this project's profile). Numbers are octal, without leading
--- zeros except after .WORD.
+-- Instruction set and Addressing modes; [P]). Numbers are octal, without leading zeros except after
+-- .WORD.
 use Rattle.std.specs.Prelude.{ℕ, ℤ, Bool, ◌+◌, ◌*◌, ◌%◌, ◌&&◌, ◌==◌, nat_lt, if◌then◌else◌, List}
 use Rattle.std.specs.Prelude.{[], ◌∷◌, ◌++◌, codes, slice_index, take}
 use Rattle.std.specs.Int.{w16, cast_unsigned}

@@ -1,4 +1,4 @@
--- What the text of an instruction says of its words (this project's profile).
+-- What the text of an instruction says of its words [P].
 use Rattle.std.specs.Prelude.{◌≡◌, ◌↔◌, ℕ, ◌<◌, List, length}
 use Rattle.std.specs.List.{All}
 use Rattle.pdp_disassembler.specs.Text.{instruction_text, words_taken}

@@ -30,7 +30,7 @@ pub struct Disassembly {
 /// instruction takes are ignored.
 ///
 /// Source: DEC PDP-11/40 Processor Handbook (1972), Instruction set and Addressing modes; the
-/// directives and the joined operators are this project's profile.
+/// directives and the joined operators are [P].
 #[tactic(auto, unfolding(crate::specs::Text::instruction_text))]
 pub fn disassemble(address: u16, words: [u16; 3]) -> Disassembly
     ensures text { result.text.items ≡ instruction_text address words }

@@ -14,19 +14,19 @@ use Rattle.pdp_instruction.specs.Handbook.TwoOperands.{compare_plan, combine_pla
 use Rattle.pdp_instruction.specs.Handbook.Execute.{finish_plan}
 use Rattle.pdp_instruction.specs.Handbook.Extended.{mul_plan, div_plan, ash_plan, ashc_plan}
 use Rattle.pdp_instruction.specs.Handbook.Action.{plan_of_action, plan_of}
-use Rattle.pdp_operation.specs.Action.{action_of}
-use Rattle.pdp_operation.specs.declared.action.Action.{Action}
-use Rattle.pdp_operation.specs.declared.action.Action.TheVariants as action
+use Rattle.pdp_action.specs.Action.{action_of}
+use Rattle.pdp_action.specs.declared.action.Action.{Action}
+use Rattle.pdp_action.specs.declared.action.Action.TheVariants as action
 use Rattle.pdp_instruction.specs.Handbook.Jump.{jmp_plan, jsr_plan, rts_plan, mark_plan, pop_register, push, pop}
 use Rattle.pdp_instruction.specs.Handbook.Moves.{mov_plan, movb_plan}
 use Rattle.pdp_instruction.specs.Handbook.PreviousMode.{mfpi_plan, mtpi_plan}
 use Rattle.pdp_instruction.specs.Handbook.Operands.{operands_plan, source_first, place_first, is_late}
-use Rattle.pdp_operation.specs.Operation.{size_of_comparison, size_of_combination, size_of_modification, size_of_replacement}
+use Rattle.pdp_action.specs.Operation.{size_of_comparison, size_of_combination, size_of_modification, size_of_replacement}
 use Rattle.pdp_instruction.specs.Handbook.OneOperand.{tst_plan, modify_plan, replace_plan}
-use Rattle.pdp_operation.specs.declared.operation.Combination.{Combination}
-use Rattle.pdp_operation.specs.declared.operation.Comparison.{Comparison}
-use Rattle.pdp_operation.specs.declared.operation.Modification.{Modification}
-use Rattle.pdp_operation.specs.declared.operation.Replacement.{Replacement}
+use Rattle.pdp_action.specs.declared.operation.Combination.{Combination}
+use Rattle.pdp_action.specs.declared.operation.Comparison.{Comparison}
+use Rattle.pdp_action.specs.declared.operation.Modification.{Modification}
+use Rattle.pdp_action.specs.declared.operation.Replacement.{Replacement}
 
 size_when : (late : Bool) (a b : Plan) (n : ℕ) → size_of a ≤ n → size_of b ≤ n → size_of (if late then a else b) ≤ n
 size_when true a b n first second = first

@@ -1,4 +1,5 @@
--- The plan of each action leaves the program status word where it can't go on: what changes the word comes last.
+-- The plan of each action leaves the program status word if it can't go on: what changes the word
+-- comes last.
 use Rattle.std.proofs.Common.{◌≡◌, ℕ, refl, Err, Result}
 use Rattle.pdp_decode.specs.declared.instruction.Instr.{Instr}
 use Rattle.pdp_decode.specs.declared.instruction.Spec.{Spec}
@@ -9,7 +10,7 @@ use Rattle.pdp_operand.specs.Phases.Phase.{State, Stop}
 use Rattle.pdp_operand.specs.Phases.Plan.{one, run_plan}
 use Rattle.pdp_operand.specs.declared.place.Fill.{Fill}
 use Rattle.pdp_instruction.specs.Handbook.Action.{plan_of_action, plan_of}
-use Rattle.pdp_operation.specs.Action.{action_of}
+use Rattle.pdp_action.specs.Action.{action_of}
 use Rattle.pdp_instruction.specs.Handbook.Branch.{branch_plan, sob_plan}
 use Rattle.pdp_instruction.specs.Handbook.ChangeCodes.{clear_plan, set_plan}
 use Rattle.pdp_instruction.specs.Handbook.Control.{halt_plan, wait_plan, reset_plan, raise_plan}
@@ -23,12 +24,12 @@ use Rattle.pdp_instruction.specs.Handbook.Moves.{execute_mov, mov_plan, movb_pla
 use Rattle.pdp_instruction.specs.Handbook.Operands.{operands_plan, source_first, place_first, keep_source, take_register}
 use Rattle.pdp_instruction.specs.Handbook.PreviousMode.{cross, mfpi_plan, mtpi_plan}
 use Rattle.pdp_instruction.specs.Handbook.OneOperand.{execute_tst, execute_modification, execute_replacement, tst_plan, modify_plan, replace_plan}
-use Rattle.pdp_operation.specs.declared.action.Action.{Action}
-use Rattle.pdp_operation.specs.declared.action.Action.TheVariants as action
-use Rattle.pdp_operation.specs.declared.operation.Combination.{Combination}
-use Rattle.pdp_operation.specs.declared.operation.Comparison.{Comparison}
-use Rattle.pdp_operation.specs.declared.operation.Modification.{Modification}
-use Rattle.pdp_operation.specs.declared.operation.Replacement.{Replacement}
+use Rattle.pdp_action.specs.declared.action.Action.{Action}
+use Rattle.pdp_action.specs.declared.action.Action.TheVariants as action
+use Rattle.pdp_action.specs.declared.operation.Combination.{Combination}
+use Rattle.pdp_action.specs.declared.operation.Comparison.{Comparison}
+use Rattle.pdp_action.specs.declared.operation.Modification.{Modification}
+use Rattle.pdp_action.specs.declared.operation.Replacement.{Replacement}
 use Rattle.pdp_operand.specs.declared.place.Place.{Place}
 use Rattle.pdp_operand.specs.declared.place.Place.TheVariants.{Reg, Mem}
 use Rattle.pdp_instruction.proofs.StatusKept.{Stops, Safe, Steady, Sure, ReadsAtMost, steady_safe, steady_steady, safe_sure, steady_if, phase_safe, phase_steady, phase_sure, steady_find, steady_read, steady_read_before_write}

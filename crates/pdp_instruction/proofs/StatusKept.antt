@@ -20,13 +20,14 @@ use Rattle.pdp_operand.specs.Phases.Plan.{Plan, ◌▸◌, one, run_plan}
 use Rattle.pdp_operand.specs.Handbook.Operand.{find, lower, name_register, point, grow, index, indirect, read_before_write, read_operand, reference_at, reading, mode_now}
 use Rattle.pdp_operand.specs.declared.place.Place.{Place}
 use Rattle.pdp_operand.specs.declared.place.Place.TheVariants.{Reg, Mem}
-use Rattle.pdp_operation.specs.declared.trap.Trap.{Trap}
+use Rattle.pdp_action.specs.declared.trap.Trap.{Trap}
 use Rattle.pdp_operand.proofs.Shape.{reply_by, shape_if, shape_of, shape_at, shape_by, perform_is}
 
 abbrev pub status_in : State → Status
 status_in s = s.world.bus.io_page.status
 
--- the program status word is this one where the run stopped; it is, wherever the run ended; the run did not stop
+-- the program status word is this one if the run stopped; it is, wherever the run ended; the run
+-- did not stop
 abbrev pub Stops : Status → Result State Stop → Type 0
 Stops status (Ok t) = Unit {0}
 Stops status (Err stop) = stop.world.bus.io_page.status ≡ status
@@ -150,8 +151,8 @@ read_keeps : (r : Reference) (b : BusWorld) → access_of r.kind ≡ Read → (p
 unfolding shape_of
 read_keeps r b reads = rw (perform_is r b) (read_if (is_odd r.kind r.address) r b reads)
 
--- one phase: each is safe; it is steady where it reads at most and leaves the word itself; it is sure where it asks for
--- nothing
+-- one phase: each is safe; it is steady if it reads at most and leaves the word itself; it is sure
+-- if it asks for nothing
 replied_stops : (p : Phase) (s : State) (value : Result ℕ Trap) (after : BusWorld) → Unanswered s.world.bus.io_page value after.io_page
     → Stops (status_in s) (and_then (after_reply p s (record { value = value; after = after })) (λ t. run [] t))
 unfolding run

@@ -3,8 +3,8 @@ ghost use Rattle.pdp_operand.specs.Contract.{Runs};
 ghost use Rattle.pdp_instruction.specs.Handbook.Branch.{branch_plan, branch_taken, sob_plan};
 ghost use Rattle.pdp_instruction.specs.Handbook.Branch.{looped_back};
 
+use pdp_action::Condition;
 use pdp_operand::{Processor, RegisterId};
-use pdp_operation::Condition;
 use pdp_store::Store;
 use pdp_unibus::Bus;
 
@@ -51,7 +51,7 @@ pub fn subtract_one<S: Store, D: Store>(
     fall(processor, id, words);
 }
 
-/// Lets PC fall by twice the words, where the register isn't 0.
+/// Lets PC fall by twice the words, if the register isn't 0.
 #[inline(always)]
 fn fall(processor: &mut Processor, id: RegisterId, words: u8)
     ensures { processor.new ≡ looped_back id words processor.old }

@@ -53,7 +53,7 @@ pub fn divide<S: Store, D: Store>(
     Ok(())
 }
 
-/// Writes quotient and remainder where the division was done, and answers the codes.
+/// Writes quotient and remainder if the division was done, and returns the codes.
 #[inline(always)]
 fn set_quotient(processor: &mut Processor, pair: Pair, effect: Div) -> Codes
     ensures registers { processor.new ≡ with_quotient processor.old pair effect }

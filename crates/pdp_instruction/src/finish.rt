@@ -9,8 +9,8 @@ use pdp_operand::{Fill, Place, Processor, Trap, store};
 use pdp_store::Store;
 use pdp_unibus::Bus;
 
-/// Writes the value of an effect to its place, and then stores its codes, but where the program
-/// status word was written. Where the write faults the codes stay.
+/// Writes the value of an effect to its place, and then stores its codes, but if the program status
+/// word was written. If the write faults the codes stay.
 #[inline(always)]
 #[tactic(auto, using(crate::proofs::Rules::code_stores), unfolding(crate::specs::finish_plan))]
 pub fn finish<S: Store, D: Store>(

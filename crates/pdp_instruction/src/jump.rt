@@ -22,7 +22,7 @@ pub const POP: Spec = Spec { mode: 2, reg: 6 };
 /// The address that a jump goes to, which is that of its operand. In the yellow zone of the
 /// kernel's stack it leaves a stack trap pending.
 ///
-/// Err(JumpToRegister) where the operand is a register.
+/// Err(JumpToRegister) if the operand is a register.
 #[inline(always)]
 #[tactic(auto, unfolding(crate::specs::Handbook::Jump::aim, pdp_operand::specs::run))]
 fn aim(processor: &mut Processor, place: Place) -> Result<u16, Trap>

@@ -8,10 +8,10 @@ ghost use Rattle.pdp_instruction.specs.Handbook.Action.{plan_of};
 ghost use Rattle.pdp_instruction.specs.Handbook.Instruction.{fetch_instruction};
 ghost use Rattle.pdp_instruction.specs.Laws.InstructionLaws.{LeavesStatus};
 
-/// A law of instructions: where the fetch or a phase of any plan can't go on, the program status
-/// word, and with it the condition codes, is as it was before.
+/// A law of instructions: if the fetch or a phase of any plan can't go on, the program status word,
+/// and with it the condition codes, is as it was before.
 ///
-/// That a fault leaves the codes is this project's profile.
+/// That a fault leaves the codes is [P].
 pub fn what_cannot_go_on_leaves_the_codes()
     ensures fetch { (s : State) (stop : Stop) → run_plan (one fetch_instruction) s ≡ Err stop
         → LeavesStatus s stop }

@@ -1,6 +1,6 @@
 //! The instructions of the PDP-11/40 and the sequences of its traps and interrupts: for each of
 //! them its plan of phases, and a function that is the run of the plan. It stands on pdp_operand,
-//! pdp_unibus, pdp_operation, pdp_alu and what is below these, and knows no turn and no event.
+//! pdp_unibus, pdp_action, pdp_alu and what is below these, and knows no turn and no event.
 //!
 //! # What is proved
 //!

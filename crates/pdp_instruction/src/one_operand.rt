@@ -3,10 +3,10 @@ ghost use Rattle.pdp_operand.specs.Contract.{Runs};
 ghost use Rattle.pdp_instruction.specs.Handbook.OneOperand.{tst_plan, modify_plan, replace_plan};
 
 use crate::finish::finish;
+use pdp_action::{Modification, Replacement};
 use pdp_alu::tst;
 use pdp_decode::Spec;
 use pdp_operand::{Fill, Processor, Trap, address, fetch, fetch_before_store};
-use pdp_operation::{Modification, Replacement};
 use pdp_store::Store;
 use pdp_unibus::Bus;
 use pdp_word::Size;

@@ -6,7 +6,7 @@ use pdp_store::Store;
 use pdp_unibus::{Bus, Status};
 
 /// PC and the program status when the first sequence of a turn begins: what a trap saves. The red
-/// sequence that may follow saves the same (this project's profile).
+/// sequence that may follow saves the same [P].
 #[derive(Clone, Copy)]
 pub struct SavedContext {
     /// PC (bytes).

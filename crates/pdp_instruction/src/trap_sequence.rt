@@ -42,7 +42,7 @@ fn read_status<S: Store, D: Store>(bus: &mut Bus<S, D>, vector: u16) -> Result<u
     read_word(bus, Mode::Kernel, vector + 2)
 }
 
-/// Pushes a word on the stack of the new mode, and answers the cell that it went to.
+/// Pushes a word on the stack of the new mode, and returns the cell that it went to.
 #[inline(always)]
 #[tactic(auto, unfolding(crate::proofs::Rules::trap_pushes))]
 fn push<S: Store, D: Store>(
@@ -86,8 +86,8 @@ fn enter<S: Store, D: Store>(
 /// The sequence of the trap with this vector (octal). `marks` says whether its pushes may leave a
 /// stack trap pending.
 ///
-/// Err where it can't go on; PC is then as before, and so is the program status, but where a push
-/// wrote over it.
+/// Err if it can't go on; PC is then as before, and so is the program status, but if a push wrote
+/// over it.
 #[inline(never)]
 #[tactic(auto, unfolding(crate::specs::Handbook::TrapSequence::trap_plan))]
 fn trap<S: Store, D: Store>(
@@ -146,7 +146,7 @@ fn enter_red<S: Store, D: Store>(
 
 /// The red sequence.
 ///
-/// Err where it can't go on; PC and the program status are then as before.
+/// Err if it can't go on; PC and the program status are then as before.
 #[inline(never)]
 #[tactic(auto, using(crate::proofs::Steps::run_bare_stack), unfolding(crate::specs::red_plan))]
 fn red_trap<S: Store, D: Store>(
@@ -181,7 +181,7 @@ fn give_up<S: Store, D: Store>(
     bus.set_status(context.status);
 }
 
-/// The red sequence; where it can't go on the processor halts.
+/// The red sequence; if it can't go on the processor halts.
 #[inline(never)]
 #[tactic(auto, using(crate::proofs::Rules::endings), unfolding(crate::proofs::Rules::red_course))]
 fn red<S: Store, D: Store>(processor: &mut Processor, bus: &mut Bus<S, D>, context: SavedContext)
@@ -199,8 +199,7 @@ fn red<S: Store, D: Store>(processor: &mut Processor, bus: &mut Bus<S, D>, conte
 ///
 /// If it can't go on, it becomes the red sequence, which saves the same. If that can't go on, the
 /// processor halts. DEC PDP-11/40 Processor Handbook (1972), Processor traps and Stack limit
-/// violations; that the vector is read before the pushes, and how the red sequence ends, are this
-/// project's profile.
+/// violations; that the vector is read before the pushes, and how the red sequence ends, are [P].
 #[inline(never)]
 #[tactic(auto, using(crate::proofs::Rules::endings), unfolding(crate::proofs::Rules::sequences))]
 pub fn begin_sequence<S: Store, D: Store>(
@@ -236,7 +235,7 @@ pub fn vector(trap: Trap) -> u16
     }
 }
 
-/// What follows where an instruction or its fetch can't go on.
+/// What follows if an instruction or its fetch can't go on.
 #[cold]
 #[inline(never)]
 pub fn handle<S: Store, D: Store>(processor: &mut Processor, bus: &mut Bus<S, D>, trap: Trap)

@@ -4,9 +4,9 @@ ghost use Rattle.pdp_instruction.specs.Handbook.TwoOperands.{compare_plan, combi
 
 use crate::finish::finish;
 use crate::operands::operands;
+use pdp_action::{Combination, Comparison};
 use pdp_decode::Spec;
 use pdp_operand::{Fill, Processor, Trap, fetch, fetch_before_store};
-use pdp_operation::{Combination, Comparison};
 use pdp_store::Store;
 use pdp_unibus::Bus;
 

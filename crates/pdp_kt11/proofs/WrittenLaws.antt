@@ -50,7 +50,7 @@ page_changed User User number another page kt eight =
     let below = number_below another in
     exchanged kt.user (page_number number) (page_number another) page _ refl (omega (arith, eight.user, below))
 
--- W of a page where a page was exchanged for one with W clear, or for one with W set
+-- W of a page if a page was exchanged for one with W clear, or for one with W set
 cleared : (same : Bool) (page old : Apr) → page.written ≡ false → (if same then page else old).written ≡ (not same && old.written)
 cleared true page old clear = clear
 cleared false page old clear = refl

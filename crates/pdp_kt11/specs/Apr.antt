@@ -1,6 +1,6 @@
 -- Pages and their registers: DEC PDP-11/40 Processor Handbook (1972), Memory management. That
 -- access 10 aborts as non-resident, that modes 01 and 10 have no pages, a page as of power-up, and
--- that bits which no rule names read 0, are this project's profile.
+-- that bits which no rule names read 0, are [P].
 use Rattle.std.specs.Prelude.{ℕ, ◌+◌, ◌*◌, ◌==◌, Bool, true, false, Option, Some, None}
 use Rattle.std.specs.Prelude.{if◌then◌else◌}
 use Rattle.pdp_word.specs.Bits.{bit_of, field}

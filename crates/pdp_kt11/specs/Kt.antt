@@ -1,7 +1,7 @@
 -- The KT11-D: its registers, and where they are. DEC PDP-11/40 Processor Handbook (1972), Memory
 -- management. The registers as of power-up, that SR2 follows fetches without mapping too, and once
 -- the word was read, that 777574 reads 0, that it and SR2 can't be written, and what RESET leaves,
--- are this project's profile.
+-- are [P].
 use Rattle.std.specs.Prelude.{ℕ, ◌+◌, ◌-◌, ◌/◌, ◌%◌, ◌==◌, ◌&&◌, nat_le, Bool, List, [], ◌∷◌}
 use Rattle.std.specs.Prelude.{Option, Some, None, slice_index_or, slice_set, if◌then◌else◌}
 use Rattle.pdp_kt11.specs.Apr.{address_written, descriptor_word, descriptor_written, empty_page}

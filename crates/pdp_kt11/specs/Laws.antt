@@ -1,7 +1,7 @@
 -- What the laws of memory management say: each name is the law's sentence. DEC PDP-11/40 Processor
 -- Handbook (1972), Memory management. That the first abort alone is told, that bits 15-13 of SR0
 -- which were written hold SR0 and SR2, that RESET leaves W, the registers as of power-up, and that
--- bits which no rule names read 0, are this project's profile.
+-- bits which no rule names read 0, are [P].
 use Rattle.std.specs.Prelude.{◌≡◌, ◌≢◌, ◌⊎◌, ℕ, ◌+◌, ◌-◌, ◌*◌, ◌/◌, ◌%◌, ◌<◌, ◌==◌, Bool, true}
 use Rattle.std.specs.Prelude.{false, not, ◌&&◌, ◌||◌, List, [], ◌∷◌, length, Option, Some, None}
 use Rattle.std.specs.Prelude.{Result, Ok, Err, is_ok}
@@ -86,8 +86,8 @@ abort_flag Resident = sr0_non_resident
 abort_flag Length = sr0_length
 abort_flag ReadOnly = sr0_read_only
 
--- where SR0 tells of no abort yet, the first one is told by its flag alone, the bits of its mode
--- and the number of its page; mapping stays on
+-- if SR0 records no abort yet, the first one is told by its flag alone, the bits of its mode and
+-- the number of its page; mapping stays on
 abbrev pub TheFirstAbortIsTold : Type 0
 TheFirstAbortIsTold = (mode : Mode) (address : ℕ) (access : Access) (kt : MappingRegisters)
     (abort : Abort)
@@ -96,7 +96,7 @@ TheFirstAbortIsTold = (mode : Mode) (address : ℕ) (access : Access) (kt : Mapp
     → mapping_status_word (after_access mode address access kt).status
     ≡ abort_flag abort + mode_bits mode * sr0_mode + address / page_bytes * sr0_page + sr0_enable
 
--- where it tells of one already, or one of its bits 15-13 was written, no access changes it
+-- if it tells of one already, or one of its bits 15-13 was written, no access changes it
 abbrev pub LaterAbortsAreNotTold : Type 0
 LaterAbortsAreNotTold = (mode : Mode) (address : ℕ) (access : Access) (kt : MappingRegisters)
     → tells_abort kt.status ≡ true
@@ -108,8 +108,8 @@ PassesLeaveStatus = (mode : Mode) (address : ℕ) (access : Access) (kt : Mappin
     → place_of mode address access kt ≡ Ok p → (after_access mode address access kt).status
     ≡ kt.status
 
--- SR2 follows the fetches where SR0 tells of no abort, and no other register changes; where it
--- tells of one, or one of its bits 15-13 was written, a fetch changes no register
+-- SR2 follows the fetches if SR0 records no abort, and no other register changes; if it tells of
+-- one, or one of its bits 15-13 was written, a fetch changes no register
 abbrev pub FetchesAreFollowedUntilAnAbort : Type 0
 FetchesAreFollowedUntilAnAbort = (address : ℕ) (kt : MappingRegisters)
     → (tells_abort kt.status ≡ false → kt_fetched address kt ≡ record kt { last_fetch = address })
@@ -193,8 +193,8 @@ writes_through space number mode address Write kt =
     kt.status.enabled && is_ok (place_of mode address Write kt) && is_address_in space number
     (space_of mode) address
 
--- W of a page after a use, where it was this before: a write through the page sets it, a write of
--- one of its two registers clears it
+-- W of a page after a use, if it was this before: a write through the page sets it, a write of one
+-- of its two registers clears it
 abbrev pub told_after : Space → PageNumber → KtUse → MappingRegisters → Bool → Bool
 told_after space number (Accessing mode address access) kt before = writes_through space number mode
     address access kt || before

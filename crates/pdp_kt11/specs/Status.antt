@@ -1,7 +1,6 @@
 -- SR0 of memory management: DEC PDP-11/40 Processor Handbook (1972), Memory management. SR0 as of
 -- power-up, that bits which no rule names read 0, what a write of it sets, that the first abort
--- alone is told, and that bits 15-13 which were written hold SR0 and SR2 as an abort does, are this
--- project's profile.
+-- alone is told, and that bits 15-13 which were written hold SR0 and SR2 as an abort does, are [P].
 use Rattle.std.specs.Prelude.{ℕ, ◌+◌, ◌*◌, Bool, true, false, ◌||◌, if◌then◌else◌}
 use Rattle.pdp_word.specs.Bits.{bit_of}
 use Rattle.pdp_word.specs.Mask.{is_set}
@@ -55,8 +54,8 @@ with_abort_flag Resident s = record s { resident_abort = true }
 with_abort_flag Length s = record s { length_abort = true }
 with_abort_flag ReadOnly s = record s { read_only_abort = true }
 
--- an abort at this page of the mode: it sets its flag, the mode and the page where none is told
--- yet, and else nothing
+-- an abort at this page of the mode: it sets its flag, the mode and the page if none is told yet,
+-- and else nothing
 unfoldable pub abort_told : Abort → Mode → PageNumber → MappingStatus → MappingStatus
 abort_told abort mode page s = if tells_abort s then s else with_abort_flag abort
     (record s { mode = mode; page = page })

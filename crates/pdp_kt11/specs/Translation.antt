@@ -1,5 +1,5 @@
 -- The mapping rule: DEC PDP-11/40 Processor Handbook (1972), Memory management. That modes 01 and
--- 10 and access 10 abort as non-resident, and the order of the tests, are this project's profile.
+-- 10 and access 10 abort as non-resident, and the order of the tests, are [P].
 use Rattle.std.specs.Prelude.{ℕ, ◌+◌, ◌*◌, ◌/◌, ◌%◌, Bool, true, false, nat_le, Option, Some, None}
 use Rattle.std.specs.Prelude.{Result, Ok, Err, if◌then◌else◌}
 use Rattle.pdp_kt11.specs.Bits.{block_bytes, blocks_of_page, page_bytes, physical_addresses}

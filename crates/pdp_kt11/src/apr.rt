@@ -24,8 +24,7 @@ pub enum Space {
 }
 
 impl Space {
-    /// The space whose pages this mode uses; the modes 01 and 10 have none (this project's
-    /// profile).
+    /// The space whose pages this mode uses; the modes 01 and 10 have none [P].
     #[inline(always)]
     pub fn of(mode: Mode) -> Option<Space>
         ensures { result ≡ space_of mode }
@@ -99,8 +98,7 @@ pub enum AccessControl {
     NonResident,
     /// 01: a write aborts.
     ReadOnly,
-    /// 10, which the handbook doesn't use: every access aborts as non-resident (this project's
-    /// profile).
+    /// 10, which the handbook doesn't use: every access aborts as non-resident [P].
     Unused,
     /// 11
     ReadWrite,
@@ -145,7 +143,7 @@ pub enum Expansion {
 }
 
 impl Expansion {
-    /// Downward where the bit is set.
+    /// Downward if the bit is set.
     fn of_bit(bit: bool) -> Expansion
         ensures { result ≡ expansion_of bit }
     {
@@ -177,7 +175,7 @@ pub struct Apr {
     /// of 100 (octal) bytes.
     pub frame: u16,
     /// The page length field, bits 14-8 of the descriptor: the last block of the page, or its first
-    /// one where it grows downward.
+    /// one if it grows downward.
     pub length: u8,
     /// W, bit 6 of the descriptor: a write went through the page since one of its registers was
     /// written.
@@ -189,7 +187,7 @@ pub struct Apr {
 }
 
 impl Apr {
-    /// A page as of power-up: every bit of both registers 0 (this project's profile).
+    /// A page as of power-up: every bit of both registers 0 [P].
     #[tactic(auto, unfolding(crate::specs::Apr::empty_page))]
     pub const fn empty() -> Apr
         ensures { result ≡ empty_page }
@@ -204,7 +202,7 @@ impl Apr {
     }
 
     /// The page descriptor register: bits 14-8 length, 6 W, 3 downward, 2-1 access. The others are
-    /// 0 (this project's profile).
+    /// 0 [P].
     pub fn descriptor(self) -> u16
         ensures { result ≡ descriptor_word self }
     {
@@ -241,7 +239,7 @@ impl Apr {
     }
 
     /// Why an access to a block of the page aborts, if it does: of the tests of residence, of
-    /// length and of access the first that fails (this project's profile).
+    /// length and of access the first that fails [P].
     #[inline(always)]
     pub fn abort(self, access: Access, block: u16) -> Option<Abort>
         ensures { result ≡ abort_in self access block }

@@ -18,8 +18,8 @@
 //! - SR0 tells the first abort and no other, and an abort leaves the pages
 //!   (`the_first_abort_is_told`, `aborts_leave_the_pages`).
 //!
-//! - Which translations are kept changes no result: a public contract sees the registers alone, and
-//!   that each kept translation is right is an invariant of `Kt`.
+//! - Which translations are kept changes no address, abort or register: a public contract sees the
+//!   registers alone, and that each kept translation is right is an invariant of `Kt`.
 //! - An access with mapping on that isn't aborted leaves the translation of its page kept, and of
 //!   other pages what was kept; a write to a register and RESET leave none (`KeptMapping`, which
 //!   only this crate sees).

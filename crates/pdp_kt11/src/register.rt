@@ -10,10 +10,9 @@ use crate::apr::{PageNumber, Space};
 pub enum KtRegister {
     /// SR0, 777572.
     Status0,
-    /// 777574, which reads 0; a write does nothing (this project's profile).
+    /// 777574, which reads 0; a write does nothing [P].
     Status1,
-    /// SR2, 777576: the virtual address of the last instruction; a write does nothing (this
-    /// project's profile).
+    /// SR2, 777576: the virtual address of the last instruction; a write does nothing [P].
     Status2,
     /// A page descriptor register: of kernel space 772300 to 772316, of user space 777600 to
     /// 777616.
@@ -56,7 +55,7 @@ impl KtRegister {
     }
 }
 
-/// The page whose register is at this address, where that of page 0 is at the first.
+/// The page whose register is at this address, if that of page 0 is at the first.
 fn page_from(first: u32, address: u32) -> PageNumber
     requires { first ≤ address }
     ensures { result ≡ page_from first address }

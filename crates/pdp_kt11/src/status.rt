@@ -47,8 +47,7 @@ impl MappingStatus {
     /// and neither it nor SR2 follows what comes.
     ///
     /// DEC PDP-11/40 Processor Handbook (1972), Memory management, which has it that an abort stops
-    /// SR2; that it stops SR0, and that bits which were written stop both, is this project's
-    /// profile.
+    /// SR2; that it stops SR0, and that bits which were written stop both, is [P].
     #[inline(always)]
     pub fn tells_abort(self) -> bool
         ensures { result ≡ tells_abort self }
@@ -57,7 +56,7 @@ impl MappingStatus {
     }
 
     /// The word of SR0: 15 non-resident, 14 length, 13 read only, 6-5 mode, 3-1 page, 0 enable. The
-    /// others are 0 (this project's profile).
+    /// others are 0 [P].
     pub fn word(self) -> u16
         ensures { result ≡ mapping_status_word self }
     {
@@ -68,8 +67,7 @@ impl MappingStatus {
         aborts + place + bit_of(self.enabled)
     }
 
-    /// SR0 after a word was written to it: bits 15-13 and 0 are the word's, mode and page stay
-    /// (this project's profile).
+    /// SR0 after a word was written to it: bits 15-13 and 0 are the word's, mode and page stay [P].
     #[tactic(auto, unfolding(crate::specs::Status::mapping_status_written))]
     pub fn written(self, word: u16) -> MappingStatus
         ensures { result ≡ mapping_status_written word self }
@@ -83,8 +81,8 @@ impl MappingStatus {
         }
     }
 
-    /// SR0 after an abort at this page of the mode: its flag, the mode and the page, where it tells
-    /// of none yet. Else it stays (this project's profile).
+    /// SR0 after an abort at this page of the mode: its flag, the mode and the page, if it tells of
+    /// none yet. Else it stays [P].
     #[tactic(auto, unfolding(crate::specs::Status::abort_told))]
     pub fn with_abort(self, abort: Abort, mode: Mode, page: PageNumber) -> MappingStatus
         ensures { result ≡ abort_told abort mode page self }

@@ -10,8 +10,8 @@ use Rattle.pdp_unibus.specs.Cycle.{Slave, Core, Device, Nobody, slave_at}
 use Rattle.pdp_unibus.specs.declared.io_page.IoPage.{IoPage}
 use Rattle.pdp_operand.specs.Handbook.Reference.{Kind, ReadWord, ReadByte, WriteWord, WriteByte, Reference, Reply, access_of, is_odd, translation}
 use Rattle.pdp_operand.specs.Laws.Aborted.{AbortsLeaveCore, FailsWith, ReadOnlyPagesKeepTheirWords, ToldAbortsLeaveCore, refusal_of, with_mapping_status}
-use Rattle.pdp_operation.specs.declared.trap.Trap.{Trap}
-use Rattle.pdp_operation.specs.declared.trap.Trap.TheVariants.{MappingAbort, OddAddress}
+use Rattle.pdp_action.specs.declared.trap.Trap.{Trap}
+use Rattle.pdp_action.specs.declared.trap.Trap.TheVariants.{MappingAbort, OddAddress}
 use Rattle.pdp_operand.proofs.Shape.{perform_is, reply_by, shape_at, shape_by, shape_if, shape_of, touches_is}
 use Rattle.pdp_operand.proofs.Shape.Shape.{Apart}
 
@@ -21,12 +21,12 @@ apart_fails : (r : Reference) (b : BusWorld) (status : MappingStatus) (trap : Tr
 apart_fails r b status trap is = record {
   told = rw (perform_is r b, is) refl;
   core = rw (perform_is r b, is) refl;
-  lasts = rw (perform_is r b, is) refl;
+  stamps = rw (perform_is r b, is) refl;
   drives = rw (perform_is r b, is) refl;
   tape = rw (perform_is r b, is) refl;
   bytes_read = rw (perform_is r b, is) refl;
   turn = rw (perform_is r b, is) refl;
-  firsts = rw (perform_is r b, is) refl;
+  first_touches = rw (perform_is r b, is) refl;
   io_page = rw (perform_is r b, is) refl;
   touches_none = rw (touches_is r b, is) refl;
 }

@@ -10,7 +10,7 @@ use Rattle.pdp_operand.specs.Phases.Phase.{Phase, Inner, State, Stop, Request, N
 use Rattle.pdp_operand.specs.Phases.Plan.{Plan, phases_of, run_plan}
 use Rattle.pdp_operand.specs.Phases.Course.{Course, End, Go, follow, go_on, caught_in}
 use Rattle.pdp_operand.specs.Laws.Trace.{touches, request_touches, trace, traced_next, trace_of, traced_on}
-use Rattle.pdp_operation.specs.declared.trap.Trap.{Trap}
+use Rattle.pdp_action.specs.declared.trap.Trap.{Trap}
 use Rattle.pdp_operand.proofs.Flattening.{run_phases_of}
 use Rattle.pdp_operand.proofs.Shape.{Shape, reply_by, touches_by, InCore, shape_of, perform_is, touches_is, shape_in_core}
 use Rattle.pdp_operand.proofs.Shape.Shape.{Apart, Looked, Wrote}

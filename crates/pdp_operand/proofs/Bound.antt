@@ -7,7 +7,7 @@ use Rattle.pdp_operand.specs.Phases.Plan.{Plan, Do, ◌▸◌, phases_of, run_pl
 use Rattle.pdp_operand.specs.Phases.Course.{Course, End, Go, caught_in}
 use Rattle.pdp_operand.specs.Laws.Count.{run_length, counted_next, course_length, counted_on}
 use Rattle.pdp_operand.specs.Handbook.Operand.{find}
-use Rattle.pdp_operation.specs.declared.trap.Trap.{Trap}
+use Rattle.pdp_action.specs.declared.trap.Trap.{Trap}
 
 -- how many phases a plan has
 abbrev pub size_of : Plan → ℕ

@@ -2,8 +2,9 @@
 use Rattle.std.proofs.Common.{◌≡◌, ℕ, ◌<◌, ◌==◌, Bool, true, false, List, [], ◌∷◌, Option, None, refl, sym, ◌∙◌, All, length, slice_index_or, slice_set, if◌then◌else◌, length-set, get_or-set_same, get_or-set_other}
 use Rattle.std.proofs.lemmas.Bool.{eqb-true, eqb-false}
 use Rattle.std.proofs.lemmas.List.Elements.{All-nil, All-cons, All-append}
-use Rattle.pdp_store.specs.TracedAccess.{Avoids, Part, TracedAccess, last_write}
-use Rattle.pdp_store.specs.TracedAccess.{Part as parts}
+use Rattle.pdp_store.specs.TracedAccess.{Avoids, TracedAccess, last_write}
+use Rattle.pdp_store.specs.declared.part.Part.{Part}
+use Rattle.pdp_store.specs.declared.part.Part.TheVariants as parts
 use Rattle.pdp_store.specs.declared.Stamp.{Stamp}
 use Rattle.pdp_unibus.proofs.Kept.{KeepsPage, KeepsStamps, keeps_page, keeps_stamps}
 use Rattle.pdp_unibus.specs.BusWorld.{BusWorld}
@@ -42,17 +43,17 @@ goes_turn = record {
   };
 }
 
-stamped : (lasts : List (Option Stamp)) (j k : ℕ) (stamp : Option Stamp) (same : Bool) → (j == k) ≡ same → k < length lasts
-    → slice_index_or (slice_set lasts j stamp) k None ≡ (if same then stamp else slice_index_or lasts k None)
-stamped lasts j k stamp true is within = rw (eqb-true _ _ is) (get_or-set_same _ _ _ _ within)
-stamped lasts j k stamp false is within = get_or-set_other lasts j k stamp None (λ equal. eqb-false j k is (sym equal))
+stamped : (stamps : List (Option Stamp)) (j k : ℕ) (stamp : Option Stamp) (same : Bool) → (j == k) ≡ same → k < length stamps
+    → slice_index_or (slice_set stamps j stamp) k None ≡ (if same then stamp else slice_index_or stamps k None)
+stamped stamps j k stamp true is within = rw (eqb-true _ _ is) (get_or-set_same _ _ _ _ within)
+stamped stamps j k stamp false is within = get_or-set_other stamps j k stamp None (λ equal. eqb-false j k is (sym equal))
 
 goes_stamps : Goes KeepsStamps
 goes_stamps = record {
   stays = keeps_stamps.stays;
   changes = λ xs b c io_page so. keeps_stamps.changes xs b c io_page c.bytes_read so;
-  looks = λ b k within. record { size = refl; lasts = λ j below. refl };
-  writes = λ b k word within. record { size = length-set _ _ _; lasts = λ j below. stamped b.lasts k j _ (k == j) refl below };
+  looks = λ b k within. record { size = refl; stamps = λ j below. refl };
+  writes = λ b k word within. record { size = length-set _ _ _; stamps = λ j below. stamped b.stamps k j _ (k == j) refl below };
   joins = keeps_stamps.joins;
 }
 
@@ -94,9 +95,9 @@ course_keeps_tape = along_course (λ xs b c. c.tape ≡ b.tape) goes_tape
 pub course_touches : (course : Course) (s : State) → All (IsByProcessor s.world.bus.turn (length s.world.bus.core)) (trace_of course s)
 course_touches course s = (course_keeps_turn course s).touches
 
-pub course_lasts : (course : Course) (s : State) (k : ℕ) → k < length s.world.bus.lasts
-    → slice_index_or (follow course s).world.bus.lasts k None ≡ last_write (trace_of course s) k (slice_index_or s.world.bus.lasts k None)
-course_lasts course s = (course_keeps_stamps course s).lasts
+pub course_stamps : (course : Course) (s : State) (k : ℕ) → k < length s.world.bus.stamps
+    → slice_index_or (follow course s).world.bus.stamps k None ≡ last_write (trace_of course s) k (slice_index_or s.world.bus.stamps k None)
+course_stamps course s = (course_keeps_stamps course s).stamps
 
 pub course_keeps_page : (part : Part) (page : ℕ) (course : Course) (s : State) → Avoids part page (trace_of course s)
     → SamePage part page s.world.bus (follow course s).world.bus

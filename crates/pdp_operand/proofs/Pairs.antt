@@ -3,8 +3,9 @@ use Rattle.std.proofs.Common.{◌≡◌, ℕ, ◌<◌, ◌==◌, Bool, true, fal
 use Rattle.std.proofs.lemmas.Bool.{eqb-true, eqb-false}
 use Rattle.pdp_store.proofs.Traces.{Avoids-first, Avoids-second}
 use Rattle.pdp_store.specs.Parts.{AlikeWords}
-use Rattle.pdp_store.specs.TracedAccess.{Avoids, Part, TracedAccess}
-use Rattle.pdp_store.specs.TracedAccess.{Part as parts}
+use Rattle.pdp_store.specs.TracedAccess.{Avoids, TracedAccess}
+use Rattle.pdp_store.specs.declared.part.Part.{Part}
+use Rattle.pdp_store.specs.declared.part.Part.TheVariants as parts
 use Rattle.pdp_unibus.specs.BusWorld.{BusWorld}
 use Rattle.pdp_unibus.specs.Page.{words_of_part, bus_with_words}
 use Rattle.pdp_operand.specs.Handbook.Reference.{Reference, Reply, perform}
@@ -13,7 +14,7 @@ use Rattle.pdp_operand.specs.Phases.World.{world}
 use Rattle.pdp_operand.specs.Phases.Plan.{Plan, phases_of, run_plan}
 use Rattle.pdp_operand.specs.Phases.Course.{Course, End, Go, follow, go_on, caught_in}
 use Rattle.pdp_operand.specs.Laws.Trace.{touches, request_touches, trace, traced_next, trace_of, traced_on}
-use Rattle.pdp_operation.specs.declared.trap.Trap.{Trap}
+use Rattle.pdp_action.specs.declared.trap.Trap.{Trap}
 use Rattle.pdp_operand.proofs.Flattening.{run_phases_of}
 use Rattle.pdp_operand.proofs.Shape.{Shape, reply_by, touches_by, InCore, shape_of, perform_is, touches_is, shape_in_core, shape_alike}
 use Rattle.pdp_operand.proofs.Shape.Shape.{Apart, Looked, Wrote}

@@ -10,10 +10,12 @@ use Rattle.pdp_operand.specs.Handbook.Reference.{Kind, ReadWord, ReadByte, Write
 use Rattle.pdp_kt11.specs.declared.place.Abort.{Abort}
 use Rattle.pdp_operand.specs.Laws.Trace.{touch_at, touches_if_placed, touches}
 use Rattle.pdp_store.specs.Parts.{core_with, drives_with}
-use Rattle.pdp_store.specs.TracedAccess.{Part as parts, Part, TracedAccess}
+use Rattle.pdp_store.specs.TracedAccess.{TracedAccess}
+use Rattle.pdp_store.specs.declared.part.Part.{Part}
+use Rattle.pdp_store.specs.declared.part.Part.TheVariants as parts
 use Rattle.pdp_unibus.specs.Page.{words_of_part, bus_with_words}
-use Rattle.pdp_operation.specs.declared.trap.Trap.{Trap}
-use Rattle.pdp_operation.specs.declared.trap.Trap.TheVariants.{BusTimeout, MappingAbort, OddAddress}
+use Rattle.pdp_action.specs.declared.trap.Trap.{Trap}
+use Rattle.pdp_action.specs.declared.trap.Trap.TheVariants.{BusTimeout, MappingAbort, OddAddress}
 
 -- what a reference does, besides the I/O page that it leaves: no word of core answers; or a word is read, and told through
 -- a function; or a word is written, from what it was

@@ -1,5 +1,6 @@
 ghost use Rattle.std.specs.Prelude.{◌≡◌, ◌<◌, ℕ, All, None, length, slice_index_or};
-ghost use Rattle.pdp_store.specs.TracedAccess.{Avoids, Part, last_write};
+ghost use Rattle.pdp_store.specs.TracedAccess.{Avoids, last_write};
+ghost use Rattle.pdp_store.specs.declared.part.Part.{Part};
 ghost use Rattle.pdp_unibus.specs.BusWorld.{BusWorld};
 ghost use Rattle.pdp_unibus.specs.Page.{AlikeOutside};
 ghost use Rattle.pdp_operand.specs.Laws.Aborted.{AbortsLeaveCore, ReadOnlyPagesKeepTheirWords};
@@ -26,12 +27,12 @@ pub fn touches_of_courses_are_of_their_turn()
 {}
 
 /// A law of courses: after one, the last stamp of each word is that of its last write in the
-/// course, or the one from before where it was not written.
-#[tactic(auto, using(crate::proofs::Kept::course_lasts))]
+/// course, or the one from before if it was not written.
+#[tactic(auto, using(crate::proofs::Kept::course_stamps))]
 pub fn stamps_of_courses_are_last_writes()
-    ensures { (course : Course) (s : State) (k : ℕ) → k < length s.world.bus.lasts →
-        slice_index_or (follow course s).world.bus.lasts k None
-        ≡ last_write (trace_of course s) k (slice_index_or s.world.bus.lasts k None) }
+    ensures { (course : Course) (s : State) (k : ℕ) → k < length s.world.bus.stamps →
+        slice_index_or (follow course s).world.bus.stamps k None
+        ≡ last_write (trace_of course s) k (slice_index_or s.world.bus.stamps k None) }
 {}
 
 /// A law of courses: one that never touches a page of 256 words, of core or of a drive, leaves it,
@@ -43,12 +44,12 @@ pub fn courses_leave_what_they_never_touch()
 {}
 
 /// A law of references: one whose address isn't odd, and that memory management aborts, whyever,
-/// fails with a mapping abort; a write through a read-only page fails with one too, or where its
+/// fails with a mapping abort; a write through a read-only page fails with one too, or if its
 /// address is odd with that. None of them changes a word of core, a stamp, or anything else but
 /// SR0.
 ///
 /// DEC PDP-11/40 Processor Handbook (1972), Memory management; that an odd address goes first is
-/// this project's profile.
+/// [P].
 pub fn aborts_change_no_core_word()
     ensures aborted { AbortsLeaveCore }
     ensures told { ToldAbortsLeaveCore }

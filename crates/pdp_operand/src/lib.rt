@@ -37,7 +37,7 @@ pub use laws::{
     stamps_of_courses_are_last_writes, touches_of_courses_are_of_their_turn,
 };
 pub use operand::{address, fetch, fetch_before_store, is_status, lower, store};
-pub use pdp_operation::Trap;
+pub use pdp_action::Trap;
 pub use place::{Cell, Fill, Place};
 pub use processor::{GeneralRegister, Processor, RegisterId, RunState};
 pub use reference::{read_byte, read_decoded, read_word, write_byte, write_word};

@@ -15,9 +15,9 @@ ghost use Rattle.pdp_operand.specs.declared.place.Place.TheVariants.{Mem};
 use crate::place::{Cell, Fill, Place};
 use crate::processor::{Processor, RegisterId};
 use crate::reference::{read_byte, read_word, write_byte, write_word};
+use pdp_action::Trap;
 use pdp_decode::Spec;
 use pdp_kt11::Mode;
-use pdp_operation::Trap;
 use pdp_store::Store;
 use pdp_unibus::Bus;
 use pdp_word::{Size, sign_extend};
@@ -73,14 +73,14 @@ fn grown<S: Store, D: Store>(
     cell
 }
 
-/// Lowers the register by the step (bytes), and answers the cell at the address in it then, in the
-/// space of the mode: -(R), and a push, which goes to R6 of the mode whose stack it is. Where that
-/// is the kernel's stack pointer, below 400 (octal) the cell is in the yellow zone of its stack.
+/// Lowers the register by the step (bytes), and returns the cell at the address in it then, in the
+/// space of the mode: -(R), and a push, which goes to R6 of the mode whose stack it is. If that is
+/// the kernel's stack pointer, below 400 (octal) the cell is in the yellow zone of its stack.
 ///
 /// DEC PDP-11/40 Processor Handbook (1972), Addressing modes and Stack limit; 340 and 400 (octal)
-/// are this project's profile.
+/// are [P].
 ///
-/// Err(StackLimit) where the register is the kernel's stack pointer and the address is below 340
+/// Err(StackLimit) if the register is the kernel's stack pointer and the address is below 340
 /// (octal); the processor is then as before.
 #[inline(always)]
 pub fn lower(processor: &mut Processor, mode: Mode, register: u8, step: u16) -> Result<Cell, Trap>
@@ -165,11 +165,11 @@ fn step(size: Size, register: u8) -> u16
 /// this makes.
 ///
 /// DEC PDP-11/40 Processor Handbook (1972), Addressing modes: a register changes before the access
-/// that it serves, and keeps its change where the access faults (this project's profile). Once the
-/// pointer of @-(SP) was read in the yellow zone of the kernel's stack, a stack trap is pending.
+/// that it serves, and keeps its change if the access faults [P]. Once the pointer of @-(SP) was
+/// read in the yellow zone of the kernel's stack, a stack trap is pending.
 ///
-/// Err where a reference to memory faults, or where -(SP) or @-(SP) is past the limit of the
-/// kernel's stack, as [`lower`] has it.
+/// Err if a reference to memory faults, or if -(SP) or @-(SP) is past the limit of the kernel's
+/// stack, as [`lower`] has it.
 #[inline(always)]
 #[tactic(auto, unfolding(crate::specs::find), using(crate::proofs::Steps::run_name_register))]
 pub fn address<S: Store, D: Store>(
@@ -214,13 +214,13 @@ fn register_operand(processor: &Processor, id: RegisterId, size: Size) -> u16
 }
 
 /// Reads the operand at a place that isn't written afterwards: a word, or a byte as a number below
-/// 400 (octal). Where the place is in the yellow zone of the kernel's stack, a stack trap is then
+/// 400 (octal). If the place is in the yellow zone of the kernel's stack, a stack trap is then
 /// pending.
 ///
 /// DEC PDP-11/40 Processor Handbook (1972), Addressing modes and Stack limit; a byte read reads its
-/// whole word on the bus (this project's profile).
+/// whole word on the bus [P].
 ///
-/// Err where the reference to memory faults; no stack trap is pending by it then.
+/// Err if the reference to memory faults; no stack trap is pending by it then.
 #[inline(always)]
 #[tactic(auto, unfolding(crate::specs::run, crate::specs::Handbook::Operand::read_operand))]
 pub fn fetch<S: Store, D: Store>(
@@ -252,9 +252,9 @@ pub fn fetch<S: Store, D: Store>(
 /// (octal).
 ///
 /// DEC PDP-11/40 Processor Handbook (1972), Addressing modes; a byte read reads its whole word on
-/// the bus, and a stack trap is pending only once the write was made (this project's profile).
+/// the bus, and a stack trap is pending only once the write was made [P].
 ///
-/// Err where the reference to memory faults.
+/// Err if the reference to memory faults.
 #[inline(always)]
 #[tactic(auto, unfolding(crate::specs::run, crate::specs::Handbook::Operand::read_before_write))]
 pub fn fetch_before_store<S: Store, D: Store>(
@@ -276,14 +276,14 @@ pub fn fetch_before_store<S: Store, D: Store>(
 
 /// Writes a word, or a byte as a number below 400 (octal), to a place, and answers whether that was
 /// the program status word, which then wins over the codes of the instruction. `fill` says how a
-/// register is filled. Where the place is in the yellow zone of the kernel's stack, a stack trap is
+/// register is filled. If the place is in the yellow zone of the kernel's stack, a stack trap is
 /// then pending.
 ///
 /// DEC PDP-11/40 Processor Handbook (1972), Addressing modes, MOV and Stack limit; that a written
-/// status wins is this project's profile.
+/// status wins is [P].
 ///
-/// Err where the reference to memory faults; nothing is written then, and no stack trap is pending
-/// by it.
+/// Err if the reference to memory faults; nothing is written then, and no stack trap is pending by
+/// it.
 #[inline(always)]
 #[tactic(auto, unfolding(crate::specs::run, crate::specs::Handbook::Operand::write_operand))]
 pub fn store<S: Store, D: Store>(

@@ -1,4 +1,4 @@
--- What the words of the command line ask for (this project's profile).
+-- What the words of the command line ask for [P].
 use Rattle.std.specs.Prelude.{◌≡◌, ◌≢◌, List, [], ◌∷◌, map, Option, Some, None, Result, Ok, Err}
 use Rattle.std.specs.Prelude.{◌⊎◌, codes, option_map, string_bytes}
 use Rattle.clap.specs.Words.{App, Kinds, IsAmong, Row, Rule, Text, first_of, matches_of, new_app}
@@ -43,14 +43,14 @@ with_numbers app = with_rule (with_rule (with_rule app (option_rule (codes "unit
 abbrev pub command_line : Text → App
 command_line name = with_numbers (with_files (new_app name))
 
--- the options that these words give, by clap's rules, where it refuses nothing
+-- the options that these words give, by clap's rules, if it refuses nothing
 abbrev pub options_in : Text → List Text → Option Options
 options_in name words =
     let rows = matches_of (command_line name) words in
     options_given (first_of (codes "units") rows) (first_of (codes "start") rows) (first_of
     (codes "stride") rows)
 
--- the names of the files that the words of these rows give, each where its option is given
+-- the names of the files that the words of these rows give, each if its option is given
 pub record AreNamesIn (rows : List Row) (names : FileNames) : Type 0 where
   pub core : option_map string_bytes names.core ≡ first_of (codes "core") rows
   pub drives : map (λ name. option_map string_bytes name) names.drives.items ≡ map
@@ -62,7 +62,7 @@ abbrev pub IsRefused : Kinds → Type 0
 IsRefused faults = (kind : ErrorKind) × (kind ≢ DisplayHelp) × IsAmong kind faults
 
 -- An answer about the words of a program of this name in which clap finds these faults, of which
--- asking for help is one: so help wins over a number that can't be read, which is looked at where
+-- asking for help is one: so help wins over a number that can't be read, which is looked at if
 -- there is no fault.
 abbrev pub Asks : Text → Kinds → List Text → Result Request Exit → Type 0
 Asks name faults words (Ok (Help text)) = IsAmong DisplayHelp faults

@@ -1,4 +1,4 @@
--- The exit statuses and the lines on standard error (this project's profile).
+-- The exit statuses and the lines on standard error [P].
 use Rattle.std.specs.Prelude.{ℕ, ◌≡◌, ◌++◌, Option, Some, None, Result, Ok, Err, codes, option_map}
 use Rattle.clap.specs.Words.{Text}
 use Rattle.pdp_script.specs.declared.faults.Fault.{Fault}

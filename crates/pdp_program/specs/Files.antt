@@ -1,4 +1,4 @@
--- When a file has failed (this project's profile).
+-- When a file has failed [P].
 use Rattle.std.specs.Prelude.{Bool, true, false, Result, Ok, Err}
 use Rattle.pdp_program.specs.declared.files.FileFailure.{FileFailure}
 use Rattle.pdp_program.specs.declared.files.FileFailure.TheVariants.{NoMemory, Unreadable}

@@ -1,5 +1,5 @@
 -- The program: its exit, its files, the words of its command line, what its files hold and its
--- whole run (this project's profile).
+-- whole run [P].
 pub mod Exit
 pub mod Files
 pub mod Numbers

@@ -1,4 +1,4 @@
--- What the files of a session hold (this project's profile).
+-- What the files of a session hold [P].
 use Rattle.std.specs.Prelude.{◌≡◌, ℕ, ◌+◌, ◌*◌, ◌≤◌, ◌&&◌, nat_le, if◌then◌else◌, List, [], ◌∷◌}
 use Rattle.std.specs.Prelude.{length, map, slice_get, take, Option, Some, None, IfSome, Result, Ok}
 use Rattle.std.specs.Prelude.{Err, ◌⊎◌, option_map, string_bytes}
@@ -68,8 +68,8 @@ AreFilesOf known most names (Err InputOrOutput) = Unit {0}
 AreFilesOf known most names (Err NoMemory) = Unit {0}
 AreFilesOf known most names (Err _) = ⊥
 
--- what comes of the bytes of an image: its words, or the exit where their number is odd or there is
--- no memory for them
+-- what comes of the bytes of an image: its words, or the exit if their number is odd or there is no
+-- memory for them
 abbrev pub IsImageOf : List ℕ → Result (List ℕ) Exit → Type 0
 IsImageOf bytes (Ok words) = image_read bytes ≡ Ok words
 IsImageOf bytes (Err BadImage) = image_read bytes ≡ Err FaultBadImage
@@ -81,8 +81,8 @@ abbrev pub IsBadAmong : List (List ℕ) → Type 0
 IsBadAmong images = (drive : ℕ) × (slice_get (map image_read images) drive ≡ Some
     (Err FaultBadImage))
 
--- what comes of the bytes of the images of the drives: their words, or the exit where one isn't
--- whole words or there is no memory
+-- what comes of the bytes of the images of the drives: their words, or the exit if one isn't whole
+-- words or there is no memory
 abbrev pub AreImagesOf : List (List ℕ) → Result (List (List ℕ)) Exit → Type 0
 AreImagesOf images (Ok drives) = map image_read images ≡ map Ok drives
 AreImagesOf images (Err BadImage) = IsBadAmong images

@@ -1,18 +1,18 @@
--- The numbers that the options give (this project's profile).
+-- The numbers that the options give [P].
 use Rattle.std.specs.Prelude.{ℕ, List, Option, Some, None, min, option_map}
 use Rattle.pdp_word.specs.Number.{number_of}
 use Rattle.pdp_session.specs.Grammar.Arguments.{◌>>=◌, largest_number}
 use Rattle.pdp_program.specs.declared.options.Options.{Options}
 
--- The number of an option whose field holds numbers up to `largest`: its default where the option
--- isn't given, and none where its text is no number in this base. A number that the field can't
--- hold becomes the largest that it can.
+-- The number of an option whose field holds numbers up to `largest`: its default if the option
+-- isn't given, and none if its text is no number in this base. A number that the field can't hold
+-- becomes the largest that it can.
 abbrev pub number_given : ℕ → ℕ → ℕ → Option (List ℕ) → Option ℕ
 number_given base largest default None = Some default
 number_given base largest default (Some text) = option_map (λ number. min number largest)
     (number_of base text)
 
--- the options, where each has its number
+-- the options, if each has its number
 abbrev pub all_given : Option ℕ → Option ℕ → Option ℕ → Option Options
 all_given units start stride = do
   u ← units

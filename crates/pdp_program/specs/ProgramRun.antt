@@ -1,4 +1,4 @@
--- What the program has done with its streams when it ends (this project's profile).
+-- What the program has done with its streams when it ends [P].
 use Rattle.std.specs.Prelude.{◌≡◌, ℕ, ◌++◌, List, [], Option, Result, Ok, Err, string_bytes}
 use Rattle.std.specs.Io.KnownBytes.{Appends}
 use Rattle.clap.specs.Words.{Text, fault_of}

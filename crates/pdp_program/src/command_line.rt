@@ -55,7 +55,7 @@ pub enum Request {
     Session { options: Options, names: FileNames },
 }
 
-/// The names of the files that a session starts from, where they are named.
+/// The names of the files that a session starts from, if they are named.
 #[derive(Drop)]
 pub struct FileNames {
     /// The image of core.

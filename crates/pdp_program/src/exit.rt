@@ -7,12 +7,12 @@ use std::alloc::{AllocError, AllocFailed};
 use std::fmt;
 use std::fmt::{Display, Formatter};
 
-/// How a run of the program ends (this project's profile).
+/// How a run of the program ends [P].
 #[derive(Clone, Copy)]
 pub enum Exit {
     /// All input was answered, or help was written.
     Done,
-    /// The words of the command line are wrong, or one is no number where a number is wanted.
+    /// The words of the command line are wrong, or one is no number if a number is wanted.
     BadArguments,
     /// A file can't be read, or standard input or standard output failed.
     InputOrOutput,
@@ -25,7 +25,7 @@ pub enum Exit {
 }
 
 impl Exit {
-    /// The exit status: 0, 2, 3, 4, and 5 for a bad image or setup (this project's profile).
+    /// The exit status: 0, 2, 3, 4, and 5 for a bad image or setup [P].
     pub fn status(self) -> u8
         ensures { result ≡ exit_status self }
     {
@@ -49,7 +49,7 @@ impl Exit {
         })
     }
 
-    // What went wrong, if anything did (this project's profile).
+    // What went wrong, if anything did [P].
     fn message(self) -> Option<&'static str>
         ensures { option_map (λ message. message.now) result ≡ message_of self }
     {

@@ -22,7 +22,7 @@ pub trait Files {
     // whether a file couldn't be read since these were made
     ghost has_failed: { Self → Bool };
 
-    // the bytes of the file of this name, where they are known
+    // the bytes of the file of this name, if they are known
     ghost contents: { Self → List ℕ → Option (List ℕ) };
 
     /// The bytes of the file of this name, or of a longer file the first `most`. No more of it is

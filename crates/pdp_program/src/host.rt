@@ -19,7 +19,7 @@ pub fn run_on_host<const SEARCHES: bool>(rt: &HostRuntime, program: Program<'_>)
 {
     let (status, line) = outcome_on_host::<SEARCHES>(rt, program);
     if let Some(line) = line {
-        // where this can't be written there is nobody to tell
+        // if this can't be written, nobody can be told
         let _ = rt.eprintln(line);
     }
     ExitCode::from(status)

@@ -11,7 +11,7 @@ use pdp_session::read_image;
 use std::alloc::Global;
 
 /// What the files of a session hold: the words of the images of core and of each drive, and the
-/// bytes of the tape. Each is empty where no file is named.
+/// bytes of the tape. Each is empty if no file is named.
 #[derive(Drop)]
 pub struct Media {
     pub core: Vec<u16>,

@@ -5,10 +5,10 @@ ghost use Rattle.pdp_program.specs.Numbers.{units_number};
 use pdp_replay::DEFAULT_STRIDE;
 use pdp_word::{read_decimal, read_octal};
 
-// The units where none are given.
+// The units if none are given.
 const UNITS: u8 = 31;
 
-// The start address where none is given.
+// The start address if none is given.
 const START: u16 = 0o1000;
 
 /// The numbers that a run starts from, each as its field holds it: a number that its field can't
@@ -24,7 +24,7 @@ pub struct Options {
 }
 
 /// The options with these texts, decimal, octal and decimal: without them 31 units, start address
-/// 1000 and a stride of 10,000 turns. `None` where a text is no number of 1 to 10 digits.
+/// 1000 and a stride of 10,000 turns. `None` if a text is no number of 1 to 10 digits.
 pub fn read_options(
     units: Option<&str>,
     start: Option<&str>,

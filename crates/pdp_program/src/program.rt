@@ -30,7 +30,7 @@ pub struct Program<'a> {
 /// Runs a program on these words (its name first), files and streams. Its lines are those of the
 /// session language, or if `SEARCHES` those of the search language. Returns the exit status and the
 /// line for standard error, if there is one: the program's name, a colon, a space and what stands
-/// here (this project's profile).
+/// here [P].
 ///
 /// | status | line | when |
 /// |---|---|---|

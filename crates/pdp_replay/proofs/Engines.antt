@@ -14,7 +14,7 @@ use Rattle.pdp_replay.specs.Run.Strides.{IsStride}
 use Rattle.pdp_replay.specs.Timeline.{IsEngine}
 use Rattle.pdp_replay.specs.declared.run.kept_run.KeptRun.{KeptRun}
 use Rattle.pdp_replay.specs.declared.past.base_setup.BaseSetup.{BaseSetup}
-use Rattle.pdp_replay.specs.declared.past.patch.PatchKey.{PatchKey}
+use Rattle.pdp_store.specs.declared.part.WordAt.{WordAt}
 
 -- the starting stride, not doubled yet, belongs to turn 0
 starting_stride : (start : ℕ) → 0 < start → IsStride start 0 start
@@ -44,14 +44,14 @@ powered_engine base_setup tape r good run stride none_known = record {
 
 -- its past is that of the setup alone
 past_powered : (base_setup : BaseSetup) (tape : List ℕ) (r : KeptRun) (delays : Delays)
-    (patches : IndexMap PatchKey ℕ (BuildHasherDefault FoldHasher)) (script : ScriptData)
+    (patches : IndexMap WordAt ℕ (BuildHasherDefault FoldHasher)) (script : ScriptData)
     → IsKeptRun (past_without_events (first_setup base_setup tape)) r → delays ≡ standard_delays → patches.entries ≡ [] → script.entries ≡ [] → script.given ≡ 0
     → past_from base_setup r.machine.state.world.bus.tape delays patches script ≡ past_without_events (first_setup base_setup tape)
 past_powered base_setup tape r delays patches script run standard none empty first = rw (run.kept.built.tape, standard, none, empty, first) refl
 
 -- an engine as it is made
 pub fresh_engine : (base_setup : BaseSetup) (tape : List ℕ) (r : KeptRun) (delays : Delays)
-    (patches : IndexMap PatchKey ℕ (BuildHasherDefault FoldHasher)) (script : ScriptData) → IsGood (first_setup base_setup tape)
+    (patches : IndexMap WordAt ℕ (BuildHasherDefault FoldHasher)) (script : ScriptData) → IsGood (first_setup base_setup tape)
     → IsKeptRun (past_without_events (first_setup base_setup tape)) r → r.ladder.stride ≡ base_setup.stride → r.known ≡ 0
     → delays ≡ standard_delays → patches.entries ≡ [] → script.entries ≡ [] → script.given ≡ 0
     → IsEngine (past_from base_setup r.machine.state.world.bus.tape delays patches script) 0 r

@@ -1,4 +1,4 @@
--- What questions about a run must be answered, and what they leave known (this project's profile).
+-- What questions about a run must be answered, and what they leave known [P].
 pub mod LastWrites
 pub mod Trails
 pub mod Answer

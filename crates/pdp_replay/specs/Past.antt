@@ -1,5 +1,4 @@
--- The past: what determines a run, its setup with the delays and the patches, and its script (this
--- project's profile).
+-- The past: what determines a run, its setup with the delays and the patches, and its script [P].
 use Rattle.std.specs.Prelude.{ℕ, List, [], Result}
 use Rattle.std.specs.declared.hash.BuildHasherDefault.{BuildHasherDefault}
 use Rattle.std.specs.declared.hash.FoldHasher.{FoldHasher}
@@ -9,7 +8,7 @@ use Rattle.pdp_script.specs.Script.{ScriptData}
 use Rattle.pdp_script.specs.declared.faults.Fault.{Fault}
 use Rattle.pdp_unibus.specs.declared.delays.Delays.{Delays}
 use Rattle.pdp_replay.specs.Past.Setup.{SetupData, setup_from, setup_checked}
-use Rattle.pdp_replay.specs.declared.past.patch.PatchKey.{PatchKey}
+use Rattle.pdp_store.specs.declared.part.WordAt.{WordAt}
 use Rattle.pdp_replay.specs.declared.past.base_setup.BaseSetup.{BaseSetup}
 pub mod PatchedWords
 pub mod Setup
@@ -22,7 +21,7 @@ pub record Past : Type 0 where
   pub script : ScriptData
 
 -- a base setup with the tape, the delays, the patches and the script of an engine
-abbrev pub past_from : BaseSetup → List ℕ → Delays → IndexMap PatchKey ℕ
+abbrev pub past_from : BaseSetup → List ℕ → Delays → IndexMap WordAt ℕ
     (BuildHasherDefault FoldHasher) → ScriptData → Past
 past_from base_setup tape delays patches script = record {
   setup = setup_from base_setup tape delays

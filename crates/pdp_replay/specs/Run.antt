@@ -1,4 +1,4 @@
--- The states of a run, and what an engine keeps of it (this project's profile).
+-- The states of a run, and what an engine keeps of it [P].
 pub mod States
 pub mod FirstTouches
 pub mod Checkpoints

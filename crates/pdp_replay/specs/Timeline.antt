@@ -1,4 +1,4 @@
--- An engine as a contract sees it (this project's profile).
+-- An engine as a contract sees it [P].
 use Rattle.std.specs.Prelude.{ℕ, ◌/◌, ◌≤◌, ◌&&◌, Bool, true, false, List, min, nat_le, unwrap_or}
 use Rattle.std.specs.Prelude.{Result, Ok, Err}
 use Rattle.pdp_script.specs.Refusal.{past_left}
@@ -6,9 +6,8 @@ use Rattle.pdp_unibus.specs.LastTurn.{last_turn}
 use Rattle.pdp_script.specs.declared.faults.Fault.{Fault}
 use Rattle.pdp_unibus.specs.declared.delays.DelayedDevice.{DelayedDevice}
 use Rattle.pdp_unibus.specs.declared.event.Event.{Event}
-use Rattle.pdp_store.specs.TracedAccess.{Part}
-use Rattle.pdp_store.specs.TracedAccess.{Part as part}
-use Rattle.pdp_unibus.specs.Page.{part_of}
+use Rattle.pdp_store.specs.declared.part.Part.{Part}
+use Rattle.pdp_store.specs.declared.part.Part.TheVariants as part
 use Rattle.pdp_replay.specs.Past.Edit.{core_edit, disk_edit, drives_edit, revert_edit, tape_edit}
 use Rattle.pdp_replay.specs.Past.Edit.{delay_edit, event_insertion, event_alteration, event_drop}
 use Rattle.pdp_replay.specs.Past.Edit.{turn_of_event, lesser_turn, with_patch}
@@ -16,9 +15,9 @@ use Rattle.pdp_replay.specs.Run.FirstTouches.{first_touch}
 use Rattle.pdp_replay.specs.Past.{Past, of_setup, past_without_events}
 use Rattle.pdp_replay.specs.Past.Setup.{SetupData, IsGood}
 use Rattle.pdp_replay.specs.Past.FirstWords.{AllThere}
-use Rattle.pdp_replay.specs.Run.KeptRuns.{IsKeptRun, patch_drive, patch_number}
+use Rattle.pdp_replay.specs.Run.KeptRuns.{IsKeptRun}
 use Rattle.pdp_replay.specs.Run.Strides.{IsStride}
-use Rattle.pdp_replay.specs.declared.past.patch.PatchKey.{PatchKey}
+use Rattle.pdp_store.specs.declared.part.WordAt.{WordAt}
 use Rattle.pdp_replay.specs.declared.run.kept_run.KeptRun.{KeptRun}
 
 -- the past, the known turn, the highest that it has been, the stride, the turns run so far, and the
@@ -81,10 +80,10 @@ abbrev pub reached_in : Part → ℕ → Timeline → ℕ
 reached_in part number t = first_touch t.past part (number / 256) t.known
 
 -- an engine after a word was given this value as of power-up
-abbrev pub word_patched : PatchKey → ℕ → Bool → Timeline → Timeline
-word_patched k word refused t =
-    after_setup_edit (reached_in (part_of (patch_drive k)) (patch_number k) t)
-    (of_setup t.past (with_patch word t.past.setup k)) refused t
+abbrev pub word_patched : WordAt → ℕ → Bool → Timeline → Timeline
+word_patched at word refused t =
+    after_setup_edit (reached_in at.part at.number t)
+    (of_setup t.past (with_patch word t.past.setup at)) refused t
 
 -- an engine after each edit; `refused` is whether memory was refused for it
 abbrev pub core_edited : ℕ → ℕ → Bool → Timeline → Timeline
@@ -101,8 +100,8 @@ disk_edited drive number word refused t =
 abbrev pub timeline_restarted : Timeline → Timeline
 timeline_restarted t = record t { turn = 0; current = true }
 
--- an engine after it was to get eight drives: its machine is in the state of turn 0, also where
--- memory was refused
+-- an engine after it was to get eight drives: its machine is in the state of turn 0, also if memory
+-- was refused
 abbrev pub drives_given : Bool → Timeline → Timeline
 drives_given refused t = record (timeline_restarted t) {
   past = past_left (drives_edit t.past) refused t.past;

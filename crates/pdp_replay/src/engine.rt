@@ -9,12 +9,13 @@ ghost use Rattle.pdp_replay.specs.Run.States.{at};
 ghost use Rattle.pdp_replay.specs.Timeline.{fresh};
 
 use crate::ask::{Answer, Question};
-use crate::past::{BaseSetup, DriveCount, PatchKey, Setup};
+use crate::past::{BaseSetup, DriveCount, Setup};
 use crate::run::KeptRun;
 use indexmap::IndexMap;
 use pdp_checkpoint::Ladder;
 use pdp_cpu::PagedMachine;
 use pdp_script::{Fault, Script};
+use pdp_store::WordAt;
 use pdp_unibus::Delays;
 use std::alloc::Global;
 use std::marker::Model;
@@ -28,7 +29,7 @@ use std::marker::Model;
 pub struct Engine {
     pub(crate) base_setup: BaseSetup,
     pub(crate) delays: Delays,
-    pub(crate) patches: IndexMap<PatchKey, u16>,
+    pub(crate) patches: IndexMap<WordAt, u16>,
     pub(crate) script: Script,
     pub(crate) run: KeptRun,
     pub(crate) highest: u32,
@@ -59,9 +60,9 @@ impl Engine {
     /// An engine over this setup with one drive and the standard delays, without patches or events;
     /// nothing is known yet.
     ///
-    /// Err(BadSetup) where units, start or stride is out of range; else Err(BadImage) where an
-    /// image or the tape is too long, or there are more than eight images of drives; else
-    /// Err(NoMemory) where a growth was refused. (This project's profile.)
+    /// Err(BadSetup) if units, start or stride is out of range; else Err(BadImage) if an image or
+    /// the tape is too long, or there are more than eight images of drives; else Err(NoMemory) if
+    /// memory was refused. [P]
     #[tactic(auto, unfolding(crate::specs::Past::Setup::setup_checked))]
     pub fn new(alloc: Global, setup: Setup) -> Result<Engine, Fault>
         ensures engine { result ≡ result_map fresh
@@ -103,9 +104,9 @@ impl Engine {
     /// to 64 or above the turn asked about; Err(OutsideCore) if a word of core that is asked for is
     /// not in core, else Err(OddAddress) if its address is odd; Err(NoSuchDrive) if the drive that
     /// is asked for is not below the number of drives, else Err(OutsideDisk) if the number of a
-    /// word of the drive is 4604000 (octal; 1,247,232) or above; Err(NoMemory) if a growth was
+    /// word of the drive is 4604000 (octal; 1,247,232) or above; Err(NoMemory) if memory was
     /// refused. No refusal changes the past, and one for another cause than memory changes nothing.
-    /// (This project's profile.)
+    /// [P]
     #[tactic(auto, unfolding(crate::specs::Ask::Answer::answer_to))]
     pub fn ask(&mut self, alloc: Global, question: Question) -> Result<Answer, Fault>
         // The answer is that of the run from power-up, and out of memory is the last refusal.
@@ -113,7 +114,7 @@ impl Engine {
             ≡ question_answer (answer_to question self.old.past) (for_memory result) }
 
         // It ran at most one stride of turns more than those that a trail lists or that are past
-        // what was known, also where it is then refused.
+        // what was known, also if it is then refused.
         ensures bound { IsWithinBound question self.old self.new.turns }
 
         // What it leaves, where it went, and what is told with the answer.
@@ -138,16 +139,15 @@ impl Engine {
         })
     }
 
-    /// How many drives there are (this project's profile): drive 0 alone, until `eight_drives`
-    /// gives eight.
-    pub fn drives(&self) -> usize
+    /// How many drives there are [P]: drive 0 alone, until `eight_drives` gives eight.
+    pub fn drive_count(&self) -> usize
         ensures { result ≡ self.now.past.setup.drives }
     {
         self.base_setup.drives.count()
     }
 
     /// The states that are kept of the run of the past as it is now: those of turn 0 and of each
-    /// multiple of the stride up to the known turn (this project's profile).
+    /// multiple of the stride up to the known turn [P].
     pub fn kept_states(&self) -> &Ladder
         ensures states { AreStatesOf self.now.past self.now.known result.now }
         ensures stride { result.now.stride ≡ self.now.stride }
@@ -158,7 +158,7 @@ impl Engine {
     /// The machine that runs the turns. It keeps what was printed and punched before the known
     /// turn, each byte with its turn. After an answer it is in the run's state of the turn asked
     /// about, until an edit reaches back before that turn, or memory is refused to a later question
-    /// (this project's profile).
+    /// [P].
     pub fn machine(&self) -> &PagedMachine
         ensures texts { KeepsTexts self.now.past self.now.known result.now }
         ensures shown { ShowsTexts self.now.past self.now.known result.now }

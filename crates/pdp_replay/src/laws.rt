@@ -15,8 +15,8 @@ ghost use Rattle.pdp_replay.specs.Run.States.{TextOnlyGrows, PunchedOnlyGrows};
 /// A law of setups: core as of power-up has the words of its units, each of which is its patch,
 /// else its image's word, else 0.
 ///
-/// This project's profile.
-#[tactic(auto, using(crate::proofs::FirstWords::words_of_core))]
+/// [P]
+#[tactic(auto, using(crate::proofs::past::FirstWords::words_of_core))]
 pub fn core_words_are_first_words()
     ensures size { CoreHasItsSize }
     ensures words { CoreWordsAreFirstWords }
@@ -25,8 +25,8 @@ pub fn core_words_are_first_words()
 /// A law of setups: there are as many drives as of power-up as the setup says, and each has
 /// 1,247,232 words, each of which is its patch, else the word of the drive's image, else 0.
 ///
-/// This project's profile.
-#[tactic(auto, using(crate::proofs::FirstWords::words_of_drives))]
+/// [P]
+#[tactic(auto, using(crate::proofs::past::FirstWords::words_of_drives))]
 pub fn disk_words_are_first_words()
     ensures size { DriveHasItsSize }
     ensures words { DiskWordsAreFirstWords }
@@ -37,8 +37,8 @@ pub fn disk_words_are_first_words()
 /// A law of edits: no alteration and no drop of an event is refused as out of memory, and no edit
 /// of the tape or of a delay.
 ///
-/// This project's profile.
-#[tactic(auto, using(crate::proofs::Memory::needs_no_memory))]
+/// [P]
+#[tactic(auto, using(crate::proofs::past::Memory::needs_no_memory))]
 pub fn some_edits_need_no_memory()
     ensures alteration { AlterationNeedsNoMemory }
     ensures drop { DropNeedsNoMemory }
@@ -49,8 +49,8 @@ pub fn some_edits_need_no_memory()
 /// A law of runs: what was printed on the console before a turn begins what was printed before each
 /// later turn, and what was punched likewise.
 ///
-/// This project's profile.
-#[tactic(auto, using(crate::proofs::Texts::text_grows, crate::proofs::Texts::punched_grows))]
+/// [P]
+#[tactic(auto, using(crate::proofs::run::Texts::text_grows, crate::proofs::run::Texts::punched_grows))]
 pub fn texts_only_grow()
     ensures text { TextOnlyGrows }
     ensures punched { PunchedOnlyGrows }
@@ -60,7 +60,7 @@ pub fn texts_only_grow()
 /// write, by the processor or by the disk, in the trace of the run from power-up to the turn of the
 /// state; a word that was not written has none. So it is in each state that an engine keeps.
 ///
-/// This project's profile.
+/// [P]
 pub fn stamps_of_states_are_last_writes()
     ensures states { StampsOfStatesAreLastWrites }
     ensures kept { StampsOfCheckpointsAreLastWrites }
@@ -69,7 +69,7 @@ pub fn stamps_of_states_are_last_writes()
 /// A law of edits: a patch of a word reaches back to the first turn that touches its page. Up to
 /// there each state of the patched run is that of the run before, with the word changed.
 ///
-/// This project's profile.
+/// [P]
 pub fn patches_reach_the_first_touch()
     ensures { PatchesReachTheFirstTouch }
 {}
@@ -79,7 +79,7 @@ pub fn patches_reach_the_first_touch()
 /// page. If touches of a turn and of later turns are dropped, those that the turns before it leave
 /// remain.
 ///
-/// This project's profile.
+/// [P]
 pub fn first_touches_are_told()
     ensures least { FirstTouchesAreFirst }
     ensures told { FirstTouchesAreTold }
@@ -88,7 +88,7 @@ pub fn first_touches_are_told()
 
 /// A law of first touches: a turn that is run again adds nothing to them.
 ///
-/// This project's profile.
+/// [P]
 pub fn turns_run_again_touch_nothing_new()
     ensures { TurnsRunAgainTouchNothingNew }
 {}
@@ -96,7 +96,7 @@ pub fn turns_run_again_touch_nothing_new()
 /// A law of runs: up to the first touch of a page each state of a run has in this page the words of
 /// power-up and, in core, no stamp.
 ///
-/// This project's profile.
+/// [P]
 pub fn untouched_pages_are_alike()
     ensures { UntouchedPagesAreAlike }
 {}

@@ -11,7 +11,6 @@ pub(crate) use base_setup::{BaseSetup, DriveCount};
 pub(crate) use edits::core_word;
 pub(crate) use image::{core_store, drive_store, more_drives};
 pub use patch::Patch;
-pub(crate) use patch::PatchKey;
 pub use setup::{DEFAULT_STRIDE, Setup};
 pub(crate) use setup::{DRIVE_WORDS, MOST_DRIVES, TAPE_BYTES, UNIT_WORDS};
 pub(crate) use setup_edits::disk_word;

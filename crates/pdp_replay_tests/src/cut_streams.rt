@@ -234,7 +234,7 @@ fn whole_session(alloc: Global) -> Result<(Vec<u8>, Vec<u8>), Fail> {
 }
 
 // How many bytes a writer that fails after so many puts has taken of the session's replies, or none
-// where it had room for all. They are a beginning of the replies.
+// if it had room for all. They are a beginning of the replies.
 fn taken_by(
     rt: &impl Abort,
     alloc: Global,

@@ -2,7 +2,9 @@
 use Rattle.std.proofs.Common.{◌≡◌, ◌≢◌, ℕ, ◌/◌, ◌<◌, ◌&&◌, Bool, List, [], ◌==◌, not, refl, sym, ◌∙◌, ap, length, slice_index, slice_index_or, slice_set, get_or-set_same, get_or-set_other}
 use Rattle.std.proofs.lemmas.List.{set-set, set_comm}
 use Rattle.pdp_store.specs.Parts.{AlikeWords, core_with, drives_with, words_in}
-use Rattle.pdp_store.specs.TracedAccess.{Avoids, Part, Core, Drive}
+use Rattle.pdp_store.specs.TracedAccess.{Avoids}
+use Rattle.pdp_store.specs.declared.part.Part.{Part}
+use Rattle.pdp_store.specs.declared.part.Part.TheVariants.{Core, Drive}
 use Rattle.pdp_store.proofs.Traces.{Avoids-first}
 use Rattle.pdp_rk11.specs.Completion.{DiskWorld, drive_of, is_write_check, lists_after}
 use Rattle.pdp_rk11.specs.Geometry.{drive_in}
@@ -18,7 +20,7 @@ use Rattle.pdp_rk11.proofs.AlikeMoves.{alike_moved, alike_to_core, any_same, mov
 pub record AlikeEnds (part : Part) (page : ℕ) (v w : DiskWorld) : Type 0 where
   pub left : List ℕ
   pub core : w.core ≡ core_with part left v.core
-  pub lasts : w.lasts ≡ v.lasts
+  pub stamps : w.stamps ≡ v.stamps
   pub drives : w.drives ≡ drives_with part left v.drives
   pub alike : AlikeWords page (words_in part v.core v.drives) left
 
@@ -86,22 +88,22 @@ pub core_ends : (f : Function) (page turn : ℕ) (t : Transfer) (w : DiskWorld) 
 core_ends Read page turn t w words alike avoids = record {
   left = core_after_read t (drive_of w) words;
   core = refl;
-  lasts = refl;
+  stamps = refl;
   drives = refl;
   alike = alike_to_core page t (λ i. slice_index (drive_of w) (disk_word t i)) w.core words alike;
 }
 core_ends Write page turn t w words alike avoids = record {
   left = words;
   core = refl;
-  lasts = refl;
+  stamps = refl;
   drives =
       ap (λ xs. slice_set w.drives (drive_in w.rk.disk_address) xs)
       (written_alike_core page turn (drive_in w.rk.disk_address) t w.core words alike (drive_of w) avoids);
   alike = alike;
 }
-core_ends _ page turn t w words alike avoids = record { left = words; core = refl; lasts = refl; drives = refl; alike = alike }
+core_ends _ page turn t w words alike avoids = record { left = words; core = refl; stamps = refl; drives = refl; alike = alike }
 
--- the drive's words where they have been exchanged
+-- the drive's words if they have been exchanged
 pub exchanged : (w : DiskWorld) (words : List ℕ) → drive_in w.rk.disk_address < length w.drives
     → drive_of (disk_world_with_words (Drive (drive_in w.rk.disk_address)) words w) ≡ words
 exchanged w words there = get_or-set_same w.drives (drive_in w.rk.disk_address) words [] there
@@ -116,14 +118,14 @@ drive_ends Read page turn t w words there alike avoids = record {
   core =
       ap (λ xs. core_after_read t xs w.core) (exchanged w words there)
       ∙ read_alike_disk page turn (drive_in w.rk.disk_address) t (drive_of w) words alike w.core avoids;
-  lasts = refl;
+  stamps = refl;
   drives = refl;
   alike = alike;
 }
 drive_ends Write page turn t w words there alike avoids = record {
   left = disk_written t w.core words;
   core = refl;
-  lasts = refl;
+  stamps = refl;
   drives =
       ap (λ xs. slice_set (slice_set w.drives (drive_in w.rk.disk_address) words) (drive_in w.rk.disk_address) (disk_written t w.core xs))
       (exchanged w words there)
@@ -134,7 +136,7 @@ drive_ends Write page turn t w words there alike avoids = record {
       (written_alike_disk page turn (drive_in w.rk.disk_address) t (drive_of w) words alike w.core);
 }
 drive_ends _ page turn t w words there alike avoids =
-    record { left = words; core = refl; lasts = refl; drives = refl; alike = alike }
+    record { left = words; core = refl; stamps = refl; drives = refl; alike = alike }
 
 -- another drive's words, which the transfer does not see
 pub other_unseen : (number : ℕ) (w : DiskWorld) (words : List ℕ) → drive_in w.rk.disk_address ≢ number
@@ -147,14 +149,14 @@ pub other_ends : (f : Function) (page turn number : ℕ) (t : Transfer) (w : Dis
 other_ends Read page turn number t w words other alike = record {
   left = words;
   core = ap (λ xs. core_after_read t xs w.core) (other_unseen number w words other);
-  lasts = refl;
+  stamps = refl;
   drives = refl;
   alike = alike;
 }
 other_ends Write page turn number t w words other alike = record {
   left = words;
   core = refl;
-  lasts = refl;
+  stamps = refl;
   drives =
       ap (λ xs. slice_set (slice_set w.drives number words) (drive_in w.rk.disk_address) (disk_written t w.core xs))
       (other_unseen number w words other)
@@ -164,4 +166,4 @@ other_ends Write page turn number t w words other alike = record {
       alike;
 }
 other_ends _ page turn number t w words other alike =
-    record { left = words; core = refl; lasts = refl; drives = refl; alike = alike }
+    record { left = words; core = refl; stamps = refl; drives = refl; alike = alike }

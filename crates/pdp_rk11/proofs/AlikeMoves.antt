@@ -3,7 +3,8 @@ use Rattle.std.proofs.Common.{◌≡◌, ◌≢◌, ◌⊎◌, ℕ, zero, suc, �
 use Rattle.std.proofs.lemmas.Bool.{cases_eq, cases_lt}
 use Rattle.std.proofs.lemmas.List.{set_past}
 use Rattle.pdp_store.specs.Parts.{AlikeWords}
-use Rattle.pdp_store.specs.TracedAccess.{Avoids, Part, TracedAccess}
+use Rattle.pdp_store.specs.TracedAccess.{Avoids, TracedAccess}
+use Rattle.pdp_store.specs.declared.part.Part.{Part}
 use Rattle.pdp_store.proofs.Traces.{Avoids-first, Avoids-second}
 use Rattle.pdp_rk11.specs.Moves.{any_below, moved_items, moved_to_one}
 use Rattle.pdp_rk11.specs.Trace.{joined_lists}

@@ -3,7 +3,9 @@ use Rattle.std.proofs.Common.{◌≡◌, ◌≢◌, ℕ, zero, suc, ◌+◌, ◌
 use Rattle.std.proofs.lemmas.Bool.{cases_eq, cases_lt}
 use Rattle.std.proofs.lemmas.List.{set_past}
 use Rattle.pdp_store.specs.Parts.{SameWords, words_in}
-use Rattle.pdp_store.specs.TracedAccess.{Avoids, Part, Core, Drive, TracedAccess}
+use Rattle.pdp_store.specs.TracedAccess.{Avoids, TracedAccess}
+use Rattle.pdp_store.specs.declared.part.Part.{Part}
+use Rattle.pdp_store.specs.declared.part.Part.TheVariants.{Core, Drive}
 use Rattle.pdp_store.proofs.Traces.{Avoids-first, Avoids-second}
 use Rattle.pdp_rk11.specs.Completion.{DiskWorld, rk_completed, drive_of, lists_after}
 use Rattle.pdp_rk11.specs.Geometry.{drive_in}

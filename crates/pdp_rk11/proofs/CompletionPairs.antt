@@ -4,7 +4,9 @@ use Rattle.std.proofs.lemmas.Bool.{cases_eq, cases_lt}
 use Rattle.std.proofs.lemmas.List.{get_or_past, set_past}
 use Rattle.pdp_device.specs.Operation.{is_under_way}
 use Rattle.pdp_store.specs.Parts.{AlikeWords, core_with, drives_with, words_in}
-use Rattle.pdp_store.specs.TracedAccess.{Avoids, Part, Core, Drive, TracedAccess}
+use Rattle.pdp_store.specs.TracedAccess.{Avoids, TracedAccess}
+use Rattle.pdp_store.specs.declared.part.Part.{Part}
+use Rattle.pdp_store.specs.declared.part.Part.TheVariants.{Core, Drive}
 use Rattle.pdp_rk11.specs.Completion.{DiskWorld, rk_completed, drive_of, rk_finished, world_finished, lists_after, run_unless_refused, refusal, registers_after, transfer_of, rk_transferred, with_rk, run_function}
 use Rattle.pdp_rk11.specs.Geometry.{drive_in}
 use Rattle.pdp_rk11.specs.Trace.{AlikeCompletions, completion_touches, touches_unless_refused, transfer_touches, disk_world_with_words}
@@ -76,7 +78,7 @@ module _ (part : Part) (page turn : ℕ) (w : DiskWorld) (words : List ℕ) (loo
       λ i. record {
         rk = rk_finished (registers_after (length (drive_of w)) (transfer_in w) different w.rk);
         core = ends.core i;
-        lasts = ends.lasts i;
+        stamps = ends.stamps i;
         drives = ends.drives i;
       } in
       record { left = ends.left; is = together ∙ apart; alike = ends.alike; trace = same_trace }

@@ -14,33 +14,33 @@ use Rattle.pdp_rk11.specs.declared.transfer.Transfer.{Transfer}
 use Rattle.pdp_rk11.proofs.Done.{Done, Quiet, Moved, done, transfer_in}
 use Rattle.pdp_rk11.proofs.Fronts.{front, length-moved_to_core, no_move, one_more_move}
 
--- where no part of a trace writes core, the last write is the one before
+-- if no part of a trace writes core, the last write is the one before
 none_written : (f : ℕ → List TracedAccess) (k : ℕ) (before : Option Stamp) → ((i : ℕ) (last : Option Stamp) → last_write (f i) k last ≡ last)
     → (n : ℕ) → last_write (joined_lists f n) k before ≡ before
 none_written f k before init zero = refl
 none_written f k before init (suc n) =
     last_write-append (joined_lists f n) (f n) k before ∙ init n (last_write (joined_lists f n) k before) ∙ none_written f k before init n
 
-stamped : (lasts : List (Option Stamp)) (j k : ℕ) (stamp : Option Stamp) (same : Bool) → (j == k) ≡ same → k < length lasts
-    → slice_index_or (slice_set lasts j stamp) k None ≡ (if same then stamp else slice_index_or lasts k None)
-stamped lasts j k stamp true is within = rw (eqb-true _ _ is) (get_or-set_same _ _ _ _ within)
-stamped lasts j k stamp false is within = get_or-set_other lasts j k stamp None (λ equal. eqb-false j k is (sym equal))
+stamped : (stamps : List (Option Stamp)) (j k : ℕ) (stamp : Option Stamp) (same : Bool) → (j == k) ≡ same → k < length stamps
+    → slice_index_or (slice_set stamps j stamp) k None ≡ (if same then stamp else slice_index_or stamps k None)
+stamped stamps j k stamp true is within = rw (eqb-true _ _ is) (get_or-set_same _ _ _ _ within)
+stamped stamps j k stamp false is within = get_or-set_other stamps j k stamp None (λ equal. eqb-false j k is (sym equal))
 
-abbrev stamps : ℕ → ℕ → Option Stamp
-stamps turn i = Some (stamp_of_disk turn)
+abbrev stamp_of_move : ℕ → ℕ → Option Stamp
+stamp_of_move turn i = Some (stamp_of_disk turn)
 
 -- a read, move by move
-read_stamps : (t : Transfer) (drive turn : ℕ) (lasts : List (Option Stamp)) (k : ℕ) → k < length lasts → (n : ℕ)
-    → slice_index_or (moved_to_core (front t n) (stamps turn) lasts) k None
-    ≡ last_write (joined_lists (move_touches Read t drive turn) n) k (slice_index_or lasts k None)
-read_stamps t drive turn lasts k within zero = ap (λ xs. slice_index_or xs k None) (no_move t (stamps turn) lasts)
-read_stamps t drive turn lasts k within (suc n) =
-    let inside : k < length (moved_to_core (front t n) (stamps turn) lasts) =
-    omega (arith, length-moved_to_core (front t n) (stamps turn) lasts) in
-    ap (λ xs. slice_index_or xs k None) (one_more_move t n (stamps turn) lasts)
-    ∙ stamped (moved_to_core (front t n) (stamps turn) lasts) (core_word t n) k (Some (stamp_of_disk turn)) _ refl inside
-    ∙ ap (λ (last : Option Stamp). if core_word t n == k then Some (stamp_of_disk turn) else last) (read_stamps t drive turn lasts k within n)
-    ∙ sym (last_write-append (joined_lists (move_touches Read t drive turn) n) (move_touches Read t drive turn n) k (slice_index_or lasts k None))
+read_stamps : (t : Transfer) (drive turn : ℕ) (stamps : List (Option Stamp)) (k : ℕ) → k < length stamps → (n : ℕ)
+    → slice_index_or (moved_to_core (front t n) (stamp_of_move turn) stamps) k None
+    ≡ last_write (joined_lists (move_touches Read t drive turn) n) k (slice_index_or stamps k None)
+read_stamps t drive turn stamps k within zero = ap (λ xs. slice_index_or xs k None) (no_move t (stamp_of_move turn) stamps)
+read_stamps t drive turn stamps k within (suc n) =
+    let inside : k < length (moved_to_core (front t n) (stamp_of_move turn) stamps) =
+    omega (arith, length-moved_to_core (front t n) (stamp_of_move turn) stamps) in
+    ap (λ xs. slice_index_or xs k None) (one_more_move t n (stamp_of_move turn) stamps)
+    ∙ stamped (moved_to_core (front t n) (stamp_of_move turn) stamps) (core_word t n) k (Some (stamp_of_disk turn)) _ refl inside
+    ∙ ap (λ (last : Option Stamp). if core_word t n == k then Some (stamp_of_disk turn) else last) (read_stamps t drive turn stamps k within n)
+    ∙ sym (last_write-append (joined_lists (move_touches Read t drive turn) n) (move_touches Read t drive turn n) k (slice_index_or stamps k None))
 
 -- the fill of a sector writes no word of core
 fill_writes_none : (f : Function) (t : Transfer) (drive turn k : ℕ) (before : Option Stamp)
@@ -54,32 +54,32 @@ fill_writes_none ReadCheck t drive turn k before = refl
 fill_writes_none DriveReset t drive turn k before = refl
 fill_writes_none WriteLock t drive turn k before = refl
 
-moves_stamp : (f : Function) (t : Transfer) (drive turn : ℕ) (w : DiskWorld) (k : ℕ) → k < length w.lasts
-    → slice_index_or (lists_after f t turn w).lasts k None
-    ≡ last_write (joined_lists (move_touches f t drive turn) t.count) k (slice_index_or w.lasts k None)
+moves_stamp : (f : Function) (t : Transfer) (drive turn : ℕ) (w : DiskWorld) (k : ℕ) → k < length w.stamps
+    → slice_index_or (lists_after f t turn w).stamps k None
+    ≡ last_write (joined_lists (move_touches f t drive turn) t.count) k (slice_index_or w.stamps k None)
 moves_stamp ControlReset t drive turn w k within = sym (none_written _ k _ (λ i last. refl) t.count)
 moves_stamp Write t drive turn w k within = sym (none_written _ k _ (λ i last. refl) t.count)
-moves_stamp Read t drive turn w k within = read_stamps t drive turn w.lasts k within t.count
+moves_stamp Read t drive turn w k within = read_stamps t drive turn w.stamps k within t.count
 moves_stamp WriteCheck t drive turn w k within = sym (none_written _ k _ (λ i last. refl) t.count)
 moves_stamp Seek t drive turn w k within = sym (none_written _ k _ (λ i last. refl) t.count)
 moves_stamp ReadCheck t drive turn w k within = sym (none_written _ k _ (λ i last. refl) t.count)
 moves_stamp DriveReset t drive turn w k within = sym (none_written _ k _ (λ i last. refl) t.count)
 moves_stamp WriteLock t drive turn w k within = sym (none_written _ k _ (λ i last. refl) t.count)
 
-stamps_by_function : (f : Function) (t : Transfer) (drive turn : ℕ) (w : DiskWorld) (k : ℕ) → k < length w.lasts
-    → slice_index_or (lists_after f t turn w).lasts k None
-    ≡ last_write (transfer_touches f t drive turn) k (slice_index_or w.lasts k None)
+stamps_by_function : (f : Function) (t : Transfer) (drive turn : ℕ) (w : DiskWorld) (k : ℕ) → k < length w.stamps
+    → slice_index_or (lists_after f t turn w).stamps k None
+    ≡ last_write (transfer_touches f t drive turn) k (slice_index_or w.stamps k None)
 stamps_by_function f t drive turn w k within =
     moves_stamp f t drive turn w k within
     ∙ sym (fill_writes_none f t drive turn k _)
-    ∙ sym (last_write-append (joined_lists (move_touches f t drive turn) t.count) (fill_touches f t drive turn) k (slice_index_or w.lasts k None))
+    ∙ sym (last_write-append (joined_lists (move_touches f t drive turn) t.count) (fill_touches f t drive turn) k (slice_index_or w.stamps k None))
 
-stamps_of : {turn : ℕ} {w v : DiskWorld} {xs : List TracedAccess} → Done turn w xs v → (k : ℕ) → k < length w.lasts
-    → slice_index_or v.lasts k None ≡ last_write xs k (slice_index_or w.lasts k None)
+stamps_of : {turn : ℕ} {w v : DiskWorld} {xs : List TracedAccess} → Done turn w xs v → (k : ℕ) → k < length w.stamps
+    → slice_index_or v.stamps k None ≡ last_write xs k (slice_index_or w.stamps k None)
 stamps_of (Quiet rk) k within = refl
 stamps_of {turn} {w} (Moved rk) k within =
     stamps_by_function w.rk.function (transfer_in w) (drive_in w.rk.disk_address) turn w k within
 
-pub completed_lasts : (turn : ℕ) (w : DiskWorld) (k : ℕ) → k < length w.lasts
-    → slice_index_or (rk_completed turn w).lasts k None ≡ last_write (completion_touches turn w) k (slice_index_or w.lasts k None)
-completed_lasts turn w = stamps_of (done turn w)
+pub completed_stamps : (turn : ℕ) (w : DiskWorld) (k : ℕ) → k < length w.stamps
+    → slice_index_or (rk_completed turn w).stamps k None ≡ last_write (completion_touches turn w) k (slice_index_or w.stamps k None)
+completed_stamps turn w = stamps_of (done turn w)

@@ -3,7 +3,8 @@ use Rattle.std.proofs.Common.{◌≡◌, ℕ, zero, suc, ◌+◌, ◌-◌, ◌<�
 use Rattle.std.proofs.lemmas.Bool.Decides.{nat_tests}
 use Rattle.std.proofs.lemmas.List.Elements.{All-nil, All-cons, All-append}
 use Rattle.std.specs.Prelude.{min, nat_lt}
-use Rattle.pdp_store.specs.TracedAccess.{TracedAccess, Core, Drive}
+use Rattle.pdp_store.specs.TracedAccess.{TracedAccess}
+use Rattle.pdp_store.specs.declared.part.Part.TheVariants.{Core, Drive}
 use Rattle.pdp_rk11.specs.Completion.{DiskWorld, core_word_of_bus_address, first_word_of_sector, is_read_check, transfer_of, within_core, words_asked}
 use Rattle.pdp_rk11.specs.Geometry.{drive_in}
 use Rattle.pdp_rk11.specs.Trace.{IsOfCompletion, completion_touches, fill_touches, joined_lists, move_touches, read_by_disk, transfer_touches, written_by_disk}
@@ -14,7 +15,7 @@ use Rattle.pdp_rk11.specs.declared.rk.Rk.{Rk}
 use Rattle.pdp_rk11.specs.declared.transfer.Transfer.{Transfer}
 use Rattle.pdp_rk11.proofs.Done.{Done, Quiet, Moved, done, transfer_in}
 
--- a transfer's moves are within a core of so many words, where they are of core at all
+-- a transfer's moves are within a core of so many words, if they are of core at all
 abbrev IsWithin : Function → Transfer → ℕ → Type 0
 IsWithin f t words = is_read_check f ≡ false → (i : ℕ) → i < t.count → core_word t i < words
 

@@ -48,7 +48,7 @@ done turn w = by_state (is_under_way w.rk.operation) where
   by_state true = done_unless (refusal w.rk (length w.drives)) turn w
   by_state false = Quiet w.rk
 
--- where nothing is under way, a completion does nothing
+-- if nothing is under way, a completion does nothing
 pub completed_at_rest : (turn : ℕ) (w : DiskWorld) → is_under_way w.rk.operation ≡ false → rk_completed turn w ≡ w
 unfolding rk_completed
 completed_at_rest turn w rest = rw rest refl

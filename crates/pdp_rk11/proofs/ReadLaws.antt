@@ -15,7 +15,7 @@ use Rattle.pdp_rk11.proofs.Done.{Done, Quiet, Moved, done}
 use Rattle.pdp_rk11.proofs.Moves.{get_or-moved, item_before, item_inside, item_past, length-moved}
 use Rattle.pdp_store.specs.TracedAccess.{TracedAccess}
 
--- what is under way is done, where nothing forbids it
+-- what is under way is done, if nothing forbids it
 pub done_as : (f : Function) (turn : ℕ) (w : DiskWorld) → CanBeDone f w → rk_completed turn w ≡ world_finished (run_function f turn w)
 unfolding rk_completed
 done_as f turn w can =
@@ -111,12 +111,12 @@ check_leaves DriveReset turn w check = refl
 check_leaves WriteLock turn w check = refl
 
 words_left : {turn : ℕ} {w v : DiskWorld} {xs : List TracedAccess} → (is_write_check w.rk.function || is_read_check w.rk.function) ≡ true
-    → Done turn w xs v → (v.core ≡ w.core) × (v.lasts ≡ w.lasts) × (v.drives ≡ w.drives)
+    → Done turn w xs v → (v.core ≡ w.core) × (v.stamps ≡ w.stamps) × (v.drives ≡ w.drives)
 words_left check (Quiet rk) = (refl, refl, refl)
 words_left {turn} {w} check (Moved rk) =
     let same = check_leaves w.rk.function turn w check in
-    (ap (λ (x : DiskWorld). x.core) same, ap (λ (x : DiskWorld). x.lasts) same, ap (λ (x : DiskWorld). x.drives) same)
+    (ap (λ (x : DiskWorld). x.core) same, ap (λ (x : DiskWorld). x.stamps) same, ap (λ (x : DiskWorld). x.drives) same)
 
 pub checks_change_no_word : ChecksChangeNoWord
 checks_change_no_word turn w check =
-    let left = words_left check (done turn w) in record { core = left.0; lasts = left.1; drives = left.2 }
+    let left = words_left check (done turn w) in record { core = left.0; stamps = left.1; drives = left.2 }

@@ -26,7 +26,7 @@ performed_leaves : (refused : Option Failure) (turn : ℕ) (w : DiskWorld) → (
 performed_leaves None turn w = worked_leaves w.rk.function turn w
 performed_leaves (Some failure) turn w = refl
 
--- ready again, where something was under way
+-- ready again, if something was under way
 pub completed_ready_enable : (turn : ℕ) (w : DiskWorld) → is_under_way w.rk.operation ≡ true
     → (rk_completed turn w).rk.ready_enable ≡ with_ready true w.rk.ready_enable
 unfolding rk_completed
@@ -36,7 +36,7 @@ pub completed_operation : (turn : ℕ) (w : DiskWorld) → is_under_way w.rk.ope
 unfolding rk_completed
 completed_operation turn w busy = rw busy refl
 
--- nothing happens where nothing is under way
+-- nothing happens if nothing is under way
 pub completed_idle : (turn : ℕ) (w : DiskWorld) → is_under_way w.rk.operation ≡ false → rk_completed turn w ≡ w
 unfolding rk_completed
 completed_idle turn w idle = rw idle refl

@@ -7,10 +7,10 @@ use Rattle.pdp_rk11.specs.Completion.{rk_completed, stamps_completed}
 -- for goals on what is seen of a list of drives, one by one
 pub ruleset maps = (map_length, map_get, map_with)
 
--- for goals on what is left of the words or the stamps where some are moved, each to its own place
+-- for goals on what is left of the words or the stamps if some are moved, each to its own place
 pub ruleset memory_moves = (moved_none, moved_more, moved_length)
 
--- for goals on what is left where all words are moved to one place
+-- for goals on what is left if all words are moved to one place
 pub ruleset moves_to_one = (moved_to_one_none, moved_to_one_last)
 
 -- opens the completion of an operation and that of the stamps

@@ -29,10 +29,10 @@ unfolding rk_transferred
 core_stays turn w can =
     ap (λ (x : DiskWorld). x.core) (done_as Write turn w can) ∙ ap (λ f. (lists_after f (transfer_in w) turn w).core) can.function_is
 
-lasts_stay : (turn : ℕ) (w : DiskWorld) → CanBeDone Write w → (rk_completed turn w).lasts ≡ w.lasts
+stamps_stay : (turn : ℕ) (w : DiskWorld) → CanBeDone Write w → (rk_completed turn w).stamps ≡ w.stamps
 unfolding rk_transferred
-lasts_stay turn w can =
-    ap (λ (x : DiskWorld). x.lasts) (done_as Write turn w can) ∙ ap (λ f. (lists_after f (transfer_in w) turn w).lasts) can.function_is
+stamps_stay turn w can =
+    ap (λ (x : DiskWorld). x.stamps) (done_as Write turn w can) ∙ ap (λ f. (lists_after f (transfer_in w) turn w).stamps) can.function_is
 
 -- what is allowed is with a drive that is there
 drive_there : (rk : Rk) (drives : ℕ) → refusal rk drives ≡ None → drive_in rk.disk_address < drives
@@ -154,7 +154,7 @@ write_leaves turn w can =
       size = ap length after ∙ length-disk_written t w.core (drive_of w);
       other_drives = other_drive turn w can;
       core = core_stays turn w can;
-      lasts = lasts_stay turn w can;
+      stamps = stamps_stay turn w can;
     }
 
 -- with no failure all words asked for are done

@@ -1,7 +1,7 @@
 -- The completion of a function of the RK11: PDP-11 Peripherals Handbook, RK11 (that it is one act,
--- the order of its tests, and where registers are left are this project's profile).
+-- the order of its tests, and where registers are left [P]).
 use Rattle.std.specs.Prelude.{ℕ, ◌+◌, ◌-◌, ◌*◌, ◌/◌, ◌%◌, ◌==◌, nat_lt, min, Bool, true, false, not}
-use Rattle.std.specs.Prelude.{◌&&◌, ◌||◌, List, [], Option, Some, None, length, slice_index_or}
+use Rattle.std.specs.Prelude.{◌≡◌, ◌&&◌, ◌||◌, List, [], Option, Some, None, length, map, slice_index_or}
 use Rattle.std.specs.Prelude.{slice_set, if◌then◌else◌}
 use Rattle.pdp_device.specs.ReadyEnable.{with_ready}
 use Rattle.pdp_device.specs.Operation.{is_under_way}
@@ -13,7 +13,7 @@ use Rattle.pdp_rk11.specs.Geometry.{address_of_sector, bus_addresses, cylinder_i
 use Rattle.pdp_rk11.specs.Geometry.{drive_in, most_words_asked, sector_in, sector_number}
 use Rattle.pdp_rk11.specs.Geometry.{sectors_of_track, words_of_sector}
 use Rattle.pdp_rk11.specs.Rk.{is_locked}
-use Rattle.pdp_rk11.specs.Transfer.{core_after_read, disk_written, is_different, lasts_read}
+use Rattle.pdp_rk11.specs.Transfer.{core_after_read, disk_written, is_different, stamps_read}
 use Rattle.pdp_rk11.specs.Transfer.{stamps_written}
 use Rattle.pdp_rk11.specs.declared.function.Function.{Function}
 use Rattle.pdp_rk11.specs.declared.function.Function.TheVariants.{ControlReset, Write, Read}
@@ -29,11 +29,18 @@ use Rattle.pdp_rk11.specs.declared.transfer.Transfer.{Transfer}
 pub record DiskWorld : Type 0 where
   pub rk : Rk
   pub core : List ℕ
-  pub lasts : List (Option Stamp)
+  pub stamps : List (Option Stamp)
   pub drives : List (List ℕ)
 
 abbrev pub disk_world : Rk → List ℕ → List (Option Stamp) → List (List ℕ) → DiskWorld
-disk_world rk core lasts drives = record { rk = rk; core = core; lasts = lasts; drives = drives }
+disk_world rk core stamps drives = record { rk = rk; core = core; stamps = stamps; drives = drives }
+
+-- the same of a core and of drives, from what is seen of each: the words and the stamps of core,
+-- the words of a drive
+abbrev pub stored_world : {C D : Type 0} → (C → List ℕ) → (C → List (Option Stamp)) → (D → List ℕ)
+    → Rk → C → List D → DiskWorld
+stored_world words stamps drive_words rk core drives =
+    disk_world rk (words core) (stamps core) (map drive_words drives)
 
 abbrev pub with_rk : DiskWorld → Rk → DiskWorld
 with_rk w rk = record w { rk = rk }
@@ -139,7 +146,7 @@ stamp_of_disk turn = record { turn = turn; agent = Disk }
 abbrev pub lists_after : Function → Transfer → ℕ → DiskWorld → DiskWorld
 lists_after Read t turn w = record w {
   core = core_after_read t (drive_of w) w.core;
-  lasts = lasts_read t (stamp_of_disk turn) w.lasts;
+  stamps = stamps_read t (stamp_of_disk turn) w.stamps;
 }
 lists_after Write t turn w =
     record w {
@@ -187,13 +194,13 @@ rk_finished rk = record rk { operation = Idle; ready_enable = with_ready true rk
 abbrev pub world_finished : DiskWorld → DiskWorld
 world_finished w = with_rk w (rk_finished w.rk)
 
--- the completion of what is under way, in this turn; where nothing is under way it does nothing
+-- the completion of what is under way, in this turn; if nothing is under way it does nothing
 unfoldable pub rk_completed : ℕ → DiskWorld → DiskWorld
 rk_completed turn w =
     if is_under_way w.rk.operation then world_finished (run_unless_refused (refusal w.rk
     (length w.drives)) turn w) else w
 
--- the last stamps of each drive, where they have any, after a transfer with the drive of a number:
+-- the last stamps of each drive, if they have any, after a transfer with the drive of a number:
 -- only a write changes them, and only that drive's
 abbrev pub stamps_after : Function → Transfer → ℕ → List (List (Option Stamp)) → List (List
     (Option Stamp))
@@ -206,6 +213,13 @@ abbrev pub stamps_unless_refused : Option Failure → DiskWorld → List (List (
 stamps_unless_refused (Some failure) w stamps = stamps
 stamps_unless_refused None w stamps = stamps_after w.rk.function (transfer_of w.rk (length w.core)
     (length (drive_of w))) (drive_in w.rk.disk_address) stamps
+
+-- each drive has the stamps that it had, except those of the words that the function in this world
+-- writes, if it isn't refused
+abbrev pub LosesStamps : {D : Type 0} → (D → List (Option Stamp)) → Option Failure → DiskWorld
+    → List D → List D → Type 0
+LosesStamps stamps failure w before after =
+    map stamps after ≡ stamps_unless_refused failure w (map stamps before)
 
 -- after the completion of what is under way
 unfoldable pub stamps_completed : DiskWorld → List (List (Option Stamp)) → List (List

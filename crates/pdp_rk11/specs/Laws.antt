@@ -1,7 +1,7 @@
 -- What the laws of the RK11 say: each name is the law's sentence (PDP-11 Peripherals Handbook,
--- RK11; that a completion is one act, and the zero fill, are this project's profile).
-use Rattle.std.specs.Prelude.{ℕ, ◌≡◌, ◌≢◌, ◌<◌, ◌+◌, ◌/◌, ◌↔◌, true, false, ◌||◌, List, [], None}
-use Rattle.std.specs.Prelude.{length, slice_index, slice_index_or}
+-- RK11; that a completion is one act, and the zero fill, are [P]).
+use Rattle.std.specs.Prelude.{ℕ, ◌≡◌, ◌≢◌, ◌<◌, ◌+◌, ◌/◌, ◌↔◌, true, false, ◌||◌, List, None}
+use Rattle.std.specs.Prelude.{length, slice_index}
 use Rattle.pdp_word.specs.Bits.{field}
 use Rattle.pdp_device.specs.Operation.{is_under_way}
 use Rattle.pdp_store.specs.Parts.{words_of_drive}
@@ -74,7 +74,7 @@ pub record WriteLeaves (turn : ℕ) (w : DiskWorld) : Type 0 where
   pub other_drives : (number : ℕ) → number ≢ drive_in w.rk.disk_address
       → drive_numbered number (rk_completed turn w) ≡ drive_numbered number w
   pub core : (rk_completed turn w).core ≡ w.core
-  pub lasts : (rk_completed turn w).lasts ≡ w.lasts
+  pub stamps : (rk_completed turn w).stamps ≡ w.stamps
 
 abbrev pub WritesFillWithZeros : Type 0
 WritesFillWithZeros = (turn : ℕ) (w : DiskWorld) → CanBeDone Write w → WriteLeaves turn w
@@ -104,7 +104,7 @@ WrittenWordsAreReadBack = (turn later : ℕ) (v w : DiskWorld) → ReadsBack tur
 -- a completion leaves all words as they were, with the stamps of core's
 pub record LeavesWords (turn : ℕ) (w : DiskWorld) : Type 0 where
   pub core : (rk_completed turn w).core ≡ w.core
-  pub lasts : (rk_completed turn w).lasts ≡ w.lasts
+  pub stamps : (rk_completed turn w).stamps ≡ w.stamps
   pub drives : (rk_completed turn w).drives ≡ w.drives
 
 -- write check and read check, whether they can be done or not
@@ -118,12 +118,12 @@ abbrev pub CompletionsSetReady : Type 0
 CompletionsSetReady = (turn drives : ℕ) (w : DiskWorld) → is_under_way w.rk.operation ≡ true
     → field 7 1 (rk_value Control drives (rk_completed turn w).rk) ≡ 1
 
--- bit 15 of RKCS is set exactly where RKER isn't 0
+-- bit 15 of RKCS is set exactly if RKER isn't 0
 abbrev pub ErrorsAreTold : Type 0
 ErrorsAreTold = (drives : ℕ) (rk : Rk) → (field 15 1 (rk_value Control drives rk) ≡ 1) ↔
     (rk_value Error drives rk ≢ 0)
 
--- bit 14 of RKCS is set exactly where a bit of RKER other than bit 0 is
+-- bit 14 of RKCS is set exactly if a bit of RKER other than bit 0 is
 abbrev pub HardErrorsAreTold : Type 0
 HardErrorsAreTold = (drives : ℕ) (rk : Rk) → (field 14 1 (rk_value Control drives rk) ≡ 1) ↔
     (rk_value Error drives rk / 2 ≢ 0)

@@ -1,5 +1,5 @@
 -- The RK11's registers: PDP-11 Peripherals Handbook, RK11 (that functions are begun, and registers
--- written, while ready alone, and what control reset and RESET leave are this project's profile).
+-- written, while ready alone, and what control reset and RESET leave are [P]).
 use Rattle.std.specs.Prelude.{ℕ, ◌+◌, ◌*◌, ◌==◌, nat_lt, Bool, true, false, ◌||◌, Option, Some}
 use Rattle.std.specs.Prelude.{None, List, [], ◌∷◌, slice_index_or, if◌then◌else◌}
 use Rattle.pdp_word.specs.Bits.{bit_of, field}
@@ -110,7 +110,7 @@ is_locked rk = slice_index_or rk.locked (drive_in rk.disk_address) false
 abbrev pub drive_there : ℕ
 drive_there = rkds_rk05 + rkds_sector_counter + rkds_ready + rkds_heads_ready
 
--- RKDS of a controller with so many drives: 0 where the drive that RKDA names isn't there
+-- RKDS of a controller with so many drives: 0 if the drive that RKDA names isn't there
 abbrev pub drive_status : ℕ → Rk → ℕ
 drive_status drives rk =
     if nat_lt (drive_in rk.disk_address) drives then drive_there + bit_of

@@ -3,7 +3,9 @@ use Rattle.std.specs.Prelude.{ℕ, ◌≡◌, ◌<◌, zero, suc, ◌+◌, true,
 use Rattle.std.specs.Prelude.{Some, None, length, map, if◌then◌else◌}
 use Rattle.pdp_device.specs.Operation.{is_under_way}
 use Rattle.pdp_store.specs.Parts.{AlikeWords, core_with, drives_with, words_in}
-use Rattle.pdp_store.specs.TracedAccess.{Part, Core, Drive, TracedAccess}
+use Rattle.pdp_store.specs.TracedAccess.{TracedAccess}
+use Rattle.pdp_store.specs.declared.part.Part.{Part}
+use Rattle.pdp_store.specs.declared.part.Part.TheVariants.{Core, Drive}
 use Rattle.pdp_store.specs.declared.Agent.TheVariants.{Disk}
 use Rattle.pdp_rk11.specs.Completion.{DiskWorld, rk_completed, drive_of, refusal, transfer_of}
 use Rattle.pdp_rk11.specs.Geometry.{drive_in}
@@ -90,7 +92,7 @@ pub record IsOfCompletion (turn words : ℕ) (x : TracedAccess) : Type 0 where
 -- core, its stamps and the drives keep their lengths
 pub record SameSizes (v w : DiskWorld) : Type 0 where
   pub core : length w.core ≡ length v.core
-  pub lasts : length w.lasts ≡ length v.lasts
+  pub stamps : length w.stamps ≡ length v.stamps
   pub drives : map length w.drives ≡ map length v.drives
 
 -- a completion, and one over other words in a page of a part: it ends in the same way on both, with

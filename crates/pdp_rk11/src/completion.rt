@@ -3,20 +3,20 @@
 ghost use Rattle.std.specs.Prelude.{◌≡◌, ℕ, ◌+◌, ◌*◌, ◌<◌, ◌≤◌, ◌-◌, ◌%◌, None, true, false, ◌&&◌};
 ghost use Rattle.std.specs.Prelude.{length, map};
 ghost use Rattle.pdp_rk11.specs.Completion.{address_after, rk_completed, disk_address_after};
-ghost use Rattle.pdp_rk11.specs.Completion.{disk_world, drive_of};
+ghost use Rattle.pdp_rk11.specs.Completion.{LosesStamps, drive_of, stored_world};
 ghost use Rattle.pdp_rk11.specs.Completion.{rk_finished, is_read_check, is_write_check};
 ghost use Rattle.pdp_rk11.specs.Completion.{lists_after, names_sector};
 ghost use Rattle.pdp_rk11.specs.Completion.{run_unless_refused, refusal, registers_after, stop_of};
 ghost use Rattle.pdp_rk11.specs.Completion.{transfer_of, rk_transferred};
 ghost use Rattle.pdp_rk11.specs.Completion.{core_word_of_bus_address, within_core, run_function};
 ghost use Rattle.pdp_rk11.specs.Completion.{words_asked, write_locked};
-ghost use Rattle.pdp_rk11.specs.Completion.{stamps_after, stamps_completed, stamps_unless_refused};
+ghost use Rattle.pdp_rk11.specs.Completion.{stamps_after, stamps_completed};
 ghost use Rattle.pdp_rk11.specs.Geometry.{bus_words, drive_in, most_words_asked, sector_number};
 ghost use Rattle.pdp_rk11.specs.Geometry.{sectors_of_drive, words_of_sector};
 ghost use Rattle.pdp_rk11.specs.Trace.{completion_touches, touches_unless_refused};
 ghost use Rattle.pdp_rk11.specs.Trace.{transfer_touches};
-ghost use Rattle.pdp_store.specs.Firsts.{firsts_after, firsts_of};
-ghost use Rattle.pdp_store.specs.Unchanged.{SameWritten};
+ghost use Rattle.pdp_store.specs.FirstTouches.{first_touches_after};
+ghost use Rattle.pdp_rk11.specs.Touched.{KeepsWritten, stored_touches};
 ghost use Rattle.pdp_rk11.specs.Transfer.{core_word, disk_word, is_different};
 
 use crate::geometry::{
@@ -31,38 +31,36 @@ use pdp_store::{Agent, Stamp, Store};
 impl Rk {
     /// The function that is under way is done in this turn, as one act over core and the drives,
     /// numbered from 0 on: words move or are compared, the registers tell how it ended, and the
-    /// controller is ready again. Where none is under way, nothing happens.
+    /// controller is ready again. If none is under way, nothing happens.
     ///
-    /// RKER tells the first of these that holds, and then nothing is moved: no drive where the
-    /// drive isn't there; no cylinder, then no sector, where write, read, write check, seek or read
-    /// check names one that no drive has; write locked where a locked drive would be written. It
-    /// tells of a transfer that stops before its count is up: overrun past the last sector of the
-    /// drive, else no memory at an address outside core, which no read check asks for. A write
-    /// check sets bit 0 where any word differs.
+    /// RKER tells the first of these that holds, and then nothing is moved: no drive if the drive
+    /// isn't there; no cylinder, then no sector, if write, read, write check, seek or read check
+    /// names one that no drive has; write locked if a locked drive would be written. It tells of a
+    /// transfer that stops before its count is up: overrun past the last sector of the drive,
+    /// otherwise no memory at an address outside core, which no read check asks for. A write check
+    /// sets bit 0 if any word differs.
     ///
     /// Words read into core take the stamp of this turn and of the disk. A write fills the rest of
-    /// its last sector with zeros. No word of a drive takes a stamp; where drives have any, a write
+    /// its last sector with zeros. No word of a drive takes a stamp; if drives have any, a write
     /// takes those of the words that it writes away.
     ///
     /// The words that are moved, compared or checked are touched in this turn, in core and on the
     /// drive, and so are the words of the zero fill. A read check touches no word of core.
     ///
     /// PDP-11 Peripherals Handbook, RK11; that it is one act, the order of the tests, the fill, and
-    /// where the registers are left, are this project's profile.
+    /// where the registers are left [P].
     #[tactic(auto, unfolding(crate::proofs::Rules::completions), using(crate::proofs::Rules::maps))]
     pub fn complete<S: Store, D: Store>(&mut self, core: &mut S, drives: &mut [D], turn: u32)
-        ensures world { disk_world self.new (S.words core.new) (S.lasts core.new)
-            (map D.words drives.new)
-            ≡ rk_completed turn (disk_world self.old (S.words core.old) (S.lasts core.old)
-            (map D.words drives.old)) }
-        ensures stamps { map D.lasts drives.new
-            ≡ stamps_completed (disk_world self.old (S.words core.old) (S.lasts core.old)
-            (map D.words drives.old))
-            (map D.lasts drives.old) }
-        ensures firsts { firsts_of (S.firsts core.new) (map D.firsts drives.new)
-            ≡ firsts_after (completion_touches turn
-            (disk_world self.old (S.words core.old) (S.lasts core.old) (map D.words drives.old)))
-            (firsts_of (S.firsts core.old) (map D.firsts drives.old)) }
+        ensures world { stored_world S.words S.stamps D.words self.new core.new drives.new
+            ≡ rk_completed turn
+            (stored_world S.words S.stamps D.words self.old core.old drives.old) }
+        ensures stamps { map D.stamps drives.new
+            ≡ stamps_completed (stored_world S.words S.stamps D.words self.old core.old drives.old)
+            (map D.stamps drives.old) }
+        ensures first_touches { stored_touches S.first_touches D.first_touches core.new drives.new
+            ≡ first_touches_after (completion_touches turn
+            (stored_world S.words S.stamps D.words self.old core.old drives.old))
+            (stored_touches S.first_touches D.first_touches core.old drives.old) }
     {
         if self.operation.is_under_way() {
             self.run_unless_refused(core, drives, turn);
@@ -80,18 +78,17 @@ impl Rk {
 
     // What is under way, or why it can't be done.
     fn run_unless_refused<S: Store, D: Store>(&mut self, core: &mut S, drives: &mut [D], turn: u32)
-        ensures world { disk_world self.new (S.words core.new) (S.lasts core.new)
-            (map D.words drives.new)
+        ensures world { stored_world S.words S.stamps D.words self.new core.new drives.new
             ≡ run_unless_refused (refusal self.old (length drives.old)) turn
-            (disk_world self.old (S.words core.old) (S.lasts core.old) (map D.words drives.old)) }
-        ensures stamps { map D.lasts drives.new
-            ≡ stamps_unless_refused (refusal self.old (length drives.old))
-            (disk_world self.old (S.words core.old) (S.lasts core.old) (map D.words drives.old))
-            (map D.lasts drives.old) }
-        ensures firsts { firsts_of (S.firsts core.new) (map D.firsts drives.new)
-            ≡ firsts_after (touches_unless_refused (refusal self.old (length drives.old)) turn
-            (disk_world self.old (S.words core.old) (S.lasts core.old) (map D.words drives.old)))
-            (firsts_of (S.firsts core.old) (map D.firsts drives.old)) }
+            (stored_world S.words S.stamps D.words self.old core.old drives.old) }
+        ensures stamps { LosesStamps D.stamps (refusal self.old (length drives.old))
+            (stored_world S.words S.stamps D.words self.old core.old drives.old)
+            drives.old drives.new }
+        ensures first_touches { stored_touches S.first_touches D.first_touches core.new drives.new
+            ≡ first_touches_after (touches_unless_refused (refusal self.old (length drives.old))
+            turn
+            (stored_world S.words S.stamps D.words self.old core.old drives.old))
+            (stored_touches S.first_touches D.first_touches core.old drives.old) }
     {
         match self.refusal(drives.len()) {
             Some(failure) => self.failure = Some(failure),
@@ -120,23 +117,21 @@ impl Rk {
         }
     }
 
-    // What the function does, where nothing forbids it.
+    // What the function does, if nothing forbids it.
     fn run_function<S: Store, D: Store>(&mut self, core: &mut S, drives: &mut [D], turn: u32)
         requires drive { drive_in self.old.disk_address < length drives.old }
         requires sector { names_sector self.old.function ≡ true → sector_number
             self.old.disk_address < sectors_of_drive }
-        ensures world { disk_world self.new (S.words core.new) (S.lasts core.new)
-            (map D.words drives.new)
+        ensures world { stored_world S.words S.stamps D.words self.new core.new drives.new
             ≡ run_function self.old.function turn
-            (disk_world self.old (S.words core.old) (S.lasts core.old) (map D.words drives.old)) }
-        ensures stamps { map D.lasts drives.new
-            ≡ stamps_unless_refused None
-            (disk_world self.old (S.words core.old) (S.lasts core.old) (map D.words drives.old))
-            (map D.lasts drives.old) }
-        ensures firsts { firsts_of (S.firsts core.new) (map D.firsts drives.new)
-            ≡ firsts_after (touches_unless_refused None turn
-            (disk_world self.old (S.words core.old) (S.lasts core.old) (map D.words drives.old)))
-            (firsts_of (S.firsts core.old) (map D.firsts drives.old)) }
+            (stored_world S.words S.stamps D.words self.old core.old drives.old) }
+        ensures stamps { LosesStamps D.stamps None
+            (stored_world S.words S.stamps D.words self.old core.old drives.old)
+            drives.old drives.new }
+        ensures first_touches { stored_touches S.first_touches D.first_touches core.new drives.new
+            ≡ first_touches_after (touches_unless_refused None turn
+            (stored_world S.words S.stamps D.words self.old core.old drives.old))
+            (stored_touches S.first_touches D.first_touches core.old drives.old) }
     {
         match self.function {
             Function::ControlReset => {}
@@ -162,18 +157,16 @@ impl Rk {
     fn transfer<S: Store, D: Store>(&mut self, core: &mut S, drives: &mut [D], turn: u32)
         requires drive { drive_in self.old.disk_address < length drives.old }
         requires sector { sector_number self.old.disk_address < sectors_of_drive }
-        ensures world { disk_world self.new (S.words core.new) (S.lasts core.new)
-            (map D.words drives.new)
-            ≡ rk_transferred turn (disk_world self.old (S.words core.old) (S.lasts core.old)
-            (map D.words drives.old)) }
-        ensures stamps { map D.lasts drives.new
-            ≡ stamps_unless_refused None
-            (disk_world self.old (S.words core.old) (S.lasts core.old) (map D.words drives.old))
-            (map D.lasts drives.old) }
-        ensures firsts { firsts_of (S.firsts core.new) (map D.firsts drives.new)
-            ≡ firsts_after (touches_unless_refused None turn
-            (disk_world self.old (S.words core.old) (S.lasts core.old) (map D.words drives.old)))
-            (firsts_of (S.firsts core.old) (map D.firsts drives.old)) }
+        ensures world { stored_world S.words S.stamps D.words self.new core.new drives.new
+            ≡ rk_transferred turn
+            (stored_world S.words S.stamps D.words self.old core.old drives.old) }
+        ensures stamps { LosesStamps D.stamps None
+            (stored_world S.words S.stamps D.words self.old core.old drives.old)
+            drives.old drives.new }
+        ensures first_touches { stored_touches S.first_touches D.first_touches core.new drives.new
+            ≡ first_touches_after (touches_unless_refused None turn
+            (stored_world S.words S.stamps D.words self.old core.old drives.old))
+            (stored_touches S.first_touches D.first_touches core.old drives.old) }
     {
         let size = drives[self.drive()].len();
         let transfer = self.transfer_of(core.len(), size);
@@ -245,18 +238,17 @@ impl Rk {
         requires drive { drive_in self.now.disk_address < length drives.old }
         requires on_disk { (i : ℕ) → i < transfer.count
             → disk_word transfer i < length (drive_of
-            (disk_world self.now (S.words core.old) (S.lasts core.old) (map D.words drives.old))) }
+            (stored_world S.words S.stamps D.words self.now core.old drives.old)) }
         requires in_core { is_read_check self.now.function ≡ false → (i : ℕ) → i < transfer.count
             → core_word transfer i < length (S.words core.old) }
         requires aligned { transfer.disk_start % words_of_sector ≡ 0 }
-        ensures core { SameWritten (S.words core.new) (S.words core.old)
-            (S.lasts core.new) (S.lasts core.old) }
+        ensures core { KeepsWritten S.words S.stamps core.old core.new }
         ensures disks { map D.words drives.new ≡ map D.words drives.old }
-        ensures stamps { map D.lasts drives.new ≡ map D.lasts drives.old }
-        ensures firsts { firsts_of (S.firsts core.new) (map D.firsts drives.new)
-            ≡ firsts_after
+        ensures stamps { map D.stamps drives.new ≡ map D.stamps drives.old }
+        ensures first_touches { stored_touches S.first_touches D.first_touches core.new drives.new
+            ≡ first_touches_after
             (transfer_touches self.now.function transfer (drive_in self.now.disk_address) turn)
-            (firsts_of (S.firsts core.old) (map D.firsts drives.old)) }
+            (stored_touches S.first_touches D.first_touches core.old drives.old) }
     {
         let drive = self.drive();
         transfer.touch(self.function, core, &mut drives[drive], turn);
@@ -273,24 +265,22 @@ impl Rk {
     ) -> bool
         requires drive { drive_in self.now.disk_address < length drives.old }
         requires on_disk { (i : ℕ) → i < transfer.count
-            → disk_word transfer i < length (drive_of (disk_world self.now (S.words core.old)
-            (S.lasts core.old) (map D.words drives.old))) }
+            → disk_word transfer i < length (drive_of
+            (stored_world S.words S.stamps D.words self.now core.old drives.old)) }
         requires in_core { is_read_check self.now.function ≡ false → (i : ℕ) → i < transfer.count
             → core_word transfer i < length (S.words core.old) }
-        ensures words { disk_world self.now (S.words core.new) (S.lasts core.new)
-            (map D.words drives.new)
+        ensures words { stored_world S.words S.stamps D.words self.now core.new drives.new
             ≡ lists_after self.now.function transfer turn
-            (disk_world self.now (S.words core.old) (S.lasts core.old) (map D.words drives.old)) }
-        ensures stamps { map D.lasts drives.new
+            (stored_world S.words S.stamps D.words self.now core.old drives.old) }
+        ensures stamps { map D.stamps drives.new
             ≡ stamps_after self.now.function transfer (drive_in self.now.disk_address)
-            (map D.lasts drives.old) }
-        ensures firsts { firsts_of (S.firsts core.new) (map D.firsts drives.new)
-            ≡ firsts_of (S.firsts core.old) (map D.firsts drives.old) }
+            (map D.stamps drives.old) }
+        ensures first_touches { stored_touches S.first_touches D.first_touches core.new drives.new
+            ≡ stored_touches S.first_touches D.first_touches core.old drives.old }
         ensures different { result
             ≡ (is_write_check self.now.function
             && is_different transfer (S.words core.old)
-            (drive_of (disk_world self.now (S.words core.old) (S.lasts core.old)
-            (map D.words drives.old)))) }
+            (drive_of (stored_world S.words S.stamps D.words self.now core.old drives.old))) }
     {
         let drive = self.drive();
         match self.function {

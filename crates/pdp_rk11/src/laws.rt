@@ -16,14 +16,14 @@ pub fn a_read_leaves_the_last_move()
 /// core's words, those after them in the sector of the last one are 0, and every other word of the
 /// drive is as it was; so are the other drives, and core with its stamps.
 ///
-/// PDP-11 Peripherals Handbook, RK11; the zeros are this project's profile.
+/// PDP-11 Peripherals Handbook, RK11; the zeros [P].
 pub fn a_write_fills_with_zeros()
     ensures { WritesFillWithZeros }
 {}
 
 /// A law and no code: words that are written and then read back from the same disk address, with
 /// the same count, both with no error and over incremented bus addresses, come to the words of core
-/// to which they are read, whatever is done to core between, where the drive is as the write left
+/// to which they are read, whatever is done to core between, if the drive is as the write left
 /// it.
 ///
 /// PDP-11 Peripherals Handbook, RK11.
@@ -40,8 +40,8 @@ pub fn a_check_changes_no_word()
 {}
 
 /// A law and no code: the completion of what is under way sets ready, however it ends; error, bit
-/// 15 of RKCS, is set exactly where RKER isn't 0, and hard error, bit 14, exactly where a bit of
-/// RKER other than write check is.
+/// 15 of RKCS, is set exactly if RKER isn't 0, and hard error, bit 14, exactly if a bit of RKER
+/// other than write check is.
 ///
 /// PDP-11 Peripherals Handbook, RK11.
 pub fn the_control_register_tells_the_end()

@@ -16,7 +16,7 @@ use pdp_word::{bit_of, field, is_set};
 /// PDP-11 Peripherals Handbook, RK11.
 #[derive(Clone, Copy)]
 pub struct Rk {
-    /// Ready where no function is under way.
+    /// Ready if no function is under way.
     pub ready_enable: ReadyEnable,
     /// The function that was written last.
     pub function: Function,
@@ -48,7 +48,7 @@ impl Rk {
     ghost use Rattle.pdp_rk11.specs.Rk.{rk_reset, rk_served, rk_value};
     ghost use Rattle.pdp_rk11.specs.Rk.{rk_written, with_command};
 
-    /// The controller at power-up: as after RESET, with no drive locked (this project's profile).
+    /// The controller at power-up: as after RESET, with no drive locked [P].
     pub fn init() -> Rk
         ensures { result ≡ init_rk }
     {
@@ -71,7 +71,7 @@ impl Rk {
     /// effect.
     ///
     /// PDP-11 Peripherals Handbook, RK11; that RKDS has no other bits, and is 0 for a drive that
-    /// isn't there, is this project's profile.
+    /// isn't there [P].
     pub fn read_reg(&self, register: RkRegister, drives: usize) -> u16
         ensures { result ≡ rk_value register drives self.now }
     {
@@ -91,7 +91,7 @@ impl Rk {
     /// drops the enable that is written with it.
     ///
     /// PDP-11 Peripherals Handbook, RK11; how long a function takes, what a write does while the
-    /// controller isn't ready, and that control reset acts at once, are this project's profile.
+    /// controller isn't ready, and that control reset acts at once [P].
     #[tactic(auto, unfolding(crate::specs::Rk::rk_written))]
     pub fn write_reg(&mut self, register: RkRegister, word: u16, turn: u32, delay: u32)
         ensures { self.new ≡ rk_written register word turn delay self.old }
@@ -121,7 +121,7 @@ impl Rk {
     /// RESET, and control reset: ready, not enabled, no request, nothing under way, no error, and
     /// word count, bus address and disk address 0. Drives that are locked stay so.
     ///
-    /// PDP-11 Peripherals Handbook, RK11; that the locks stay is this project's profile.
+    /// PDP-11 Peripherals Handbook, RK11; that the locks stay [P].
     pub fn reset(&mut self)
         ensures { self.new ≡ rk_reset self.old }
     {
@@ -138,8 +138,8 @@ impl Rk {
         self.ready_enable.request
     }
 
-    /// The request is served: it goes, and nothing else changes. The next one appears where ready
-    /// or enable was cleared and both are set again (this project's profile).
+    /// The request is served: it goes, and nothing else changes. The next one appears if ready or
+    /// enable was cleared and both are set again [P].
     pub fn serve(&mut self)
         ensures { self.new ≡ rk_served self.old }
     {

@@ -3,8 +3,7 @@
 ghost use Rattle.std.specs.Prelude.{◌≡◌, ℕ, ◌+◌, ◌-◌, ◌*◌, ◌/◌, ◌^◌, ◌<◌, ◌%◌, None, false, length};
 ghost use Rattle.std.specs.Prelude.{slice_index};
 ghost use Rattle.pdp_rk11.specs.Geometry.{words_of_sector};
-ghost use Rattle.pdp_rk11.specs.Touched.{run_touched, after_steps};
-ghost use Rattle.pdp_store.specs.Unchanged.{SameWritten};
+ghost use Rattle.pdp_rk11.specs.Touched.{KeepsWritten, run_touched, after_steps};
 
 use crate::Function;
 use crate::geometry::WORDS_OF_SECTOR;
@@ -30,8 +29,9 @@ impl Transfer {
     ghost use Rattle.pdp_rk11.specs.Touched.{fill_touched, after_steps, words_named};
     ghost use Rattle.pdp_rk11.specs.Moves.{moved_items, moved_to_one};
     ghost use Rattle.pdp_rk11.specs.Transfer.{core_after_read, core_word, disk_word, disk_written};
-    ghost use Rattle.pdp_rk11.specs.Transfer.{is_different, lasts_read};
+    ghost use Rattle.pdp_rk11.specs.Transfer.{is_different, stamps_read};
     ghost use Rattle.pdp_rk11.specs.Transfer.{moved_to_disk, rest_of_sector, stamps_written};
+    ghost use Rattle.pdp_rk11.specs.Transfer.{without_stamps};
 
     /// A read: words of the drive go to core, with this stamp.
     pub(crate) fn read<S: Store, D: Store>(self, core: &mut S, disk: &D, stamp: Stamp)
@@ -39,8 +39,8 @@ impl Transfer {
         requires in_core { (i : ℕ) → i < self.count → core_word self i < length (S.words core.old) }
         ensures words { S.words core.new ≡ core_after_read self (D.words disk.now)
             (S.words core.old) }
-        ensures lasts { S.lasts core.new ≡ lasts_read self stamp (S.lasts core.old) }
-        ensures firsts { S.firsts core.new ≡ S.firsts core.old }
+        ensures stamps { S.stamps core.new ≡ stamps_read self stamp (S.stamps core.old) }
+        ensures first_touches { S.first_touches core.new ≡ S.first_touches core.old }
     {
         if self.no_increment {
             self.read_last(core, disk, stamp);
@@ -59,9 +59,10 @@ impl Transfer {
         ensures words { S.words core.new
             ≡ moved_items self.core_start self.count (λ i. slice_index (D.words disk.now)
             (self.disk_start + i)) (S.words core.old) }
-        ensures lasts { S.lasts core.new ≡ moved_items self.core_start self.count (λ i. Some stamp)
-            (S.lasts core.old) }
-        ensures firsts { S.firsts core.new ≡ S.firsts core.old }
+        ensures stamps { S.stamps core.new
+            ≡ moved_items self.core_start self.count (λ i. Some stamp)
+            (S.stamps core.old) }
+        ensures first_touches { S.first_touches core.new ≡ S.first_touches core.old }
     {
         let core_start = self.core_start as usize;
         let disk_start = self.disk_start as usize;
@@ -70,7 +71,7 @@ impl Transfer {
         }
     }
 
-    // All words go to one word of core, where the last stays.
+    // All words go to one word of core: the last stays.
     #[tactic(auto, using(crate::proofs::Rules::moves_to_one))]
     fn read_last<S: Store, D: Store>(self, core: &mut S, disk: &D, stamp: Stamp)
         requires on_disk { (i : ℕ) → i < self.count → self.disk_start + i < length
@@ -79,9 +80,9 @@ impl Transfer {
         ensures words { S.words core.new
             ≡ moved_to_one self.core_start self.count (λ i. slice_index (D.words disk.now)
             (self.disk_start + i)) (S.words core.old) }
-        ensures lasts { S.lasts core.new ≡ moved_to_one self.core_start self.count
-            (λ i. Some stamp) (S.lasts core.old) }
-        ensures firsts { S.firsts core.new ≡ S.firsts core.old }
+        ensures stamps { S.stamps core.new ≡ moved_to_one self.core_start self.count
+            (λ i. Some stamp) (S.stamps core.old) }
+        ensures first_touches { S.first_touches core.new ≡ S.first_touches core.old }
     {
         if self.count > 0 {
             let last = self.disk_start as usize + (self.count - 1) as usize;
@@ -94,8 +95,8 @@ impl Transfer {
         requires on_disk { (i : ℕ) → i < self.count → disk_word self i < length (D.words disk.old) }
         requires in_core { (i : ℕ) → i < self.count → core_word self i < length (S.words core.now) }
         ensures words { D.words disk.new ≡ disk_written self (S.words core.now) (D.words disk.old) }
-        ensures stamps { D.lasts disk.new ≡ stamps_written self (D.lasts disk.old) }
-        ensures firsts { D.firsts disk.new ≡ D.firsts disk.old }
+        ensures stamps { D.stamps disk.new ≡ stamps_written self (D.stamps disk.old) }
+        ensures first_touches { D.first_touches disk.new ≡ D.first_touches disk.old }
     {
         self.write_all(core, disk);
         self.fill_sector(disk);
@@ -108,9 +109,9 @@ impl Transfer {
         requires in_core { (i : ℕ) → i < self.count → core_word self i < length (S.words core.now) }
         ensures words { D.words disk.new ≡ moved_to_disk self (S.words core.now)
             (D.words disk.old) }
-        ensures stamps { D.lasts disk.new ≡ moved_items self.disk_start self.count (λ i. None)
-            (D.lasts disk.old) }
-        ensures firsts { D.firsts disk.new ≡ D.firsts disk.old }
+        ensures stamps { D.stamps disk.new
+            ≡ without_stamps self.disk_start self.count (D.stamps disk.old) }
+        ensures first_touches { D.first_touches disk.new ≡ D.first_touches disk.old }
     {
         let disk_start = self.disk_start as usize;
         for i in 0..self.count as usize {
@@ -124,10 +125,10 @@ impl Transfer {
         ensures words { D.words disk.new
             ≡ moved_items (disk_word self self.count) (rest_of_sector self) (λ i. 0)
             (D.words disk.old) }
-        ensures stamps { D.lasts disk.new
-            ≡ moved_items (disk_word self self.count) (rest_of_sector self) (λ i. None)
-            (D.lasts disk.old) }
-        ensures firsts { D.firsts disk.new ≡ D.firsts disk.old }
+        ensures stamps { D.stamps disk.new
+            ≡ without_stamps (disk_word self self.count) (rest_of_sector self)
+            (D.stamps disk.old) }
+        ensures first_touches { D.first_touches disk.new ≡ D.first_touches disk.old }
     {
         let start = self.disk_start as usize + self.count as usize;
         let left = disk.len().saturating_sub(start);
@@ -163,14 +164,12 @@ impl Transfer {
         requires in_core { is_read_check function ≡ false → (i : ℕ) → i < self.count
             → core_word self i < length (S.words core.old) }
         requires aligned { self.disk_start % words_of_sector ≡ 0 }
-        ensures core { SameWritten (S.words core.new) (S.words core.old)
-            (S.lasts core.new) (S.lasts core.old) }
-        ensures disk { D.words disk.new ≡ D.words disk.old }
-        ensures stamps { D.lasts disk.new ≡ D.lasts disk.old }
-        ensures core_firsts { S.firsts core.new
-            ≡ core_after function self turn (S.firsts core.old) }
-        ensures disk_firsts { D.firsts disk.new
-            ≡ disk_after function self turn (D.firsts disk.old) }
+        ensures core { KeepsWritten S.words S.stamps core.old core.new }
+        ensures disk { KeepsWritten D.words D.stamps disk.old disk.new }
+        ensures core_first_touches { S.first_touches core.new
+            ≡ core_after function self turn (S.first_touches core.old) }
+        ensures disk_first_touches { D.first_touches disk.new
+            ≡ disk_after function self turn (D.first_touches disk.old) }
     {
         self.touch_core(function, core, turn);
         self.touch_disk(function, disk, turn);
@@ -183,9 +182,9 @@ impl Transfer {
     fn touch_core<S: Store>(self, function: Function, core: &mut S, turn: u32)
         requires in_core { is_read_check function ≡ false → (i : ℕ) → i < self.count
             → core_word self i < length (S.words core.old) }
-        ensures words { S.words core.new ≡ S.words core.old }
-        ensures lasts { S.lasts core.new ≡ S.lasts core.old }
-        ensures firsts { S.firsts core.new ≡ core_after function self turn (S.firsts core.old) }
+        ensures kept { KeepsWritten S.words S.stamps core.old core.new }
+        ensures first_touches { S.first_touches core.new
+            ≡ core_after function self turn (S.first_touches core.old) }
     {
         match function {
             Function::Read | Function::Write | Function::WriteCheck => {
@@ -210,10 +209,9 @@ impl Transfer {
     // Touches the words of the drive of the moves.
     fn touch_disk<D: Store>(self, function: Function, disk: &mut D, turn: u32)
         requires on_disk { (i : ℕ) → i < self.count → disk_word self i < length (D.words disk.old) }
-        ensures disk { D.words disk.new ≡ D.words disk.old }
-        ensures stamps { D.lasts disk.new ≡ D.lasts disk.old }
-        ensures firsts { D.firsts disk.new
-            ≡ after_steps (disk_touched function self turn) self.count (D.firsts disk.old) }
+        ensures kept { KeepsWritten D.words D.stamps disk.old disk.new }
+        ensures first_touches { D.first_touches disk.new
+            ≡ after_steps (disk_touched function self turn) self.count (D.first_touches disk.old) }
     {
         match function {
             Function::Read | Function::Write | Function::WriteCheck | Function::ReadCheck => {
@@ -227,10 +225,10 @@ impl Transfer {
     fn touch_fill<D: Store>(self, disk: &mut D, turn: u32)
         requires on_disk { (i : ℕ) → i < self.count → disk_word self i < length (D.words disk.old) }
         requires aligned { self.disk_start % words_of_sector ≡ 0 }
-        ensures disk { D.words disk.new ≡ D.words disk.old }
-        ensures stamps { D.lasts disk.new ≡ D.lasts disk.old }
-        ensures firsts { D.firsts disk.new
-            ≡ after_steps (fill_touched self turn) (rest_of_sector self) (D.firsts disk.old) }
+        ensures kept { KeepsWritten D.words D.stamps disk.old disk.new }
+        ensures first_touches { D.first_touches disk.new
+            ≡ after_steps (fill_touched self turn) (rest_of_sector self)
+            (D.first_touches disk.old) }
     {
         let start = self.disk_start as usize + self.count as usize;
         touch_run(disk, start, self.rest_of_sector(), turn);
@@ -263,10 +261,9 @@ impl Transfer {
 fn touch_run<S: Store>(store: &mut S, start: usize, count: usize, turn: u32)
     requires room { 0 < count → (start + count - 1) / 256 * 256 < length (S.words store.old) }
     requires range { start + count < 2 ^ 40 }
-    ensures words { S.words store.new ≡ S.words store.old }
-    ensures lasts { S.lasts store.new ≡ S.lasts store.old }
-    ensures firsts { S.firsts store.new
-        ≡ after_steps (run_touched start turn) count (S.firsts store.old) }
+    ensures kept { KeepsWritten S.words S.stamps store.old store.new }
+    ensures first_touches { S.first_touches store.new
+        ≡ after_steps (run_touched start turn) count (S.first_touches store.old) }
 {
     if count > 0 {
         let last = (start + count - 1) / PAGE_WORDS;

@@ -49,7 +49,7 @@ events_at-altered entries entry old t found from to =
     (λ _. events_at-changed_in_place entries entry old t found from to)
     (λ _. events_at-inserted (without entries entry.number) entry t to ∙ events_at-dropped entries entry.number old t found from)
 
--- where a turn has no events, it has none in the rest of the list
+-- if a turn has no events, it has none in the rest of the list
 pub no_events-tail : (e : Entry) (es : List Entry) (t : ℕ) → events_at (e ∷ es) t ≡ [] → events_at es t ≡ []
 no_events-tail e es t none =
     ⊎_elim (λ (yes : eqb e.turn t ≡ true). let one = rw yes at none in cc) (λ (no : eqb e.turn t ≡ false). rw no at none) (cases_Bool (eqb e.turn t))

@@ -49,7 +49,7 @@ others-altered entries entry old =
     (λ _. others-changed_in_place entries entry)
     (λ _. others-inserted (without entries entry.number) entry ∙ others-without entries entry.number)
 
--- where no entry has this number, all are others
+-- if no entry has this number, all are others
 all_others : (entries : List Entry) (n : ℕ) → All (λ e. e.number ≡ n → ⊥) entries → others n entries ≡ entries
 all_others [] n none = refl
 all_others (e ∷ es) n none =

@@ -1,5 +1,4 @@
--- What edits do to a script, in the terms of its events: by turns, and by entries (this project's
--- profile).
+-- What edits do to a script, in the terms of its events: by turns, and by entries [P].
 use Rattle.std.specs.Prelude.{ℕ, ◌≡◌, ◌==◌, not, if◌then◌else◌, Some, List, [], ◌∷◌, ◌++◌, map}
 use Rattle.std.specs.List.{AllPairs, filter}
 use Rattle.std.specs.List.Sorted.{IsNonDecreasingBy}

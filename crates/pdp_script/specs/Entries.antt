@@ -1,5 +1,5 @@
 -- The entries of a script: its events with their numbers and turns, in the order of their turns
--- (this project's profile).
+-- [P].
 use Rattle.std.specs.Prelude.{ℕ, ◌≡◌, ◌<◌, ◌≤◌, cond, eqb, nat_lt, nat_le, Option, Some, None, List}
 use Rattle.std.specs.Prelude.{[], ◌∷◌, map}
 use Rattle.std.specs.List.{filter}

@@ -1,4 +1,4 @@
--- The script of a run, its edits, and the faults (this project's profile).
+-- The script of a run, its edits, and the faults [P].
 pub mod EditLaws
 pub mod Entries
 pub mod Fault

@@ -1,4 +1,4 @@
--- The script of a run as callers see it, and what each edit makes of it (this project's profile).
+-- The script of a run as callers see it, and what each edit makes of it [P].
 use Rattle.std.specs.Prelude.{Bool, ℕ, ◌≡◌, ◌+◌, ◌≤◌, ◌||◌, cond, eqb, nat_lt, nat_le, Option, Some}
 use Rattle.std.specs.Prelude.{None, List, length, Result, Ok, Err}
 use Rattle.std.specs.List.{All, AllPairs}
@@ -48,7 +48,7 @@ abbrev pub insert_answer : ℕ → Event → Bool → ScriptData → Result ℕ 
 insert_answer turn event refused script = edit_answer (insert_edit turn event script) refused
     (script.given + 1)
 
--- the script with other entries, or the refusal where there was no such entry
+-- the script with other entries, or the refusal if there was no such entry
 abbrev pub of_entry : Option Entry → (Entry → List Entry) → ScriptData → Result ScriptData Fault
 of_entry None edited script = Err NoSuchEvent
 of_entry (Some old) edited script = Ok (record script { entries = edited old })

@@ -43,7 +43,7 @@ pub fn index_of(labels: &[Label], number: u32) -> Option<usize>
 
 /// Puts an event last among its turn's.
 ///
-/// Err(NoMemory) where a growth was refused; labels and events are then as they were.
+/// Err(NoMemory) if memory was refused; labels and events are then as they were.
 pub fn insert_last(
     labels: &mut Vec<Label>,
     events: &mut Vec<Event>,

@@ -11,11 +11,11 @@ use pdp_unibus::{Event, LAST_TURN};
 use std::alloc::Global;
 use std::marker::Model;
 
-/// How many events a script may have at a time (this project's profile).
+/// How many events a script may have at a time [P].
 pub const MOST_EVENTS: usize = 65_536;
 
 /// What happens to the machine from outside: events in the order of their turns, each under a
-/// number of its own (this project's profile).
+/// number of its own [P].
 #[derive(Drop)]
 pub struct Script {
     labels: Vec<Label>,
@@ -92,9 +92,9 @@ impl Script {
     ///
     /// # Errors
     ///
-    /// In this order: `TurnTooLarge` at a turn above 1,000,000,000; `ScriptFull` where 65,536
-    /// events are there, or 4,294,967,295 numbers were given; `NoMemory` where a growth was
-    /// refused. The script is then as it was, and no number is used up.
+    /// In this order: `TurnTooLarge` at a turn above 1,000,000,000; `ScriptFull` if 65,536 events
+    /// are there, or 4,294,967,295 numbers were given; `NoMemory` if memory was refused. The script
+    /// is then as it was, and no number is used up.
     pub fn insert(&mut self, turn: u32, event: Event) -> Result<u32, Fault>
         ensures answer { result ≡ insert_answer turn event (for_memory result) self.old }
         ensures after { self.new ≡ past_left (insert_edit turn event self.old)
@@ -118,7 +118,7 @@ impl Script {
     ///
     /// # Errors
     ///
-    /// `NoSuchEvent` where no event has this number. The script is then as it was.
+    /// `NoSuchEvent` if no event has this number. The script is then as it was.
     pub fn drop_event(&mut self, number: u32) -> Result<(), Fault>
         ensures answer { result ≡ edit_answer (drop_edit number self.old) false tt }
         ensures after { self.new ≡ past_left (drop_edit number self.old) false self.old }
@@ -136,8 +136,8 @@ impl Script {
     ///
     /// # Errors
     ///
-    /// In this order: `TurnTooLarge` at a turn above 1,000,000,000; `NoSuchEvent` where no event
-    /// has this number. The script is then as it was.
+    /// In this order: `TurnTooLarge` at a turn above 1,000,000,000; `NoSuchEvent` if no event has
+    /// this number. The script is then as it was.
     pub fn alter(&mut self, number: u32, turn: u32, event: Event) -> Result<(), Fault>
         ensures answer { result ≡ edit_answer (alter_edit number turn event self.old) false tt }
         ensures after { self.new

@@ -25,7 +25,7 @@ slice_get-push : {X : Type 0} (xs : List X) (x : X) → slice_get (xs ++ x ∷ [
 slice_get-push [] x = refl
 slice_get-push (y ∷ xs) x = slice_get-push xs x
 
--- the set of the lines refused, with line n put into it where the flag says so
+-- the set of the lines refused, with line n put into it if the flag says so
 abbrev with_line : ℕ → Bool → (ℕ → Bool) → ℕ → Bool
 with_line n flag refused k = cond (eqb k n) flag (refused k)
 

@@ -45,7 +45,7 @@ starts_with (Ok setup) true t is = cc
 starts_with (Ok setup) false t is = let same : t ≡ fresh setup = cc in rw same refl
 starts_with (Err fault) refused t is = cc
 
--- and where there is none it has read and written nothing
+-- and if there is none it has read and written nothing
 pub ends_refused : (language : Language) (checked : Result SetupData Fault) (refused : Bool) (fault : Fault) (rest : Option (List ℕ))
     → Err fault ≡ result_map fresh (question_answer checked refused) → Ends language (result_map past_without_events checked) [] [] rest (Err fault)
 ends_refused language (Ok setup) true fault rest is = let same : fault ≡ NoMemory = cc in rw same (refl, refl)

@@ -1,6 +1,5 @@
--- What a line is answered, and the past that it leaves (this project's profile). Whether it is out
--- of memory comes in as a flag: it is told only where nothing else refuses the line, and only of a
--- command.
+-- What a line is answered, and the past that it leaves [P]. Whether it is out of memory comes in as
+-- a flag: it is told only if nothing else refuses the line, and only of a command.
 use Rattle.std.specs.Prelude.{Bool, true, false, List, ℕ, ◌+◌, Option, None, Some, Result, Ok, Err}
 use Rattle.pdp_script.specs.Refusal.{edit_answer, question_answer, past_left}
 use Rattle.pdp_script.specs.declared.faults.Fault.{Fault}

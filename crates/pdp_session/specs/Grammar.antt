@@ -1,5 +1,5 @@
--- The grammar of a line (this project's profile): the command that it is, no command where it has
--- no words or is a comment, or the refusal of its form. Ranges are no part of the grammar.
+-- The grammar of a line [P]: the command that it is, no command if it has no words or is a comment,
+-- or the refusal of its form. Ranges are no part of the grammar.
 use Rattle.std.specs.Prelude.{ℕ, Bool, ◌==◌, nat_lt, if◌then◌else◌, List, [], ◌∷◌, length}
 use Rattle.std.specs.Prelude.{slice_index, codes, Option, None, Some, Result, Ok, Err}
 use Rattle.std.specs.Option.{option_map, ok_or}

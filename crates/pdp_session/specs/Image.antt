@@ -1,4 +1,4 @@
--- An image, the words of core or of a drive as a file has them (this project's profile).
+-- An image, the words of core or of a drive as a file has them [P].
 use Rattle.std.specs.Prelude.{ℕ, ◌+◌, ◌*◌, ◌%◌, ◌==◌, if◌then◌else◌, List, [], ◌∷◌, length, Result}
 use Rattle.std.specs.Prelude.{Ok, Err}
 use Rattle.pdp_script.specs.declared.faults.Fault.{Fault}

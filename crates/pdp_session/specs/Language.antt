@@ -1,5 +1,5 @@
--- The languages of lines (this project's profile): the session language; and the search language,
--- which has all its lines, and those of searches beside them.
+-- The languages of lines [P]: the session language; and the search language, which has all its
+-- lines, and those of searches beside them.
 use Rattle.std.specs.Prelude.{ℕ, Bool, true, false, List, Option, None, Some, Result, Err, ◌≡◌, ◌≢◌}
 use Rattle.pdp_script.specs.Refusal.{question_answer}
 use Rattle.pdp_script.specs.declared.faults.Fault.{Fault}

@@ -1,5 +1,5 @@
--- The session language (this project's profile): the lines of a text, what a line means, what it
--- does to the past, and what it is answered.
+-- The session language [P]: the lines of a text, what a line means, what it does to the past, and
+-- what it is answered.
 pub mod Lines
 pub mod Version
 pub mod Grammar

@@ -1,5 +1,5 @@
--- The lines of a text (this project's profile). A line ends at LF, and one CR directly before that
--- LF is dropped. What follows the last LF is a line too, as it stands, unless it is empty.
+-- The lines of a text [P]. A line ends at LF, and one CR directly before that LF is dropped. What
+-- follows the last LF is a line too, as it stands, unless it is empty.
 use Rattle.std.specs.Prelude.{ℕ, Bool, List, [], ◌∷◌, ◌++◌, ◌-◌, ◌==◌, if◌then◌else◌, length, take}
 use Rattle.std.specs.Prelude.{slice_index}
 use Rattle.std.specs.List.{slice_split}

@@ -1,4 +1,4 @@
--- What a reply is as text: lines that each end in LF (this project's profile).
+-- What a reply is as text: lines that each end in LF [P].
 use Rattle.std.specs.Prelude.{ℕ, Bool, ◌==◌, ◌&&◌, not, nat_le, if◌then◌else◌, length, List, []}
 use Rattle.std.specs.Prelude.{◌∷◌, ◌++◌, codes, decimal, Option, None, Some, option_to_list}
 use Rattle.std.specs.Prelude.{slice_get, slice_index}
@@ -12,15 +12,15 @@ use Rattle.pdp_cpu.specs.declared.act.Act.{Act}
 use Rattle.pdp_cpu.specs.declared.act.Act.TheVariants.{Instr, Trace, Stack, Irq, Idle}
 use Rattle.pdp_cpu.specs.declared.regs.Regs.{Regs}
 use Rattle.pdp_unibus.specs.Shown.{shown_names}
-use Rattle.pdp_unibus.specs.declared.device_registers.DeviceRegisters.{DeviceRegisters}
-use Rattle.pdp_unibus.specs.declared.page_registers.PageRegisters.{PageRegisters}
+use Rattle.pdp_unibus.specs.declared.show.device_registers.DeviceRegisters.{DeviceRegisters}
+use Rattle.pdp_unibus.specs.declared.show.page_registers.PageRegisters.{PageRegisters}
 use Rattle.pdp_operand.specs.declared.processor.RunState.{RunState}
 use Rattle.pdp_operand.specs.declared.processor.RunState.TheVariants.{Run, Wait, Halted}
 use Rattle.pdp_replay.specs.Past.Edit.{patch_shown}
 use Rattle.pdp_replay.specs.Past.{Past}
 use Rattle.pdp_replay.specs.declared.past.patch.Patch.{Patch}
 use Rattle.pdp_replay.specs.declared.past.patch.Patch.TheVariants.{Core, Disk}
-use Rattle.pdp_replay.specs.declared.past.patch.PatchKey.{PatchKey}
+use Rattle.pdp_store.specs.declared.part.WordAt.{WordAt}
 use Rattle.pdp_replay.specs.declared.ask.last_write.LastWrite.{LastWrite}
 use Rattle.pdp_replay.specs.declared.ask.question.Value.{Value}
 use Rattle.pdp_replay.specs.declared.ask.question.Value.TheVariants.{Regs as RegsAre}
@@ -83,7 +83,7 @@ patch_line version (Disk drive number word) =
     codes "disk " ++ drive_text version drive ++ octal_digits 7 number ++ codes " " ++ octal_digits
     6 word ++ codes "\n"
 
-abbrev pub kept_patch_line : Version → PatchKey × ℕ → List ℕ
+abbrev pub kept_patch_line : Version → WordAt × ℕ → List ℕ
 kept_patch_line version entry = patch_line version (patch_shown entry.0 entry.1)
 
 -- what a list is of, and how many lines follow
@@ -94,7 +94,7 @@ count_line name count = name ++ codes " " ++ decimal count ++ codes "\n"
 unfoldable pub list_text : {X : Type 0} → List ℕ → (X → List ℕ) → List X → List ℕ
 list_text name line items = count_line name (length items) ++ flat_map line items
 
--- the line of the item of this index, where there is one
+-- the line of the item of this index, if there is one
 abbrev pub line_at : {X : Type 0} → (X → List ℕ) → List X → ℕ → List ℕ
 line_at line items index = flat_map line (option_to_list (slice_get items index))
 

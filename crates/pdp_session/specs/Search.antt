@@ -1,4 +1,4 @@
--- What a search finds, and how that is told (this project's profile).
+-- What a search finds, and how that is told [P].
 use Rattle.std.specs.Prelude.{ℕ, ◌-◌, ◌/◌, ◌++◌, Bool, true, false, List, codes, decimal, drop, length}
 use Rattle.std.specs.Prelude.{nat_lt, take, Option, None, Some, Result, Ok, Err}
 use Rattle.std.specs.List.{flat_map}

@@ -1,5 +1,4 @@
--- What a session writes: from the bytes of its input to the bytes of its output (this project's
--- profile).
+-- What a session writes: from the bytes of its input to the bytes of its output [P].
 use Rattle.std.specs.Prelude.{◌≡◌, ℕ, ◌+◌, ◌≤◌, Bool, true, false, List, [], ◌∷◌, ◌++◌, length}
 use Rattle.std.specs.Prelude.{Option, Some, Result, Ok, Err, ◌⊎◌}
 use Rattle.std.specs.List.{concat, slice_get}
@@ -21,8 +20,8 @@ is_told_first BadImage = true
 is_told_first BadSetup = true
 is_told_first _ = false
 
--- The replies to lines of a language, one text for each, where the first has number n and `refused`
--- is the set of the numbers of those lines that are refused as out of memory. Such a line leaves the
+-- The replies to lines of a language, one text for each, if the first has number n and `refused` is
+-- the set of the numbers of those lines that are refused as out of memory. Such a line leaves the
 -- session.
 unfoldable pub replies : Language → ℕ → List (List ℕ) → (ℕ → Bool) → Past → List (List ℕ)
 replies language n [] refused past = []
@@ -63,7 +62,8 @@ OutputBreaks language past read out rest =
 -- had ended; or because the writer failed; or before it began, because it was out of memory.
 abbrev pub SessionEnds : Language → Past → List ℕ → List ℕ → Option (List ℕ)
     → Result (Unit {0}) Fault → Type 0
-SessionEnds language past read out rest (Ok x) = IsAtEnd rest × RepliesTo language past (lines_of read) out
+SessionEnds language past read out rest (Ok x) =
+    IsAtEnd rest × RepliesTo language past (lines_of read) out
 SessionEnds language past read out rest (Err Input) = RepliesTo language past (ended_lines read) out
 SessionEnds language past read out rest (Err Output) = OutputBreaks language past read out rest
 SessionEnds language past read out rest (Err NoMemory) = (read ≡ []) × (out ≡ [])

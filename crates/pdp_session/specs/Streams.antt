@@ -1,16 +1,15 @@
--- What contracts see of the streams of a session, and when a put has failed (this project's
--- profile).
+-- What contracts see of the streams of a session, and when a put has failed [P].
 use Rattle.std.specs.Prelude.{ℕ, Bool, true, ◌==◌, ◌&&◌, nat_lt, List, Option, Result, Ok, Err}
 
--- a feed: the bytes that are still to come, where they are known; how many pulls are left; and
--- whether a pull has failed
+-- a feed: the bytes that are still to come, if they are known; how many pulls are left; and whether
+-- a pull has failed
 pub record InputData : Type 0 where
   pub unread : Option (List ℕ)
   pub pulls : ℕ
   pub has_failed : Bool
 
--- a drain: the bytes that were put, where they are known; and whether a put has failed, or took
--- none of some bytes
+-- a drain: the bytes that were put, if they are known; and whether a put has failed, or took none
+-- of some bytes
 pub record OutputData : Type 0 where
   pub written : Option (List ℕ)
   pub has_failed : Bool

@@ -1,5 +1,5 @@
--- The version of a session (this project's profile): each begins in version 1, with one drive, and
--- has eight drives in version 2.
+-- The version of a session [P]: each begins in version 1, with one drive, and has eight drives in
+-- version 2.
 use Rattle.std.specs.Prelude.{nat_lt, if◌then◌else◌}
 use Rattle.pdp_replay.specs.Past.{Past}
 use Rattle.pdp_session.specs.declared.version.Version.{Version}

@@ -31,8 +31,8 @@ use words::next_word;
 pub const LONGEST_LINE: usize = 200;
 
 // A line, less what ended it, as a command in this version; `None` for a line without words and for
-// a comment. `LineTooLong` comes where the line has more than 200 bytes, and `BadLine` where it is
-// not in the grammar.
+// a comment. `LineTooLong` comes if the line has more than 200 bytes, and `BadLine` if it is not in
+// the grammar.
 #[tactic(auto, unfolding(crate::specs::Grammar::line_means))]
 pub fn read_line(version: Version, line: &[u8]) -> Result<Option<Command>, Fault>
     ensures { result ≡ line_means version line.now }

@@ -7,12 +7,11 @@ use pdp_replay::Fault;
 use std::alloc::Global;
 
 /// The words of an image of core or of a drive, in the order of its bytes: each word is two bytes,
-/// the low one first (this project's profile). The word 012700 octal is the bytes c0 and 15,
-/// hexadecimal.
+/// the low one first [P]. The word 012700 octal is the bytes c0 and 15, hexadecimal.
 ///
 /// # Errors
 ///
-/// [`Fault::BadImage`] where the number of bytes is odd; else [`Fault::NoMemory`] where there is no
+/// [`Fault::BadImage`] if the number of bytes is odd; else [`Fault::NoMemory`] if there is no
 /// memory for the words. How many words an image may have is for the engine to say.
 #[tactic(auto, unfolding(crate::specs::Image::image_read))]
 pub fn read_image(alloc: Global, bytes: &[u8]) -> Result<Vec<u16>, Fault>

@@ -4,7 +4,7 @@ ghost use Rattle.pdp_session.specs.Language.{SessionLinesAreKept};
 /// [`Fault::BadLine`](crate::Fault::BadLine) is answered with the same bytes in the search
 /// language.
 ///
-/// This project's profile.
+/// [P]
 pub fn session_lines_are_kept()
     ensures { SessionLinesAreKept }
 {}

@@ -79,7 +79,7 @@ fn send_patches<W: Drain>(engine: &Engine, writer: &mut W) -> Result<(), Failed>
     Ok(())
 }
 
-// Writes the line of the patch of this index, where there is one.
+// Writes the line of the patch of this index, if there is one.
 fn send_patch<W: Drain>(engine: &Engine, index: usize, writer: &mut W) -> Result<(), Failed>
     ensures { Sends (line_at (kept_patch_line (version_of engine.now.past))
         engine.now.past.setup.patches index)

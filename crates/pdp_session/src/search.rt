@@ -12,8 +12,8 @@ use pdp_replay::{Bytes, Engine, Fault, Sought, TextKind};
 use std::alloc::Global;
 pub use write_list::WriteList;
 
-// A search of the run. Where it has two turns, it looks at the turns from the first on and before
-// the second.
+// A search of the run. If it has two turns, it looks at the turns from the first on and before the
+// second.
 #[derive(Clone, Copy)]
 pub enum Search {
     // The first turn that is sought.

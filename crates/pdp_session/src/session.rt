@@ -14,16 +14,16 @@ use serving::{serve_last_line, take_bytes};
 use std::alloc::Global;
 
 /// Runs a session: makes an engine of `setup`, reads lines of commands from `reader` until its end,
-/// and writes the reply to each line to `writer`. The replies to all lines that have ended are
-/// written before more is read.
+/// and writes the reply to each line to `writer`. No clause says when: the code writes the replies
+/// to all lines that have ended before it reads more.
 ///
 /// With `SEARCHES` false the lines are those of the session language; with `SEARCHES` true they are
 /// those of the search language, which has searches besides, and answers every line of the session
 /// language with the same bytes.
 ///
-/// The lines and their replies are this project's profile. A line that is refused has a reply that
-/// says so, and the session goes on; all other lines are answered as if a line refused as out of
-/// memory weren't there.
+/// The lines and their replies are [P]. A line that is refused has a reply that says so, and the
+/// session goes on; all other lines are answered as if a line refused as out of memory weren't
+/// there.
 ///
 /// # Errors
 ///

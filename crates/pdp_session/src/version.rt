@@ -17,7 +17,7 @@ impl Version {
     pub fn of(engine: &Engine) -> Version
         ensures { result ≡ version_of engine.now.past }
     {
-        if engine.drives() > 1 {
+        if engine.drive_count() > 1 {
             Version::Two
         } else {
             Version::One

@@ -5,15 +5,15 @@ use Rattle.std.proofs.lemmas.List.{ext_get_or, length-map, get_or-take, get_or-d
 use Rattle.std.proofs.lemmas.List.FromFn.{length-map-range_with_len, get_or-map-range_with_len}
 use Rattle.pdp_store.specs.declared.paged_drive.Backing.{Backing}
 use Rattle.pdp_store.specs.declared.paged_drive.Backing.TheVariants.{Shared, Written, Copied}
-use Rattle.pdp_store.specs.Pages.{SharedPage, page_words, page_serial, words_of, lasts_of, serials}
+use Rattle.pdp_store.specs.Pages.{SharedPage, page_words, page_serial, words_of, stamps_of, serials}
 use Rattle.pdp_store.specs.Pieces.{piece}
-use Rattle.pdp_store.specs.DriveBackings.{AreDriveFields, word_from, base_from, backing_at, word_at, base_at, words_read, bases_held, with_part, own_with_copy}
+use Rattle.pdp_store.specs.DriveBackings.{AreDriveFields, word_from, base_from, backing_at, word_read, base_at, words_read, bases_held, with_part, own_with_copy}
 use borrow.Rule.Slice.PartMut.{put_mid}
 use Rattle.pdp_store.proofs.Pages.{length-words_of, piece-words_of}
 
 pub length-words_read : (pages : List SharedPage) (backings : List Backing) (own : List ℕ) → length (words_read pages backings own) ≡ length own
 unfolding words_read
-length-words_read pages backings own = length-map-range_with_len (word_at pages backings own) 0 (length own)
+length-words_read pages backings own = length-map-range_with_len (word_read pages backings own) 0 (length own)
 
 pub length-bases_held : (pages : List SharedPage) (backings : List Backing) → length (bases_held pages backings) ≡ length backings
 unfolding bases_held
@@ -21,10 +21,10 @@ length-bases_held pages backings = length-map-range_with_len (base_at pages back
 
 -- each word, and each base
 pub get_or-words_read : (pages : List SharedPage) (backings : List Backing) (own : List ℕ) (i d : ℕ) → i < length own
-    → get_or (words_read pages backings own) i d ≡ word_at pages backings own i
+    → get_or (words_read pages backings own) i d ≡ word_read pages backings own i
 unfolding words_read
 get_or-words_read pages backings own i d within =
-    get_or-map-range_with_len (word_at pages backings own) 0 (length own) i i d within (omega arith)
+    get_or-map-range_with_len (word_read pages backings own) 0 (length own) i i d within (omega arith)
 
 pub get_or-bases_held : (pages : List SharedPage) (backings : List Backing) (k : ℕ) (d : Option ℕ) → k < length backings
     → get_or (bases_held pages backings) k d ≡ base_at pages backings k
@@ -34,7 +34,7 @@ get_or-bases_held pages backings k d within =
 
 -- a list with as many words, and the same ones, is what is read
 pub same_words : (pages : List SharedPage) (backings : List Backing) (own xs : List ℕ) → length own ≡ length xs
-    → ((i : ℕ) → i < length own → word_at pages backings own i ≡ get_or xs i 0) → words_read pages backings own ≡ xs
+    → ((i : ℕ) → i < length own → word_read pages backings own i ≡ get_or xs i 0) → words_read pages backings own ≡ xs
 same_words pages backings own xs many same =
     let all : length (words_read pages backings own) ≡ length own = length-words_read pages backings own in
     ext_get_or 0 (words_read pages backings own) xs (all ∙ many) (λ i within.
@@ -140,7 +140,7 @@ unshared-other Shared (Some page) k own i fits other = with_part-other k (page_w
 unshared-other Written page k own i fits other = refl
 unshared-other (Copied serial) page k own i fits other = refl
 
--- a word is the same where its own word is
+-- a word is the same if its own word is
 word_from-same : (held : Backing) (page : Option SharedPage) (own others : List ℕ) (i : ℕ) → get_or others i 0 ≡ get_or own i 0
     → word_from held page others i ≡ word_from held page own i
 word_from-same Shared None own others i same = same
@@ -160,7 +160,7 @@ length-replaced pages backings own i w full within =
 
 replaced-word : (pages : List SharedPage) (backings : List Backing) (own : List ℕ) (i w j : ℕ) → length own ≡ length backings * 256 → i < length own
     → j < length own → (j ≡ i) ⊎ (j ≢ i) → (j / 256 ≡ i / 256) ⊎ (j / 256 ≢ i / 256)
-    → word_at pages (slice_set backings (i / 256) Written) (replaced pages backings own i w) j ≡ get_or (slice_set (words_read pages backings own) i w) j 0
+    → word_read pages (slice_set backings (i / 256) Written) (replaced pages backings own i w) j ≡ get_or (slice_set (words_read pages backings own) i w) j 0
 replaced-word pages backings own i w j full within inside (inl same) place =
     let many : length (words_read pages backings own) ≡ length own = length-words_read pages backings own in
     let mine : length (own_with_copy (backing_at backings (i / 256)) (slice_get pages (i / 256)) (i / 256) own) ≡ length own =
@@ -238,7 +238,7 @@ fields-replaced pages backings own given i w changed old within = record {
       omega (arith, old.words);
   range = old.range;
   shared = λ k is. old.shared k (shared-still backings (i / 256) k (omega (arith, old.words)) (cases_eq k (i / 256)) is);
-  lasts = old.lasts;
+  stamps = old.stamps;
   unchanged = λ same. absurd (cc);
 }
 
@@ -297,7 +297,7 @@ bases-blank n =
     ∙ sym (get_or-replicate n k None None (omega (arith, length-replicate n Written))))
 
 pub fields-blank : (len : ℕ) → (len / 256) * 256 ≡ len → AreDriveFields [] (replicate (len / 256) Written) (replicate len 0) 0 true
-unfolding lasts_of
+unfolding stamps_of
 fields-blank len whole = record {
   words =
       let all : length (replicate {A = ℕ} len 0) ≡ len = length-replicate len 0 in
@@ -305,7 +305,7 @@ fields-blank len whole = record {
       omega arith;
   range = omega arith;
   shared = λ k is. let here : backing_at (replicate (len / 256) Written) k ≡ Written = written-all (len / 256) k in absurd (cc);
-  lasts = refl;
+  stamps = refl;
   unchanged = λ same. absurd (cc);
 }
 

@@ -3,13 +3,13 @@ use Rattle.std.proofs.Common.{◌≡◌, ◌≢◌, ℕ, suc, zero, ◌+◌, ◌
 use Rattle.std.proofs.lemmas.List.{ext_get_or, length-map, map-append, length-replicate, length-take-le, length-drop, take_all, take_at, take_more, take_more_set}
 use Rattle.pdp_store.specs.declared.paged_drive.Backing.{Backing}
 use Rattle.pdp_store.specs.declared.paged_drive.Backing.TheVariants.{Shared, Written, Copied}
-use Rattle.pdp_store.specs.Pages.{PagedWords, SharedPage, page_words, page_lasts, page_serial, words_of, lasts_of, serials, serials_taken, given_after, next_serial, next_given}
+use Rattle.pdp_store.specs.Pages.{PagedWords, SharedPage, page_words, page_stamps, page_serial, words_of, stamps_of, serials, serials_taken, given_after, next_serial, next_given}
 use Rattle.pdp_store.specs.declared.Stamp.{Stamp}
 use Rattle.pdp_store.specs.Bases.{IsPageOf, serial_there, given_there}
 use Rattle.pdp_store.specs.Pieces.{piece}
 use Rattle.pdp_store.specs.DriveBackings.{AreDriveFields, AreTaken, copied_from, drive_from_pages, base_from, backing_at, base_at, word_from, words_read, bases_held, with_part}
 use Rattle.pdp_store.proofs.DriveBackings.{length-words_read, length-bases_held, get_or-bases_held, get_or-piece, read_shared, read_own, not_none, same_words, same_bases, words-shared, bases-shared, length-with_part}
-use Rattle.pdp_store.proofs.Pages.{length-words_of, words_of-push, lasts_of-push, take-piece}
+use Rattle.pdp_store.proofs.Pages.{length-words_of, words_of-push, stamps_of-push, take-piece}
 
 -- how many words and places there are
 pub count_own : (pages : List SharedPage) (backings : List Backing) (own words : List ℕ) → words_read pages backings own ≡ words → length words ≡ length own
@@ -76,15 +76,15 @@ piece-own pages backings own k full within other =
     ∙ sym (get_or-piece k (words_read pages backings own) j (omega arith)))
 
 -- the pages of a list without stamps have none
-pub lasts-none : (pages : List SharedPage) (k : ℕ) (page : SharedPage) → lasts_of pages ≡ [] → slice_get pages k ≡ Some page → page_lasts page ≡ []
-unfolding lasts_of
-lasts-none [] k page none is = absurd (cc)
-lasts-none (first ∷ pages) k page none is = in_parts (λ j rest at. lasts-none pages j page rest at) (page_lasts first) refl k is
+pub stamps-none : (pages : List SharedPage) (k : ℕ) (page : SharedPage) → stamps_of pages ≡ [] → slice_get pages k ≡ Some page → page_stamps page ≡ []
+unfolding stamps_of
+stamps-none [] k page none is = absurd (cc)
+stamps-none (first ∷ pages) k page none is = in_parts (λ j rest at. stamps-none pages j page rest at) (page_stamps first) refl k is
   where
-    in_parts : ((j : ℕ) → lasts_of pages ≡ [] → slice_get pages j ≡ Some page → page_lasts page ≡ []) → (lasts : List (Option Stamp)) → lasts ≡ page_lasts first → (k : ℕ) → slice_get (first ∷ pages) k ≡ Some page → page_lasts page ≡ []
-    in_parts others (last ∷ lasts) these k is = let joined : (last ∷ lasts) ++ lasts_of pages ≡ [] = ap (λ xs. xs ++ lasts_of pages) these ∙ none in absurd (cc)
-    in_parts others [] these zero is = let same : first ≡ page = cc in ap page_lasts (sym same) ∙ sym these
-    in_parts others [] these (suc k) is = let rest : lasts_of pages ≡ [] = ap (λ xs. xs ++ lasts_of pages) these ∙ none in others k rest is
+    in_parts : ((j : ℕ) → stamps_of pages ≡ [] → slice_get pages j ≡ Some page → page_stamps page ≡ []) → (stamps : List (Option Stamp)) → stamps ≡ page_stamps first → (k : ℕ) → slice_get (first ∷ pages) k ≡ Some page → page_stamps page ≡ []
+    in_parts others (last ∷ stamps) these k is = let joined : (last ∷ stamps) ++ stamps_of pages ≡ [] = ap (λ xs. xs ++ stamps_of pages) these ∙ none in absurd (cc)
+    in_parts others [] these zero is = let same : first ≡ page = cc in ap page_stamps (sym same) ∙ sym these
+    in_parts others [] these (suc k) is = let rest : stamps_of pages ≡ [] = ap (λ xs. xs ++ stamps_of pages) these ∙ none in others k rest is
 
 -- the serials of one place more, and how many are given then
 serials_taken-push : (bases : List (Option ℕ)) (base : Option ℕ) (given : ℕ)
@@ -103,7 +103,7 @@ given_after-push [] (Some serial) given = refl
 given_after-push (None ∷ bases) base given = given_after-push bases base (next_given given)
 given_after-push (Some serial ∷ bases) base given = given_after-push bases base given
 
--- where each place has a base, they are given again
+-- if each place has a base, they are given again
 pub serials_taken-held : (xs : List ℕ) (given : ℕ) → serials_taken (map Some xs) given ≡ xs
 unfolding serials_taken
 serials_taken-held [] given = refl
@@ -115,8 +115,8 @@ given_after-held [] given = refl
 given_after-held (x ∷ xs) given = given_after-held xs given
 
 pub taken-none : (words : List ℕ) (bases : List (Option ℕ)) (given : ℕ) → AreTaken [] given (take (0 * 256) words) (take 0 bases) given
-unfolding words_of lasts_of serials_taken given_after
-taken-none words bases given = record { has_words = refl; has_lasts = refl; has_serials = refl; is_after = refl }
+unfolding words_of stamps_of serials_taken given_after
+taken-none words bases given = record { has_words = refl; has_stamps = refl; has_serials = refl; is_after = refl }
 
 pub taken-more : (pages : List SharedPage) (after next : ℕ) (words : List ℕ) (bases : List (Option ℕ)) (given k : ℕ) (page : SharedPage)
     → AreTaken pages after (take (k * 256) words) (take k bases) given → k < length bases
@@ -129,7 +129,7 @@ taken-more pages after next words bases given k page taken within made then =
       has_words =
           words_of-push pages page ∙ ap (λ xs. xs ++ page_words page) taken.has_words ∙ ap (λ xs. take (k * 256) words ++ xs) made.has_words
           ∙ sym (take-piece k words);
-      has_lasts = lasts_of-push pages page ∙ ap (λ xs. xs ++ page_lasts page) taken.has_lasts ∙ made.has_lasts;
+      has_stamps = stamps_of-push pages page ∙ ap (λ xs. xs ++ page_stamps page) taken.has_stamps ∙ made.has_stamps;
       has_serials =
           map-append page_serial pages (page ∷ []) ∙ ap (λ xs. xs ++ page_serial page ∷ []) taken.has_serials
           ∙ ap (λ x. serials_taken (take k bases) given ++ x ∷ []) (made.has_serial ∙ ap (λ n. serial_there (get_or bases k None) n) taken.is_after)
@@ -145,29 +145,29 @@ pub taken-all : (pages : List SharedPage) (after : ℕ) (words : List ℕ) (base
     → AreTaken pages after (take (k * 256) words) (take k bases) given → length bases ≤ k → length words ≤ k * 256 → AreTaken pages after words bases given
 taken-all pages after words bases given k taken all_bases all_words = record {
   has_words = taken.has_words ∙ take_all (k * 256) words all_words;
-  has_lasts = taken.has_lasts;
+  has_stamps = taken.has_stamps;
   has_serials = taken.has_serials ∙ ap (λ xs. serials_taken xs given) (take_all k bases all_bases);
   is_after = taken.is_after ∙ ap (λ xs. given_after xs given) (take_all k bases all_bases);
 }
 
 -- a drive that reads all from a list of pages
 abbrev pub drive : List ℕ → List (Option ℕ) → ℕ → List ℕ → PagedWords
-drive words bases given firsts = record { words = words; bases = bases; given = given; firsts = firsts }
+drive words bases given first_touches = record { words = words; bases = bases; given = given; first_touches = first_touches }
 
-pub renewed : (pages : List SharedPage) (backings : List Backing) (own : List ℕ) (given n : ℕ) (firsts : List ℕ) → length pages ≡ n → length own ≡ n * 256
-    → backings ≡ replicate n Shared → drive (words_read pages backings own) (bases_held pages backings) given firsts ≡ drive_from_pages pages given firsts
-renewed pages backings own given n firsts many full all =
+pub renewed : (pages : List SharedPage) (backings : List Backing) (own : List ℕ) (given n : ℕ) (first_touches : List ℕ) → length pages ≡ n → length own ≡ n * 256
+    → backings ≡ replicate n Shared → drive (words_read pages backings own) (bases_held pages backings) given first_touches ≡ drive_from_pages pages given first_touches
+renewed pages backings own given n first_touches many full all =
     rw all (rw (words-shared pages n own many full, bases-shared pages n many) refl)
 
 pub fields-renewed : (pages : List SharedPage) (backings : List Backing) (own : List ℕ) (given n : ℕ) → length pages ≡ n → length own ≡ n * 256
-    → backings ≡ replicate n Shared → given < 2 ^ 64 → lasts_of pages ≡ [] → AreDriveFields pages backings own given false
-fields-renewed pages backings own given n many full all range lasts = rw all (
+    → backings ≡ replicate n Shared → given < 2 ^ 64 → stamps_of pages ≡ [] → AreDriveFields pages backings own given false
+fields-renewed pages backings own given n many full all range stamps = rw all (
     let size : length (replicate n Shared) ≡ n = length-replicate n Shared in
     record {
       words = rw size full;
       range = range;
       shared = λ k is. below k is;
-      lasts = lasts;
+      stamps = stamps;
       unchanged = λ same. (many ∙ sym size, ap (λ m. replicate m Shared) (sym size));
     })
   where
@@ -248,9 +248,9 @@ base-copied pages others k within = by_place others k within (slice_get pages k)
     by_place (first ∷ others) zero within page = refl
     by_place (first ∷ others) (suc k) within page = by_place others k (omega arith) page
 
-pub all-copied : (pages others : List SharedPage) (backings : List Backing) (own : List ℕ) (given : ℕ) (firsts : List ℕ) → backings ≡ map copied_from others → own ≡ words_of others
-    → drive (words_read pages backings own) (bases_held pages backings) given firsts ≡ drive_from_pages others given firsts
-all-copied pages others backings own given firsts marks words =
+pub all-copied : (pages others : List SharedPage) (backings : List Backing) (own : List ℕ) (given : ℕ) (first_touches : List ℕ) → backings ≡ map copied_from others → own ≡ words_of others
+    → drive (words_read pages backings own) (bases_held pages backings) given first_touches ≡ drive_from_pages others given first_touches
+all-copied pages others backings own given first_touches marks words =
     let size : length (map copied_from others) ≡ length others = length-map others copied_from in
     let many : length (map Some (serials others)) ≡ length others = length-map (serials others) Some ∙ length-map others page_serial in
     let reads : words_read pages (map copied_from others) (words_of others) ≡ words_of others =
@@ -267,6 +267,6 @@ fields-copied pages others backings old_places own old_own given changed old mar
   words = length-words_of others ∙ ap (λ n. n * 256) (sym (length-map others copied_from));
   range = old.range;
   shared = λ k is. absurd (copied-there others k is);
-  lasts = old.lasts;
+  stamps = old.stamps;
   unchanged = λ same. absurd (cc);
 })

@@ -9,8 +9,8 @@ use Rattle.pdp_store.specs.declared.page.Page.{Page}
 use Rattle.pdp_store.specs.PageLists.{pages_shared}
 use Rattle.pdp_store.specs.Pieces.{piece}
 use Rattle.pdp_store.specs.Stored.{HasLastOfEachOrNone}
-use Rattle.pdp_store.proofs.Pages.{length-words_of, piece-lasts_of, piece-words_of}
-use Rattle.pdp_store.specs.Pages.{SharedPage, lasts_of, page_lasts, page_words, words_of}
+use Rattle.pdp_store.proofs.Pages.{length-words_of, piece-stamps_of, piece-words_of}
+use Rattle.pdp_store.specs.Pages.{SharedPage, stamps_of, page_stamps, page_words, words_of}
 
 -- one page more is shared
 pub one_more_shared : (pages first : List SharedPage) (i : ℕ) (page same : SharedPage) → pages_shared first ≡ take i (pages_shared pages)
@@ -50,14 +50,14 @@ words_set (page ∷ pages) (suc k) j w old new there below is =
     ∙ ap (λ n. page_words page ++ slice_set (words_of pages) n w) (sym past)
     ∙ sym (set-append_right (page_words page) (words_of pages) 256 (suc k * 256 + j) w full (omega arith))
 
-lasts_set : (pages : List SharedPage) (k : ℕ) (old new : SharedPage) → slice_get pages k ≡ Some old
-    → page_lasts new ≡ page_lasts old → lasts_of (slice_set pages k new) ≡ lasts_of pages
-unfolding lasts_of
-lasts_set [] k old new there is = absurd (cc there)
-lasts_set (page ∷ pages) zero old new there is =
+stamps_set : (pages : List SharedPage) (k : ℕ) (old new : SharedPage) → slice_get pages k ≡ Some old
+    → page_stamps new ≡ page_stamps old → stamps_of (slice_set pages k new) ≡ stamps_of pages
+unfolding stamps_of
+stamps_set [] k old new there is = absurd (cc there)
+stamps_set (page ∷ pages) zero old new there is =
     let same : page ≡ old = cc there in
-    ap (λ xs. xs ++ lasts_of pages) (is ∙ ap page_lasts (sym same))
-lasts_set (page ∷ pages) (suc k) old new there is = ap (λ xs. page_lasts page ++ xs) (lasts_set pages k old new there is)
+    ap (λ xs. xs ++ stamps_of pages) (is ∙ ap page_stamps (sym same))
+stamps_set (page ∷ pages) (suc k) old new there is = ap (λ xs. page_stamps page ++ xs) (stamps_set pages k old new there is)
 
 -- a list whose pages are these, but for one
 abbrev pub IsChanged : List SharedPage → List SharedPage → ℕ → SharedPage → Type 0
@@ -88,13 +88,13 @@ words_with_page pages list i w new is inside words =
     ∙ words_set pages k (i % 256) w old new at small these
     ∙ ap (λ n. slice_set (words_of pages) n w) (div-add-mod' i 256)
 
-pub lasts_with_page : (pages list : List SharedPage) (k : ℕ) (new : SharedPage) → IsChanged pages list k new → k < length pages
-    → HasLastOfEachOrNone (words_of pages) (lasts_of pages) → page_lasts new ≡ piece k (lasts_of pages)
-    → lasts_of list ≡ lasts_of pages
-unfolding lasts_of
-lasts_with_page pages list k new is inside stamped lasts =
+pub stamps_with_page : (pages list : List SharedPage) (k : ℕ) (new : SharedPage) → IsChanged pages list k new → k < length pages
+    → HasLastOfEachOrNone (words_of pages) (stamps_of pages) → page_stamps new ≡ piece k (stamps_of pages)
+    → stamps_of list ≡ stamps_of pages
+unfolding stamps_of
+stamps_with_page pages list k new is inside stamped stamps =
     let old = get_or pages k new in
     let at : slice_get pages k ≡ Some old = slice_get-get_or pages k new inside in
-    let these : page_lasts new ≡ page_lasts old = lasts ∙ piece-lasts_of pages k old stamped at in
+    let these : page_stamps new ≡ page_stamps old = stamps ∙ piece-stamps_of pages k old stamped at in
     same_items (λ (p : Page). p.stamps.value.items) list (slice_set pages k new) (as_set pages list k new is)
-    ∙ lasts_set pages k old new at these
+    ∙ stamps_set pages k old new at these

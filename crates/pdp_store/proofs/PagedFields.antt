@@ -20,7 +20,7 @@ bases_of-marked (false ∷ marks) (base ∷ bases) zero = refl
 bases_of-marked (true ∷ marks) (base ∷ bases) (suc place) = ap (λ xs. None ∷ xs) (bases_of-marked marks bases place)
 bases_of-marked (false ∷ marks) (base ∷ bases) (suc place) = ap (λ xs. Some (serial_of base) ∷ xs) (bases_of-marked marks bases place)
 
--- a place without a mark, where one was set: it had none before, and is another one
+-- a place without a mark, if one was set: it had none before, and is another one
 unmarked_before : (marks : List Bool) (place k : ℕ) → slice_get (slice_set marks place true) k ≡ Some false → (slice_get marks k ≡ Some false) × (k ≢ place)
 unmarked_before [] place k is = absurd (cc)
 unmarked_before (mark ∷ marks) zero zero is = absurd (cc)
@@ -49,16 +49,16 @@ piece-set_other k i x xs other = by_side (cases_lt i (k * 256))
     by_side (inl below) = piece-set_below k i x xs below
     by_side (inr above) = piece-set_above k i (i - k * 256) x xs (omega arith) (omega arith)
 
-pub written_fields : (words : List ℕ) (lasts : List (Option Stamp)) (bases : List Base) (marks : List Bool) (i word : ℕ) (last : Option Stamp)
-    → AreFields words lasts bases marks → AreFields (slice_set words i word) (slice_set lasts i last) bases (slice_set marks (i / 256) true)
-written_fields words lasts bases marks i word last fields = record {
+pub written_fields : (words : List ℕ) (stamps : List (Option Stamp)) (bases : List Base) (marks : List Bool) (i word : ℕ) (last : Option Stamp)
+    → AreFields words stamps bases marks → AreFields (slice_set words i word) (slice_set stamps i last) bases (slice_set marks (i / 256) true)
+written_fields words stamps bases marks i word last fields = record {
   places = length-set marks (i / 256) true ∙ fields.places;
   all_words = length-set words i word ∙ fields.all_words;
-  all_lasts = λ some. length-set lasts i last ∙ fields.all_lasts (subst (λ n. 0 < n) (length-set lasts i last) some) ∙ sym (length-set words i word);
+  all_stamps = λ some. length-set stamps i last ∙ fields.all_stamps (subst (λ n. 0 < n) (length-set stamps i last) some) ∙ sym (length-set words i word);
   held = λ k base mark is page same.
       let before = unmarked_before marks (i / 256) k mark in
       let holds = fields.held k base before.0 is page same in
-      (holds.0 ∙ sym (piece-set_other k i word words before.1), holds.1 ∙ sym (piece-set_other k i last lasts before.1));
+      (holds.0 ∙ sym (piece-set_other k i word words before.1), holds.1 ∙ sym (piece-set_other k i last stamps before.1));
 }
 
 -- every place is marked in a new store
@@ -68,10 +68,10 @@ bases_of-new zero bases many = refl
 bases_of-new (suc places) [] many = absurd (omega arith)
 bases_of-new (suc places) (base ∷ bases) many = ap (λ xs. None ∷ xs) (bases_of-new places bases (omega arith))
 
-pub new_view : (words : List ℕ) (lasts : List (Option Stamp)) (bases : List Base) (marks : List Bool) (firsts : List ℕ) (len : ℕ) (stamped : Bool)
-    → firsts ≡ no_touch_in len → words ≡ replicate len 0 → lasts ≡ (if stamped then replicate len None else []) → length bases ≡ len / 256 → marks ≡ replicate (len / 256) true
-    → record { words = words; lasts = lasts; bases = bases_of marks bases; given = 0; firsts = firsts } ≡ blank_paged len stamped
-new_view words lasts bases marks firsts len stamped none zeros blank count marked =
+pub new_view : (words : List ℕ) (stamps : List (Option Stamp)) (bases : List Base) (marks : List Bool) (first_touches : List ℕ) (len : ℕ) (stamped : Bool)
+    → first_touches ≡ no_touch_in len → words ≡ replicate len 0 → stamps ≡ (if stamped then replicate len None else []) → length bases ≡ len / 256 → marks ≡ replicate (len / 256) true
+    → record { words = words; stamps = stamps; bases = bases_of marks bases; given = 0; first_touches = first_touches } ≡ blank_paged len stamped
+new_view words stamps bases marks first_touches len stamped none zeros blank count marked =
     rw (none, zeros, blank, marked, bases_of-new (len / 256) bases count) refl
 
 -- a place that is marked has no base, and another has the serial of its own

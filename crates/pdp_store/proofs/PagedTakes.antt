@@ -5,10 +5,10 @@ use Rattle.std.proofs.lemmas.Option.{slice_get_within}
 use Rattle.pdp_store.specs.declared.Stamp.{Stamp}
 use Rattle.pdp_store.specs.declared.page.Page.{Page}
 use Rattle.pdp_store.specs.declared.base.Base.{Base}
-use Rattle.pdp_store.specs.Pages.{SharedPage, PagedStored, page_serial, page_words, page_lasts, serials, serials_taken, given_after, words_of, lasts_of}
+use Rattle.pdp_store.specs.Pages.{SharedPage, PagedStored, page_serial, page_words, page_stamps, serials, serials_taken, given_after, words_of, stamps_of}
 use Rattle.pdp_store.specs.Bases.{AreAllTaken, AreBases, AreFields, AreTakenBelow, IsPageOf, bases_of, given_there, serial_there}
 use Rattle.pdp_store.specs.Pieces.{piece}
-use Rattle.pdp_store.proofs.Pages.{length-words_of, words_of-push, lasts_of-push, take-piece, piece-words_of, piece-lasts_of}
+use Rattle.pdp_store.proofs.Pages.{length-words_of, words_of-push, stamps_of-push, take-piece, piece-words_of, piece-stamps_of}
 
 pub length-bases_of : (marks : List Bool) (bases : List Base) → length marks ≡ length bases → length (bases_of marks bases) ≡ length bases
 unfolding bases_of
@@ -29,20 +29,20 @@ next_after None bases given = refl
 next_after (Some serial) bases given = refl
 
 -- a page of equal words, last stamps and serial
-pub page_is : (page : SharedPage) (xs words : List ℕ) (ys lasts : List (Option Stamp)) (n serial : ℕ) → xs ≡ words → ys ≡ lasts → n ≡ serial
-    → IsPageOf page xs ys n → IsPageOf page words lasts serial
-page_is page xs words ys lasts n serial words_are lasts_are serial_is is = record {
+pub page_is : (page : SharedPage) (xs words : List ℕ) (ys stamps : List (Option Stamp)) (n serial : ℕ) → xs ≡ words → ys ≡ stamps → n ≡ serial
+    → IsPageOf page xs ys n → IsPageOf page words stamps serial
+page_is page xs words ys stamps n serial words_are stamps_are serial_is is = record {
   has_words = is.has_words ∙ words_are;
-  has_lasts = is.has_lasts ∙ lasts_are;
+  has_stamps = is.has_stamps ∙ stamps_are;
   has_serial = is.has_serial ∙ serial_is;
 }
 
 pub none_taken : (store : PagedStored) → AreTakenBelow 0 [] store.given store
-unfolding words_of lasts_of
-none_taken store = record { words_so_far = refl; lasts_so_far = refl; serials_so_far = refl; given_so_far = refl }
+unfolding words_of stamps_of
+none_taken store = record { words_so_far = refl; stamps_so_far = refl; serials_so_far = refl; given_so_far = refl }
 
 pub one_taken_more : (store : PagedStored) (n given : ℕ) (pages : List SharedPage) (page : SharedPage) → AreTakenBelow n pages given store → n < length store.bases
-    → IsPageOf page (piece n store.words) (piece n store.lasts) (serial_there (get_or store.bases n None) given)
+    → IsPageOf page (piece n store.words) (piece n store.stamps) (serial_there (get_or store.bases n None) given)
     → AreTakenBelow (n + 1) (pages ++ page ∷ []) (given_there (get_or store.bases n None) given) store
 one_taken_more store n given pages page taken below is =
     let base = get_or store.bases n None in
@@ -52,9 +52,9 @@ one_taken_more store n given pages page taken below is =
       words_so_far =
           words_of-push pages page ∙ ap (λ xs. xs ++ page_words page) taken.words_so_far
           ∙ ap (λ xs. take (n * 256) store.words ++ xs) is.has_words ∙ sym (take-piece n store.words);
-      lasts_so_far =
-          lasts_of-push pages page ∙ ap (λ xs. xs ++ page_lasts page) taken.lasts_so_far
-          ∙ ap (λ xs. take (n * 256) store.lasts ++ xs) is.has_lasts ∙ sym (take-piece n store.lasts);
+      stamps_so_far =
+          stamps_of-push pages page ∙ ap (λ xs. xs ++ page_stamps page) taken.stamps_so_far
+          ∙ ap (λ xs. take (n * 256) store.stamps ++ xs) is.has_stamps ∙ sym (take-piece n store.stamps);
       serials_so_far =
           ap (λ xs. xs ++ serials_taken (drop (n + 1) store.bases) (given_there (get_or store.bases n None) given)) (map-append page_serial pages (page ∷ []))
           ∙ append_assoc (serials pages) (page_serial page ∷ []) (serials_taken (drop (n + 1) store.bases) (given_there (get_or store.bases n None) given))
@@ -68,18 +68,18 @@ one_taken_more store n given pages page taken below is =
     }
 
 pub all_taken : (store : PagedStored) (n given : ℕ) (pages : List SharedPage) → AreTakenBelow n pages given store → length store.bases ≤ n
-    → length store.words ≤ n * 256 → length store.lasts ≤ n * 256 → AreAllTaken pages given store
+    → length store.words ≤ n * 256 → length store.stamps ≤ n * 256 → AreAllTaken pages given store
 unfolding serials_taken given_after
-all_taken store n given pages taken all words lasts = record {
+all_taken store n given pages taken all words stamps = record {
   all_words = taken.words_so_far ∙ take_all (n * 256) store.words words;
-  all_lasts = taken.lasts_so_far ∙ take_all (n * 256) store.lasts lasts;
+  all_stamps = taken.stamps_so_far ∙ take_all (n * 256) store.stamps stamps;
   all_serials =
       sym (append-nil (serials pages))
       ∙ ap (λ xs. serials pages ++ serials_taken xs given) (sym (drop_all n store.bases all)) ∙ taken.serials_so_far;
   all_given = ap (λ xs. given_after xs given) (sym (drop_all n store.bases all)) ∙ taken.given_so_far;
 }
 
--- as many pages as bases, where they have as many words as the store
+-- as many pages as bases, if they have as many words as the store
 pub as_many_pages : (pages : List SharedPage) (places : ℕ) → length (words_of pages) ≡ places * 256 → length pages ≡ places
 as_many_pages pages places all =
     let words : length (words_of pages) ≡ length pages * 256 = length-words_of pages in
@@ -91,13 +91,13 @@ get_within (x ∷ xs) zero below = (x, refl)
 get_within (x ∷ xs) (suc k) below = get_within xs k (omega arith)
 
 -- the fields of a store whose words are those of pages that are its bases
-pub fields_of_pages : (pages : List SharedPage) (words : List ℕ) (lasts : List (Option Stamp)) (bases : List Base) (marks : List Bool)
-    → words ≡ words_of pages → lasts ≡ lasts_of pages → (0 < length (lasts_of pages) → length (lasts_of pages) ≡ length (words_of pages)) → AreBases pages bases marks
-    → AreFields words lasts bases marks
-fields_of_pages pages words lasts bases marks words_are lasts_are stamped are = record {
+pub fields_of_pages : (pages : List SharedPage) (words : List ℕ) (stamps : List (Option Stamp)) (bases : List Base) (marks : List Bool)
+    → words ≡ words_of pages → stamps ≡ stamps_of pages → (0 < length (stamps_of pages) → length (stamps_of pages) ≡ length (words_of pages)) → AreBases pages bases marks
+    → AreFields words stamps bases marks
+fields_of_pages pages words stamps bases marks words_are stamps_are stamped are = record {
   places = are.places ∙ sym are.count;
   all_words = ap length words_are ∙ length-words_of pages ∙ ap (λ n. n * 256) (sym are.count);
-  all_lasts = λ some. ap length lasts_are ∙ stamped (subst (λ xs. 0 < length xs) lasts_are some) ∙ sym (ap length words_are);
+  all_stamps = λ some. ap length stamps_are ∙ stamped (subst (λ xs. 0 < length xs) stamps_are some) ∙ sym (ap length words_are);
   held = λ k base _ there shared is.
       let its = get_within pages k (within k base there) in
       let its_page = its.0 in
@@ -105,7 +105,7 @@ fields_of_pages pages words lasts bases marks words_are lasts_are stamped are = 
       let same = are.same k base its.0 there at in
       let one : shared.value ≡ its.0.value = same.same shared is in (
         ap (λ (p : Page). p.words.items) one ∙ sym (piece-words_of pages k its.0 at) ∙ ap (piece k) (sym words_are),
-        ap (λ (p : Page). p.stamps.value.items) one ∙ sym (piece-lasts_of pages k its.0 stamped at) ∙ ap (piece k) (sym lasts_are),
+        ap (λ (p : Page). p.stamps.value.items) one ∙ sym (piece-stamps_of pages k its.0 stamped at) ∙ ap (piece k) (sym stamps_are),
       );
 }
   where
@@ -115,9 +115,9 @@ fields_of_pages pages words lasts bases marks words_are lasts_are stamped are = 
         let count : length bases ≡ length pages = are.count in
         omega arith
 
--- as many stamps as words, or none, where both are as many as others
-pub as_stamped : (lasts words a b : ℕ) → lasts ≡ a → words ≡ b → (0 < a → a ≡ b) → 0 < lasts → lasts ≡ words
-as_stamped lasts words a b same_lasts same_words stamped some = same_lasts ∙ stamped (subst (λ n. 0 < n) same_lasts some) ∙ sym same_words
+-- as many stamps as words, or none, if both are as many as others
+pub as_stamped : (stamps words a b : ℕ) → stamps ≡ a → words ≡ b → (0 < a → a ≡ b) → 0 < stamps → stamps ≡ words
+as_stamped stamps words a b same_stamps same_words stamped some = same_stamps ∙ stamped (subst (λ n. 0 < n) same_stamps some) ∙ sym same_words
 
 -- a list that was written through a slice of all of it
 pub rewrapped : {X : Type 0} (now old : List X) (len : ℕ) → length now ≡ len → take len (now ++ drop (length now) old) ≡ now

@@ -4,7 +4,7 @@ use Rattle.std.proofs.Math.Seq.{drop-append-add}
 use Rattle.std.proofs.lemmas.List.{take_at, take-take, take-append-drop, drop-take, drop_all, nil_from_length}
 use Rattle.std.specs.List.{flat_map}
 use Rattle.pdp_store.specs.declared.Stamp.{Stamp}
-use Rattle.pdp_store.specs.Pages.{SharedPage, page_words, page_lasts, words_of, lasts_of}
+use Rattle.pdp_store.specs.Pages.{SharedPage, page_words, page_stamps, words_of, stamps_of}
 use Rattle.pdp_store.specs.Pieces.{piece}
 
 -- at most 256 items of each page
@@ -44,12 +44,12 @@ piece_of f short (first ∷ pages) (suc k) page full is =
 words_are_short : AreShort page_words
 words_are_short page = let full : length (page_words page) ≡ 256 = page.value.full in omega arith
 
-short_lasts : (lasts : List (Option Stamp)) → (0 < length lasts → length lasts ≡ 256) → length lasts ≤ 256
-short_lasts [] stamped = omega arith
-short_lasts (last ∷ lasts) stamped = let all : length (last ∷ lasts) ≡ 256 = stamped (omega arith) in omega arith
+short_stamps : (stamps : List (Option Stamp)) → (0 < length stamps → length stamps ≡ 256) → length stamps ≤ 256
+short_stamps [] stamped = omega arith
+short_stamps (last ∷ stamps) stamped = let all : length (last ∷ stamps) ≡ 256 = stamped (omega arith) in omega arith
 
-lasts_are_short : AreShort page_lasts
-lasts_are_short page = short_lasts (page_lasts page) page.value.stamped
+stamps_are_short : AreShort page_stamps
+stamps_are_short page = short_stamps (page_stamps page) page.value.stamped
 
 pub length-words_of : (pages : List SharedPage) → length (words_of pages) ≡ length pages * 256
 unfolding words_of
@@ -72,32 +72,32 @@ piece_of_none {X = X} k =
     let short : length {A = X} [] ≤ k * 256 = omega arith in
     ap (λ (xs : List X). take 256 xs) (drop_all (k * 256) [] short)
 
-none_of_each : (pages : List SharedPage) (k : ℕ) (page : SharedPage) → length (lasts_of pages) ≡ 0 → slice_get pages k ≡ Some page → page_lasts page ≡ []
-unfolding lasts_of
+none_of_each : (pages : List SharedPage) (k : ℕ) (page : SharedPage) → length (stamps_of pages) ≡ 0 → slice_get pages k ≡ Some page → page_stamps page ≡ []
+unfolding stamps_of
 none_of_each [] k page none is = absurd (cc)
 none_of_each (first ∷ pages) zero page none is =
-    let all : length (page_lasts first ++ lasts_of pages) ≡ length (page_lasts first) + length (lasts_of pages) = length-append (page_lasts first) (lasts_of pages) in
-    let here : length (page_lasts first) ≡ 0 = omega arith in
+    let all : length (page_stamps first ++ stamps_of pages) ≡ length (page_stamps first) + length (stamps_of pages) = length-append (page_stamps first) (stamps_of pages) in
+    let here : length (page_stamps first) ≡ 0 = omega arith in
     let same : first ≡ page = cc in
-    ap page_lasts (sym same) ∙ nil_from_length (page_lasts first) here
+    ap page_stamps (sym same) ∙ nil_from_length (page_stamps first) here
 none_of_each (first ∷ pages) (suc k) page none is =
-    let all : length (page_lasts first ++ lasts_of pages) ≡ length (page_lasts first) + length (lasts_of pages) = length-append (page_lasts first) (lasts_of pages) in
-    let rest : length (lasts_of pages) ≡ 0 = omega arith in
+    let all : length (page_stamps first ++ stamps_of pages) ≡ length (page_stamps first) + length (stamps_of pages) = length-append (page_stamps first) (stamps_of pages) in
+    let rest : length (stamps_of pages) ≡ 0 = omega arith in
     none_of_each pages k page rest is
 
-piece_of_all : (pages : List SharedPage) (k : ℕ) (page : SharedPage) → length (lasts_of pages) ≡ length (words_of pages)
-    → slice_get pages k ≡ Some page → piece k (lasts_of pages) ≡ page_lasts page
-unfolding lasts_of piece
-piece_of_all pages k page many is = piece_of page_lasts lasts_are_short pages k page (many ∙ length-words_of pages) is
+piece_of_all : (pages : List SharedPage) (k : ℕ) (page : SharedPage) → length (stamps_of pages) ≡ length (words_of pages)
+    → slice_get pages k ≡ Some page → piece k (stamps_of pages) ≡ page_stamps page
+unfolding stamps_of piece
+piece_of_all pages k page many is = piece_of page_stamps stamps_are_short pages k page (many ∙ length-words_of pages) is
 
--- and their last stamps, where there are as many as words, or none
-pub piece-lasts_of : (pages : List SharedPage) (k : ℕ) (page : SharedPage) → (0 < length (lasts_of pages) → length (lasts_of pages) ≡ length (words_of pages))
-    → slice_get pages k ≡ Some page → piece k (lasts_of pages) ≡ page_lasts page
-piece-lasts_of pages k page stamped is = by_length (lasts_of pages) refl
+-- and their last stamps, if there are as many as words, or none
+pub piece-stamps_of : (pages : List SharedPage) (k : ℕ) (page : SharedPage) → (0 < length (stamps_of pages) → length (stamps_of pages) ≡ length (words_of pages))
+    → slice_get pages k ≡ Some page → piece k (stamps_of pages) ≡ page_stamps page
+piece-stamps_of pages k page stamped is = by_length (stamps_of pages) refl
   where
-    by_length : (lasts : List (Option Stamp)) → lasts ≡ lasts_of pages → piece k (lasts_of pages) ≡ page_lasts page
+    by_length : (stamps : List (Option Stamp)) → stamps ≡ stamps_of pages → piece k (stamps_of pages) ≡ page_stamps page
     by_length [] none = ap (piece k) (sym none) ∙ piece_of_none k ∙ sym (none_of_each pages k page (ap length (sym none)) is)
-    by_length (last ∷ lasts) these = piece_of_all pages k page (stamped (subst (λ xs. 0 < length xs) these (omega arith))) is
+    by_length (last ∷ stamps) these = piece_of_all pages k page (stamped (subst (λ xs. 0 < length xs) these (omega arith))) is
 
 -- one page more, at the end
 pub words_of-push : (pages : List SharedPage) (page : SharedPage) → words_of (pages ++ page ∷ []) ≡ words_of pages ++ page_words page
@@ -105,10 +105,10 @@ unfolding words_of
 words_of-push [] page = append-nil (page_words page)
 words_of-push (first ∷ pages) page = ap (λ xs. page_words first ++ xs) (words_of-push pages page) ∙ sym (append_assoc (page_words first) (words_of pages) (page_words page))
 
-pub lasts_of-push : (pages : List SharedPage) (page : SharedPage) → lasts_of (pages ++ page ∷ []) ≡ lasts_of pages ++ page_lasts page
-unfolding lasts_of
-lasts_of-push [] page = append-nil (page_lasts page)
-lasts_of-push (first ∷ pages) page = ap (λ xs. page_lasts first ++ xs) (lasts_of-push pages page) ∙ sym (append_assoc (page_lasts first) (lasts_of pages) (page_lasts page))
+pub stamps_of-push : (pages : List SharedPage) (page : SharedPage) → stamps_of (pages ++ page ∷ []) ≡ stamps_of pages ++ page_stamps page
+unfolding stamps_of
+stamps_of-push [] page = append-nil (page_stamps page)
+stamps_of-push (first ∷ pages) page = ap (λ xs. page_stamps first ++ xs) (stamps_of-push pages page) ∙ sym (append_assoc (page_stamps first) (stamps_of pages) (page_stamps page))
 
 take_part : {X : Type 0} (n m : ℕ) (xs : List X) → take (n + m) xs ≡ take n xs ++ take m (drop n xs)
 take_part n m xs =

@@ -1,7 +1,8 @@
 -- Traces one after the other: what the whole says of its parts.
 use Rattle.std.proofs.Common.{◌≡◌, ℕ, List, [], ◌∷◌, ◌++◌, Option, refl}
 use Rattle.pdp_store.specs.declared.Stamp.{Stamp}
-use Rattle.pdp_store.specs.TracedAccess.{Avoids, Part, TracedAccess, last_write}
+use Rattle.pdp_store.specs.TracedAccess.{Avoids, TracedAccess, last_write}
+use Rattle.pdp_store.specs.declared.part.Part.{Part}
 
 pub last_write-append : (xs ys : List TracedAccess) (k : ℕ) (before : Option Stamp)
     → last_write (xs ++ ys) k before ≡ last_write ys k (last_write xs k before)

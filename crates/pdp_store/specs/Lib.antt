@@ -1,6 +1,6 @@
 pub mod Stored
 pub mod TracedAccess
-pub mod Firsts
+pub mod FirstTouches
 pub mod Parts
 pub mod Pages
 pub mod Pieces

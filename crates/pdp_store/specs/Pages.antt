@@ -1,4 +1,4 @@
--- Pages of 256 words, shared between a store and what was taken of it (this project's profile).
+-- Pages of 256 words, shared between a store and what was taken of it [P].
 use Rattle.std.specs.Prelude.{ℕ, ◌≡◌, ◌+◌, ◌/◌, Bool, if◌then◌else◌, Option, Some, None, List, []}
 use Rattle.std.specs.Prelude.{◌∷◌, map, min, nat_lt, replicate, slice_set}
 use Rattle.std.specs.List.{flat_map}
@@ -15,8 +15,8 @@ SharedPage = Rc Page Global
 abbrev pub page_words : SharedPage → List ℕ
 page_words page = page.value.words.items
 
-abbrev pub page_lasts : SharedPage → List (Option Stamp)
-page_lasts page = page.value.stamps.value.items
+abbrev pub page_stamps : SharedPage → List (Option Stamp)
+page_stamps page = page.value.stamps.value.items
 
 abbrev pub page_serial : SharedPage → ℕ
 page_serial page = page.value.serial
@@ -25,8 +25,8 @@ page_serial page = page.value.serial
 unfoldable pub words_of : List SharedPage → List ℕ
 words_of pages = flat_map page_words pages
 
-unfoldable pub lasts_of : List SharedPage → List (Option Stamp)
-lasts_of pages = flat_map page_lasts pages
+unfoldable pub stamps_of : List SharedPage → List (Option Stamp)
+stamps_of pages = flat_map page_stamps pages
 
 abbrev pub serials : List SharedPage → List ℕ
 serials pages = map page_serial pages
@@ -37,19 +37,19 @@ serials pages = map page_serial pages
 -- given
 pub record PagedStored : Type 0 where
   pub words : List ℕ
-  pub lasts : List (Option Stamp)
+  pub stamps : List (Option Stamp)
   pub bases : List (Option ℕ)
   pub given : ℕ
-  pub firsts : List ℕ
+  pub first_touches : List ℕ
 
 -- a store of so many words as it is made: all zero, none written yet, and nothing taken or loaded
 abbrev pub blank_paged : ℕ → Bool → PagedStored
 blank_paged len stamped = record {
   words = replicate len 0;
-  lasts = if stamped then replicate len None else [];
+  stamps = if stamped then replicate len None else [];
   bases = replicate (len / 256) None;
   given = 0;
-  firsts = no_touch_in len;
+  first_touches = no_touch_in len;
 }
 
 -- a drive, which keeps no stamps: its words, and bases, serials and first touches as above
@@ -57,14 +57,14 @@ pub record PagedWords : Type 0 where
   pub words : List ℕ
   pub bases : List (Option ℕ)
   pub given : ℕ
-  pub firsts : List ℕ
+  pub first_touches : List ℕ
 
 abbrev pub blank_words : ℕ → PagedWords
 blank_words len = record {
   words = replicate len 0;
   bases = replicate (len / 256) None;
   given = 0;
-  firsts = no_touch_in len;
+  first_touches = no_touch_in len;
 }
 
 -- a drive as it is made if one page of zeros, the first that it numbers, is the base of each place
@@ -73,7 +73,7 @@ blank_drive len = record {
   words = replicate len 0;
   bases = replicate (len / 256) (Some 1);
   given = 1;
-  firsts = no_touch_in len;
+  first_touches = no_touch_in len;
 }
 
 -- the most serials that a store gives

@@ -1,7 +1,24 @@
 -- The words of core and of the drives, by the part where they are. No rule of the handbook is here.
-use Rattle.std.specs.Prelude.{ℕ, ◌≡◌, ◌≢◌, ◌/◌, List, [], length, slice_index, slice_index_or}
-use Rattle.std.specs.Prelude.{slice_set}
-use Rattle.pdp_store.specs.TracedAccess.{Part, Core, Drive}
+use Rattle.std.specs.Prelude.{ℕ, ◌≡◌, ◌≢◌, ◌/◌, Bool, true, false, Option, Some, None, List, []}
+use Rattle.std.specs.Prelude.{length, nat_eq, slice_index, slice_index_or, slice_set}
+use Rattle.pdp_store.specs.declared.part.Part.{Part}
+use Rattle.pdp_store.specs.declared.part.Part.TheVariants.{Core, Drive}
+use Rattle.pdp_store.specs.declared.part.WordAt.{WordAt}
+
+-- the drive of this number, or core if there is no number
+abbrev pub part_of : Option ℕ → Part
+part_of None = Core
+part_of (Some number) = Drive number
+
+-- are these the same part?
+abbrev pub is_same_part : Part → Part → Bool
+is_same_part Core Core = true
+is_same_part (Drive number) (Drive other) = nat_eq number other
+is_same_part _ _ = false
+
+-- the word of this number in a part
+abbrev pub word_at : Part → ℕ → WordAt
+word_at part number = record { part = part; number = number }
 
 -- the words of the drive of a number, of those that there are: none of one that isn't there
 abbrev pub words_of_drive : List (List ℕ) → ℕ → List ℕ
@@ -12,7 +29,7 @@ abbrev pub words_in : Part → List ℕ → List (List ℕ) → List ℕ
 words_in Core core drives = core
 words_in (Drive number) core drives = words_of_drive drives number
 
--- core, and the drives, where the words of a part are these
+-- core, and the drives, if the words of a part are these
 abbrev pub core_with : Part → List ℕ → List ℕ → List ℕ
 core_with Core words core = words
 core_with (Drive number) words core = core

@@ -3,11 +3,8 @@ use Rattle.std.specs.Prelude.{ℕ, ◌≡◌, ◌≢◌, ◌/◌, ◌==◌, ◌&
 use Rattle.std.specs.Prelude.{Option, Some, if◌then◌else◌}
 use Rattle.pdp_store.specs.declared.Agent.{Agent}
 use Rattle.pdp_store.specs.declared.Stamp.{Stamp}
-
--- where a word is: in core, or on the drive of a number
-pub data Part : Type 0 where
-  Core : Part
-  Drive : ℕ → Part
+use Rattle.pdp_store.specs.declared.part.Part.{Part}
+use Rattle.pdp_store.specs.declared.part.Part.TheVariants.{Core, Drive}
 
 abbrev pub is_core : Part → Bool
 is_core Core = true
@@ -25,7 +22,7 @@ pub record TracedAccess : Type 0 where
 abbrev pub stamp_of : TracedAccess → Stamp
 stamp_of touch = record { turn = touch.turn; agent = touch.agent }
 
--- the last write to a word of core in a trace, or the one before the trace where it has none
+-- the last write to a word of core in a trace, or the one before the trace if it has none
 abbrev pub last_write : List TracedAccess → ℕ → Option Stamp → Option Stamp
 last_write [] word before = before
 last_write (x ∷ xs) word before =

@@ -14,7 +14,7 @@ use std::rc::Rc;
 pub(crate) enum Base {
     // The page itself.
     Shared(Rc<Page>),
-    // Its serial alone, where it has as many owners as can be counted.
+    // Its serial alone, if it has as many owners as can be counted.
     Numbered(u64),
 }
 
@@ -39,10 +39,10 @@ impl Base {
         }
     }
 
-    // The page, for a place of these words and stamps: itself where it is here and can be shared,
-    // or made again.
+    // The page, for a place of these words and stamps: itself if it is here and can be shared, or
+    // made again.
     //
-    // Err(NoMemory) where a growth was refused.
+    // Err(NoMemory) if memory was refused.
     pub(crate) fn page(
         &self,
         alloc: Global,
@@ -65,7 +65,7 @@ impl Base {
 
 // A page of these words and these stamps under this serial.
 //
-// Err(NoMemory) where a growth was refused.
+// Err(NoMemory) if memory was refused.
 pub(crate) fn new_page(
     alloc: Global,
     serial: u64,

@@ -1,10 +1,10 @@
-//! A store in two arrays: the words, and their stamps where there are any.
+//! A store in two arrays: the words, and their stamps if there are any.
 
 ghost use Rattle.std.specs.Prelude.{◌≡◌, ◌<◌, length, IfOk};
 ghost use Rattle.pdp_store.specs.Stored.{blank_store, with_word};
 
 use crate::page::PAGE_WORDS;
-use crate::touches::FirstTouches;
+use crate::touches::StoreTouches;
 use crate::{Stamp, Store};
 use pdp_word::NoMemory;
 use std::alloc::Global;
@@ -20,7 +20,7 @@ pub struct Flat {
     stamps: Vec<Option<Stamp>>,
 
     // The first touch of each page of 256 words; the last page may have fewer.
-    touches: FirstTouches,
+    touches: StoreTouches,
 }
 
 impl Model for Flat {
@@ -30,17 +30,17 @@ impl Model for Flat {
 
     ghost view = { λ s. record {
       words = s.words.items;
-      lasts = s.stamps.items;
-      firsts = s.touches;
+      stamps = s.stamps.items;
+      first_touches = s.touches;
     } };
 
     ghost invariant = { λ s. HasLastOfEachOrNone s.words.items s.stamps.items };
 }
 
 impl Flat {
-    /// A store of `len` words, each of them zero and none written yet; with stamps where `stamped`.
+    /// A store of `len` words, each of them zero and none written yet; with stamps if `stamped`.
     ///
-    /// [`NoMemory`] only where memory for the words or for the stamps was refused.
+    /// [`NoMemory`] only if memory for the words or for the stamps was refused.
     pub fn new(alloc: Global, len: usize, stamped: bool) -> Result<Flat, NoMemory>
         ensures { IfOk result (λ store. store ≡ blank_store len stamped) }
     {
@@ -50,7 +50,7 @@ impl Flat {
         } else {
             Vec::new(alloc)
         };
-        let touches = FirstTouches::new(alloc, len)?;
+        let touches = StoreTouches::new(alloc, len)?;
         Ok(Flat {
             words,
             stamps,
@@ -58,7 +58,7 @@ impl Flat {
         })
     }
 
-    // Makes word `i` equal to `w`, and its last stamp, where the store has stamps, equal to `last`.
+    // Makes word `i` equal to `w`, and its last stamp, if the store has stamps, equal to `last`.
     #[inline(always)]
     fn replace(&mut self, i: usize, w: u16, last: Option<Stamp>)
         requires { i < length self.old.words }
@@ -74,9 +74,9 @@ impl Flat {
 impl Store for Flat {
     ghost words = { λ s. s.words };
 
-    ghost lasts = { λ s. s.lasts };
+    ghost stamps = { λ s. s.stamps };
 
-    ghost firsts = { λ s. s.firsts };
+    ghost first_touches = { λ s. s.first_touches };
 
     #[inline(always)]
     fn len(&self) -> usize {

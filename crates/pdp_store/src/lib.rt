@@ -31,7 +31,7 @@
 ghost use Rattle.std.specs.Prelude.{◌≡◌, ◌<◌, ◌*◌, ◌/◌, length, map, nat_le, slice_index};
 ghost use Rattle.std.specs.Prelude.{slice_index_or, slice_set};
 ghost use Rattle.pdp_store.specs.Stored.{HasLastOfEachOrNone};
-ghost use Rattle.pdp_store.specs.Firsts.{firsts_before, never, first_turn, touch_page};
+ghost use Rattle.pdp_store.specs.FirstTouches.{first_touches_before, never, first_turn, touch_page};
 
 mod base;
 mod flat_store;
@@ -42,6 +42,7 @@ mod page_runs;
 mod paged_drive;
 mod paged_store;
 mod paging;
+mod part;
 mod touches;
 
 pub use flat_store::Flat;
@@ -51,6 +52,7 @@ pub use page_lists::{page_with_word, with_page};
 pub use paged_drive::PagedDrive;
 pub use paged_store::Paged;
 pub use paging::{Paging, SharedPaging};
+pub use part::{Part, WordAt};
 
 /// Who made an access to a word: the processor, or the disk in a transfer of its own.
 #[derive(Clone, Copy, Debug, PartialEq, Eq)]
@@ -71,12 +73,12 @@ pub struct Stamp {
 ///
 /// Words are numbered from 0 up: word i of core memory is the one at byte address 2i. The number of
 /// words never changes. A store is made with stamps (core memory) or without (a drive); one without
-/// answers `None` to [`Store::last`] always. Stamps are this project's profile.
+/// answers `None` to [`Store::last`] always. Stamps are [P].
 ///
 /// Words stand in pages of 256, numbered from 0 up: word i is in page i / 256. A store keeps the
 /// first touch of each page, which is the first turn with an access to one of its words. The caller
 /// reports each access by [`Store::touch`]; a read or a write by itself touches nothing. First
-/// touches are this project's profile.
+/// touches are [P].
 ///
 /// No call fails or takes memory. The caller keeps each index below [`Store::len`], except in
 /// [`Store::touch`] and [`Store::first`].
@@ -87,34 +89,34 @@ pub trait Store {
     // The words, in order.
     ghost words: { Self → List ℕ };
 
-    // The last stamp of each word, or nothing at all where the store is without stamps.
-    ghost lasts: { Self → List (Option Stamp) };
+    // The last stamp of each word, or nothing at all if the store is without stamps.
+    ghost stamps: { Self → List (Option Stamp) };
 
     // The first touch of each page, or `never`.
-    ghost firsts: { Self → List ℕ };
+    ghost first_touches: { Self → List ℕ };
 
     /// How many words there are.
     fn len(&self) -> usize
         ensures words { result ≡ length (words self.now) }
-        ensures lasts { HasLastOfEachOrNone (words self.now) (lasts self.now) };
+        ensures stamps { HasLastOfEachOrNone (words self.now) (stamps self.now) };
 
     /// Word `i`.
     fn read(&self, i: usize) -> u16
         requires { i < length (words self.now) }
         ensures { result ≡ slice_index (words self.now) i };
 
-    /// Makes word `i` equal to `w`, and, where the store has stamps, gives the word this stamp.
+    /// Makes word `i` equal to `w`, and, if the store has stamps, gives the word this stamp.
     fn write(&mut self, i: usize, w: u16, stamp: Stamp)
         requires { i < length (words self.old) }
         ensures words { words self.new ≡ slice_set (words self.old) i w }
-        ensures lasts { lasts self.new ≡ slice_set (lasts self.old) i (Some stamp) }
-        ensures firsts { firsts self.new ≡ firsts self.old };
+        ensures stamps { stamps self.new ≡ slice_set (stamps self.old) i (Some stamp) }
+        ensures first_touches { first_touches self.new ≡ first_touches self.old };
 
-    /// The stamp of the last `write` of word `i`. `None` where there was none since the store was
-    /// made or since the last `set` of the word, and where the store is without stamps.
+    /// The stamp of the last `write` of word `i`. `None` if there was none since the store was made
+    /// or since the last `set` of the word, and if the store is without stamps.
     fn last(&self, i: usize) -> Option<Stamp>
         requires { i < length (words self.now) }
-        ensures { result ≡ slice_index_or (lasts self.now) i None };
+        ensures { result ≡ slice_index_or (stamps self.now) i None };
 
     /// Makes word `i` equal to `w` and takes its stamp away: for what an image or a patch puts
     /// there, which is no write of the machine, and for what the disk writes to a drive, which has
@@ -122,8 +124,8 @@ pub trait Store {
     fn set(&mut self, i: usize, w: u16)
         requires { i < length (words self.old) }
         ensures words { words self.new ≡ slice_set (words self.old) i w }
-        ensures lasts { lasts self.new ≡ slice_set (lasts self.old) i None }
-        ensures firsts { firsts self.new ≡ firsts self.old };
+        ensures stamps { stamps self.new ≡ slice_set (stamps self.old) i None }
+        ensures first_touches { first_touches self.new ≡ first_touches self.old };
 
     /// Notes an access to word `i` in turn `turn`. The page of the word keeps the earlier of `turn`
     /// and its first touch.
@@ -133,23 +135,25 @@ pub trait Store {
     fn touch(&mut self, i: usize, turn: u32)
         requires { i / 256 * 256 < length (words self.old) }
         ensures words { words self.new ≡ words self.old }
-        ensures lasts { lasts self.new ≡ lasts self.old }
-        ensures firsts { firsts self.new ≡ touch_page (firsts self.old) (i / 256) turn };
+        ensures stamps { stamps self.new ≡ stamps self.old }
+        ensures first_touches { first_touches self.new
+            ≡ touch_page (first_touches self.old) (i / 256) turn };
 
     /// Returns the first touch of page `page`. `None` if it has none, if every touch of it was
     /// forgotten, and if the store has no such page.
     fn first(&self, page: usize) -> Option<u32>
-        ensures { result ≡ first_turn (slice_index_or (firsts self.now) page never) };
+        ensures { result ≡ first_turn (slice_index_or (first_touches self.now) page never) };
 
     /// Whether the page of word `i` was touched in turn `turn` or before it, so that a touch in
     /// that turn would change nothing.
     fn is_touched(&self, i: usize, turn: u32) -> bool
         requires { i < length (words self.now) }
-        ensures { result ≡ nat_le (slice_index_or (firsts self.now) (i / 256) never) turn };
+        ensures { result ≡ nat_le (slice_index_or (first_touches self.now) (i / 256) never) turn };
 
     /// Drops the first touches of turn `turn` and of later turns; earlier ones stay.
     fn forget(&mut self, turn: u32)
         ensures words { words self.new ≡ words self.old }
-        ensures lasts { lasts self.new ≡ lasts self.old }
-        ensures firsts { firsts self.new ≡ firsts_before turn (firsts self.old) };
+        ensures stamps { stamps self.new ≡ stamps self.old }
+        ensures first_touches { first_touches self.new
+            ≡ first_touches_before turn (first_touches self.old) };
 }

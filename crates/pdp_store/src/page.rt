@@ -13,15 +13,14 @@ pub const PAGE_WORDS: usize = 256;
 /// A list of shared pages, itself shared: the words of a drive, 256 at each place.
 pub type Pages = Rc<Vec<Rc<Page>>>;
 
-/// 256 words with their last stamps, as a store had them at a place when they were taken. (This
-/// project's profile.)
+/// 256 words with their last stamps, as a store had them at a place when they were taken. [P]
 #[derive(Drop)]
 pub struct Page {
-    /// The number that the store gave it when it was made: from 1 up, each number once; 0 where
-    /// they were used up.
+    /// The number that the store gave it when it was made: from 1 up, each number once; 0 if they
+    /// were used up.
     pub serial: u64,
     pub words: Vec<u16>,
-    /// As many as the words; or none, where the store is without stamps. The pages that are made of
+    /// As many as the words; or none, if the store is without stamps. The pages that are made of
     /// this one with a word changed share them.
     pub stamps: Rc<Vec<Option<Stamp>>>,
     ghost full: { length words.items ≡ 256 },
@@ -31,7 +30,7 @@ pub struct Page {
 impl Page {
     /// A page of these words and these stamps under this serial.
     ///
-    /// Err(NoMemory) where a growth was refused.
+    /// Err(NoMemory) if memory was refused.
     pub(crate) fn copied(
         alloc: Global,
         serial: u64,
@@ -55,8 +54,7 @@ impl Page {
 
     /// The page with its word `i` (0 to 255) changed to `w`, its stamps shared, under this serial.
     ///
-    /// Err(NoMemory) if a growth was refused, or if the stamps have as many owners as can be
-    /// counted.
+    /// Err(NoMemory) if memory was refused, or if the stamps have as many owners as can be counted.
     pub(crate) fn changed(
         &self,
         alloc: Global,

@@ -3,7 +3,7 @@
 ghost use Rattle.std.specs.Prelude.{◌≡◌, ◌<◌, ◌/◌, ◌%◌, length, slice_set, IfOk};
 ghost use Rattle.pdp_store.specs.Bases.{IsPageOf};
 ghost use Rattle.pdp_store.specs.PageLists.{pages_shared};
-ghost use Rattle.pdp_store.specs.Pages.{lasts_of, next_given, next_serial, words_of};
+ghost use Rattle.pdp_store.specs.Pages.{stamps_of, next_given, next_serial, words_of};
 ghost use Rattle.pdp_store.specs.Pieces.{piece};
 ghost use Rattle.pdp_store.specs.Stored.{HasLastOfEachOrNone};
 
@@ -14,11 +14,11 @@ use std::alloc::Global;
 use std::rc::Rc;
 
 /// The page of word `i`, counted from 0 over all these pages, with that word changed to `w`. It has
-/// the next serial of the store, and the stamps of the page as it was. (This project's profile.)
+/// the next serial of the store, and the stamps of the page as it was. [P]
 ///
 /// # Errors
 ///
-/// `NoMemory` if a growth was refused. The words, last stamps, first touches and bases of the store
+/// `NoMemory` if memory was refused. The words, last stamps, first touches and bases of the store
 /// stay in any case.
 pub fn page_with_word<S: Paging>(
     store: &mut S,
@@ -28,25 +28,25 @@ pub fn page_with_word<S: Paging>(
     w: u16,
 ) -> Result<Rc<Page>, NoMemory>
     requires there { i < length (words_of pages.now) }
-    requires stamped { HasLastOfEachOrNone (words_of pages.now) (lasts_of pages.now) }
+    requires stamped { HasLastOfEachOrNone (words_of pages.now) (stamps_of pages.now) }
     ensures words { S.words store.new ≡ S.words store.old }
-    ensures lasts { S.lasts store.new ≡ S.lasts store.old }
-    ensures firsts { S.firsts store.new ≡ S.firsts store.old }
+    ensures stamps { S.stamps store.new ≡ S.stamps store.old }
+    ensures first_touches { S.first_touches store.new ≡ S.first_touches store.old }
     ensures bases { S.bases store.new ≡ S.bases store.old }
     ensures given { IfOk result (λ _. S.given store.new ≡ next_given (S.given store.old)) }
     ensures page { IfOk result (λ page. IsPageOf page
         (slice_set (piece (i / 256) (words_of pages.now)) (i % 256) w)
-        (piece (i / 256) (lasts_of pages.now)) (next_serial (S.given store.old))) }
+        (piece (i / 256) (stamps_of pages.now)) (next_serial (S.given store.old))) }
 {
     let page = store.patched(alloc, &pages[i / PAGE_WORDS], i % PAGE_WORDS, w)?;
     Ok(Rc::new(alloc, page)?)
 }
 
-/// These pages with this one at a place. All other pages are shared. (This project's profile.)
+/// These pages with this one at a place. All other pages are shared. [P]
 ///
 /// # Errors
 ///
-/// `NoMemory` if a growth was refused, or if a page has as many owners as can be counted.
+/// `NoMemory` if memory was refused, or if a page has as many owners as can be counted.
 pub fn with_page(
     alloc: Global,
     pages: &Pages,

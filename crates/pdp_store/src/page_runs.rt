@@ -2,7 +2,7 @@
 
 ghost use Rattle.std.specs.Prelude.{◌≡◌, ◌<◌, ◌≤◌, ◌+◌, ◌*◌, length};
 ghost use Rattle.pdp_store.specs.Bases.{AreBases};
-ghost use Rattle.pdp_store.specs.Pages.{lasts_of, page_lasts, page_words, words_of};
+ghost use Rattle.pdp_store.specs.Pages.{stamps_of, page_stamps, page_words, words_of};
 ghost use Rattle.pdp_store.specs.Pieces.{piece, with_items_at};
 
 use crate::Stamp;
@@ -10,7 +10,7 @@ use crate::base::Base;
 use crate::page::{PAGE_WORDS, Page};
 use std::rc::Rc;
 
-// The 256 items at this place, or none, where there are none at all.
+// The 256 items at this place, or none, if there are none at all.
 pub(crate) fn piece_at<T>(items: &[T], place: usize) -> &[T]
     requires { 0 < length items.now → place * 256 + 256 ≤ length items.now }
     ensures piece { result.now ≡ piece place items.now }
@@ -38,10 +38,10 @@ pub(crate) fn put_words(words: &mut [u16], pages: &[Rc<Page>])
 
 // Puts the last stamps of these pages, one page after the other, in place of the stamps that are
 // there.
-#[tactic(auto, unfolding(crate::specs::Pages::lasts_of), using(crate::proofs::Rules::item_runs))]
+#[tactic(auto, unfolding(crate::specs::Pages::stamps_of), using(crate::proofs::Rules::item_runs))]
 pub(crate) fn put_stamps(stamps: &mut [Option<Stamp>], pages: &[Rc<Page>])
-    requires { length (lasts_of pages.now) ≡ length stamps.old }
-    ensures { stamps.new ≡ lasts_of pages.now }
+    requires { length (stamps_of pages.now) ≡ length stamps.old }
+    ensures { stamps.new ≡ stamps_of pages.now }
 {
     let mut at = 0;
     for page in pages {
@@ -60,7 +60,7 @@ fn words_in(page: &Rc<Page>) -> &[u16]
 // The last stamps of a page.
 #[inline(always)]
 fn stamps_in(page: &Rc<Page>) -> &[Option<Stamp>]
-    ensures { result.now ≡ page_lasts page.now }
+    ensures { result.now ≡ page_stamps page.now }
 {
     &page.stamps
 }

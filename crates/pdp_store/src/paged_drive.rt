@@ -5,19 +5,19 @@ ghost use Rattle.std.specs.Prelude.{◌≡◌, ◌<◌, ◌≤◌, ◌+◌, ◌*
 ghost use Rattle.std.specs.Prelude.{slice_get, slice_index, slice_index_or, slice_set, replicate};
 ghost use Rattle.std.specs.Prelude.{IfOk, IfSome, false};
 ghost use Rattle.pdp_store.specs.Pages.{blank_drive, blank_words, without_base, next_given};
-ghost use Rattle.pdp_store.specs.Pages.{next_serial, words_of, lasts_of, serials, serials_taken};
+ghost use Rattle.pdp_store.specs.Pages.{next_serial, words_of, stamps_of, serials, serials_taken};
 ghost use Rattle.pdp_store.specs.Pages.{given_after};
 ghost use Rattle.pdp_store.specs.declared.paged_drive.Backing.TheVariants.{Shared};
 ghost use Rattle.pdp_store.specs.DriveBackings.{AreTaken, AreZeros, base_from, copied_from};
 ghost use Rattle.pdp_store.specs.DriveBackings.{drive_from_pages, own_with_copy, with_part};
 ghost use Rattle.pdp_store.specs.Bases.{IsPageOf, given_there, serial_there};
 ghost use Rattle.pdp_store.specs.Pieces.{piece};
-ghost use Rattle.pdp_store.specs.Firsts.{firsts_before, touch_page};
+ghost use Rattle.pdp_store.specs.FirstTouches.{first_touches_before, touch_page};
 
 use crate::base::new_page;
 use crate::page::{PAGE_WORDS, Page, Pages};
 use crate::paging::{Paging, SharedPaging};
-use crate::touches::FirstTouches;
+use crate::touches::StoreTouches;
 use crate::{Stamp, Store};
 use pdp_word::NoMemory;
 use std::alloc::Global;
@@ -38,7 +38,7 @@ enum Backing {
 }
 
 /// A store without stamps which reads each place of 256 words from a page that it shares, until a
-/// word there is written. (This project's profile.)
+/// word there is written. [P]
 ///
 /// So to load pages is to share their list, whose words stay where they are.
 #[derive(Drop)]
@@ -58,7 +58,7 @@ pub struct PagedDrive {
     changed: bool,
 
     // The first touch of each place.
-    touches: FirstTouches,
+    touches: StoreTouches,
 }
 
 impl Model for PagedDrive {
@@ -73,7 +73,7 @@ impl Model for PagedDrive {
       words = words_read s.pages.value.items s.backings.items s.own.items;
       bases = bases_held s.pages.value.items s.backings.items;
       given = s.given;
-      firsts = s.touches;
+      first_touches = s.touches;
     } };
 
     ghost invariant = { λ s. AreDriveFields s.pages.value.items s.backings.items s.own.items s.given
@@ -83,7 +83,7 @@ impl Model for PagedDrive {
 impl PagedDrive {
     /// A drive of `len` words, a whole number of pages: all zero, and nothing taken or loaded.
     ///
-    /// Err(NoMemory) where a growth was refused.
+    /// Err(NoMemory) if memory was refused.
     pub fn new(alloc: Global, len: usize) -> Result<PagedDrive, NoMemory>
         requires { (len / 256) * 256 ≡ len }
         ensures { IfOk result (λ drive. drive ≡ blank_words len) }
@@ -92,7 +92,7 @@ impl PagedDrive {
         let pages = Rc::new(alloc, list)?;
         let backings = vec![in alloc; Backing::Written; len / PAGE_WORDS]?;
         let own = vec![in alloc; 0; len]?;
-        let touches = FirstTouches::new(alloc, len)?;
+        let touches = StoreTouches::new(alloc, len)?;
         Ok(PagedDrive {
             pages,
             backings,
@@ -103,14 +103,13 @@ impl PagedDrive {
         })
     }
 
-    /// Makes a drive of `len` zero words; `len` is a whole number of pages. (This project's
-    /// profile.)
+    /// Makes a drive of `len` zero words; `len` is a whole number of pages. [P]
     ///
     /// Each place reads one page of zeros, which all of them own. So the drive takes memory for
     /// that page, for the list of its owners, for the words of its own that a write needs, and for
     /// the first touches of its places. Pages that are taken of the drive share the list.
     ///
-    /// Err(NoMemory) if a growth was refused, or if the page would have more owners than can be
+    /// Err(NoMemory) if memory was refused, or if the page would have more owners than can be
     /// counted.
     pub fn blank(alloc: Global, len: usize) -> Result<PagedDrive, NoMemory>
         requires { (len / 256) * 256 ≡ len }
@@ -120,7 +119,7 @@ impl PagedDrive {
         let pages = Rc::new(alloc, list)?;
         let backings = vec![in alloc; Backing::Shared; len / PAGE_WORDS]?;
         let own = vec![in alloc; 0; len]?;
-        let touches = FirstTouches::new(alloc, len)?;
+        let touches = StoreTouches::new(alloc, len)?;
         Ok(PagedDrive {
             pages,
             backings,
@@ -149,9 +148,9 @@ fn zero_pages(alloc: Global, count: usize) -> Result<Vec<Rc<Page>>, NoMemory>
 impl Store for PagedDrive {
     ghost words = { λ s. s.words };
 
-    ghost lasts = { λ s. [] };
+    ghost stamps = { λ s. [] };
 
-    ghost firsts = { λ s. s.firsts };
+    ghost first_touches = { λ s. s.first_touches };
 
     #[inline(always)]
     fn len(&self) -> usize {
@@ -173,7 +172,7 @@ impl Store for PagedDrive {
         ensures words { self.new.words ≡ slice_set self.old.words i w }
         ensures bases { self.new.bases ≡ without_base self.old.bases i }
         ensures given { self.new.given ≡ self.old.given }
-        ensures firsts { self.new.firsts ≡ self.old.firsts }
+        ensures first_touches { self.new.first_touches ≡ self.old.first_touches }
     {
         self.replace(i, w);
     }
@@ -191,7 +190,7 @@ impl Store for PagedDrive {
         ensures words { self.new.words ≡ slice_set self.old.words i w }
         ensures bases { self.new.bases ≡ without_base self.old.bases i }
         ensures given { self.new.given ≡ self.old.given }
-        ensures firsts { self.new.firsts ≡ self.old.firsts }
+        ensures first_touches { self.new.first_touches ≡ self.old.first_touches }
     {
         self.replace(i, w);
     }
@@ -200,7 +199,8 @@ impl Store for PagedDrive {
     fn touch(&mut self, i: usize, turn: u32)
         requires { i / 256 * 256 < length self.old.words }
         ensures words { self.new.words ≡ self.old.words }
-        ensures firsts { self.new.firsts ≡ touch_page self.old.firsts (i / 256) turn }
+        ensures first_touches { self.new.first_touches
+            ≡ touch_page self.old.first_touches (i / 256) turn }
         ensures bases { self.new.bases ≡ self.old.bases }
         ensures given { self.new.given ≡ self.old.given }
     {
@@ -218,7 +218,8 @@ impl Store for PagedDrive {
 
     fn forget(&mut self, turn: u32)
         ensures words { self.new.words ≡ self.old.words }
-        ensures firsts { self.new.firsts ≡ firsts_before turn self.old.firsts }
+        ensures first_touches { self.new.first_touches
+            ≡ first_touches_before turn self.old.first_touches }
         ensures bases { self.new.bases ≡ self.old.bases }
         ensures given { self.new.given ≡ self.old.given }
     {
@@ -234,7 +235,7 @@ impl PagedDrive {
         ensures words { self.new.words ≡ slice_set self.old.words i w }
         ensures bases { self.new.bases ≡ without_base self.old.bases i }
         ensures given { self.new.given ≡ self.old.given }
-        ensures firsts { self.new.firsts ≡ self.old.firsts }
+        ensures first_touches { self.new.first_touches ≡ self.old.first_touches }
     {
         let place = i / PAGE_WORDS;
         let held = self.backings[place];
@@ -245,7 +246,7 @@ impl PagedDrive {
     }
 }
 
-// Copies the words of this place from its page into `own`, where it is shared.
+// Copies the words of this place from its page into `own`, if it is shared.
 #[inline(always)]
 fn unshare(own: &mut Vec<u16>, place: usize, held: Backing, pages: &[Rc<Page>])
     requires shared { held ≡ Shared → place < length pages.now }
@@ -313,12 +314,12 @@ impl PagedDrive {
         self.backings.len()
     }
 
-    // The list of the pages, where each place is read from it; None too where it has as many owners
-    // as can be counted.
+    // The list of the pages, if each place is read from it; None too if it has as many owners as
+    // can be counted.
     fn kept(&self) -> Option<Pages>
         ensures kept { IfSome result (λ pages. self.now ≡ drive_from_pages pages.value.items
-            self.now.given self.now.firsts) }
-        ensures lasts { IfSome result (λ pages. lasts_of pages.value.items ≡ []) }
+            self.now.given self.now.first_touches) }
+        ensures stamps { IfSome result (λ pages. stamps_of pages.value.items ≡ []) }
     {
         if self.changed {
             return None;
@@ -331,7 +332,7 @@ impl PagedDrive {
 
     // The places as pages, and how many serials are given then.
     //
-    // Err(NoMemory) where a growth was refused.
+    // Err(NoMemory) if memory was refused.
     fn listed(&self, alloc: Global) -> Result<(Vec<Rc<Page>>, u64), NoMemory>
         ensures { IfOk result (λ taken. AreTaken taken.0.items taken.1 self.now.words self.now.bases
             self.now.given) }
@@ -346,9 +347,9 @@ impl PagedDrive {
         Ok((list, given))
     }
 
-    // A place as a page: its own where it is shared, else a new one.
+    // A place as a page: its own if it is shared, else a new one.
     //
-    // Err(NoMemory) where a growth was refused.
+    // Err(NoMemory) if memory was refused.
     fn page_of(&self, alloc: Global, place: usize, given: u64) -> Result<Rc<Page>, NoMemory>
         requires { place < length self.now.bases }
         ensures { IfOk result (λ page. IsPageOf page (piece place self.now.words) [] (serial_there
@@ -376,8 +377,8 @@ impl PagedDrive {
     // Reads each place from this list from now on.
     fn renew(&mut self, pages: Pages, given: u64)
         requires words { length (words_of pages.value.items) ≡ length self.old.words }
-        requires lasts { lasts_of pages.value.items ≡ [] }
-        ensures { self.new ≡ drive_from_pages pages.value.items given self.old.firsts }
+        requires stamps { stamps_of pages.value.items ≡ [] }
+        ensures { self.new ≡ drive_from_pages pages.value.items given self.old.first_touches }
     {
         share_all(&mut self.backings, self.changed);
         self.pages = pages;
@@ -395,7 +396,7 @@ fn part(words: &[u16], place: usize) -> &[u16]
     &words[start..start + PAGE_WORDS]
 }
 
-// Makes each place shared, where some may not be.
+// Makes each place shared, if some may not be.
 fn share_all(backings: &mut Vec<Backing>, changed: bool)
     requires { changed ≡ false → backings.old.items ≡ replicate (length backings.old.items) Shared }
     ensures { backings.new.items ≡ replicate (length backings.old.items) Shared }
@@ -434,8 +435,8 @@ impl PagedDrive {
     #[cold]
     fn copy_all(&mut self, pages: &[Rc<Page>])
         requires words { length (words_of pages.now) ≡ length self.old.words }
-        requires lasts { lasts_of pages.now ≡ [] }
-        ensures { self.new ≡ drive_from_pages pages.now self.old.given self.old.firsts }
+        requires stamps { stamps_of pages.now ≡ [] }
+        ensures { self.new ≡ drive_from_pages pages.now self.old.given self.old.first_touches }
     {
         // This read gives the prover the range of the field.
         let _given = self.given;

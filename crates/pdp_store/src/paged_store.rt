@@ -4,8 +4,8 @@ ghost use Rattle.std.specs.Prelude.{◌≡◌, ◌<◌, ◌≤◌, ◌*◌, ◌/
 ghost use Rattle.std.specs.Prelude.{replicate, slice_get, slice_set, slice_index_or, true, []};
 ghost use Rattle.std.specs.Prelude.{IfOk, OnErr, is_ok, if◌then◌else◌};
 ghost use Rattle.pdp_store.specs.Stored.{HasLastOfEachOrNone};
-ghost use Rattle.pdp_store.specs.Firsts.{firsts_before, touch_page};
-ghost use Rattle.pdp_store.specs.Pages.{blank_paged, lasts_of, next_given, next_serial, serials};
+ghost use Rattle.pdp_store.specs.FirstTouches.{first_touches_before, touch_page};
+ghost use Rattle.pdp_store.specs.Pages.{blank_paged, stamps_of, next_given, next_serial, serials};
 ghost use Rattle.pdp_store.specs.Pages.{without_base, words_of};
 ghost use Rattle.pdp_store.specs.Bases.{AreAllTaken, IsPageOf, given_there, serial_there};
 ghost use Rattle.pdp_store.specs.Pieces.{piece};
@@ -13,7 +13,7 @@ ghost use Rattle.pdp_store.specs.Pieces.{piece};
 use crate::base::{Base, new_page};
 use crate::page::{PAGE_WORDS, Page};
 use crate::page_runs::{piece_at, put_bases, put_stamps, put_words};
-use crate::touches::FirstTouches;
+use crate::touches::StoreTouches;
 use crate::{Paging, Stamp, Store};
 use pdp_word::NoMemory;
 use std::alloc::Global;
@@ -23,7 +23,7 @@ use std::rc::Rc;
 /// A store of pages that keeps its words in one array and their stamps in another, so that a read
 /// costs what it costs in [`Flat`](crate::Flat), and a write the mark of its place more. Taking
 /// copies the places that were written since they were last taken or loaded; loading copies every
-/// place. (This project's profile.)
+/// place. [P]
 #[derive(Drop)]
 pub struct Paged {
     words: Vec<u16>,
@@ -31,7 +31,7 @@ pub struct Paged {
     // As many as the words; or empty, in a store without stamps.
     stamps: Vec<Option<Stamp>>,
 
-    // The base of each place, which counts only where the place isn't marked as written since.
+    // The base of each place, which counts only if the place isn't marked as written since.
     bases: Vec<Base>,
     written: Vec<bool>,
 
@@ -39,7 +39,7 @@ pub struct Paged {
     given: u64,
 
     // The first touch of each place.
-    touches: FirstTouches,
+    touches: StoreTouches,
 }
 
 impl Model for Paged {
@@ -51,10 +51,10 @@ impl Model for Paged {
 
     ghost view = { λ s. record {
       words = s.words.items;
-      lasts = s.stamps.items;
+      stamps = s.stamps.items;
       bases = bases_of s.written.items s.bases.items;
       given = s.given;
-      firsts = s.touches;
+      first_touches = s.touches;
     } };
 
     ghost invariant = { λ s.
@@ -64,9 +64,9 @@ impl Model for Paged {
 
 impl Paged {
     /// A store of `len` words, a multiple of 256, each of them zero and none written yet; with
-    /// stamps where `stamped`.
+    /// stamps if `stamped`.
     ///
-    /// Err(NoMemory) where a growth was refused.
+    /// Err(NoMemory) if memory was refused.
     pub fn new(alloc: Global, len: usize, stamped: bool) -> Result<Paged, NoMemory>
         requires { (len / 256) * 256 ≡ len }
         ensures { IfOk result (λ store. store ≡ blank_paged len stamped) }
@@ -76,7 +76,7 @@ impl Paged {
         let stamps = no_stamps(alloc, len, stamped)?;
         let bases = no_bases(alloc, places)?;
         let written = vec![in alloc; true; places]?;
-        let touches = FirstTouches::new(alloc, len)?;
+        let touches = StoreTouches::new(alloc, len)?;
         Ok(Paged {
             words,
             stamps,
@@ -90,7 +90,7 @@ impl Paged {
 
 // The stamps of a number of words that weren't written yet; none if not `stamped`.
 //
-// Err(NoMemory) if a growth was refused.
+// Err(NoMemory) if memory was refused.
 fn no_stamps(alloc: Global, len: usize, stamped: bool) -> Result<Vec<Option<Stamp>>, NoMemory>
     ensures { IfOk result (λ stamps. stamps.items ≡ (if stamped then replicate len None else [])) }
 {
@@ -103,7 +103,7 @@ fn no_stamps(alloc: Global, len: usize, stamped: bool) -> Result<Vec<Option<Stam
 
 // So many bases, each to be marked, since there is no page of it.
 //
-// Err(NoMemory) where a growth was refused.
+// Err(NoMemory) if memory was refused.
 fn no_bases(alloc: Global, places: usize) -> Result<Vec<Base>, NoMemory>
     ensures { IfOk result (λ bases. length bases.items ≡ places) }
 {
@@ -114,7 +114,7 @@ fn no_bases(alloc: Global, places: usize) -> Result<Vec<Base>, NoMemory>
     Ok(bases)
 }
 
-// Makes the last stamp of word `i`, where there are stamps, equal to `last`.
+// Makes the last stamp of word `i`, if there are stamps, equal to `last`.
 #[inline(always)]
 fn put_last(stamps: &mut Vec<Option<Stamp>>, i: usize, last: Option<Stamp>)
     ensures { stamps.new.items ≡ slice_set stamps.old.items i last }
@@ -125,15 +125,15 @@ fn put_last(stamps: &mut Vec<Option<Stamp>>, i: usize, last: Option<Stamp>)
 }
 
 impl Paged {
-    // Makes word `i` equal to `w`, and its last stamp, where the store has stamps, equal to `last`.
+    // Makes word `i` equal to `w`, and its last stamp, if the store has stamps, equal to `last`.
     #[inline(always)]
     fn replace(&mut self, i: usize, w: u16, last: Option<Stamp>)
         requires { i < length self.old.words }
         ensures words { self.new.words ≡ slice_set self.old.words i w }
-        ensures lasts { self.new.lasts ≡ slice_set self.old.lasts i last }
+        ensures stamps { self.new.stamps ≡ slice_set self.old.stamps i last }
         ensures bases { self.new.bases ≡ without_base self.old.bases i }
         ensures given { self.new.given ≡ self.old.given }
-        ensures firsts { self.new.firsts ≡ self.old.firsts }
+        ensures first_touches { self.new.first_touches ≡ self.old.first_touches }
     {
         self.words[i] = w;
         self.written[i / PAGE_WORDS] = true;
@@ -144,9 +144,9 @@ impl Paged {
 impl Store for Paged {
     ghost words = { λ s. s.words };
 
-    ghost lasts = { λ s. s.lasts };
+    ghost stamps = { λ s. s.stamps };
 
-    ghost firsts = { λ s. s.firsts };
+    ghost first_touches = { λ s. s.first_touches };
 
     #[inline(always)]
     fn len(&self) -> usize {
@@ -162,10 +162,10 @@ impl Store for Paged {
     fn write(&mut self, i: usize, w: u16, stamp: Stamp)
         requires { i < length self.old.words }
         ensures words { self.new.words ≡ slice_set self.old.words i w }
-        ensures lasts { self.new.lasts ≡ slice_set self.old.lasts i (Some stamp) }
+        ensures stamps { self.new.stamps ≡ slice_set self.old.stamps i (Some stamp) }
         ensures bases { self.new.bases ≡ without_base self.old.bases i }
         ensures given { self.new.given ≡ self.old.given }
-        ensures firsts { self.new.firsts ≡ self.old.firsts }
+        ensures first_touches { self.new.first_touches ≡ self.old.first_touches }
     {
         self.replace(i, w, Some(stamp));
     }
@@ -179,10 +179,10 @@ impl Store for Paged {
     fn set(&mut self, i: usize, w: u16)
         requires { i < length self.old.words }
         ensures words { self.new.words ≡ slice_set self.old.words i w }
-        ensures lasts { self.new.lasts ≡ slice_set self.old.lasts i None }
+        ensures stamps { self.new.stamps ≡ slice_set self.old.stamps i None }
         ensures bases { self.new.bases ≡ without_base self.old.bases i }
         ensures given { self.new.given ≡ self.old.given }
-        ensures firsts { self.new.firsts ≡ self.old.firsts }
+        ensures first_touches { self.new.first_touches ≡ self.old.first_touches }
     {
         self.replace(i, w, None);
     }
@@ -191,8 +191,9 @@ impl Store for Paged {
     fn touch(&mut self, i: usize, turn: u32)
         requires { i / 256 * 256 < length self.old.words }
         ensures words { self.new.words ≡ self.old.words }
-        ensures lasts { self.new.lasts ≡ self.old.lasts }
-        ensures firsts { self.new.firsts ≡ touch_page self.old.firsts (i / 256) turn }
+        ensures stamps { self.new.stamps ≡ self.old.stamps }
+        ensures first_touches { self.new.first_touches
+            ≡ touch_page self.old.first_touches (i / 256) turn }
         ensures bases { self.new.bases ≡ self.old.bases }
         ensures given { self.new.given ≡ self.old.given }
     {
@@ -210,8 +211,9 @@ impl Store for Paged {
 
     fn forget(&mut self, turn: u32)
         ensures words { self.new.words ≡ self.old.words }
-        ensures lasts { self.new.lasts ≡ self.old.lasts }
-        ensures firsts { self.new.firsts ≡ firsts_before turn self.old.firsts }
+        ensures stamps { self.new.stamps ≡ self.old.stamps }
+        ensures first_touches { self.new.first_touches
+            ≡ first_touches_before turn self.old.first_touches }
         ensures bases { self.new.bases ≡ self.old.bases }
         ensures given { self.new.given ≡ self.old.given }
     {
@@ -244,11 +246,11 @@ impl Paged {
     // The page of this place, with `given` serials given before it: its base, or a new page if it
     // has none.
     //
-    // Err(NoMemory) if a growth was refused.
+    // Err(NoMemory) if memory was refused.
     fn page_at(&self, alloc: Global, place: usize, given: u64) -> Result<Rc<Page>, NoMemory>
         requires { place * 256 < length self.now.words }
         ensures { IfOk result (λ page. IsPageOf page (piece place self.now.words)
-            (piece place self.now.lasts) (serial_there (slice_index_or self.now.bases place None)
+            (piece place self.now.stamps) (serial_there (slice_index_or self.now.bases place None)
             given)) }
     {
         let words = piece_at(&self.words, place);
@@ -275,7 +277,7 @@ impl Paged {
 
     // The page of every place, while the store stays as it is.
     //
-    // Err(NoMemory) where a growth was refused.
+    // Err(NoMemory) if memory was refused.
     fn pages(&self, alloc: Global) -> Result<Taken, NoMemory>
         ensures { IfOk result (λ taken. AreAllTaken taken.pages.items taken.given self.now) }
     {
@@ -295,12 +297,12 @@ impl Paged {
     /// as a new page under the next serial, which becomes its base. So only the words of places
     /// without a base are copied. The list is the caller's own.
     ///
-    /// Err(NoMemory) where a growth was refused, or a page has as many owners as can be counted;
-    /// the store is then as before.
+    /// Err(NoMemory) if memory was refused, or a page has as many owners as can be counted; the
+    /// store is then as before.
     pub fn take_pages(&mut self, alloc: Global) -> Result<Vec<Rc<Page>>, NoMemory>
         ensures words { self.new.words ≡ self.old.words }
-        ensures lasts { self.new.lasts ≡ self.old.lasts }
-        ensures firsts { self.new.firsts ≡ self.old.firsts }
+        ensures stamps { self.new.stamps ≡ self.old.stamps }
+        ensures first_touches { self.new.first_touches ≡ self.old.first_touches }
         ensures taken { IfOk result (λ pages. AreAllTaken pages.items self.new.given self.old) }
         ensures bases { IfOk result (λ pages. self.new.bases ≡ map Some (serials pages.items)) }
         ensures refused { OnErr result (self.new ≡ self.old) }
@@ -317,12 +319,12 @@ impl Paged {
     /// Serials tell pages of one store apart: pages of another store may have the same.
     pub fn load_pages(&mut self, pages: &[Rc<Page>])
         requires words { length (words_of pages.now) ≡ length self.old.words }
-        requires lasts { length (lasts_of pages.now) ≡ length self.old.lasts }
+        requires stamps { length (stamps_of pages.now) ≡ length self.old.stamps }
         ensures words { self.new.words ≡ words_of pages.now }
-        ensures lasts { self.new.lasts ≡ lasts_of pages.now }
+        ensures stamps { self.new.stamps ≡ stamps_of pages.now }
         ensures bases { self.new.bases ≡ map Some (serials pages.now) }
         ensures given { self.new.given ≡ self.old.given }
-        ensures firsts { self.new.firsts ≡ self.old.firsts }
+        ensures first_touches { self.new.first_touches ≡ self.old.first_touches }
     {
         put_words(&mut self.words, pages);
         put_stamps(&mut self.stamps, pages);

@@ -1,7 +1,7 @@
 //! Stores whose words can be taken as shared pages, and loaded from them.
 
 ghost use Rattle.std.specs.Prelude.{◌≡◌, ◌<◌, Some, length, map, IfOk, IsErr, is_ok, if◌then◌else◌};
-ghost use Rattle.pdp_store.specs.Pages.{IsPatched, given_after, lasts_of, next_given, serials};
+ghost use Rattle.pdp_store.specs.Pages.{IsPatched, given_after, stamps_of, next_given, serials};
 ghost use Rattle.pdp_store.specs.Pages.{serials_taken, words_of};
 ghost use Rattle.pdp_store.specs.Unchanged.{SameStored};
 
@@ -14,11 +14,11 @@ use std::alloc::Global;
 /// from them.
 ///
 /// At each place of 256 words it has a base, the page last taken or loaded there, until a word
-/// there is written or set. It numbers the pages that are made of it. (This project's profile.)
+/// there is written or set. It numbers the pages that are made of it. [P]
 pub trait Paging: Store {
     ghost use Rattle.std.specs.Prelude.{List, ℕ, Option};
 
-    // The serial of the base of each place, where it has one.
+    // The serial of the base of each place, if it has one.
     ghost bases: { Self → List (Option ℕ) };
 
     // How many serials were given.
@@ -27,36 +27,36 @@ pub trait Paging: Store {
     /// This page with its word `i` (0 to 255) changed to `w` and its stamps kept, under the next
     /// serial.
     ///
-    /// Err(NoMemory) where a growth was refused; no serial is given then. The words and bases of
-    /// the store stay.
+    /// Err(NoMemory) if memory was refused; no serial is given then. The words and bases of the
+    /// store stay.
     fn patched(&mut self, alloc: Global, page: &Page, i: usize, w: u16) -> Result<Page, NoMemory>
         requires { i < 256 }
         ensures page { IfOk result (λ patched. IsPatched page.now patched i w (given self.old)) }
         ensures words { Self.words self.new ≡ Self.words self.old }
-        ensures lasts { Self.lasts self.new ≡ Self.lasts self.old }
+        ensures stamps { Self.stamps self.new ≡ Self.stamps self.old }
         ensures bases { bases self.new ≡ bases self.old }
-        ensures firsts { Self.firsts self.new ≡ Self.firsts self.old }
+        ensures first_touches { Self.first_touches self.new ≡ Self.first_touches self.old }
         ensures given { given self.new ≡ (if is_ok result then next_given
             (given self.old) else given self.old) };
 }
 
 /// A [`Paging`] store whose pages are taken as one list, which is itself shared. So a store that
-/// was not written since gives the same list again, and a load shares it. (This project's profile.)
+/// was not written since gives the same list again, and a load shares it. [P]
 pub trait SharedPaging: Paging {
     /// The words with their last stamps, as pages: each base is given again, and each other place
     /// as a new page under the next serial, which becomes its base. So only the words of places
     /// without a base are copied.
     ///
-    /// Err(NoMemory) where a growth was refused, or a page has as many owners as can be counted;
-    /// the store is then as before.
+    /// Err(NoMemory) if memory was refused, or a page has as many owners as can be counted; the
+    /// store is then as before.
     fn take_pages(&mut self, alloc: Global) -> Result<Pages, NoMemory>
         ensures same { SameStored (Self.words self.new) (Self.words self.old)
-            (Self.lasts self.new) (Self.lasts self.old) (Self.firsts self.new)
-            (Self.firsts self.old) }
+            (Self.stamps self.new) (Self.stamps self.old) (Self.first_touches self.new)
+            (Self.first_touches self.old) }
         ensures pages_words { IfOk result (λ pages. words_of pages.value.items
             ≡ Self.words self.old) }
-        ensures pages_lasts { IfOk result (λ pages. lasts_of pages.value.items
-            ≡ Self.lasts self.old) }
+        ensures pages_stamps { IfOk result (λ pages. stamps_of pages.value.items
+            ≡ Self.stamps self.old) }
         ensures serials { IfOk result (λ pages. serials pages.value.items ≡ serials_taken
             (Self.bases self.old) (Self.given self.old)) }
         ensures bases { IfOk result (λ pages. Self.bases self.new ≡ map Some
@@ -72,10 +72,10 @@ pub trait SharedPaging: Paging {
     /// Serials tell pages of one store apart: pages of another store may have the same.
     fn load_pages(&mut self, pages: &Pages)
         requires words { length (words_of pages.now.value.items) ≡ length (Self.words self.old) }
-        requires lasts { length (lasts_of pages.now.value.items) ≡ length (Self.lasts self.old) }
+        requires stamps { length (stamps_of pages.now.value.items) ≡ length (Self.stamps self.old) }
         ensures words { Self.words self.new ≡ words_of pages.now.value.items }
-        ensures lasts { Self.lasts self.new ≡ lasts_of pages.now.value.items }
+        ensures stamps { Self.stamps self.new ≡ stamps_of pages.now.value.items }
         ensures bases { Self.bases self.new ≡ map Some (serials pages.now.value.items) }
         ensures given { Self.given self.new ≡ Self.given self.old }
-        ensures firsts { Self.firsts self.new ≡ Self.firsts self.old };
+        ensures first_touches { Self.first_touches self.new ≡ Self.first_touches self.old };
 }

@@ -2,7 +2,7 @@
 
 ghost use Rattle.std.specs.Prelude.{◌≡◌, ◌<◌, ◌/◌, ◌+◌, length, map, nat_le, replicate};
 ghost use Rattle.std.specs.Prelude.{slice_index_or, IfOk};
-ghost use Rattle.pdp_store.specs.Firsts.{first_before, never, first_turn, touch_page};
+ghost use Rattle.pdp_store.specs.FirstTouches.{first_before, never, first_turn, touch_page};
 
 use crate::page::PAGE_WORDS;
 use pdp_word::NoMemory;
@@ -14,27 +14,27 @@ const NEVER: u32 = u32::MAX;
 
 /// The first touch of each page of a store, 4 bytes a page.
 #[derive(Drop)]
-pub(crate) struct FirstTouches {
-    firsts: Vec<u32>,
+pub(crate) struct StoreTouches {
+    first_touches: Vec<u32>,
 }
 
-impl Model for FirstTouches {
+impl Model for StoreTouches {
     ghost use Rattle.std.specs.Prelude.{List, ℕ};
 
     ghost Value = { List ℕ };
 
-    ghost view = { λ t. t.firsts.items };
+    ghost view = { λ t. t.first_touches.items };
 }
 
-impl FirstTouches {
+impl StoreTouches {
     /// Makes the first touches of `len` words, none of them touched.
     ///
-    /// Err(NoMemory) if a growth was refused.
-    pub(crate) fn new(alloc: Global, len: usize) -> Result<FirstTouches, NoMemory>
+    /// Err(NoMemory) if memory was refused.
+    pub(crate) fn new(alloc: Global, len: usize) -> Result<StoreTouches, NoMemory>
         ensures { IfOk result (λ touches. touches ≡ replicate ((len + 255) / 256) never) }
     {
-        let firsts = vec![in alloc; NEVER; len.div_ceil(PAGE_WORDS)]?;
-        Ok(FirstTouches { firsts })
+        let first_touches = vec![in alloc; NEVER; len.div_ceil(PAGE_WORDS)]?;
+        Ok(StoreTouches { first_touches })
     }
 
     /// Notes an access to page `page` in turn `turn`: the earlier turn stays.
@@ -43,17 +43,17 @@ impl FirstTouches {
         requires { page < length self.old }
         ensures { self.new ≡ touch_page self.old page turn }
     {
-        if turn < self.firsts[page] {
-            self.firsts[page] = turn;
+        if turn < self.first_touches[page] {
+            self.first_touches[page] = turn;
         }
     }
 
-    /// As [`FirstTouches::touch`], for a page that may not be there; then nothing changes.
+    /// As [`StoreTouches::touch`], for a page that may not be there; then nothing changes.
     #[inline(always)]
     pub(crate) fn touch_there(&mut self, page: usize, turn: u32)
         ensures { self.new ≡ touch_page self.old page turn }
     {
-        if page < self.firsts.len() {
+        if page < self.first_touches.len() {
             self.touch(page, turn);
         }
     }
@@ -62,7 +62,7 @@ impl FirstTouches {
     pub(crate) fn first(&self, page: usize) -> Option<u32>
         ensures { result ≡ first_turn (slice_index_or self.now page never) }
     {
-        let first = self.firsts.get(page).copied().unwrap_or(NEVER);
+        let first = self.first_touches.get(page).copied().unwrap_or(NEVER);
         if first == NEVER { None } else { Some(first) }
     }
 
@@ -72,23 +72,23 @@ impl FirstTouches {
         requires { page < length self.now }
         ensures { result ≡ nat_le (slice_index_or self.now page never) turn }
     {
-        self.firsts[page] <= turn
+        self.first_touches[page] <= turn
     }
 
-    /// As [`FirstTouches::is_touched`], for a page that may not be there; then it was not touched.
+    /// As [`StoreTouches::is_touched`], for a page that may not be there; then it was not touched.
     #[inline(always)]
     pub(crate) fn is_touched_there(&self, page: usize, turn: u32) -> bool
         ensures { result ≡ nat_le (slice_index_or self.now page never) turn }
     {
-        self.firsts.get(page).copied().unwrap_or(NEVER) <= turn
+        self.first_touches.get(page).copied().unwrap_or(NEVER) <= turn
     }
 
     /// Drops the first touches of turn `turn` and of later turns.
     pub(crate) fn forget(&mut self, turn: u32)
         ensures { self.new ≡ map (first_before turn) self.old }
     {
-        for page in 0..self.firsts.len() {
-            self.firsts[page] = kept_before(turn, self.firsts[page]);
+        for page in 0..self.first_touches.len() {
+            self.first_touches[page] = kept_before(turn, self.first_touches[page]);
         }
     }
 }

@@ -1,5 +1,5 @@
 -- What the laws of the reader say: each name is the law's sentence (PDP-11 Peripherals Handbook,
--- PC11; when requests appear and go, and go while busy, are this project's profile).
+-- PC11; when requests appear and go, and go while busy, are [P]).
 use Rattle.std.specs.Prelude.{◌≡◌, ◌↔◌, ◌⊎◌, ⊤, ℕ, Bool, true, false, ◌&&◌, not, Option, Some, None}
 use Rattle.std.specs.Prelude.{List, [], ◌∷◌}
 use Rattle.pdp_word.specs.Bits.{field}
@@ -57,7 +57,7 @@ is_go_with_error (Writing ReaderStatus word turn reader_delay punch_delay) p =
     is_set prs_go word && (p.reader.error && not (is_under_way p.reader.operation))
 is_go_with_error _ p = false
 
--- where there is no request, a change makes one exactly where the condition goes from false to true
+-- if there is no request, a change makes one exactly if the condition goes from false to true
 abbrev pub ReaderRequestsAppearOnARise : Type 0
 ReaderRequestsAppearOnARise = (c : PcUse) (p : Pc) → is_go_with_error c p ≡ false
     → p.reader.request ≡ false
@@ -65,14 +65,14 @@ ReaderRequestsAppearOnARise = (c : PcUse) (p : Pc) → is_go_with_error c p ≡ 
     ↔ ((reader_wants_interrupt p.reader ≡ false) × (reader_wants_interrupt
     (pc_after_use c p).reader ≡ true))
 
--- where there is one while the condition holds, a change leaves it exactly where the condition
--- holds after it
+-- if there is one while the condition holds, a change leaves it exactly if the condition holds
+-- after it
 abbrev pub ReaderRequestsGoWithTheCondition : Type 0
 ReaderRequestsGoWithTheCondition = (c : PcUse) (p : Pc) → p.reader.request ≡ true
     → reader_wants_interrupt p.reader ≡ true
     → (pc_after_use c p).reader.request ≡ reader_wants_interrupt (pc_after_use c p).reader
 
--- a go that finds error requests exactly where it sets enable, whatever was before, and changes
+-- a go that finds error requests exactly if it sets enable, whatever was before, and changes
 -- nothing else
 abbrev pub GoWithErrorRequests : Type 0
 GoWithErrorRequests = (word turn reader_delay punch_delay : ℕ) (p : Pc)

@@ -1,5 +1,5 @@
 -- The paper tape: PDP-11 Peripherals Handbook, PC11 (what a write of the reader's buffer does, and
--- what stays, are this project's profile).
+-- what stays, are [P]).
 use Rattle.std.specs.Prelude.{ℕ, ◌==◌, false, Option, Some, None, if◌then◌else◌}
 use Rattle.pdp_device.specs.Transmitter.{byte_out, transmitter_completed, transmitter_read}
 use Rattle.pdp_device.specs.Transmitter.{transmitter_reset, transmitter_served, transmitter_value}

@@ -1,5 +1,5 @@
 -- The paper tape reader: PDP-11 Peripherals Handbook, PC11 (go while busy or with error, when
--- requests appear and go, and when a byte has come are this project's profile).
+-- requests appear and go, and when a byte has come are [P]).
 use Rattle.std.specs.Prelude.{ℕ, ◌+◌, ◌*◌, Bool, true, false, ◌&&◌, ◌||◌, not, Option, Some, None}
 use Rattle.std.specs.Prelude.{if◌then◌else◌}
 use Rattle.pdp_word.specs.Bits.{bit_of}
@@ -42,7 +42,7 @@ reader_status r =
     + bit_of r.enable * prs_enable
 
 -- go while nothing is under way, by a write that sets or clears enable: with error set it begins
--- nothing, and requests where enable is set; else it clears done and the byte, and begins
+-- nothing, and requests if enable is set; else it clears done and the byte, and begins
 abbrev pub reader_after_go : Bool → ℕ → ℕ → Reader → Reader
 reader_after_go enable turn delay r =
     if r.error then record r { enable = enable; request = enable }
@@ -76,7 +76,7 @@ read_over (Some byte) r = record (reader_with r.error true r.enable r) {
 }
 read_over None r = record (reader_with true r.done r.enable r) { operation = Idle }
 
--- a completion; where nothing is under way it does nothing
+-- a completion; if nothing is under way it does nothing
 abbrev pub reader_completed : Option ℕ → Reader → Reader
 reader_completed next r = if is_under_way r.operation then read_over next r else r
 

@@ -5,12 +5,12 @@ ghost use Rattle.pdp_tape.specs.Laws.{ReaderRequestsGoWithTheCondition};
 ghost use Rattle.pdp_tape.specs.Laws.{ServedReaderRequestsStayAway};
 
 /// A law and no code: whichever register is read or written, and at a completion, a request of the
-/// reader appears exactly where its condition, enable and one of error and done, goes from false to
-/// true, but for one case: a go that finds error requests exactly where it sets enable, and keeps
-/// the rest. A request that is there goes exactly where the condition does. One that was served
+/// reader appears exactly if its condition, enable and one of error and done, goes from false to
+/// true, but for one case: a go that finds error requests exactly if it sets enable, and keeps
+/// the rest. A request that is there goes exactly if the condition does. One that was served
 /// stays away while the condition holds and no go finds error.
 ///
-/// Source: this project's profile.
+/// [P]
 pub fn reader_requests_appear_on_a_rise()
     ensures condition { ReaderConditionIsShown }
     ensures appear { ReaderRequestsAppearOnARise }
@@ -22,7 +22,7 @@ pub fn reader_requests_appear_on_a_rise()
 /// A law and no code: while a byte is being read, a write of the reader's status changes enable,
 /// and the request by it, and nothing else, whether its go is set or not.
 ///
-/// Source: this project's profile.
+/// [P]
 pub fn go_while_busy_changes_nothing_but_enable()
     ensures { BusyGoChangesNothingButEnable }
 {}

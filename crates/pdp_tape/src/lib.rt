@@ -1,5 +1,6 @@
 //! The paper tape of the PDP-11/40 (PC11): its reader and its punch. It stands on pdp_word and
 //! pdp_device.
+//! Of the handbook's devices PC11 is here, KL11 and KW11-L in pdp_console, RK11 in pdp_rk11.
 //!
 //! # What is proved
 //!

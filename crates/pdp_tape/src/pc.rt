@@ -12,13 +12,11 @@ pub enum PcRegister {
     /// written.
     ReaderStatus,
     /// PRB: the last byte read, or 0 once go has begun a new one. A read clears done; a write does
-    /// nothing (this project's profile).
+    /// nothing [P].
     ReaderBuffer,
-    /// PPS: bit 7 ready, bit 6 enable, which alone is written. Bit 15, error, is always 0 (this
-    /// project's profile).
+    /// PPS: bit 7 ready, bit 6 enable, which alone is written. Bit 15, error, is always 0 [P].
     PunchStatus,
-    /// PPB: a write clears ready and begins to punch its low byte. Reads 0 (this project's
-    /// profile).
+    /// PPB: a write clears ready and begins to punch its low byte. Reads 0 [P].
     PunchBuffer,
 }
 
@@ -55,7 +53,7 @@ impl Pc {
     ghost use Rattle.pdp_tape.specs.Pc.{pc_reader_completed, pc_reset};
     ghost use Rattle.pdp_tape.specs.Pc.{pc_value, pc_written, punch_served, init_pc, reader_served};
 
-    /// Reader and punch at power-up: as after RESET, with both buffers 0 (this project's profile).
+    /// Reader and punch at power-up: as after RESET, with both buffers 0 [P].
     pub fn init() -> Pc
         ensures { result ≡ init_pc }
     {
@@ -89,8 +87,7 @@ impl Pc {
     }
 
     /// Writes a word to the register in turn `turn`. A byte is read `reader_delay` turns later, or
-    /// punched `punch_delay` turns later; with delay 0 only its event completes it (this project's
-    /// profile).
+    /// punched `punch_delay` turns later; with delay 0 only its event completes it [P].
     pub fn write_reg(
         &mut self,
         register: PcRegister,
@@ -113,17 +110,17 @@ impl Pc {
         }
     }
 
-    /// The read that is under way is over, with the next byte of the tape, where there is one: the
-    /// byte is in the buffer and done is set, else error is set. Where none is under way, nothing
-    /// happens (this project's profile).
+    /// The read that is under way is over, with the next byte of the tape, if there is one: the
+    /// byte is in the buffer and done is set, else error is set. If none is under way, nothing
+    /// happens [P].
     pub fn complete_reader(&mut self, next: Option<u8>)
         ensures { self.new ≡ pc_reader_completed next self.old }
     {
         self.reader.complete(next);
     }
 
-    /// The byte that is being punched is out, and the punch is ready again. Gives the byte; where
-    /// none is being punched, nothing happens (this project's profile).
+    /// The byte that is being punched is out, and the punch is ready again. Gives the byte; if
+    /// none is being punched, nothing happens [P].
     pub fn complete_punch(&mut self) -> Option<u8>
         ensures byte { result ≡ pc_punched self.old }
         ensures after { self.new ≡ pc_punch_completed self.old }
@@ -132,16 +129,15 @@ impl Pc {
     }
 
     /// The reader's request is served: it goes, and nothing else changes. The next one appears
-    /// where its condition has become false and true again, or at a go that finds error (this
-    /// project's profile).
+    /// if its condition has become false and true again, or at a go that finds error [P].
     pub fn serve_reader(&mut self)
         ensures { self.new ≡ reader_served self.old }
     {
         self.reader.serve();
     }
 
-    /// The punch's request is served: it goes, and nothing else changes. The next one appears where
-    /// ready or enable was cleared and both are set again (this project's profile).
+    /// The punch's request is served: it goes, and nothing else changes. The next one appears if
+    /// ready or enable was cleared and both are set again [P].
     pub fn serve_punch(&mut self)
         ensures { self.new ≡ punch_served self.old }
     {
@@ -149,8 +145,7 @@ impl Pc {
     }
 
     /// RESET: the reader has nothing set, error too, the punch is ready, neither is enabled or
-    /// requests, and bytes that are being read or punched are dropped. The buffers stay (this
-    /// project's profile).
+    /// requests, and bytes that are being read or punched are dropped. The buffers stay [P].
     pub fn reset(&mut self)
         ensures { self.new ≡ pc_reset self.old }
     {

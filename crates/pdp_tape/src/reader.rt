@@ -9,16 +9,16 @@ use pdp_word::{bit_of, is_set};
 /// PDP-11 Peripherals Handbook, PC11.
 #[derive(Clone, Copy)]
 pub struct Reader {
-    /// Bit 15 of the status: a read found no byte. RESET alone clears it (this project's profile).
+    /// Bit 15 of the status: a read found no byte. RESET alone clears it [P].
     pub error: bool,
     /// Bit 7 of the status: a byte has come since the buffer was last read or a read of a new one
     /// began.
     pub done: bool,
     /// Bit 6 of the status: its interrupts are enabled.
     pub enable: bool,
-    /// It requests an interrupt. A request appears where enable and one of error and done come to
+    /// It requests an interrupt. A request appears if enable and one of error and done come to
     /// be set, and at a go that finds error and leaves enable set; it goes when it is served or
-    /// where they are not set any more (this project's profile).
+    /// if they are not set any more [P].
     pub request: bool,
     /// The last byte read, or 0 once a read of a new one began.
     pub byte: u8,
@@ -30,10 +30,9 @@ impl Reader {
     ghost use Rattle.pdp_tape.specs.Reader.{buffer_read, reader_after_go, reader_wants_interrupt};
     ghost use Rattle.pdp_tape.specs.Reader.{init_reader, reader_completed};
     ghost use Rattle.pdp_tape.specs.Reader.{reader_reset, reader_status, reader_with};
-    ghost use Rattle.pdp_tape.specs.Reader.{reader_status_written, takes_byte};
+    ghost use Rattle.pdp_tape.specs.Reader.{reader_status_written};
 
-    /// A reader at power-up: nothing set, with byte 0 and nothing under way (this project's
-    /// profile).
+    /// A reader at power-up: nothing set, with byte 0 and nothing under way [P].
     pub fn init() -> Reader
         ensures { result ≡ init_reader }
     {
@@ -61,7 +60,7 @@ impl Reader {
     /// Writes a word to the status in turn `turn`: bit 6 is enable, and bit 0 is go. Go clears done
     /// and the byte, and begins to read a byte, which is there `delay` turns later; with delay 0
     /// only its event completes it. While busy go does nothing. With error set it begins nothing,
-    /// and requests an interrupt if bit 6 is set (this project's profile).
+    /// and requests an interrupt if bit 6 is set [P].
     pub fn write_status(&mut self, word: u16, turn: u32, delay: u32)
         ensures { self.new ≡ reader_status_written word turn delay self.old }
     {
@@ -82,16 +81,9 @@ impl Reader {
         self.byte
     }
 
-    /// Whether a completion takes a byte from the tape: one is being read.
-    pub fn takes_byte(&self) -> bool
-        ensures { result ≡ takes_byte self.now }
-    {
-        self.operation.is_under_way()
-    }
-
-    /// The read that is under way is over, with the next byte of the tape, where there is one: the
-    /// byte is in the buffer and done is set, else error is set. Where none is under way, nothing
-    /// happens (this project's profile).
+    /// The read that is under way is over, with the next byte of the tape, if there is one: the
+    /// byte is in the buffer and done is set, else error is set. If none is under way, nothing
+    /// happens [P].
     pub fn complete(&mut self, next: Option<u8>)
         ensures { self.new ≡ reader_completed next self.old }
     {
@@ -109,7 +101,7 @@ impl Reader {
     }
 
     /// RESET: error, done and enable are cleared, a request and what is under way are dropped. The
-    /// byte stays (this project's profile).
+    /// byte stays [P].
     pub fn reset(&mut self)
         ensures { self.new ≡ reader_reset self.old }
     {
@@ -148,7 +140,7 @@ impl Reader {
         };
     }
 
-    // Go, where nothing is under way: with error set it requests where the write sets enable, else
+    // Go, if nothing is under way: with error set it requests if the write sets enable, else
     // it begins to read.
     fn go(&mut self, enable: bool, turn: u32, delay: u32)
         ensures { self.new ≡ reader_after_go enable turn delay self.old }

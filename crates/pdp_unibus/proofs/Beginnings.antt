@@ -3,11 +3,11 @@
 use Rattle.std.proofs.Common.{◌≡◌, ◌≢◌, ◌∙◌, ℕ, suc, zero, ◌+◌, ◌<◌, Bool, true, false, List, [], ◌∷◌, length, take, get_or, refl, sym, subst, ap, ap₂, add-one, arith}
 use Rattle.pdp_device.specs.Operation.{is_due, is_under_way}
 use Rattle.pdp_unibus.specs.Beginning.{Progress, after_event, after_events, at_start, before_disk, after_beginning, clock_ticked, disk_done, disk_due, in_turn, is_tick, printer_done, printer_due, punch_done, punch_due, reader_done, reader_due, tick_due, where_due}
-use Rattle.pdp_store.specs.TracedAccess.{Part}
+use Rattle.pdp_store.specs.declared.part.Part.{Part}
 use Rattle.pdp_rk11.proofs.Readiness.{completed_idle}
-use Rattle.pdp_unibus.specs.BusWorld.{BusWorld, disk_world_of, is_disk_busy, with_disk_world, with_firsts}
+use Rattle.pdp_unibus.specs.BusWorld.{BusWorld, disk_world_of, is_disk_busy, with_disk_world, with_first_touches}
 use Rattle.pdp_rk11.proofs.FirstTouches.{not_under_way}
-use Rattle.pdp_store.specs.Firsts.{Firsts}
+use Rattle.pdp_store.specs.FirstTouches.{FirstTouches}
 use Rattle.pdp_unibus.specs.Page.{bus_with_words}
 use Rattle.pdp_unibus.specs.declared.io_page.IoPage.{IoPage}
 use Rattle.pdp_unibus.specs.declared.event.Event.{Event}
@@ -28,14 +28,14 @@ abbrev pub over : Part → List ℕ → Progress → Progress
 over part words p = record p { bus = bus_with_words part words p.bus }
 
 -- the same with other first touches
-abbrev pub holding : Progress → Firsts → Progress
-holding p firsts = record p { bus = with_firsts p.bus firsts }
+abbrev pub holding : Progress → FirstTouches → Progress
+holding p first_touches = record p { bus = with_first_touches p.bus first_touches }
 
 -- a step that does the same whatever core and the drives hold, and leaves them, the stamps, the turn, the program status
 -- and the mapping registers
 pub record Quiet (step : Progress → Progress) : Type 0 where
   pub commutes : (part : Part) (words : List ℕ) (p : Progress) → step (over part words p) ≡ over part words (step p)
-  pub holds : (firsts : Firsts) (p : Progress) → step (holding p firsts) ≡ holding (step p) firsts
+  pub holds : (first_touches : FirstTouches) (p : Progress) → step (holding p first_touches) ≡ holding (step p) first_touches
   pub leaves : (p : Progress) → (step p).bus ≡ record p.bus { io_page = (step p).bus.io_page; bytes_read = (step p).bus.bytes_read }
   pub status : (p : Progress) → (step p).bus.io_page.status ≡ p.bus.io_page.status
   pub mapping : (p : Progress) → (step p).bus.io_page.mapping ≡ p.bus.io_page.mapping
@@ -45,7 +45,7 @@ pub event_is_quiet : (e : Event) → e ≢ DiskDone → Quiet (after_event e)
 event_is_quiet DiskDone other = absurd (other refl)
 event_is_quiet _ other = record {
   commutes = λ part words p. refl;
-  holds = λ firsts p. refl;
+  holds = λ first_touches p. refl;
   leaves = λ p. refl;
   status = λ p. refl;
   mapping = λ p. refl;
@@ -56,19 +56,19 @@ event_is_quiet _ other = record {
 both : (f g : Progress → Progress) → Quiet f → Quiet g → Quiet (λ p. g (f p))
 both f g first second = record {
   commutes = λ part words p. ap g (first.commutes part words p) ∙ second.commutes part words (f p);
-  holds = λ firsts p. ap g (first.holds firsts p) ∙ second.holds firsts (f p);
+  holds = λ first_touches p. ap g (first.holds first_touches p) ∙ second.holds first_touches (f p);
   leaves = λ p. second.leaves (f p) ∙ ap {A = BusWorld} (λ bus. record bus { io_page = (g (f p)).bus.io_page; bytes_read = (g (f p)).bus.bytes_read }) (first.leaves p);
   status = λ p. second.status (f p) ∙ first.status p;
   mapping = λ p. second.mapping (f p) ∙ first.mapping p;
   disk = λ p. second.disk (f p) ∙ first.disk p;
 }
 
--- a quiet step where it is due, by the turn and the I/O page
+-- a quiet step if it is due, by the turn and the I/O page
 where_due_is_quiet : (due : ℕ → IoPage → Bool) (f : Progress → Progress) → Quiet f
     → Quiet (λ p. where_due (due p.bus.turn p.bus.io_page) f p)
 where_due_is_quiet due f quiet = record {
   commutes = λ part words p. commuted part words p (due p.bus.turn p.bus.io_page);
-  holds = λ firsts p. held firsts p (due p.bus.turn p.bus.io_page);
+  holds = λ first_touches p. held first_touches p (due p.bus.turn p.bus.io_page);
   leaves = λ p. left p (due p.bus.turn p.bus.io_page);
   status = λ p. kept (λ io_page. io_page.status) p (quiet.status p) (due p.bus.turn p.bus.io_page);
   mapping = λ p. kept (λ io_page. io_page.mapping) p (quiet.mapping p) (due p.bus.turn p.bus.io_page);
@@ -79,9 +79,9 @@ where_due_is_quiet due f quiet = record {
   commuted part words p true = quiet.commutes part words p
   commuted part words p false = refl
 
-  held : (firsts : Firsts) (p : Progress) (holds : Bool) → where_due holds f (holding p firsts) ≡ holding (where_due holds f p) firsts
-  held firsts p true = quiet.holds firsts p
-  held firsts p false = refl
+  held : (first_touches : FirstTouches) (p : Progress) (holds : Bool) → where_due holds f (holding p first_touches) ≡ holding (where_due holds f p) first_touches
+  held first_touches p true = quiet.holds first_touches p
+  held first_touches p false = refl
 
   left : (p : Progress) (holds : Bool)
       → (where_due holds f p).bus ≡ record p.bus { io_page = (where_due holds f p).bus.io_page; bytes_read = (where_due holds f p).bus.bytes_read }
@@ -186,8 +186,8 @@ quiet_idles f p quiet = record { leaves = quiet.leaves p; disk = quiet.disk p }
 
 disk_idles : (p : Progress) → is_under_way p.bus.io_page.disk.operation ≡ false → Idles p (disk_done p)
 disk_idles p idle =
-    let same : disk_done p ≡ p = ap₂ (λ d f. record p { bus = with_firsts (with_disk_world p.bus d) f }) (completed_idle p.bus.turn (disk_world_of p.bus) idle)
-    (sym (not_under_way p.bus.turn (disk_world_of p.bus) p.bus.firsts idle)) in
+    let same : disk_done p ≡ p = ap₂ (λ d f. record p { bus = with_first_touches (with_disk_world p.bus d) f }) (completed_idle p.bus.turn (disk_world_of p.bus) idle)
+    (sym (not_under_way p.bus.turn (disk_world_of p.bus) p.bus.first_touches idle)) in
     subst (Idles p) (sym same) (record { leaves = refl; disk = refl })
 
 event_idles : (e : Event) (p : Progress) → is_under_way p.bus.io_page.disk.operation ≡ false → Idles p (after_event e p)

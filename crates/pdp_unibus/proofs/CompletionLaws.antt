@@ -23,7 +23,7 @@ use Rattle.pdp_unibus.specs.declared.register.Register.TheVariants.{Console, Pap
 use Rattle.pdp_unibus.specs.declared.event.Event.{Event}
 use Rattle.pdp_unibus.specs.declared.event.Event.TheVariants.{Key, PrinterDone, ReaderDone, PunchDone, DiskDone}
 
--- an operation that is idle afterwards where it was due, and else is as it was
+-- an operation that is idle afterwards if it was due, and else is as it was
 ended : (t : ℕ) (o after : Operation) (due : Bool) → is_due t o ≡ due → (due ≡ true → after ≡ Idle) → (due ≡ false → after ≡ o)
     → after ≡ left_at t o
 ended t o after true is idle left = idle refl ∙ rw is refl
@@ -40,7 +40,7 @@ under_way_where_due t Idle due = absurd (cc due)
 under_way_where_due t ByEvent due = refl
 under_way_where_due t (At turn) due = refl
 
--- the step that completes an operation, where it is due
+-- the step that completes an operation, if it is due
 ends_where : (part : IoPage → Operation) (f : Progress → Progress)
     → ((p : Progress) → is_under_way (part p.bus.io_page) ≡ true → part (f p).bus.io_page ≡ Idle)
     → (p : Progress) (t : ℕ) (o : Operation) → p.bus.turn ≡ t → part p.bus.io_page ≡ o → (after : Operation)

@@ -5,15 +5,16 @@ use Rattle.std.proofs.lemmas.List.Elements.{All-nil, All-append}
 use Rattle.pdp_device.specs.Operation.{is_due}
 use Rattle.pdp_rk11.proofs.CompletionPages.{completion_keeps_page}
 use Rattle.pdp_rk11.proofs.CompletionSizes.{completed_sizes}
-use Rattle.pdp_rk11.proofs.CompletionStamps.{completed_lasts}
+use Rattle.pdp_rk11.proofs.CompletionStamps.{completed_stamps}
 use Rattle.pdp_rk11.proofs.CompletionTouches.{completion_of_turn}
 use Rattle.pdp_rk11.specs.Completion.{rk_completed}
 use Rattle.pdp_rk11.specs.Trace.{IsOfCompletion}
 use Rattle.pdp_store.proofs.Traces.{Avoids-first, Avoids-second, last_write-append}
-use Rattle.pdp_store.specs.TracedAccess.{Avoids, Part, TracedAccess, last_write}
+use Rattle.pdp_store.specs.TracedAccess.{Avoids, TracedAccess, last_write}
+use Rattle.pdp_store.specs.declared.part.Part.{Part}
 use Rattle.pdp_unibus.specs.Beginning.{Progress, after_event, after_events, at_start, before_disk, after_beginning, disk_done, in_turn, where_due}
-use Rattle.pdp_unibus.specs.BusWorld.{BusWorld, disk_world_of, with_disk_world, with_firsts}
-use Rattle.pdp_store.specs.Firsts.{firsts_after}
+use Rattle.pdp_unibus.specs.BusWorld.{BusWorld, disk_world_of, with_disk_world, with_first_touches}
+use Rattle.pdp_store.specs.FirstTouches.{first_touches_after}
 use Rattle.pdp_unibus.specs.Page.{SamePage}
 use Rattle.pdp_unibus.specs.Touched.{IsOfTurn}
 use Rattle.pdp_unibus.specs.Trace.{begun_touches, disk_touches, event_touches, events_touches}
@@ -26,7 +27,7 @@ use Rattle.pdp_unibus.proofs.Beginnings.{Quiet, dues, dues_are_quiet}
 pub record Begins (K : List TracedAccess → BusWorld → BusWorld → Type 0) : Type 0 where
   pub stays : (b : BusWorld) → K [] b b
   pub changes : (xs : List TracedAccess) (b c : BusWorld) (io_page : IoPage) (bytes_read : ℕ) → K xs b c → K xs b (record c { io_page = io_page; bytes_read = bytes_read })
-  pub completes : (b : BusWorld) → K (disk_touches b) b (with_firsts (with_disk_world b (rk_completed b.turn (disk_world_of b))) (firsts_after (disk_touches b) b.firsts))
+  pub completes : (b : BusWorld) → K (disk_touches b) b (with_first_touches (with_disk_world b (rk_completed b.turn (disk_world_of b))) (first_touches_after (disk_touches b) b.first_touches))
   pub joins : (xs ys : List TracedAccess) (b c d : BusWorld) → K xs b c → K ys c d → K (xs ++ ys) b d
 
 module _ (K : List TracedAccess → BusWorld → BusWorld → Type 0) (begins : Begins K) where
@@ -85,22 +86,22 @@ keeps_turn = record {
 
 -- each last stamp is that of the last write in the trace, if it has one
 pub record KeepsStamps (xs : List TracedAccess) (b c : BusWorld) : Type 0 where
-  pub size : length c.lasts ≡ length b.lasts
-  pub lasts : (k : ℕ) → k < length b.lasts → slice_index_or c.lasts k None ≡ last_write xs k (slice_index_or b.lasts k None)
+  pub size : length c.stamps ≡ length b.stamps
+  pub stamps : (k : ℕ) → k < length b.stamps → slice_index_or c.stamps k None ≡ last_write xs k (slice_index_or b.stamps k None)
 
 pub keeps_stamps : Begins KeepsStamps
 keeps_stamps = record {
-  stays = λ b. record { size = refl; lasts = λ k within. refl };
-  changes = λ xs b c io_page bytes_read so. record { size = so.size; lasts = so.lasts };
+  stays = λ b. record { size = refl; stamps = λ k within. refl };
+  changes = λ xs b c io_page bytes_read so. record { size = so.size; stamps = so.stamps };
   completes = λ b. record {
-    size = (completed_sizes b.turn (disk_world_of b)).lasts;
-    lasts = completed_lasts b.turn (disk_world_of b);
+    size = (completed_sizes b.turn (disk_world_of b)).stamps;
+    stamps = completed_stamps b.turn (disk_world_of b);
   };
   joins = λ xs ys b c d so also. record {
     size = also.size ∙ so.size;
-    lasts = λ k within.
-        let below : k < length c.lasts = omega (arith, so.size) in
-        rw (last_write-append xs ys k (slice_index_or b.lasts k None), ← so.lasts k within) (also.lasts k below);
+    stamps = λ k within.
+        let below : k < length c.stamps = omega (arith, so.size) in
+        rw (last_write-append xs ys k (slice_index_or b.stamps k None), ← so.stamps k within) (also.stamps k below);
   };
 }
 

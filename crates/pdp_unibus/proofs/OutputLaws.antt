@@ -32,7 +32,7 @@ completed o now after out out_after false idle still none is said =
     (is ∙ ap transmitter_completed still ∙ rw idle refl)
     (said ∙ ap (λ xs. xs ++ option_to_list (byte_out now)) none ∙ ap (λ p. option_to_list (byte_out p)) still ∙ rw idle refl)
 
--- a completion where nothing is under way
+-- a completion if nothing is under way
 at_rest : (o : Transmitter) → is_under_way o.operation ≡ false → transmitter_completed o ≡ o
 at_rest o idle = rw idle refl
 

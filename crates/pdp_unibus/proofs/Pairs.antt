@@ -4,10 +4,11 @@ use Rattle.pdp_device.specs.Operation.{is_due}
 use Rattle.pdp_rk11.proofs.CompletionPairs.{completions_alike}
 use Rattle.pdp_store.proofs.Traces.{Avoids-first, Avoids-second}
 use Rattle.pdp_store.specs.Parts.{AlikeWords}
-use Rattle.pdp_store.specs.TracedAccess.{Avoids, Part, TracedAccess}
+use Rattle.pdp_store.specs.TracedAccess.{Avoids, TracedAccess}
+use Rattle.pdp_store.specs.declared.part.Part.{Part}
 use Rattle.pdp_unibus.specs.Beginning.{Progress, after_event, after_events, at_start, before_disk, after_beginning, disk_done, disk_due, in_turn, where_due}
-use Rattle.pdp_unibus.specs.BusWorld.{BusWorld, disk_world_of, with_disk_world, with_firsts}
-use Rattle.pdp_store.specs.Firsts.{firsts_after}
+use Rattle.pdp_unibus.specs.BusWorld.{BusWorld, disk_world_of, with_disk_world, with_first_touches}
+use Rattle.pdp_store.specs.FirstTouches.{first_touches_after}
 use Rattle.pdp_unibus.specs.Page.{words_of_part, bus_with_words}
 use Rattle.pdp_unibus.specs.Trace.{begun_touches, disk_touches, due_touches, event_touches, events_touches}
 use Rattle.pdp_unibus.specs.declared.event.Event.{Event}
@@ -28,7 +29,7 @@ paired_disk part page p words alike avoids =
     let pair = completions_alike part page p.bus.turn (disk_world_of p.bus) words alike avoids in
     record {
       words = pair.left;
-      is = ap₂ (λ d xs. record p { bus = with_firsts (with_disk_world (bus_with_words part words p.bus) d) (firsts_after xs p.bus.firsts) }) pair.is pair.trace;
+      is = ap₂ (λ d xs. record p { bus = with_first_touches (with_disk_world (bus_with_words part words p.bus) d) (first_touches_after xs p.bus.first_touches) }) pair.is pair.trace;
       alike = pair.alike;
       trace = pair.trace;
     }

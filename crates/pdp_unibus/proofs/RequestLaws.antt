@@ -195,7 +195,7 @@ first_of_all is_requesting priority =
       first false false false false false true = refl
       first false false false false false false = refl
 
--- where no source requests none is chosen
+-- if no source requests none is chosen
 pub without_requests_none_is_chosen : (priority : Priority) (b : IoPage) → has_request b ≡ false → chosen_source priority b ≡ None
 unfolding chosen_source
 without_requests_none_is_chosen priority b quiet =

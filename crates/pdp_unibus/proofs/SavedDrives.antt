@@ -8,7 +8,7 @@ use Rattle.pdp_store.specs.declared.Stamp.{Stamp}
 use Rattle.pdp_store.specs.Pages.{next_given}
 use Rattle.pdp_unibus.specs.PatchedPages.{given_by_drives}
 use Rattle.pdp_unibus.specs.SavedBusData.{SavedBusData}
-use Rattle.pdp_unibus.specs.SavedDrives.{AreUnstamped, PageList, pages_lasts, pages_words}
+use Rattle.pdp_unibus.specs.SavedDrives.{AreUnstamped, PageList, pages_stamps, pages_words}
 
 -- what is seen of the drive of a number
 pub seen : {X Z : Type 0} (f : X → List Z) (xs : List X) (i : ℕ) (d : X) → i < length xs → f (get_or xs i d) ≡ slice_index_or (map f xs) i []
@@ -118,13 +118,13 @@ same_constant z (x ∷ xs) (y ∷ ys) as_many = ap (λ zs. z ∷ zs) (same_const
 as_many_items : {X Y A B : Type 0} (f : X → A) (g : Y → B) (xs : List X) (ys : List Y) → length (map f xs) ≡ length (map g ys) → length xs ≡ length ys
 as_many_items f g xs ys is = sym (length-map xs f) ∙ is ∙ length-map ys g
 
-pub unstamped : {X : Type 0} (pages : List PageList) (drives : List X) → map pages_lasts pages ≡ map (λ _. []) drives → AreUnstamped pages
+pub unstamped : {X : Type 0} (pages : List PageList) (drives : List X) → map pages_stamps pages ≡ map (λ _. []) drives → AreUnstamped pages
 unstamped pages drives is =
-    is ∙ sym (same_constant [] pages drives (as_many_items pages_lasts (λ _. []) pages drives (ap length is)))
+    is ∙ sym (same_constant [] pages drives (as_many_items pages_stamps (λ _. []) pages drives (ap length is)))
 
 pub blank_sizes : {X : Type 0} (f : X → List ℕ) (pages : List PageList) (drives : List X) → AreUnstamped pages
     → map length (map pages_words pages) ≡ map length (map f drives)
-    → map length (map pages_lasts pages) ≡ map (λ _. 0) drives
+    → map length (map pages_stamps pages) ≡ map (λ _. 0) drives
 blank_sizes f pages drives blank sizes = ap (map length) blank ∙ zeros pages ∙ same_constant 0 pages drives as_many where
   as_many : length pages ≡ length drives
   as_many = as_many_items pages_words f pages drives (as_many_items length length (map pages_words pages) (map f drives) (ap length sizes))
@@ -138,11 +138,11 @@ no_stamps [] = refl
 no_stamps (x ∷ xs) = ap (λ ns. 0 ∷ ns) (no_stamps xs)
 
 -- another list without stamps takes a place
-pub put_unstamped : (xs : List PageList) (k : ℕ) (new : PageList) → AreUnstamped xs → pages_lasts new ≡ [] → AreUnstamped (slice_set xs k new)
+pub put_unstamped : (xs : List PageList) (k : ℕ) (new : PageList) → AreUnstamped xs → pages_stamps new ≡ [] → AreUnstamped (slice_set xs k new)
 put_unstamped [] k new is none = refl
 put_unstamped (x ∷ xs) zero new is none = let rest : AreUnstamped xs = cc is in ap₂ ◌∷◌ none rest
 put_unstamped (x ∷ xs) (suc k) new is none =
-    let first : pages_lasts x ≡ [] = cc is in
+    let first : pages_stamps x ≡ [] = cc is in
     let rest : AreUnstamped xs = cc is in
     ap₂ ◌∷◌ first (put_unstamped xs k new rest none)
 
@@ -157,17 +157,17 @@ pub words_there : (xs : List PageList) (k : ℕ) (pages : PageList) → pages �
 words_there xs k pages there below = ap pages_words there ∙ sym (get_or-map pages_words xs k pages [] below)
 
 -- saved buses that are alike
-pub alike_saved_buses : (c d : SavedBusData) → c.io_page ≡ d.io_page → c.core ≡ d.core → c.lasts ≡ d.lasts → c.drives ≡ d.drives → c.bytes_read ≡ d.bytes_read
+pub alike_saved_buses : (c d : SavedBusData) → c.io_page ≡ d.io_page → c.core ≡ d.core → c.stamps ≡ d.stamps → c.drives ≡ d.drives → c.bytes_read ≡ d.bytes_read
     → c.turn ≡ d.turn → c ≡ d
-alike_saved_buses c d io_page core lasts drives bytes_read turn =
+alike_saved_buses c d io_page core stamps drives bytes_read turn =
     ap (λ x. record c { io_page = x }) io_page
     ∙ ap (λ x. record c { io_page = d.io_page; core = x }) core
-    ∙ ap (λ x. record c { io_page = d.io_page; core = d.core; lasts = x }) lasts
-    ∙ ap (λ x. record c { io_page = d.io_page; core = d.core; lasts = d.lasts; drives = x }) drives
+    ∙ ap (λ x. record c { io_page = d.io_page; core = d.core; stamps = x }) stamps
+    ∙ ap (λ x. record c { io_page = d.io_page; core = d.core; stamps = d.stamps; drives = x }) drives
     ∙ ap (λ x. record d { bytes_read = x; turn = c.turn }) bytes_read
     ∙ ap (λ x. record d { turn = x }) turn
 
--- one more of a list is changed, where those before it were
+-- one more of a list is changed, if those before it were
 pub changed_next : {X : Type 0} (f : X → X) (i : ℕ) (d : X) (xs : List X) → i < length xs
     → slice_set (map f (take i xs) ++ drop i xs) i (f (slice_index_or (map f (take i xs) ++ drop i xs) i d)) ≡ map f (take (i + 1) xs) ++ drop (i + 1) xs
 changed_next f i d [] below = absurd (omega arith)

@@ -1,5 +1,4 @@
--- The beginning of a turn: its events, a tick of the clock, and the operations that are due (this
--- project's profile).
+-- The beginning of a turn: its events, a tick of the clock, and the operations that are due [P].
 use Rattle.std.specs.Prelude.{ℕ, ◌%◌, ◌==◌, ◌&&◌, nat_lt, Bool, List, [], ◌∷◌, ◌++◌, option_to_list}
 use Rattle.std.specs.Prelude.{if◌then◌else◌}
 use Rattle.pdp_device.specs.Operation.{is_due}
@@ -9,9 +8,9 @@ use Rattle.pdp_tape.specs.Pc.{pc_punch_completed, pc_punched, pc_reader_complete
 use Rattle.pdp_tape.specs.Reader.{takes_byte}
 use Rattle.pdp_rk11.specs.Completion.{rk_completed}
 use Rattle.pdp_rk11.specs.Trace.{completion_touches}
-use Rattle.pdp_store.specs.Firsts.{firsts_after}
+use Rattle.pdp_store.specs.FirstTouches.{first_touches_after}
 use Rattle.pdp_unibus.specs.BusWorld.{BusWorld, disk_world_of, with_io_page, with_disk_world}
-use Rattle.pdp_unibus.specs.BusWorld.{with_firsts}
+use Rattle.pdp_unibus.specs.BusWorld.{with_first_touches}
 use Rattle.pdp_unibus.specs.Tape.{next_byte, read_on}
 use Rattle.pdp_unibus.specs.declared.beginning.Output.{Output}
 use Rattle.pdp_unibus.specs.declared.io_page.IoPage.{IoPage}
@@ -66,7 +65,7 @@ printer_done p = record (on_io_page p (record p.bus.io_page {
   printed = p.printed ++ option_to_list (kl_printed p.bus.io_page.console);
 }
 
--- the reader completes: where it was reading, the next byte of the tape is taken
+-- the reader completes: if it was reading, the next byte of the tape is taken
 abbrev pub reader_done : Progress → Progress
 reader_done p = record p {
   bus = record p.bus {
@@ -96,8 +95,9 @@ switches_set word p = on_io_page p (record p.bus.io_page { switches = word })
 -- it moves or compares are touched
 abbrev pub disk_done : Progress → Progress
 disk_done p = record p {
-  bus = with_firsts (with_disk_world p.bus (rk_completed p.bus.turn (disk_world_of p.bus)))
-      (firsts_after (completion_touches p.bus.turn (disk_world_of p.bus)) p.bus.firsts);
+  bus = with_first_touches (with_disk_world p.bus (rk_completed p.bus.turn (disk_world_of p.bus)))
+      (first_touches_after (completion_touches p.bus.turn (disk_world_of p.bus))
+      p.bus.first_touches);
 }
 
 -- what an event does to the bus; Continue is the processor's
@@ -116,12 +116,12 @@ abbrev pub after_events : List Event → Progress → Progress
 after_events [] p = p
 after_events (e ∷ es) p = after_events es (after_event e p)
 
--- whether the clock ticks by itself in turn t: in the positive multiples of its period, where that
--- is above 0
+-- whether the clock ticks by itself in turn t: in the positive multiples of its period, if that is
+-- above 0
 abbrev pub is_tick : ℕ → ℕ → Bool
 is_tick t period = nat_lt 0 period && nat_lt 0 t && t % period == 0
 
--- a step that takes place where its cause holds
+-- a step that takes place if its cause holds
 abbrev pub where_due : Bool → (Progress → Progress) → Progress → Progress
 where_due due step p = if due then step p else p
 

@@ -1,5 +1,5 @@
 -- The bus and what is on it: PDP-11 Peripherals Handbook, Unibus (power-up, stamps and what RESET
--- leaves are this project's profile).
+-- leaves are [P]).
 use Rattle.std.specs.Prelude.{ℕ, Bool, List, Option, false}
 use Rattle.pdp_console.specs.Kl.{kl_reset, init_kl}
 use Rattle.pdp_console.specs.Kw.{init_kw}
@@ -10,7 +10,7 @@ use Rattle.pdp_rk11.specs.Rk.{init_rk, rk_reset}
 use Rattle.pdp_kt11.specs.Kt.{kt_reset, powered_kt}
 use Rattle.pdp_kt11.specs.declared.kt.Kt.{Kt}
 use Rattle.pdp_kt11.specs.declared.mode.Mode.TheVariants.{Kernel}
-use Rattle.pdp_store.specs.Firsts.{Firsts, no_firsts}
+use Rattle.pdp_store.specs.FirstTouches.{FirstTouches, no_first_touches}
 use Rattle.pdp_store.specs.declared.Stamp.{Stamp}
 use Rattle.pdp_word.specs.declared.codes.Codes.{Codes}
 use Rattle.pdp_unibus.specs.declared.io_page.IoPage.{IoPage}
@@ -24,9 +24,9 @@ pub record BusWorld : Type 0 where
   pub io_page : IoPage
   -- the words of core
   pub core : List ℕ
-  -- for each word of core the stamp of its last write, if it was written; no list at all where core
+  -- for each word of core the stamp of its last write, if it was written; no list at all if core
   -- keeps no stamps
-  pub lasts : List (Option Stamp)
+  pub stamps : List (Option Stamp)
   -- the words of each drive
   pub drives : List (List ℕ)
   -- the paper tape in the reader: all its bytes
@@ -36,7 +36,7 @@ pub record BusWorld : Type 0 where
   -- the turn of its cycles
   pub turn : ℕ
   -- the first touches of the pages of core and of the drives
-  pub firsts : Firsts
+  pub first_touches : FirstTouches
 
 -- the I/O page as of power-up: every bit of the program status word, of the mapping registers and
 -- of the switches 0, the devices as after RESET
@@ -61,21 +61,21 @@ io_page_at_power_up delays = record {
 -- the bus as of power-up, over this core, these drives and this tape, with no first touches
 abbrev pub bus_at_power_up : List ℕ → List (Option Stamp) → List (List ℕ) → List ℕ → Delays
     → BusWorld
-bus_at_power_up words lasts drives tape delays =
+bus_at_power_up words stamps drives tape delays =
     record {
       io_page = io_page_at_power_up delays;
       core = words;
-      lasts = lasts;
+      stamps = stamps;
       drives = drives;
       tape = tape;
       bytes_read = 0;
       turn = 0;
-      firsts = no_firsts;
+      first_touches = no_first_touches;
     }
 
 -- the bus with these first touches
-abbrev pub with_firsts : BusWorld → Firsts → BusWorld
-with_firsts w firsts = record w { firsts = firsts }
+abbrev pub with_first_touches : BusWorld → FirstTouches → BusWorld
+with_first_touches w first_touches = record w { first_touches = first_touches }
 
 abbrev pub with_io_page : BusWorld → IoPage → BusWorld
 with_io_page w io_page = record w { io_page = io_page }
@@ -98,14 +98,14 @@ is_disk_busy b = is_under_way b.disk.operation
 
 -- what the disk's controller sees: itself, core with its stamps, and the drives
 abbrev pub disk_world_of : BusWorld → DiskWorld
-disk_world_of w = disk_world w.io_page.disk w.core w.lasts w.drives
+disk_world_of w = disk_world w.io_page.disk w.core w.stamps w.drives
 
 -- the bus with what the controller left of them
 abbrev pub with_disk_world : BusWorld → DiskWorld → BusWorld
 with_disk_world w d = record w {
   io_page = record w.io_page { disk = d.rk };
   core = d.core;
-  lasts = d.lasts;
+  stamps = d.stamps;
   drives = d.drives;
 }
 

@@ -1,5 +1,5 @@
 -- What the laws of printed and punched bytes and of completions say: each name is the law's
--- sentence (this project's profile).
+-- sentence [P].
 use Rattle.std.specs.Prelude.{◌≡◌, ◌≢◌, ℕ, Bool, true, false, ◌&&◌, not, List, [], ◌∷◌, All}
 use Rattle.std.specs.Prelude.{if◌then◌else◌}
 use Rattle.pdp_device.specs.Operation.{is_due, is_under_way}
@@ -25,12 +25,12 @@ io_page_begun t events w = (after_beginning t events w).bus.io_page
 abbrev pub has_ended : Operation → Operation → Bool
 has_ended before after = is_under_way before && not (is_under_way after)
 
--- what comes out where a transmitter was this before and is that after: its byte, where its
--- operation has ended
+-- what comes out if a transmitter was this before and is that after: its byte, if its operation has
+-- ended
 abbrev pub came_out : Transmitter → Transmitter → List ℕ
 came_out before after = if has_ended before.operation after.operation then before.byte ∷ [] else []
 
--- in the beginning of a turn the printer's byte, as it is there, is printed exactly where its
+-- in the beginning of a turn the printer's byte, as it is there, is printed exactly if its
 -- operation ends, once, and nothing else is
 abbrev pub BytesArePrintedAsOperationsEnd : Type 0
 BytesArePrintedAsOperationsEnd = (t : ℕ) (events : List Event) (w : BusWorld)
@@ -47,8 +47,8 @@ BytesArePunchedAsOperationsEnd = (t : ℕ) (events : List Event) (w : BusWorld)
 abbrev pub Without : Event → List Event → Type 0
 Without event events = All (λ e. e ≢ event) events
 
--- what is left of an operation when turn t has begun, where it has no event: nothing where it is
--- due, and else all
+-- what is left of an operation when turn t has begun, if it has no event: nothing if it is due, and
+-- else all
 abbrev pub left_at : ℕ → Operation → Operation
 left_at t o = if is_due t o then Idle else o
 

@@ -1,16 +1,16 @@
 -- Bus cycles: PDP-11 Peripherals Handbook, Unibus (stamps, and that a timeout changes nothing, are
--- this project's profile).
+-- [P]).
 use Rattle.std.specs.Prelude.{ℕ, ◌/◌, Option, Some, None, Result, Ok, Err, length, slice_index}
 use Rattle.std.specs.Prelude.{slice_set, nat_lt, if◌then◌else◌}
 use Rattle.pdp_decode.specs.Table.{instr_of_word}
 use Rattle.pdp_decode.specs.declared.instruction.Instr.{Instr}
 use Rattle.pdp_icache.specs.Meaning.{meaning}
 use Rattle.pdp_icache.specs.declared.line.Decoded.{Decoded}
-use Rattle.pdp_store.specs.Firsts.{word_touched}
-use Rattle.pdp_store.specs.TracedAccess.{Part as part}
+use Rattle.pdp_store.specs.FirstTouches.{word_touched}
+use Rattle.pdp_store.specs.declared.part.Part.TheVariants as part
 use Rattle.pdp_store.specs.declared.Agent.TheVariants.{Cpu}
 use Rattle.pdp_store.specs.declared.Stamp.{Stamp}
-use Rattle.pdp_unibus.specs.BusWorld.{BusWorld, with_io_page, with_firsts}
+use Rattle.pdp_unibus.specs.BusWorld.{BusWorld, with_io_page, with_first_touches}
 use Rattle.pdp_unibus.specs.Register.{register_at, value_in, after_read, after_write, after_byte}
 use Rattle.pdp_unibus.specs.Register.{word_with_byte}
 use Rattle.pdp_unibus.specs.declared.register.Register.{Register}
@@ -49,13 +49,13 @@ stamp_of_cycle w = record { turn = w.turn; agent = Cpu }
 
 -- the bus after a read of a word of core, and after a write of one: each touches the word's page
 abbrev pub core_read : BusWorld → ℕ → BusWorld
-core_read w k = with_firsts w (word_touched part.Core k w.turn w.firsts)
+core_read w k = with_first_touches w (word_touched part.Core k w.turn w.first_touches)
 
 abbrev pub core_written : BusWorld → ℕ → ℕ → BusWorld
 core_written w k word = record w {
   core = slice_set w.core k word;
-  lasts = slice_set w.lasts k (Some (stamp_of_cycle w));
-  firsts = word_touched part.Core k w.turn w.firsts;
+  stamps = slice_set w.stamps k (Some (stamp_of_cycle w));
+  first_touches = word_touched part.Core k w.turn w.first_touches;
 }
 
 -- nobody answered: nothing changes

@@ -1,4 +1,4 @@
--- How long operations take, in turns (this project's profile).
+-- How long operations take, in turns [P].
 use Rattle.std.specs.Prelude.{ℕ}
 use Rattle.pdp_unibus.specs.declared.delays.Delays.{Delays}
 use Rattle.pdp_unibus.specs.declared.delays.DelayedDevice.{DelayedDevice}

@@ -1,4 +1,4 @@
--- The drives of a bus, exchanged for others (this project's profile).
+-- The drives of a bus, exchanged for others [P].
 use Rattle.std.specs.Prelude.{ℕ, List}
 use Rattle.pdp_unibus.specs.BusWorld.{BusWorld}
 

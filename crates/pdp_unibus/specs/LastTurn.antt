@@ -1,5 +1,4 @@
--- The greatest turn that an event may have and that can be asked about, and the longest delay (this
--- project's profile).
+-- The greatest turn that an event may have and that can be asked about, and the longest delay [P].
 use Rattle.std.specs.Prelude.{ℕ}
 
 abbrev pub last_turn : ℕ

@@ -1,17 +1,12 @@
 -- Pages of 256 words of core or of a drive, on the bus. No rule of the handbook is here.
-use Rattle.std.specs.Prelude.{ℕ, ◌≡◌, List, Option, Some, None}
+use Rattle.std.specs.Prelude.{ℕ, ◌≡◌, List}
 use Rattle.pdp_store.specs.Parts.{AlikeWords, SameWords, core_with, drives_with, words_in}
-use Rattle.pdp_store.specs.TracedAccess.{Part, Core, Drive}
+use Rattle.pdp_store.specs.declared.part.Part.{Part}
 use Rattle.pdp_unibus.specs.BusWorld.{BusWorld}
 
 -- the words of a part
 abbrev pub words_of_part : Part → BusWorld → List ℕ
 words_of_part part w = words_in part w.core w.drives
-
--- the drive of this number, or core if there is no number
-abbrev pub part_of : Option ℕ → Part
-part_of None = Core
-part_of (Some number) = Drive number
 
 -- the bus with other words in a part
 abbrev pub bus_with_words : Part → List ℕ → BusWorld → BusWorld

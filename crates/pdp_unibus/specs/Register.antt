@@ -1,6 +1,6 @@
 -- Registers on the bus, and who owns them: PDP-11 Peripherals Handbook, KL11, KW11-L, PC11 and
 -- RK11; DEC PDP-11/40 Processor Handbook (1972), Switch register, Processor status word and Memory
--- management. How bytes are written is this project's profile.
+-- management. How bytes are written is [P].
 use Rattle.std.specs.Prelude.{ℕ, ◌+◌, ◌-◌, ◌*◌, ◌%◌, ◌==◌, ◌&&◌, nat_le, Bool, true, Option, Some}
 use Rattle.std.specs.Prelude.{option_map, if◌then◌else◌}
 use Rattle.pdp_kt11.specs.Kt.{kt_register_at, kt_value, kt_written}

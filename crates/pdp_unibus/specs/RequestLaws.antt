@@ -1,5 +1,5 @@
 -- What the laws of requests say: each name is the law's sentence (PDP-11 Peripherals Handbook,
--- Unibus; the order at one level is this project's profile).
+-- Unibus; the order at one level is [P]).
 use Rattle.std.specs.Prelude.{◌≡◌, ◌≢◌, ◌↔◌, ℕ, ◌==◌, Bool, true, false, ◌&&◌, ◌||◌, nat_lt, Some}
 use Rattle.std.specs.Prelude.{None}
 use Rattle.pdp_unibus.specs.BusWorld.{io_page_reset}
@@ -33,21 +33,21 @@ abbrev pub RequestsAbove : (Source → Bool) → Priority → Source → Type 0
 RequestsAbove is_requesting priority s = (is_requesting s ≡ true) × (is_above (level_of s) priority
     ≡ true)
 
--- a source is chosen exactly where it requests above the priority and no other that does goes
--- before it, whichever sources request
+-- a source is chosen exactly if it requests above the priority and no other that does goes before
+-- it, whichever sources request
 abbrev pub TheFirstIsChosen : Type 0
 TheFirstIsChosen = (is_requesting : Source → Bool) (priority : Priority) (s : Source)
     → (first_above is_requesting priority ≡ Some s)
     ↔ (RequestsAbove is_requesting priority s
     × ((t : Source) → RequestsAbove is_requesting priority t → goes_before t s ≡ false))
 
--- none is chosen exactly where none requests above the priority
+-- none is chosen exactly if none requests above the priority
 abbrev pub NoneIsChosenWhereNoneIsAbove : Type 0
 NoneIsChosenWhereNoneIsAbove = (is_requesting : Source → Bool) (priority : Priority)
     → (first_above is_requesting priority ≡ None) ↔ ((s : Source) → ¬ RequestsAbove is_requesting
     priority s)
 
--- some source requests exactly where that is told
+-- some source requests exactly if that is told
 abbrev pub RequestsAreTold : Type 0
 RequestsAreTold = (b : IoPage) → (has_request b ≡ false) ↔ ((s : Source) → requests b s ≡ false)
 

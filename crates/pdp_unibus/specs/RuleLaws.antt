@@ -1,5 +1,4 @@
--- What the law of the one rule of requests says: each name is the law's sentence (this project's
--- profile).
+-- What the law of the one rule of requests says: each name is the law's sentence [P].
 use Rattle.std.specs.Prelude.{◌≡◌, true}
 use Rattle.pdp_device.specs.Request.{request_after}
 use Rattle.pdp_device.specs.ReadyEnable.{wants_interrupt}
@@ -15,7 +14,7 @@ use Rattle.pdp_unibus.specs.declared.event.Event.{Event}
 abbrev pub IsSound : ReadyEnable → Type 0
 IsSound c = c.request ≡ true → wants_interrupt c ≡ true
 
--- a request is there afterwards exactly where the condition holds, and either it was there or the
+-- a request is there afterwards exactly if the condition holds, and either it was there or the
 -- condition has just come to hold; and it stands on its condition again
 pub record GoesByTheRule (before after : ReadyEnable) : Type 0 where
   pub request : after.request ≡ request_after (wants_interrupt before) (wants_interrupt after)

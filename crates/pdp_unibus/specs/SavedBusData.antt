@@ -1,12 +1,13 @@
 -- What is saved of a bus: all but the bytes of its tape, which no turn changes, and first touches
--- (this project's profile).
-use Rattle.std.specs.Prelude.{ℕ, ◌≡◌, ◌<◌, List, Option, Some, None, length, map}
-use Rattle.std.specs.Prelude.{slice_set}
-use Rattle.pdp_store.specs.Parts.{words_of_drive}
-use Rattle.pdp_store.specs.Firsts.{no_firsts}
-use Rattle.pdp_store.specs.Pages.{SharedPage, lasts_of, words_of}
+-- [P].
+use Rattle.std.specs.Prelude.{ℕ, ◌≡◌, ◌<◌, List, Option, length, map, slice_set}
+use Rattle.pdp_store.specs.Parts.{core_with, drives_with, words_in}
+use Rattle.pdp_store.specs.FirstTouches.{no_first_touches}
+use Rattle.pdp_store.specs.Pages.{SharedPage, stamps_of, words_of}
 use Rattle.pdp_store.specs.Stored.{HasLastOfEachOrNone}
 use Rattle.pdp_store.specs.declared.Stamp.{Stamp}
+use Rattle.pdp_store.specs.declared.part.Part.{Part}
+use Rattle.pdp_store.specs.declared.part.WordAt.{WordAt}
 use Rattle.pdp_unibus.specs.BusWorld.{BusWorld}
 use Rattle.pdp_unibus.specs.declared.io_page.IoPage.{IoPage}
 use Rattle.pdp_unibus.specs.declared.delays.Delays.{Delays}
@@ -15,7 +16,7 @@ use Rattle.pdp_unibus.specs.declared.delays.Delays.{Delays}
 pub record SavedBusData : Type 0 where
   pub io_page : IoPage
   pub core : List ℕ
-  pub lasts : List (Option Stamp)
+  pub stamps : List (Option Stamp)
   pub drives : List (List ℕ)
   pub bytes_read : ℕ
   pub turn : ℕ
@@ -24,7 +25,7 @@ abbrev pub saved_bus : BusWorld → SavedBusData
 saved_bus w = record {
   io_page = w.io_page;
   core = w.core;
-  lasts = w.lasts;
+  stamps = w.stamps;
   drives = w.drives;
   bytes_read = w.bytes_read;
   turn = w.turn;
@@ -35,12 +36,12 @@ abbrev pub bus_of : List ℕ → SavedBusData → BusWorld
 bus_of tape c = record {
   io_page = c.io_page;
   core = c.core;
-  lasts = c.lasts;
+  stamps = c.stamps;
   drives = c.drives;
   tape = tape;
   bytes_read = c.bytes_read;
   turn = c.turn;
-  firsts = no_firsts;
+  first_touches = no_first_touches;
 }
 
 -- the saved bus with other delays, and the bus with another tape
@@ -54,33 +55,40 @@ bus_with_tape w tape = record w { tape = tape }
 -- with as many words each
 pub record HasSizesOf (c : SavedBusData) (w : BusWorld) : Type 0 where
   pub core : length c.core ≡ length w.core
-  pub lasts : length c.lasts ≡ length w.lasts
+  pub stamps : length c.stamps ≡ length w.stamps
   pub drives : map length c.drives ≡ map length w.drives
 
 -- the pages are core: its words and their last stamps, one of each word or none at all
 pub record IsCoreOf (pages : List SharedPage) (w : BusWorld) : Type 0 where
   pub words : words_of pages ≡ w.core
-  pub lasts : lasts_of pages ≡ w.lasts
-  pub stamped : HasLastOfEachOrNone w.core w.lasts
+  pub stamps : stamps_of pages ≡ w.stamps
+  pub stamped : HasLastOfEachOrNone w.core w.stamps
 
 -- the pages have as many words as core, and as many stamps
 pub record IsCoreOfSize (pages : List SharedPage) (w : BusWorld) : Type 0 where
   pub words : length (words_of pages) ≡ length w.core
-  pub lasts : length (lasts_of pages) ≡ length w.lasts
+  pub stamps : length (stamps_of pages) ≡ length w.stamps
 
 -- the bus with core of these pages
 abbrev pub with_core_of : List SharedPage → BusWorld → BusWorld
-with_core_of pages w = record w { core = words_of pages; lasts = lasts_of pages }
+with_core_of pages w = record w { core = words_of pages; stamps = stamps_of pages }
 
--- there is such a word: of core, or of the drive of this number
-unfoldable pub SavedBusHasWord : Option ℕ → ℕ → SavedBusData → Type 0
-SavedBusHasWord None word c = word < length c.core
-SavedBusHasWord (Some number) word c = word < length (words_of_drive c.drives number)
+-- the words of a part
+abbrev pub saved_words : Part → SavedBusData → List ℕ
+saved_words part c = words_in part c.core c.drives
+
+-- there is such a word
+unfoldable pub SavedBusHasWord : WordAt → SavedBusData → Type 0
+SavedBusHasWord at c = at.number < length (saved_words at.part c)
+
+-- the saved bus with these words in a part
+abbrev pub saved_bus_with_words : Part → List ℕ → SavedBusData → SavedBusData
+saved_bus_with_words part words c = record c {
+  core = core_with part words c.core;
+  drives = drives_with part words c.drives;
+}
 
 -- the saved bus with this value in that word
-unfoldable pub saved_bus_with_word : Option ℕ → ℕ → ℕ → SavedBusData → SavedBusData
-saved_bus_with_word None word value c = record c { core = slice_set c.core word value }
-saved_bus_with_word (Some number) word value c = record c {
-  drives = slice_set c.drives number
-      (slice_set (words_of_drive c.drives number) word value);
-}
+unfoldable pub saved_bus_with_word : WordAt → ℕ → SavedBusData → SavedBusData
+saved_bus_with_word at value c =
+    saved_bus_with_words at.part (slice_set (saved_words at.part c) at.number value) c

@@ -17,8 +17,8 @@ use Rattle.pdp_tape.specs.declared.pc.PcRegister.TheVariants.{PunchStatus}
 use Rattle.pdp_unibus.specs.BusWorld.{BusWorld}
 use Rattle.pdp_unibus.specs.Register.{value_in}
 use Rattle.pdp_unibus.specs.declared.io_page.IoPage.{IoPage}
-use Rattle.pdp_unibus.specs.declared.device_registers.DeviceRegisters.{DeviceRegisters}
-use Rattle.pdp_unibus.specs.declared.page_registers.PageRegisters.{PageRegisters}
+use Rattle.pdp_unibus.specs.declared.show.device_registers.DeviceRegisters.{DeviceRegisters}
+use Rattle.pdp_unibus.specs.declared.show.page_registers.PageRegisters.{PageRegisters}
 use Rattle.pdp_unibus.specs.declared.register.Register.{Register}
 use Rattle.pdp_unibus.specs.declared.register.Register.TheVariants.{Clock, Console, Disk, Mapping}
 use Rattle.pdp_unibus.specs.declared.register.Register.TheVariants.{PaperTape, Switches}

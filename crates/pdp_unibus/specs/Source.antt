@@ -1,5 +1,5 @@
 -- What can interrupt the processor: PDP-11 Peripherals Handbook, KL11, KW11-L, PC11 and RK11 (which
--- of two at one level goes first is this project's profile).
+-- of two at one level goes first is [P]).
 use Rattle.std.specs.Prelude.{ℕ, Bool, ◌&&◌, Option, Some, None, List, [], ◌∷◌, if◌then◌else◌}
 use Rattle.std.specs.List.{find, list_any}
 use Rattle.pdp_console.specs.Kl.{keyboard_served, printer_served}
@@ -33,7 +33,7 @@ vector_of Disk = 0o220
 abbrev pub order : List Source
 order = Clock ∷ Disk ∷ Keyboard ∷ Printer ∷ Reader ∷ Punch ∷ []
 
--- a source, where it requests with a level above the priority
+-- a source, if it requests with a level above the priority
 abbrev pub alone_above : (Source → Bool) → Priority → Source → Option Source
 alone_above is_requesting priority s = if is_requesting s && is_above (level_of s) priority then
     Some s else None

@@ -10,7 +10,6 @@ pub record Reel : Type 0 where
 abbrev pub next_byte : List ℕ → ℕ → Option ℕ
 next_byte tape read = slice_get tape read
 
--- how many have been read after one more read: one more where there was a byte, and as many at the
--- end
+-- how many have been read after one more read: one more if there was a byte, and as many at the end
 abbrev pub read_on : List ℕ → ℕ → ℕ
 read_on tape read = if nat_lt read (length tape) then read + 1 else read

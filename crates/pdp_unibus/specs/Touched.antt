@@ -1,6 +1,7 @@
 -- Whose the touches of a turn are. No rule of the handbook is here.
 use Rattle.std.specs.Prelude.{ℕ, ◌≡◌, ◌<◌, false}
-use Rattle.pdp_store.specs.TracedAccess.{TracedAccess, Core, is_core}
+use Rattle.pdp_store.specs.TracedAccess.{TracedAccess, is_core}
+use Rattle.pdp_store.specs.declared.part.Part.TheVariants.{Core}
 use Rattle.pdp_store.specs.declared.Agent.TheVariants.{Disk}
 
 -- a touch in this turn: in core, of one of its first so many words; on a drive, by the disk

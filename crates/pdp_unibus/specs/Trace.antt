@@ -3,7 +3,8 @@
 use Rattle.std.specs.Prelude.{ℕ, Bool, List, [], ◌∷◌, ◌++◌, if◌then◌else◌}
 use Rattle.pdp_device.specs.Operation.{is_due}
 use Rattle.pdp_rk11.specs.Trace.{completion_touches}
-use Rattle.pdp_store.specs.TracedAccess.{Part as part, TracedAccess}
+use Rattle.pdp_store.specs.TracedAccess.{TracedAccess}
+use Rattle.pdp_store.specs.declared.part.Part.TheVariants as part
 use Rattle.pdp_store.specs.declared.Agent.TheVariants.{Cpu}
 use Rattle.pdp_unibus.specs.Beginning.{after_event, at_start, before_disk, in_turn}
 use Rattle.pdp_unibus.specs.BusWorld.{BusWorld, disk_world_of}

@@ -14,7 +14,7 @@ use crate::watch::Watch;
 use pdp_store::Store;
 
 /// The byte that was printed on the console and the byte that was punched in the beginning of a
-/// turn, if any (this project's profile).
+/// turn, if any [P].
 #[derive(Clone, Copy, Default)]
 pub struct Output {
     pub printed: Option<u8>,
@@ -22,14 +22,14 @@ pub struct Output {
 }
 
 impl<S: Store, D: Store> Bus<S, D> {
-    /// A turn begins: its events in their order, a tick where the clock's period is above 0 and the
+    /// A turn begins: its events in their order, a tick if the clock's period is above 0 and the
     /// turn is a positive multiple of it, and the completions that are due, of the printer, the
     /// reader, the punch and the disk in this order. The cycles from now on are those of the turn,
-    /// and so are the stamps of words that the disk reads into core. It answers the byte that was
+    /// and so are the stamps of words that the disk reads into core. It returns the byte that was
     /// printed and the byte that was punched.
     ///
     /// `Continue` is the processor's and does nothing here. An event for an operation that isn't
-    /// under way does nothing. (This project's profile.)
+    /// under way does nothing. [P]
     #[inline(never)]
     #[tactic(auto, unfolding(crate::specs::after_beginning, crate::specs::before_disk))]
     pub fn events(&mut self, turn: u32, events: &[Event]) -> Output
@@ -44,14 +44,12 @@ impl<S: Store, D: Store> Bus<S, D> {
         self.take_reader();
         self.take_punch(&mut output);
         self.take_disk();
-        self.watch = self.io_page.watch(self.turn);
-        self.look();
+        self.refresh();
         output
     }
 
-    /// Begins this turn without events where the bus knows that nothing happens in its beginning,
-    /// and answers true. Else it does nothing and answers false, also where it only doesn't know.
-    /// (This project's profile.)
+    /// Begins this turn without events if the bus knows that nothing happens in its beginning, and
+    /// returns true. Otherwise it does nothing and returns false, also if it only doesn't know. [P]
     #[inline(always)]
     pub fn begin_quietly(&mut self, turn: u32) -> bool
         ensures begun { result ≡ true → after_beginning turn [] self.old ≡ at_start self.new }
@@ -95,7 +93,7 @@ impl<S: Store, D: Store> Bus<S, D> {
         }
     }
 
-    // The clock ticks by itself, where it is to in this turn.
+    // The clock ticks by itself, if it is to in this turn.
     fn take_tick(&mut self)
         ensures after { (o : Output) → progress self.new o ≡ tick_due (progress self.old o) }
         ensures single { StaysSingle self.old.io_page self.new.io_page }
@@ -107,7 +105,7 @@ impl<S: Store, D: Store> Bus<S, D> {
         }
     }
 
-    // The printer completes, where it is due.
+    // The printer completes, if it is due.
     fn take_printer(&mut self, output: &mut Output)
         requires { IsSingle self.old.io_page output.old }
         ensures after { progress self.new output.new ≡ printer_due (progress self.old output.old) }
@@ -118,7 +116,7 @@ impl<S: Store, D: Store> Bus<S, D> {
         }
     }
 
-    // The reader completes, where it is due.
+    // The reader completes, if it is due.
     fn take_reader(&mut self)
         ensures after { (o : Output) → progress self.new o ≡ reader_due (progress self.old o) }
         ensures single { StaysSingle self.old.io_page self.new.io_page }
@@ -128,7 +126,7 @@ impl<S: Store, D: Store> Bus<S, D> {
         }
     }
 
-    // The punch completes, where it is due.
+    // The punch completes, if it is due.
     fn take_punch(&mut self, output: &mut Output)
         requires { IsSingle self.old.io_page output.old }
         ensures after { progress self.new output.new ≡ punch_due (progress self.old output.old) }
@@ -139,7 +137,7 @@ impl<S: Store, D: Store> Bus<S, D> {
         }
     }
 
-    // The disk completes, where it is due.
+    // The disk completes, if it is due.
     fn take_disk(&mut self)
         ensures after { (o : Output) → progress self.new o ≡ disk_due (progress self.old o) }
         ensures single { StaysSingle self.old.io_page self.new.io_page }
@@ -186,7 +184,7 @@ impl<S: Store, D: Store> Bus<S, D> {
         self.lines.clear();
     }
 
-    // The reader completes: where it was reading, the next byte of the tape is taken.
+    // The reader completes: if it was reading, the next byte of the tape is taken.
     fn read_tape(&mut self)
         ensures after { (o : Output) → progress self.new o ≡ reader_done (progress self.old o) }
         ensures single { StaysSingle self.old.io_page self.new.io_page }

@@ -1,7 +1,7 @@
 ghost use Rattle.std.specs.Prelude.{◌≡◌};
 ghost use Rattle.pdp_unibus.specs.Delays.{standard_delays, with_delay};
 
-/// A device whose delay can be set (this project's profile).
+/// A device whose delay can be set [P].
 #[derive(Clone, Copy)]
 pub enum DelayedDevice {
     /// The console terminal's printer.
@@ -18,7 +18,7 @@ pub enum DelayedDevice {
 
 /// How many turns after it began an operation of each device completes: 0 says by an event alone.
 /// Of the clock it is the period: with p above 0 it ticks in the turns p, 2p and so on, with 0 by
-/// events alone (this project's profile).
+/// events alone [P].
 #[derive(Clone, Copy)]
 pub struct Delays {
     pub printer: u32,
@@ -31,7 +31,7 @@ pub struct Delays {
 
 impl Delays {
     /// The delays of a machine for which none is given: printer 1, reader 4, punch 4, disk 10, and
-    /// no tick of the clock but by events (this project's profile).
+    /// no tick of the clock but by events [P].
     pub fn standard() -> Delays
         ensures { result ≡ standard_delays }
     {

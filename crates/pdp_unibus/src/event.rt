@@ -1,4 +1,4 @@
-/// What happens to the machine from outside, at a turn of a script (this project's profile).
+/// What happens to the machine from outside, at a turn of a script [P].
 #[derive(Clone, Copy)]
 pub enum Event {
     /// A key is struck, with this byte.

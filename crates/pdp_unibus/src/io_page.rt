@@ -33,8 +33,7 @@ pub struct IoPage {
 
 impl IoPage {
     /// The I/O page as of power-up, with these delays: every bit of the program status word, of the
-    /// mapping registers and of the switches 0, and the devices as after RESET (this project's
-    /// profile).
+    /// mapping registers and of the switches 0, and the devices as after RESET [P].
     pub(crate) fn power(delays: Delays) -> IoPage
         ensures { result ≡ io_page_at_power_up delays }
     {
@@ -127,8 +126,7 @@ impl IoPage {
 
     /// A write of a byte to the register, at an address in its word, in this turn, with so many
     /// drives: the other half is written as a read would give it, without the effect of a read. At
-    /// the odd address of the printer's and the punch's buffer it does nothing. (This project's
-    /// profile.)
+    /// the odd address of the printer's and the punch's buffer it does nothing. [P]
     #[tactic(auto, unfolding(crate::specs::Register::after_byte))]
     pub fn write_byte(
         &mut self,

@@ -25,7 +25,7 @@ ghost use Rattle.pdp_unibus.specs.declared.bus.Timeout.{Timeout};
 /// A law of the bus: a cycle that times out leaves core, its stamps, the drives, the I/O page, the
 /// tape and the turn as they were.
 ///
-/// This project's profile.
+/// [P]
 pub fn timeouts_change_nothing()
     ensures { (c : Cycle) (w : BusWorld) (t : Timeout) → (cycle c w).value ≡ Err t →
         (cycle c w).after ≡ w }
@@ -34,7 +34,7 @@ pub fn timeouts_change_nothing()
 /// A law of devices: a register that is read or written leaves every device but its own, and an
 /// event every device but the one to which it happens.
 ///
-/// This project's profile.
+/// [P]
 pub fn devices_change_alone()
     ensures uses { UsesLeaveOthers }
     ensures events { EventsLeaveOthers }
@@ -44,8 +44,7 @@ pub fn devices_change_alone()
 /// with T as it was. What was read from it changes nothing when it is written. A whole word, as a
 /// trap loads it, sets T too.
 ///
-/// DEC PDP-11/40 Processor Handbook (1972), Processor status word; bits 11-8 and T are this
-/// project's profile.
+/// DEC PDP-11/40 Processor Handbook (1972), Processor status word; bits 11-8 and T are [P].
 pub fn status_reads_back()
     ensures word { WrittenStatusReadsBack }
     ensures register { WrittenRegisterReadsBack }
@@ -64,20 +63,20 @@ pub fn keys_wait_and_are_read_once()
 
 /// A law of interrupts: whichever sources request, the one that is chosen requests with a level
 /// above the priority, and no other that does goes before it, by its level or at the same level by
-/// its place. None is chosen exactly where none does.
+/// its place. None is chosen exactly if none does.
 ///
-/// PDP-11 Peripherals Handbook, Unibus; the order at one level is this project's profile.
+/// PDP-11 Peripherals Handbook, Unibus; the order at one level [P].
 pub fn the_first_request_is_chosen()
     ensures first { TheFirstIsChosen }
     ensures none { NoneIsChosenWhereNoneIsAbove }
 {}
 
 /// A law of the one rule of requests, of the keyboard, the printer, the punch and the disk:
-/// whichever register is read or written and whatever event happens, where a request stands on its
-/// condition, as at power-up, it does so afterwards, and is there exactly where the condition holds
+/// whichever register is read or written and whatever event happens, if a request stands on its
+/// condition, as at power-up, it does so afterwards, and is there exactly if the condition holds
 /// and it was there, or the condition has just come to hold. So none is lost, and none comes twice.
 ///
-/// This project's profile.
+/// [P]
 pub fn requests_go_by_the_rule()
     ensures keyboard { RequestsGoByTheRule keyboard_ready_enable }
     ensures printer { RequestsGoByTheRule printer_ready_enable }
@@ -88,7 +87,7 @@ pub fn requests_go_by_the_rule()
 /// A law of requests: whether there is any is told, a source that was served doesn't request, the
 /// others go on as before, and after RESET none does.
 ///
-/// PDP-11 Peripherals Handbook, Unibus; RESET is this project's profile.
+/// PDP-11 Peripherals Handbook, Unibus; RESET [P].
 pub fn requests_go_one_by_one_or_by_reset()
     ensures told { RequestsAreTold }
     ensures served { ServedSourcesAreSilent }
@@ -96,10 +95,10 @@ pub fn requests_go_one_by_one_or_by_reset()
     ensures reset { ResetDropsRequests }
 {}
 
-/// A law of the printer and the punch: in the beginning of a turn a byte comes out exactly where
+/// A law of the printer and the punch: in the beginning of a turn a byte comes out exactly if
 /// its operation ends there, once, as it is then; and nothing else comes out.
 ///
-/// PDP-11 Peripherals Handbook, KL11 and PC11; when an operation ends is this project's profile.
+/// PDP-11 Peripherals Handbook, KL11 and PC11; when an operation ends [P].
 pub fn bytes_come_out_as_operations_end()
     ensures printed { BytesArePrintedAsOperationsEnd }
     ensures punched { BytesArePunchedAsOperationsEnd }
@@ -107,10 +106,10 @@ pub fn bytes_come_out_as_operations_end()
 
 /// A law of completions: without its event an operation of the printer, the reader, the punch or
 /// the disk ends in the beginning of the turn in which it is due, and of no other; and whichever
-/// registers are read and written meanwhile, it stays as it was begun, the disk's where its
+/// registers are read and written meanwhile, it stays as it was begun, the disk's if its
 /// controller isn't ready.
 ///
-/// This project's profile.
+/// [P]
 pub fn operations_end_when_due()
     ensures printing { PrintingEndsWhenDue }
     ensures reading { ReadingEndsWhenDue }
@@ -125,7 +124,7 @@ pub fn operations_end_when_due()
 /// A law of the paper tape: in the beginning of a turn a read that ends takes the tape's next byte,
 /// or finds its end, and nothing else moves the tape; the bytes on it stay.
 ///
-/// PDP-11 Peripherals Handbook, PC11; when an operation ends is this project's profile.
+/// PDP-11 Peripherals Handbook, PC11; when an operation ends [P].
 pub fn reads_take_the_next_byte()
     ensures next { ReadsTakeTheNextByte }
     ensures tape { TapesStay }

@@ -30,8 +30,8 @@
 //!   invariant of `Bus`, so no write to core can forget it.
 //! - Each bus cycle and each completion of the disk touches the pages of the words that it reads or
 //!   writes. So does a fetch whose line is at hand (`Bus::kept_word`). The first touch of a page of
-//!   core or of a drive is the least turn of its touches that were not forgotten
-//!   (`Bus::first_of_core`, `first_of_drive`, `forget`).
+//!   core or of a drive is the least turn of its touches that were not forgotten (`Bus::first`,
+//!   `forget`).
 //! - An access that goes to core and changes no mapping register: a read gives the word or byte and
 //!   leaves the bus, as its page was touched before; a write leaves what a bus cycle leaves. One
 //!   that isn't so does nothing (`Bus::core_word`, `core_index`, `core_byte`, `write_core`,
@@ -53,20 +53,19 @@ mod beginning;
 mod bits;
 mod bus;
 mod delays;
-mod device_registers;
+mod device_table;
 mod direct;
 mod drives;
 mod event;
 mod io_page;
 mod last_turn;
 mod laws;
-mod page_registers;
 mod priority;
 mod register;
 mod register_cycles;
 mod requests;
-mod saved_bus;
-mod saved_drives;
+mod save;
+mod show;
 mod source;
 mod status;
 mod tape;
@@ -76,7 +75,6 @@ mod watch;
 pub use beginning::Output;
 pub use bus::{Aborted, Bus, Timeout};
 pub use delays::{DelayedDevice, Delays};
-pub use device_registers::{DeviceRegisters, SHOWN_REGISTERS};
 pub use direct::AddressedWord;
 pub use event::Event;
 pub use io_page::IoPage;
@@ -87,9 +85,9 @@ pub use laws::{
     requests_go_one_by_one_or_by_reset, status_reads_back, the_first_request_is_chosen,
     timeouts_change_nothing,
 };
-pub use page_registers::PageRegisters;
 pub use priority::Priority;
 pub use register::{Register, register_at_address};
-pub use saved_bus::{NewPages, PatchedPage, SavedBus};
+pub use save::{NewPages, PatchedPage, SavedBus};
+pub use show::{DeviceRegisters, PageRegisters, SHOWN_REGISTERS};
 pub use source::Source;
 pub use status::Status;

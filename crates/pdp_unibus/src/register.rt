@@ -1,6 +1,7 @@
 ghost use Rattle.std.specs.Prelude.{◌≡◌};
 ghost use Rattle.pdp_unibus.specs.Register.{register_at};
 
+use crate::device_table::DEVICES;
 use pdp_console::KlRegister;
 use pdp_kt11::KtRegister;
 use pdp_rk11::RkRegister;
@@ -35,13 +36,19 @@ pub fn register_at_address(address: u32) -> Option<Register>
     ensures { result ≡ register_at address }
 {
     let word = address - address % 2;
-    match word {
-        0o777400..=0o777412 => RkRegister::at(word - 0o777400).map(Register::Disk),
-        0o777546 => Some(Register::Clock),
-        0o777550..=0o777556 => PcRegister::at(word - 0o777550).map(Register::PaperTape),
-        0o777560..=0o777566 => KlRegister::at(word - 0o777560).map(Register::Console),
-        0o777570 => Some(Register::Switches),
-        0o777776 => Some(Register::ProgramStatus),
-        _ => KtRegister::at(word).map(Register::Mapping),
+    if DEVICES.disk.first <= word && word <= DEVICES.disk.last {
+        RkRegister::at(word - DEVICES.disk.first).map(Register::Disk)
+    } else if word == DEVICES.clock.first {
+        Some(Register::Clock)
+    } else if DEVICES.reader.first <= word && word <= DEVICES.punch.last {
+        PcRegister::at(word - DEVICES.reader.first).map(Register::PaperTape)
+    } else if DEVICES.keyboard.first <= word && word <= DEVICES.printer.last {
+        KlRegister::at(word - DEVICES.keyboard.first).map(Register::Console)
+    } else if word == 0o777570 {
+        Some(Register::Switches)
+    } else if word == 0o777776 {
+        Some(Register::ProgramStatus)
+    } else {
+        KtRegister::at(word).map(Register::Mapping)
     }
 }

@@ -37,7 +37,7 @@ impl IoPage {
     }
 
     /// The source that is served first, of those that request with a level above the priority, if
-    /// there is one: the highest level, and at one level the order of this project's profile.
+    /// there is one: the highest level, and at one level the order of the profile [P].
     #[cold]
     #[inline(never)]
     #[tactic(auto, unfolding(crate::specs::chosen_source), using(crate::proofs::Rules::choices))]
@@ -52,7 +52,7 @@ impl IoPage {
             .or(self.above(Source::Punch, priority))
     }
 
-    /// The source, where it requests with a level above the priority.
+    /// The source, if it requests with a level above the priority.
     fn above(&self, source: Source, priority: Priority) -> Option<Source>
         ensures { result ≡ alone_above (requests self.now) priority source }
     {

@@ -1,5 +1,6 @@
 ghost use Rattle.std.specs.Prelude.{◌≡◌};
 
+use crate::device_table::{DEVICES, Device};
 use crate::priority::Priority;
 
 /// What can interrupt the processor.
@@ -24,15 +25,26 @@ pub enum Source {
 impl Source {
     ghost use Rattle.pdp_unibus.specs.Source.{level_of, vector_of};
 
+    // The source's device.
+    fn device(self) -> Device
+        ensures level { result.level ≡ level_of self }
+        ensures vector { result.vector ≡ vector_of self }
+    {
+        match self {
+            Source::Keyboard => DEVICES.keyboard,
+            Source::Printer => DEVICES.printer,
+            Source::Reader => DEVICES.reader,
+            Source::Punch => DEVICES.punch,
+            Source::Clock => DEVICES.clock,
+            Source::Disk => DEVICES.disk,
+        }
+    }
+
     /// The level at which the source requests: 6 the clock, 5 the disk, 4 the others.
     pub fn level(self) -> Priority
         ensures { result ≡ level_of self }
     {
-        match self {
-            Source::Clock => Priority::Level6,
-            Source::Disk => Priority::Level5,
-            Source::Keyboard | Source::Printer | Source::Reader | Source::Punch => Priority::Level4,
-        }
+        self.device().level
     }
 
     /// The source's vector: the address in kernel space (bytes) of the new PC, with the new program
@@ -40,13 +52,6 @@ impl Source {
     pub fn vector(self) -> u16
         ensures { result ≡ vector_of self }
     {
-        match self {
-            Source::Keyboard => 0o60,
-            Source::Printer => 0o64,
-            Source::Reader => 0o70,
-            Source::Punch => 0o74,
-            Source::Clock => 0o100,
-            Source::Disk => 0o220,
-        }
+        self.device().vector
     }
 }

@@ -1,4 +1,4 @@
--- Numbers as text: each digit by its place, the last one in place 0 (this project's profile).
+-- Numbers as text: each digit by its place, the last one in place 0 [P].
 use Rattle.std.specs.Prelude.{ℕ, zero, suc, ◌+◌, ◌-◌, ◌*◌, ◌/◌, ◌%◌, ◌^◌, Bool, ◌&&◌, nat_le}
 use Rattle.std.specs.Prelude.{nat_lt, if◌then◌else◌, Option, Some, None, List, [], ◌∷◌, length}
 use Rattle.std.specs.List.{list_all}

@@ -9,7 +9,7 @@ abbrev pub span : Size → ℕ
 span Word = 0o200000
 span Byte = 0o400
 
--- half of them: where the top bit is set
+-- half of them: if the top bit is set
 abbrev pub half : Size → ℕ
 half Word = 0o100000
 half Byte = 0o200

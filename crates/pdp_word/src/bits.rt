@@ -1,5 +1,5 @@
 ghost use Rattle.std.specs.Prelude.{◌≡◌, ◌<◌};
-ghost use Rattle.pdp_word.specs.Bits.{bit_of, field, has_bit};
+ghost use Rattle.pdp_word.specs.Bits.{bit_of, field};
 
 /// 1 for a flag that is set, 0 for one that is clear.
 #[inline(always)]
@@ -20,14 +20,4 @@ pub fn field(lowest: u32, width: u32, word: u16) -> u16
     ensures { result ≡ field lowest width word }
 {
     (word >> lowest) % (1 << width)
-}
-
-/// Whether a word has the bit of this number (DEC PDP-11/40 Processor Handbook (1972), Processor
-/// status word).
-#[inline(always)]
-pub fn has_bit(place: u32, word: u16) -> bool
-    requires { place < 16 }
-    ensures { result ≡ has_bit place word }
-{
-    field(place, 1, word) == 1
 }

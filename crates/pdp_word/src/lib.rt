@@ -19,7 +19,7 @@ mod number;
 mod size;
 mod word;
 
-pub use bits::{bit_of, field, has_bit};
+pub use bits::{bit_of, field};
 pub use codes::Codes;
 pub use mask::is_set;
 pub use memory::NoMemory;

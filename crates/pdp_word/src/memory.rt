@@ -2,8 +2,7 @@ ghost use Rattle.std.specs.Prelude.{◌≡◌};
 
 use std::alloc::{AllocError, AllocFailed};
 
-/// Out of memory: a growth was refused. Parts of the machine that can fail in no other way answer
-/// it.
+/// Out of memory: memory was refused. Parts of the machine that can fail in no other way answer it.
 #[derive(Clone, Copy, Debug, PartialEq, Eq)]
 pub struct NoMemory;
 

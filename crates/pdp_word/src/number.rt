@@ -3,9 +3,8 @@ ghost use Rattle.std.specs.Prelude.{IfSome};
 ghost use Rattle.std.specs.List.{list_all};
 ghost use Rattle.pdp_word.specs.Number.{is_digit, is_number, worth, number_of, octal_digits};
 
-/// The number that 1 to 10 octal digits write (this project's profile). `None` for any other text:
-/// an empty one, one of more than 10 bytes (leading zeros count too), or one with a byte that is no
-/// octal digit.
+/// The number that 1 to 10 octal digits write [P]. `None` for any other text: an empty one, one of
+/// more than 10 bytes (leading zeros count too), or one with a byte that is no octal digit.
 pub fn read_octal(text: &[u8]) -> Option<u32>
     ensures value { result ≡ number_of 8 text.now }
     ensures range { IfSome result (λ number. number < 8 ^ 10) }
@@ -14,9 +13,8 @@ pub fn read_octal(text: &[u8]) -> Option<u32>
     Some(number as u32)
 }
 
-/// The number that 1 to 10 decimal digits write (this project's profile). `None` for any other
-/// text: an empty one, one of more than 10 bytes (leading zeros count too), or one with a byte that
-/// is no decimal digit.
+/// The number that 1 to 10 decimal digits write [P]. `None` for any other text: an empty one, one
+/// of more than 10 bytes (leading zeros count too), or one with a byte that is no decimal digit.
 pub fn read_decimal(text: &[u8]) -> Option<u64>
     ensures value { result ≡ number_of 10 text.now }
     ensures range { IfSome result (λ number. number < 10 ^ 10) }
@@ -24,8 +22,8 @@ pub fn read_decimal(text: &[u8]) -> Option<u64>
     read_digits(text, 10)
 }
 
-/// The last six octal digits of a number, as text (this project's profile): all digits of a word or
-/// of an address of 18 bits, with leading zeros.
+/// The last six octal digits of a number, as text [P]: all digits of a word or of an address of 18
+/// bits, with leading zeros.
 #[tactic(auto, unfolding(crate::specs::Number::octal_digits))]
 pub fn write_octal6(number: u32) -> [u8; 6]
     ensures digits { result ≡ octal_digits 6 number }

@@ -4,7 +4,7 @@ use Rattle.pdp_unibus.specs.declared.event.Event.{Event}
 use Rattle.pdp_unibus.specs.declared.event.Event.TheVariants.{Continue}
 use Rattle.pdp_unibus.specs.BusWorld.{BusWorld}
 use Rattle.pdp_operand.specs.Laws.Count.{course_length}
-use Rattle.pdp_store.specs.TracedAccess.{Part}
+use Rattle.pdp_store.specs.declared.part.Part.{Part}
 use Rattle.pdp_unibus.specs.Page.{AlikeOutside, SamePage}
 use Rattle.pdp_operand.specs.declared.processor.Processor.{Processor}
 use Rattle.pdp_operand.specs.Phases.World.{World, world}
@@ -50,5 +50,5 @@ pub record Stays (v w : World) : Type 0 where
 pub record WordsStay (v w : World) : Type 0 where
   pub disk : w.bus.io_page.disk ≡ v.bus.io_page.disk
   pub core : w.bus.core ≡ v.bus.core
-  pub lasts : w.bus.lasts ≡ v.bus.lasts
+  pub stamps : w.bus.stamps ≡ v.bus.stamps
   pub drives : w.bus.drives ≡ v.bus.drives

@@ -1,9 +1,9 @@
--- A machine as a contract sees it; its state as of power-up is this project's profile.
+-- A machine as a contract sees it; its state as of power-up is [P].
 use Rattle.std.specs.Prelude.{ℕ, ◌+◌, ◌<◌, ◌++◌, List, [], Option, length}
 use Rattle.pdp_store.specs.declared.Stamp.{Stamp}
 use Rattle.pdp_unibus.specs.SavedBusData.{bus_with_tape}
-use Rattle.pdp_store.specs.Firsts.{Firsts, no_firsts}
-use Rattle.pdp_unibus.specs.BusWorld.{bus_at_power_up, with_firsts}
+use Rattle.pdp_store.specs.FirstTouches.{FirstTouches, no_first_touches}
+use Rattle.pdp_unibus.specs.BusWorld.{bus_at_power_up, with_first_touches}
 use Rattle.pdp_unibus.specs.declared.delays.Delays.{Delays}
 use Rattle.pdp_unibus.specs.declared.event.Event.{Event}
 use Rattle.pdp_operand.specs.Handbook.Processor.{powered_processor}
@@ -29,19 +29,20 @@ pub record MachineWithTexts : Type 0 where
   pub text_room : ℕ
   pub punched_room : ℕ
   -- the first touches of the pages of core and of the drives; the world of the state has none
-  pub firsts : Firsts
+  pub first_touches : FirstTouches
 
 -- a world with these first touches, and a world without any
-abbrev pub world_with_firsts : World → Firsts → World
-world_with_firsts w firsts = world w.processor (with_firsts w.bus firsts)
+abbrev pub world_with_first_touches : World → FirstTouches → World
+world_with_first_touches w first_touches =
+    world w.processor (with_first_touches w.bus first_touches)
 
-abbrev pub without_firsts : World → World
-without_firsts w = world_with_firsts w no_firsts
+abbrev pub without_first_touches : World → World
+without_first_touches w = world_with_first_touches w no_first_touches
 
 -- the world of a machine with its first touches, and the machine with these in the world of its
 -- state
 abbrev pub machine_world : MachineWithTexts → World
-machine_world m = world_with_firsts m.state.world m.firsts
+machine_world m = world_with_first_touches m.state.world m.first_touches
 
 abbrev pub touched_machine : MachineWithTexts → MachineWithTexts
 touched_machine m = record m { state = record m.state { world = machine_world m } }
@@ -49,15 +50,15 @@ touched_machine m = record m { state = record m.state { world = machine_world m 
 -- the world as of power-up
 abbrev pub powered_world : ℕ → List ℕ → List (Option Stamp) → List (List ℕ) → List ℕ → Delays
     → World
-powered_world start words lasts drives tape delays =
-    world (powered_processor start) (bus_at_power_up words lasts drives tape delays)
+powered_world start words stamps drives tape delays =
+    world (powered_processor start) (bus_at_power_up words stamps drives tape delays)
 
 -- the machine as of power-up: no byte was printed or punched
 abbrev pub powered_machine : ℕ → List ℕ → List (Option Stamp) → List (List ℕ) → List ℕ → Delays
     → MachineState
-powered_machine start words lasts drives tape delays = record {
+powered_machine start words stamps drives tape delays = record {
   turn = 0;
-  world = powered_world start words lasts drives tape delays;
+  world = powered_world start words stamps drives tape delays;
   text = [];
   punched = [];
 }

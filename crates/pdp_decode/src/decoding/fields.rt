@@ -15,7 +15,7 @@ pub(crate) const fn source(word: u16) -> Spec
     operand(word >> 6)
 }
 
-// The low six bits: DD, or SS where the source is the one operand.
+// The low six bits: DD, or SS if the source is the one operand.
 #[inline(always)]
 pub(crate) const fn operand(word: u16) -> Spec
     ensures value { result ≡ operand_in word }

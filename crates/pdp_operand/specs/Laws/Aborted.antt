@@ -1,5 +1,5 @@
 -- What a reference that memory management aborts leaves: DEC PDP-11/40 Processor Handbook (1972),
--- Memory management; that an odd address goes first is this project's profile.
+-- Memory management; that an odd address goes first is [P].
 use Rattle.std.specs.Prelude.{◌≡◌, [], Some, Err, Bool, true, false}
 use Rattle.pdp_kt11.specs.Laws.{page_used}
 use Rattle.pdp_kt11.specs.declared.apr.AccessControl.TheVariants as control
@@ -11,8 +11,8 @@ use Rattle.pdp_unibus.specs.BusWorld.{BusWorld}
 use Rattle.pdp_unibus.specs.declared.io_page.IoPage.{IoPage}
 use Rattle.pdp_operand.specs.Handbook.Reference.{Reference, access_of, is_odd, perform, translation}
 use Rattle.pdp_operand.specs.Laws.Trace.{touches}
-use Rattle.pdp_operation.specs.declared.trap.Trap.{Trap}
-use Rattle.pdp_operation.specs.declared.trap.Trap.TheVariants.{MappingAbort, OddAddress}
+use Rattle.pdp_action.specs.declared.trap.Trap.{Trap}
+use Rattle.pdp_action.specs.declared.trap.Trap.TheVariants.{MappingAbort, OddAddress}
 
 -- the I/O page with another SR0 of memory management
 abbrev pub with_mapping_status : MappingStatus → IoPage → IoPage
@@ -29,12 +29,12 @@ with_mapping_status status io_page = record io_page {
 pub record FailsWith (trap : Trap) (r : Reference) (b : BusWorld) : Type 0 where
   pub told : (perform r b).value ≡ Err trap
   pub core : (perform r b).after.core ≡ b.core
-  pub lasts : (perform r b).after.lasts ≡ b.lasts
+  pub stamps : (perform r b).after.stamps ≡ b.stamps
   pub drives : (perform r b).after.drives ≡ b.drives
   pub tape : (perform r b).after.tape ≡ b.tape
   pub bytes_read : (perform r b).after.bytes_read ≡ b.bytes_read
   pub turn : (perform r b).after.turn ≡ b.turn
-  pub firsts : (perform r b).after.firsts ≡ b.firsts
+  pub first_touches : (perform r b).after.first_touches ≡ b.first_touches
   pub io_page : (perform r b).after.io_page ≡ with_mapping_status (perform r
       b).after.io_page.mapping.status b.io_page
   pub touches_none : touches r b ≡ []

@@ -4,7 +4,7 @@ use Rattle.std.specs.Prelude.{ℕ, ◌+◌, List, [], ◌∷◌, Result, Ok, Err
 use Rattle.pdp_operand.specs.Phases.Phase.{Phase, State, Stop, Latch, step, inner_of}
 use Rattle.pdp_operand.specs.Phases.Plan.{phases_of, run_plan}
 use Rattle.pdp_operand.specs.Phases.Course.{Course, End, Go, caught_in}
-use Rattle.pdp_operation.specs.declared.trap.Trap.{Trap}
+use Rattle.pdp_action.specs.declared.trap.Trap.{Trap}
 
 abbrev pub counted_next : (State → ℕ) → Result State Stop → ℕ
 counted_next next (Ok t) = next t

@@ -1,7 +1,7 @@
 -- What a course that never touches a page of 256 words has to do with it. No rule of the handbook
 -- is here.
 use Rattle.std.specs.Prelude.{ℕ, ◌≡◌}
-use Rattle.pdp_store.specs.TracedAccess.{Part}
+use Rattle.pdp_store.specs.declared.part.Part.{Part}
 use Rattle.pdp_unibus.specs.BusWorld.{BusWorld}
 use Rattle.pdp_unibus.specs.Page.{AlikeOutside, SamePage}
 use Rattle.pdp_operand.specs.Phases.Phase.{State, state_of}

@@ -1,6 +1,7 @@
 -- Whose the touches of a course are. No rule of the handbook is here.
 use Rattle.std.specs.Prelude.{ℕ, ◌≡◌, ◌<◌}
-use Rattle.pdp_store.specs.TracedAccess.{Core, TracedAccess}
+use Rattle.pdp_store.specs.TracedAccess.{TracedAccess}
+use Rattle.pdp_store.specs.declared.part.Part.TheVariants.{Core}
 use Rattle.pdp_store.specs.declared.Agent.TheVariants.{Cpu}
 
 -- a touch by the processor in this turn, of one of the first so many words of core

@@ -13,7 +13,7 @@ use Rattle.pdp_operand.specs.Phases.Phase.{Phase, State, Stop, Request, Nothing,
 use Rattle.pdp_operand.specs.Phases.Phase.{step, inner_of}
 use Rattle.pdp_operand.specs.Phases.Plan.{phases_of, run_plan}
 use Rattle.pdp_operand.specs.Phases.Course.{Course, End, Go, caught_in}
-use Rattle.pdp_operation.specs.declared.trap.Trap.{Trap}
+use Rattle.pdp_action.specs.declared.trap.Trap.{Trap}
 
 abbrev pub is_write_access : Access → Bool
 is_write_access Read = false
@@ -25,7 +25,7 @@ touch_at access w (Core k) = processor_touch (is_write_access access) w k ∷ []
 touch_at access w (Device register) = []
 touch_at access w Nobody = []
 
--- none where the reference has no physical address
+-- none if the reference has no physical address
 abbrev pub touches_if_placed : Kind → BusWorld → Result ℕ Abort → List TracedAccess
 touches_if_placed kind w (Ok physical) = touch_at (access_of kind) w (slave_at
     (length w.core) physical)

@@ -1,4 +1,4 @@
--- What a question must be answered, from the run from power-up alone (this project's profile).
+-- What a question must be answered, from the run from power-up alone [P].
 use Rattle.std.specs.Prelude.{ℕ, ◌≡◌, ◌+◌, ◌-◌, ◌/◌, ◌%◌, ◌==◌, ◌<◌, ◌≤◌, ◌&&◌, List, length, map}
 use Rattle.std.specs.Prelude.{replicate, take, drop, Result, Ok, Err, nat_le, nat_lt, if◌then◌else◌}
 use Rattle.pdp_cpu.specs.Turns.MachineState.{MachineState}
@@ -95,7 +95,7 @@ trail_checked turn count = (
     if nat_le 1 count && nat_le count most_turns_listed && nat_le count turn then Ok tt
     else Err CountOutOfRange)
 
--- the range rule of a question, where it has one
+-- the range rule of a question, if it has one
 abbrev pub range_rule : Question → SetupData → Result (Unit {0}) Fault
 range_rule (question.Core turn address count) s = range_checked address count s
 range_rule (question.Disk turn drive first count) s = disk_range_checked drive first count s

@@ -1,4 +1,4 @@
--- The turns that change a word of a drive (this project's profile).
+-- The turns that change a word of a drive [P].
 use Rattle.std.specs.Prelude.{ℕ, ◌≡◌, ◌+◌, ◌==◌, ◌<◌, Bool, Option, Result, not, slice_index}
 use Rattle.pdp_cpu.specs.Turns.MachineState.{MachineState}
 use Rattle.pdp_operand.specs.Phases.World.{World}

@@ -1,5 +1,6 @@
--- What is known of a run, and how many turns a question may run (this project's profile).
-use Rattle.std.specs.Prelude.{ℕ, ◌≡◌, ◌+◌, ◌-◌, ◌*◌, ◌/◌, ◌<◌, ◌≤◌, length, true, min, max}
+-- What is known of a run, and how many turns a question may run [P].
+use Rattle.std.specs.Prelude.{ℕ, ◌≡◌, ◌+◌, ◌-◌, ◌*◌, ◌/◌, ◌<◌, ◌≤◌, length, min, max, nat_lt}
+use Rattle.std.specs.Prelude.{if◌then◌else◌}
 use Rattle.pdp_script.specs.Script.{ScriptData}
 use Rattle.pdp_unibus.specs.LastTurn.{last_turn}
 use Rattle.pdp_replay.specs.Ask.Answer.{turn_asked, first_turn_needed, AreDrives, IsWithin}
@@ -17,7 +18,7 @@ abbrev pub known_after : Question → ℕ → ℕ
 known_after q known = max known (turn_asked q)
 
 -- A question about this timeline ran at most one stride of turns more than those that a trail lists
--- or that are past what was known, where `turns` is the count of turns after it.
+-- or that are past what was known, if `turns` is the count of turns after it.
 abbrev pub IsWithinBound : Question → Timeline → ℕ → Type 0
 IsWithinBound q t turns = turns + min (first_turn_needed q) t.known + 1
     ≤ t.turns + turn_asked q + t.stride
@@ -31,14 +32,13 @@ resumed_from t to = resumed_at t.current t.turn (min to t.known / t.stride * t.s
 abbrev pub next_kept : Timeline → ℕ
 next_kept t = (t.known / t.stride + 1) * t.stride
 
--- A question came to the machine's turn, answered or refused for memory. The known turn is the one
--- before, or the greatest for which the bytes that came out and the states at multiples of the
--- stride can be kept: that of the machine, or one less if the state of the machine's turn is to be
--- kept and isn't.
+-- A question came to the machine's turn, answered or refused for memory. That turn is known then,
+-- also if memory was refused later, and the machine is in the run's state of it. But if memory was
+-- refused for the state that is to be kept of that turn, only the turn before it is known, and the
+-- machine is in no state of the run.
 pub record IsCome (before after : Timeline) : Type 0 where
-  pub within : after.turn ≤ next_kept after
-  pub known : after.known ≡ max before.known (min after.turn (next_kept after - 1))
-  pub current : after.turn < next_kept after → after.current ≡ true
+  pub known : after.known ≡ max before.known (if after.current then after.turn else after.turn - 1)
+  pub current : after.current ≡ nat_lt after.turn (next_kept after)
 
 -- A question that may be asked went on from the machine, if that was in a state of the run, or from
 -- a checkpoint, and came to the turn that was asked about, or to an earlier one if memory was

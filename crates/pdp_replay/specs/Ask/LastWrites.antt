@@ -1,4 +1,4 @@
--- The last writes to words of core (this project's profile).
+-- The last writes to words of core [P].
 use Rattle.std.specs.Prelude.{ℕ, ◌≡◌, ◌<◌, List, Option, Some, None, length, slice_index}
 use Rattle.std.specs.Prelude.{slice_index_or}
 use Rattle.std.specs.List.{All}
@@ -33,18 +33,18 @@ IsLastWriteIn machine number found = (p : Past) (n : ℕ) → machine ≡ at p n
     ≡ last_write_at p n number
 
 -- there is a last stamp for each word of core, and it is that of the last write to the word in the
--- turns before turn n, from power-up on: by the processor or by the disk; none where there was none
-pub record AreLastWrites (p : Past) (n : ℕ) (lasts : List (Option Stamp)) : Type 0 where
-  pub size : length lasts ≡ core_size p.setup
-  pub stamps : (k : ℕ) → k < core_size p.setup → slice_index_or lasts k None ≡ last_write
-      (trace_at p n) k None
+-- turns before turn n, from power-up on: by the processor or by the disk; none if there was none
+pub record AreLastWrites (p : Past) (n : ℕ) (core_stamps : List (Option Stamp)) : Type 0 where
+  pub size : length core_stamps ≡ core_size p.setup
+  pub stamps : (k : ℕ) → k < core_size p.setup → slice_index_or core_stamps k None ≡
+      last_write (trace_at p n) k None
 
 -- so it is in each state of a run
 abbrev pub StampsOfStatesAreLastWrites : Type 0
-StampsOfStatesAreLastWrites = (p : Past) (n : ℕ) → AreLastWrites p n (state_at p n).bus.lasts
+StampsOfStatesAreLastWrites = (p : Past) (n : ℕ) → AreLastWrites p n (state_at p n).bus.stamps
 
 -- and in each checkpoint of it, with the turns before its own
 abbrev pub StampsOfCheckpointsAreLastWrites : Type 0
 StampsOfCheckpointsAreLastWrites =
     (p : Past) (known : ℕ) (l : LadderData) → AreStatesOf p known l → All
-    (λ c. AreLastWrites p c.turn c.saved.bus.lasts) l.kept
+    (λ c. AreLastWrites p c.turn c.saved.bus.stamps) l.kept

@@ -1,4 +1,4 @@
--- Searches for the first of some turns that has a property (this project's profile).
+-- Searches for the first of some turns that has a property [P].
 use Rattle.std.specs.Prelude.{ℕ, zero, suc, ◌≡◌, ◌+◌, ◌<◌, ◌≤◌, Bool, true, false, Option, Some}
 use Rattle.std.specs.Prelude.{None, Result, Ok, Err, max, min, nat_le, if◌then◌else◌}
 use Rattle.pdp_unibus.specs.LastTurn.{last_turn}

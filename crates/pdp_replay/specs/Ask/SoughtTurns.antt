@@ -1,4 +1,4 @@
--- The turns that a search looks for (this project's profile).
+-- The turns that a search looks for [P].
 use Rattle.std.specs.Prelude.{ℕ, ◌≡◌, ◌<◌, ◌==◌, ◌&&◌, Bool, true, false, List, [], Option, None}
 use Rattle.std.specs.Prelude.{Some}
 use Rattle.pdp_kt11.specs.Mode.{mode_bits}

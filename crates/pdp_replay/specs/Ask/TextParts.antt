@@ -1,5 +1,4 @@
--- The bytes of a text from one of them on, and the turn in which a byte came out (this project's
--- profile).
+-- The bytes of a text from one of them on, and the turn in which a byte came out [P].
 use Rattle.std.specs.Prelude.{ℕ, ◌≡◌, ◌+◌, ◌&&◌, Bool, true, List, length, max, nat_le, nat_lt}
 use Rattle.std.specs.Prelude.{Result, Ok, Err, if◌then◌else◌, take}
 use Rattle.pdp_cpu.specs.Turns.MachineState.{MachineWithTexts}

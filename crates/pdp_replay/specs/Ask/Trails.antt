@@ -1,4 +1,4 @@
--- Trails: the turns of a run as they are listed (this project's profile).
+-- Trails: the turns of a run as they are listed [P].
 use Rattle.std.specs.Prelude.{ℕ, ◌≡◌, zero, suc, ◌+◌, ◌++◌, List, [], ◌∷◌}
 use Rattle.pdp_unibus.specs.declared.event.Event.{Event}
 use Rattle.pdp_operand.specs.Phases.World.{World}

@@ -1,4 +1,4 @@
--- What a search watches for, turn by turn (this project's profile).
+-- What a search watches for, turn by turn [P].
 use Rattle.std.specs.Prelude.{ℕ, ◌≡◌, ◌+◌, ◌<◌, ◌≤◌, ◌==◌, Bool, false, List, length, nat_lt}
 use Rattle.std.specs.Prelude.{Option, None, Some}
 use Rattle.pdp_kt11.specs.declared.mode.Mode.{Mode}

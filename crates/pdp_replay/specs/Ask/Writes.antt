@@ -1,4 +1,4 @@
--- The writes to a word of core in some turns (this project's profile).
+-- The writes to a word of core in some turns [P].
 use Rattle.std.specs.Prelude.{ℕ, ◌≡◌, ◌+◌, ◌-◌, ◌<◌, ◌++◌, zero, suc, List, []}
 use Rattle.std.specs.Prelude.{Option, None, Some, Result, Ok, Err, option_to_list, slice_get}
 use Rattle.std.specs.Prelude.{slice_index, max, Bool, is_some, true}

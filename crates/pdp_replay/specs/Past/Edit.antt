@@ -1,4 +1,4 @@
--- What a command makes of the past (this project's profile).
+-- What a command makes of the past [P].
 use Rattle.std.specs.Prelude.{ℕ, ◌≡◌, ◌+◌, Bool, false, ◌/◌, ◌%◌, ◌*◌, ◌==◌, List, Option, Some}
 use Rattle.std.specs.Prelude.{None, Result, Ok, Err, length, min, nat_le, nat_lt, is_some}
 use Rattle.std.specs.Prelude.{slice_get, if◌then◌else◌}
@@ -15,13 +15,15 @@ use Rattle.pdp_unibus.specs.Delays.{with_delay}
 use Rattle.pdp_unibus.specs.LastTurn.{last_turn}
 use Rattle.pdp_unibus.specs.declared.delays.DelayedDevice.{DelayedDevice}
 use Rattle.pdp_unibus.specs.declared.event.Event.{Event}
-use Rattle.pdp_replay.specs.Past.PatchedWords.{core_key, disk_key, is_same_word, patch_of}
+use Rattle.pdp_store.specs.Parts.{word_at}
+use Rattle.pdp_replay.specs.Past.PatchedWords.{is_same_word, patch_of}
 use Rattle.pdp_replay.specs.Past.Setup.{SetupData, core_size, drive_words, most_drives, tape_bytes}
 use Rattle.pdp_replay.specs.Past.{Past, of_setup, of_script}
 use Rattle.pdp_replay.specs.declared.past.patch.Patch.{Patch}
 use Rattle.pdp_replay.specs.declared.past.patch.Patch.TheVariants as patch
-use Rattle.pdp_replay.specs.declared.past.patch.PatchKey.{PatchKey}
-use Rattle.pdp_replay.specs.declared.past.patch.PatchKey.TheVariants as key
+use Rattle.pdp_store.specs.declared.part.Part.{Part}
+use Rattle.pdp_store.specs.declared.part.Part.TheVariants as part
+use Rattle.pdp_store.specs.declared.part.WordAt.{WordAt}
 
 -- the number of the core word at an address: refused outside core, and then at an odd address
 unfoldable pub core_word_at : ℕ → SetupData → Result ℕ Fault
@@ -31,8 +33,7 @@ core_word_at address s = (
     else Err OddAddress
     else Err OutsideCore)
 
--- the number of a word of a drive: refused where there is no such drive, and then past its last
--- word
+-- the number of a word of a drive: refused if there is no such drive, and then past its last word
 unfoldable pub disk_word_at : ℕ → ℕ → SetupData → Result ℕ Fault
 disk_word_at drive number s = (
     if nat_lt drive s.drives then
@@ -40,36 +41,36 @@ disk_word_at drive number s = (
     else Err OutsideDisk
     else Err NoSuchDrive)
 
--- an edit of the word of this number, or the refusal where there is no such word
+-- an edit of the word of this number, or the refusal if there is no such word
 abbrev pub edited_at : Result ℕ Fault → (ℕ → Result SetupData Fault) → Result SetupData Fault
 edited_at (Ok number) edited = edited number
 edited_at (Err fault) edited = Err fault
 
 -- a word is patched: one that has a patch keeps its place among the patches, a new one comes last
-abbrev pub with_patch : ℕ → SetupData → PatchKey → Result SetupData Fault
-with_patch word s key = Ok (record s { patches = insert_entry is_same_word s.patches key word })
+abbrev pub with_patch : ℕ → SetupData → WordAt → Result SetupData Fault
+with_patch word s at = Ok (record s { patches = insert_entry is_same_word s.patches at word })
 
 unfoldable pub core_edit : ℕ → ℕ → Past → Result Past Fault
 core_edit address word p = of_setup p (edited_at (core_word_at address p.setup)
-    (λ number. with_patch word p.setup (core_key number)))
+    (λ number. with_patch word p.setup (word_at part.Core number)))
 
 unfoldable pub disk_edit : ℕ → ℕ → ℕ → Past → Result Past Fault
 disk_edit drive number word p =
     of_setup p (edited_at (disk_word_at drive number p.setup) (λ number. with_patch word p.setup
-    (disk_key drive number)))
+    (word_at (part.Drive drive) number)))
 
 -- a word loses its patch, if it has one; the other patches keep their order
-abbrev pub without_patch : SetupData → PatchKey → Result SetupData Fault
-without_patch s key = (
-    if is_some (patch_of s.patches key) then Ok (record s {
+abbrev pub without_patch : SetupData → WordAt → Result SetupData Fault
+without_patch s at = (
+    if is_some (patch_of s.patches at) then Ok (record s {
       patches = shift_remove_entry
-          (is_same_word key) s.patches;
+          (is_same_word at) s.patches;
     })
     else Err NoSuchPatch)
 
 unfoldable pub revert_edit : ℕ → Past → Result Past Fault
 revert_edit address p = of_setup p (edited_at (core_word_at address p.setup)
-    (λ number. without_patch p.setup (core_key number)))
+    (λ number. without_patch p.setup (word_at part.Core number)))
 
 -- there are eight drives from power-up on, whether there were one or eight: this is never refused
 -- but for memory
@@ -127,7 +128,7 @@ abbrev pub insertion_answer : ℕ → Event → Bool → Past → Result ℕ Fau
 insertion_answer turn event refused p = edit_answer (event_insertion turn event p) refused
     (p.script.given + 1)
 
--- the turn of the event of this number, where there is one
+-- the turn of the event of this number, if there is one
 abbrev pub turn_of_event : ℕ → Past → Option ℕ
 turn_of_event number p = option_map (λ e. e.turn) (entry_of p.script.entries number)
 
@@ -141,9 +142,12 @@ lesser_turn None turn = turn
 abbrev pub patch_count : Past → ℕ
 patch_count p = length p.setup.patches
 
-abbrev pub patch_shown : PatchKey → ℕ → Patch
-patch_shown (key.Core number) word = patch.Core (number * 2) word
-patch_shown (key.Disk drive number) word = patch.Disk drive number word
+abbrev pub patch_in : Part → ℕ → ℕ → Patch
+patch_in part.Core number word = patch.Core (number * 2) word
+patch_in (part.Drive drive) number word = patch.Disk drive number word
+
+abbrev pub patch_shown : WordAt → ℕ → Patch
+patch_shown at word = patch_in at.part at.number word
 
 abbrev pub patch_at : Past → ℕ → Option Patch
 patch_at p index = option_map (λ p. patch_shown p.0 p.1) (slice_get p.setup.patches index)

@@ -1,20 +1,22 @@
--- The words of core and of the drives as of power-up (this project's profile).
+-- The words of core and of the drives as of power-up [P].
 use Rattle.std.specs.Prelude.{ℕ, ◌≡◌, ◌<◌, List, [], length, map, slice_index, slice_index_or}
 use Rattle.std.specs.Prelude.{unwrap_or}
 use Rattle.std.specs.List.{All, range_with_len}
-use Rattle.pdp_replay.specs.Past.PatchedWords.{Patches, core_key, disk_key, patch_of}
+use Rattle.pdp_store.specs.Parts.{word_at}
+use Rattle.pdp_replay.specs.Past.PatchedWords.{Patches, patch_of}
 use Rattle.pdp_replay.specs.Past.Setup.{SetupData, core_size, drive_words, image_of}
-use Rattle.pdp_replay.specs.declared.past.patch.PatchKey.{PatchKey}
-use Rattle.pdp_replay.specs.declared.past.patch.PatchKey.TheVariants.{Core, Disk}
+use Rattle.pdp_store.specs.declared.part.Part.{Part}
+use Rattle.pdp_store.specs.declared.part.Part.TheVariants.{Core, Drive}
+use Rattle.pdp_store.specs.declared.part.WordAt.{WordAt}
 
 -- the first value of a core word: its patch, else its image's word, else 0
 abbrev pub first_core_word : SetupData → ℕ → ℕ
-first_core_word s number = unwrap_or (patch_of s.patches (core_key number))
+first_core_word s number = unwrap_or (patch_of s.patches (word_at Core number))
     (slice_index s.core number)
 
 -- and of a word of a drive
 abbrev pub first_disk_word : SetupData → ℕ → ℕ → ℕ
-first_disk_word s drive number = unwrap_or (patch_of s.patches (disk_key drive number))
+first_disk_word s drive number = unwrap_or (patch_of s.patches (word_at (Drive drive) number))
     (slice_index (image_of s.disks drive) number)
 
 -- the values of so many words, in the order of their numbers
@@ -58,10 +60,14 @@ DrivesAreByNumber = (s : SetupData) (drive : ℕ) → drive < s.drives → slice
 abbrev pub DrivesAreSoMany : Type 0
 DrivesAreSoMany = (s : SetupData) → length (drives_words s) ≡ s.drives
 
--- there is such a word: one of core, or of a drive that is there
-abbrev pub IsThere : SetupData → PatchKey → Type 0
-IsThere s (Core number) = number < core_size s
-IsThere s (Disk drive number) = (drive < s.drives) × (number < drive_words)
+-- a part has a word of this number: core, or a drive that is there
+abbrev pub PartHasWord : SetupData → Part → ℕ → Type 0
+PartHasWord s Core number = number < core_size s
+PartHasWord s (Drive drive) number = (drive < s.drives) × (number < drive_words)
+
+-- there is such a word
+abbrev pub IsThere : SetupData → WordAt → Type 0
+IsThere s at = PartHasWord s at.part at.number
 
 -- every patch is of a word that is there
 abbrev pub AllThere : SetupData → Patches → Type 0

@@ -1,4 +1,4 @@
--- What a run starts from, as plain data (this project's profile).
+-- What a run starts from, as plain data [P].
 use Rattle.std.specs.Prelude.{ℕ, ◌<◌, ◌≤◌, ◌*◌, ◌%◌, ◌==◌, ◌&&◌, Bool, List, [], Result, Ok, Err}
 use Rattle.std.specs.Prelude.{length, map, nat_le, slice_index_or, if◌then◌else◌}
 use Rattle.std.specs.List.{All, list_all}
@@ -11,7 +11,7 @@ use Rattle.pdp_script.specs.declared.faults.Fault.TheVariants.{BadImage, BadSetu
 use Rattle.pdp_unibus.specs.Delays.{standard_delays}
 use Rattle.pdp_unibus.specs.declared.delays.Delays.{Delays}
 use Rattle.pdp_replay.specs.Past.PatchedWords.{Patches}
-use Rattle.pdp_replay.specs.declared.past.patch.PatchKey.{PatchKey}
+use Rattle.pdp_store.specs.declared.part.WordAt.{WordAt}
 use Rattle.pdp_checkpoint.specs.Ladder.{widest_stride}
 use Rattle.pdp_replay.specs.declared.past.base_setup.DriveCount.{DriveCount}
 use Rattle.pdp_replay.specs.declared.past.base_setup.DriveCount.TheVariants.{One, Eight}
@@ -55,7 +55,7 @@ tape_bytes = 1048576
 abbrev pub core_size : SetupData → ℕ
 core_size s = s.units * unit_words
 
--- the words of images, and those of the image of a drive, none where it has no image
+-- the words of images, and those of the image of a drive, none if it has no image
 abbrev pub images_of : List (Vec ℕ) → List (List ℕ)
 images_of images = map (λ (image : Vec ℕ). image.items) images
 
@@ -103,7 +103,7 @@ abbrev pub first_setup : BaseSetup → List ℕ → SetupData
 first_setup base_setup tape = setup_of base_setup tape standard_delays []
 
 -- with the delays and the patches of an engine
-abbrev pub setup_from : BaseSetup → List ℕ → Delays → IndexMap PatchKey ℕ
+abbrev pub setup_from : BaseSetup → List ℕ → Delays → IndexMap WordAt ℕ
     (BuildHasherDefault FoldHasher) → SetupData
 setup_from base_setup tape delays patches = setup_of base_setup tape delays patches.entries
 

@@ -1,5 +1,5 @@
 -- What an engine keeps of a run: the bytes that came out of it, with their turns, and some of its
--- states (this project's profile).
+-- states [P].
 use Rattle.std.specs.Prelude.{ℕ, zero, suc, ◌≡◌, ◌≤◌, ◌+◌, ◌/◌, ◌++◌, List, [], length, map}
 use Rattle.std.specs.Prelude.{replicate}
 use Rattle.std.specs.List.{All}
@@ -10,7 +10,7 @@ use Rattle.pdp_cpu.specs.Turns.MachineState.{MachineWithTexts}
 use Rattle.pdp_cpu.specs.Turns.Turn.{printed_in, punched_in}
 use Rattle.pdp_cpu.specs.declared.kept_text.KeptByte.{KeptByte}
 use Rattle.pdp_script.specs.Entries.{events_at}
-use Rattle.pdp_replay.specs.Run.FirstTouches.{firsts_at}
+use Rattle.pdp_replay.specs.Run.FirstTouches.{first_touches_at}
 use Rattle.pdp_replay.specs.Past.{Past}
 use Rattle.pdp_replay.specs.Past.Setup.{SetupData, core_size, drive_words}
 use Rattle.pdp_replay.specs.Run.States.{at, punched_at, state_at, text_at}
@@ -36,7 +36,7 @@ punched_kept_at p (suc n) = punched_kept_at p n ++ with_turn n (punched_in n
 pub record IsBuiltFrom (s : SetupData) (m : MachineWithTexts) : Type 0 where
   pub tape : m.state.world.bus.tape ≡ s.tape
   pub core : length m.state.world.bus.core ≡ core_size s
-  pub lasts : length m.state.world.bus.lasts ≡ core_size s
+  pub stamps : length m.state.world.bus.stamps ≡ core_size s
   pub drives : map length m.state.world.bus.drives ≡ replicate s.drives drive_words
 
 -- the machine keeps what was printed and punched before the known turn, and the first touches of
@@ -44,7 +44,7 @@ pub record IsBuiltFrom (s : SetupData) (m : MachineWithTexts) : Type 0 where
 pub record KeepsTexts (p : Past) (known : ℕ) (m : MachineWithTexts) : Type 0 where
   pub text : m.kept_text ≡ text_kept_at p known
   pub punched : m.kept_punched ≡ punched_kept_at p known
-  pub firsts : m.firsts ≡ firsts_at p known
+  pub first_touches : m.first_touches ≡ first_touches_at p known
 
 -- these bytes, without their turns, are what was printed and punched before the known turn
 pub record ShowsTexts (p : Past) (known : ℕ) (m : MachineWithTexts) : Type 0 where

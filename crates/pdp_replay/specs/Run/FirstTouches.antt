@@ -1,25 +1,22 @@
--- The first touches of pages in a run (this project's profile).
-use Rattle.std.specs.Prelude.{ℕ, ◌≡◌, ◌+◌, ◌/◌, ◌<◌, ◌≤◌, ◌==◌, ◌&&◌, ◌||◌, Bool, true, false, List}
+-- The first touches of pages in a run [P].
+use Rattle.std.specs.Prelude.{ℕ, ◌≡◌, ◌+◌, ◌/◌, ◌<◌, ◌≤◌, ◌==◌, ◌&&◌, ◌||◌, Bool, false, List}
 use Rattle.std.specs.Prelude.{[], ◌∷◌}
 use Rattle.std.specs.Prelude.{None, if◌then◌else◌, length, nat_lt, replicate, slice_index_or}
 use Rattle.std.specs.Prelude.{slice_set, suc, zero}
-use Rattle.pdp_store.specs.TracedAccess.{Avoids, Part, Core, Drive, TracedAccess}
+use Rattle.pdp_store.specs.TracedAccess.{Avoids, TracedAccess}
+use Rattle.pdp_store.specs.Parts.{is_same_part}
+use Rattle.pdp_store.specs.declared.part.Part.{Part}
+use Rattle.pdp_store.specs.declared.part.Part.TheVariants.{Core}
 use Rattle.pdp_unibus.specs.Page.{SamePage, words_of_part, bus_with_words}
 use Rattle.pdp_operand.specs.Phases.World.{World, world}
 use Rattle.pdp_cpu.specs.Turns.Turn.{turn_trace}
 use Rattle.pdp_script.specs.Entries.{events_at}
-use Rattle.pdp_store.specs.Firsts.{Firsts, all_firsts_before, firsts_after, firsts_in, firsts_of}
-use Rattle.pdp_store.specs.Firsts.{never}
+use Rattle.pdp_store.specs.FirstTouches.{FirstTouches, all_first_touches_before, first_touches_after, first_touches_in, first_touches_of}
+use Rattle.pdp_store.specs.FirstTouches.{never}
 use Rattle.pdp_store.specs.Stored.{no_touch_in}
 use Rattle.pdp_replay.specs.Past.{Past, with_setup}
 use Rattle.pdp_replay.specs.Past.Setup.{SetupData, core_size, drive_words}
 use Rattle.pdp_replay.specs.Run.States.{power, state_at, trace_at}
-
--- are these the same part?
-abbrev pub is_same_part : Part → Part → Bool
-is_same_part Core Core = true
-is_same_part (Drive number) (Drive other) = number == other
-is_same_part _ _ = false
 
 -- whether a trace has an access of any kind to this page of 256 words
 abbrev pub meets : Part → ℕ → List TracedAccess → Bool
@@ -68,17 +65,17 @@ PatchesReachTheFirstTouch = (part : Part) (i word n k : ℕ) (p : Past) (s : Set
     → state_at (with_setup p s) n ≡ world_changed part i word (state_at p n)
 
 -- the first touches of the pages of core and of each drive, if none is touched
-unfoldable pub untouched_all : SetupData → Firsts
-untouched_all s = firsts_of (no_touch_in (core_size s)) (replicate s.drives
+unfoldable pub untouched_all : SetupData → FirstTouches
+untouched_all s = first_touches_of (no_touch_in (core_size s)) (replicate s.drives
     (no_touch_in drive_words))
 
 -- the first touches that the turns before turn n leave
-abbrev pub firsts_at : Past → ℕ → Firsts
-firsts_at p n = firsts_after (trace_at p n) (untouched_all p.setup)
+abbrev pub first_touches_at : Past → ℕ → FirstTouches
+first_touches_at p n = first_touches_after (trace_at p n) (untouched_all p.setup)
 
 -- that of a page of a part
-abbrev pub first_touch_of : Part → ℕ → Firsts → ℕ
-first_touch_of part page f = slice_index_or (firsts_in part f) page never
+abbrev pub first_touch_of : Part → ℕ → FirstTouches → ℕ
+first_touch_of part page f = slice_index_or (first_touches_in part f) page never
 
 -- a first touch below n, or none
 abbrev pub if_before : ℕ → ℕ → ℕ
@@ -88,24 +85,24 @@ if_before first n = if nat_lt first n then first else never
 -- there
 abbrev pub FirstTouchesAreTold : Type 0
 FirstTouchesAreTold = (p : Past) (part : Part) (page n : ℕ) → n ≤ never
-    → page < length (firsts_in part (untouched_all p.setup))
-    → first_touch_of part page (firsts_at p n) ≡ if_before (first_touch p part page n) n
+    → page < length (first_touches_in part (untouched_all p.setup))
+    → first_touch_of part page (first_touches_at p n) ≡ if_before (first_touch p part page n) n
 
 -- a turn that is run again adds nothing to them
 abbrev pub TurnsRunAgainTouchNothingNew : Type 0
 TurnsRunAgainTouchNothingNew = (p : Past) (t known : ℕ) → t < known
-    → firsts_after (trace_of_turn p t) (firsts_at p known) ≡ firsts_at p known
+    → first_touches_after (trace_of_turn p t) (first_touches_at p known) ≡ first_touches_at p known
 
 -- if touches of turn k and later ones are dropped, those of the turns before it are left
 abbrev pub LateTouchesAreDropped : Type 0
 LateTouchesAreDropped = (p : Past) (k d : ℕ) → k ≤ never
-    → all_firsts_before k (firsts_at p (d + k)) ≡ firsts_at p k
+    → all_first_touches_before k (first_touches_at p (d + k)) ≡ first_touches_at p k
 
 -- before turn n the words of this page are those of power-up, and none of them has a stamp
 pub record IsAsAtPowerUp (p : Past) (part : Part) (page n : ℕ) : Type 0 where
   pub words : SamePage part page (power p.setup).bus (state_at p n).bus
   pub unstamped : part ≡ Core → (k : ℕ) → k / 256 ≡ page
-      → slice_index_or (state_at p n).bus.lasts k None ≡ None
+      → slice_index_or (state_at p n).bus.stamps k None ≡ None
 
 -- up to the first touch of a page all states of a run have it alike
 abbrev pub UntouchedPagesAreAlike : Type 0

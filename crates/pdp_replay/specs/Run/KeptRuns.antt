@@ -1,10 +1,9 @@
--- The run that an engine keeps, between its calls and on the way (this project's profile).
+-- The run that an engine keeps, between its calls and on the way [P].
 use Rattle.std.specs.Prelude.{ℕ, ◌≡◌, ◌+◌, ◌*◌, ◌-◌, ◌/◌, ◌<◌, ◌≤◌, ◌&&◌, Bool, true, false, Option}
-use Rattle.std.specs.Prelude.{Some, None, ◌++◌, List, [], ◌∷◌, length, max, min, nat_le}
+use Rattle.std.specs.Prelude.{Some, None, ◌++◌, List, [], ◌∷◌, length, max, min, nat_le, nat_lt}
 use Rattle.std.specs.Prelude.{if◌then◌else◌}
 use Rattle.std.specs.List.{filter}
-use Rattle.pdp_store.specs.Firsts.{Firsts, all_firsts_before, firsts_of, never}
-use Rattle.pdp_unibus.specs.Page.{part_of}
+use Rattle.pdp_store.specs.FirstTouches.{FirstTouches, all_first_touches_before, first_touches_of, never}
 use Rattle.pdp_checkpoint.specs.Ladder.{AreCheckpoints, LadderData, best_of, checkpoint_of, next_of}
 use Rattle.pdp_checkpoint.specs.Patched.{patched_to}
 use Rattle.pdp_cpu.specs.Drives.{state_with_drives}
@@ -19,14 +18,21 @@ use Rattle.pdp_replay.specs.Past.{Past}
 use Rattle.pdp_replay.specs.Run.States.{at}
 use Rattle.pdp_replay.specs.Run.Strides.{IsStride}
 use Rattle.pdp_replay.specs.declared.run.kept_run.KeptRun.{KeptRun}
-use Rattle.pdp_replay.specs.declared.past.patch.PatchKey.{PatchKey}
-use Rattle.pdp_replay.specs.declared.past.patch.PatchKey.TheVariants.{Core, Disk}
+use Rattle.pdp_store.specs.declared.part.WordAt.{WordAt}
 
 -- a machine on its way through a run: it is in the run's state of its turn, and keeps what came out
 -- before that turn and before the known one
 pub record IsUnderWay (p : Past) (known : ℕ) (m : MachineWithTexts) : Type 0 where
   pub here : m.state ≡ at p m.state.turn
   pub texts : KeepsTexts p (max known m.state.turn) m
+
+-- A machine was run from one state to another, of turn `to` at the latest, and a meter from one
+-- count to another: it counted no more than the turns that were run.
+pub record RunsUpTo (to : ℕ) (before after : MachineWithTexts) (metered counted : ℕ) : Type 0 where
+  pub least : before.state.turn ≤ after.state.turn
+  pub most : after.state.turn ≤ to
+  pub ran : counted + before.state.turn ≤ metered + after.state.turn
+  pub counted_least : metered ≤ counted
 
 -- no turn from this one on and before that one has events
 abbrev pub IsWithoutEvents : Past → ℕ → ℕ → Type 0
@@ -60,7 +66,7 @@ abbrev pub KeepsRun : ScriptData → KeptRun → KeptRun → Type 0
 KeepsRun script before after = (p : Past) → p.script ≡ script → IsKeptRun p before
     → IsKeptRun p after
 
--- also where the machine is in a state of it; and the machine still is
+-- also if the machine is in a state of it; and the machine still is
 abbrev pub LeavesKept : ScriptData → KeptRun → KeptRun → Type 0
 LeavesKept script before after = (p : Past) → p.script ≡ script → IsOnWay p before
     → IsKeptRun p after
@@ -102,14 +108,14 @@ pub record CanGoOn (r : KeptRun) : Type 0 where
 
 -- a run came to the machine's turn, at the latest the next one whose state is to be kept. Up to the
 -- known turn, which was known before or is the greatest up to there, each multiple of the stride
--- has its state. If that of the machine's turn wasn't refused, the machine is in a state of the
--- run.
+-- has its state. The machine is in a state of the run, unless memory was refused for that of its
+-- turn, which is to be kept.
 pub record ComesTo (before after : KeptRun) : Type 0 where
   pub within : after.machine.state.turn ≤ next_of after.ladder
   pub known : after.known ≡ max before.known (min after.machine.state.turn
       (next_of after.ladder - 1))
   pub ahead : next_of before.ladder ≤ next_of after.ladder
-  pub current : after.machine.state.turn < next_of after.ladder → after.is_current ≡ true
+  pub current : after.is_current ≡ nat_lt after.machine.state.turn (next_of after.ladder)
 
 -- the stride still is the one that belongs to the highest turn known
 abbrev pub KeepsStride : KeptRun → KeptRun → Type 0
@@ -134,39 +140,25 @@ pub record ArrivesAt (to : ℕ) (before after : KeptRun) : Type 0 where
   pub short : after.machine.state.turn < next_of after.ladder
   pub known : after.known ≡ max before.known to
 
--- the drive of a word that can be patched, none for a word of core, and its number
-abbrev pub patch_drive : PatchKey → Option ℕ
-patch_drive (Core number) = None
-patch_drive (Disk drive number) = Some drive
-
-abbrev pub patch_number : PatchKey → ℕ
-patch_number (Core number) = number
-patch_number (Disk drive number) = number
-
--- the page of a word that can be patched
-abbrev pub patch_page : PatchKey → ℕ
-patch_page k = patch_number k / 256
-
 -- how far a patch of a word reaches: to the first touch that is kept of its page, at most to the
 -- known turn
-abbrev pub reached_by : PatchKey → KeptRun → ℕ
-reached_by k r = min r.known (first_touch_of (part_of (patch_drive k)) (patch_page k)
-    r.machine.firsts)
+abbrev pub reached_by : WordAt → KeptRun → ℕ
+reached_by at r = min r.known (first_touch_of at.part (at.number / 256) r.machine.first_touches)
 
 -- a word was given this value in what is kept up to the turn that its patch reaches, the rest was
 -- dropped, and the machine is in no state of the run
-pub record IsPatchedRun (k : PatchKey) (word : ℕ) (before after : KeptRun) : Type 0 where
-  pub known : after.known ≡ reached_by k before
+pub record IsPatchedRun (at : WordAt) (word : ℕ) (before after : KeptRun) : Type 0 where
+  pub known : after.known ≡ reached_by at before
   pub turn : after.machine.state.turn ≡ before.machine.state.turn
   pub current : after.is_current ≡ false
-  pub ladder : after.ladder ≡ patched_to after.known (patch_drive k) (patch_number k) word
-      before.ladder
+  pub ladder : after.ladder ≡ patched_to after.known at word before.ladder
   pub count : length after.ladder.kept
       ≡ min (length before.ladder.kept) (after.known / before.ladder.stride + 1)
   pub checkpoints : AreCheckpoints after.ladder
   pub text : after.machine.kept_text ≡ kept_before after.known before.machine.kept_text
   pub punched : after.machine.kept_punched ≡ kept_before after.known before.machine.kept_punched
-  pub firsts : after.machine.firsts ≡ all_firsts_before after.known before.machine.firsts
+  pub first_touches : after.machine.first_touches
+      ≡ all_first_touches_before after.known before.machine.first_touches
   pub world : after.machine.state.world ≡ before.machine.state.world
   pub meter : after.meter ≡ before.meter
   pub small : after.known ≤ never
@@ -180,8 +172,8 @@ abbrev pub with_more_drives : List (List ℕ) → MachineState → MachineState
 with_more_drives drives m = state_with_drives (m.world.bus.drives ++ drives) m
 
 -- the first touches with these of more drives
-abbrev pub with_more_firsts : List (List ℕ) → Firsts → Firsts
-with_more_firsts more f = firsts_of f.core (f.drives ++ more)
+abbrev pub with_more_first_touches : List (List ℕ) → FirstTouches → FirstTouches
+with_more_first_touches more f = first_touches_of f.core (f.drives ++ more)
 
 -- with these drives more, and the first touches of their pages, a run begins anew: its first state
 -- alone is kept, all that came out and all touches were dropped, and nothing is known
@@ -193,9 +185,25 @@ pub record BeginsAnew (drives touches : List (List ℕ)) (before after : KeptRun
       (with_more_drives drives before.machine.state)
   pub text : after.machine.kept_text ≡ kept_before 0 before.machine.kept_text
   pub punched : after.machine.kept_punched ≡ kept_before 0 before.machine.kept_punched
-  pub firsts : after.machine.firsts
-      ≡ all_firsts_before 0 (with_more_firsts touches before.machine.firsts)
+  pub first_touches : after.machine.first_touches
+      ≡ all_first_touches_before 0 (with_more_first_touches touches before.machine.first_touches)
   pub known : after.known ≡ 0
+
+-- this turn is the known one now: what came out in it and later was dropped, and the first touches
+-- of these turns
+abbrev pub IsForgottenFrom : ℕ → KeptRun → KeptRun → Type 0
+IsForgottenFrom turn before after = after ≡ record before {
+  known = turn;
+  machine = record before.machine {
+    state = state_cut (length (kept_before turn before.machine.kept_text))
+        (length (kept_before turn before.machine.kept_punched)) before.machine.state;
+    kept_text = kept_before turn before.machine.kept_text;
+    kept_punched = kept_before turn before.machine.kept_punched;
+    first_touches = all_first_touches_before turn before.machine.first_touches;
+    text_room = after.machine.text_room;
+    punched_room = after.machine.punched_room;
+  };
+}
 
 -- all that came out and all touches were dropped, nothing is known any more, and the machine is in
 -- no state of the run
@@ -205,5 +213,6 @@ pub record IsForgotten (before after : KeptRun) : Type 0 where
   pub current : after.is_current ≡ false
   pub text : after.machine.kept_text ≡ kept_before 0 before.machine.kept_text
   pub punched : after.machine.kept_punched ≡ kept_before 0 before.machine.kept_punched
-  pub firsts : after.machine.firsts ≡ all_firsts_before 0 before.machine.firsts
+  pub first_touches : after.machine.first_touches
+      ≡ all_first_touches_before 0 before.machine.first_touches
   pub meter : after.meter ≡ before.meter

@@ -1,4 +1,4 @@
--- The states of a run, its texts and its trace (this project's profile).
+-- The states of a run, its texts and its trace [P].
 use Rattle.std.specs.Prelude.{ℕ, ◌≡◌, zero, suc, ◌+◌, ◌++◌, List, [], length, take}
 use Rattle.std.specs.Prelude.{None, replicate}
 use Rattle.pdp_store.specs.Parts.{words_of_drive}

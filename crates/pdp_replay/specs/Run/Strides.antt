@@ -1,4 +1,4 @@
--- How far apart checkpoints are (this project's profile).
+-- How far apart checkpoints are [P].
 use Rattle.std.specs.Prelude.{◌≡◌, ℕ, ◌*◌, ◌^◌, ◌<◌, ◌≤◌}
 
 -- the stride: the starting one, doubled the fewest times such that the highest known turn so far,

@@ -35,7 +35,7 @@ impl Engine {
     /// is above `to`; otherwise Err(NoSuchDrive) if the drive is not below the number of drives;
     /// otherwise Err(OutsideDisk) if the word's number is 4604000 (octal; 1,247,232) or above;
     /// otherwise Err(NoMemory) if memory was refused. No refusal changes the past, and one for
-    /// another cause than memory changes nothing. (This project's profile.)
+    /// another cause than memory changes nothing. [P]
     pub fn next_change(
         &mut self,
         alloc: Global,

@@ -8,8 +8,7 @@ use pdp_word::NoMemory;
 use std::alloc::Global;
 use std::marker::Model;
 
-/// Words or bytes of an answer, one after another (this project's profile). A contract sees the
-/// list of them.
+/// Words or bytes of an answer, one after another [P]. A contract sees the list of them.
 #[derive(Drop)]
 pub struct Items<T> {
     items: Vec<T>,
@@ -30,7 +29,7 @@ impl<T> Model for Items<T> {
 }
 
 impl<T> Items<T> {
-    /// The words or bytes, in their order (this project's profile).
+    /// The words or bytes, in their order [P].
     pub fn items(&self) -> &[T]
         ensures { result.now ≡ self.now }
     {
@@ -41,7 +40,7 @@ impl<T> Items<T> {
 /// `count` words of the machine's core, from the word of the number `first` on.
 ///
 /// Err if there is no memory for them.
-#[tactic(auto, using(crate::proofs::Lists::words_one_more))]
+#[tactic(auto, using(crate::proofs::past::Lists::words_one_more))]
 pub(crate) fn read_core(
     alloc: Global,
     machine: &PagedMachine,
@@ -64,7 +63,7 @@ pub(crate) fn read_core(
 /// `count` words of a drive of the machine, from its word `first` on (both numbers from 0).
 ///
 /// Err if there is no memory for them.
-#[tactic(auto, using(crate::proofs::Lists::words_one_more))]
+#[tactic(auto, using(crate::proofs::past::Lists::words_one_more))]
 pub(crate) fn read_disk(
     alloc: Global,
     machine: &PagedMachine,
@@ -89,7 +88,7 @@ pub(crate) fn read_disk(
 /// These bytes, without their turns.
 ///
 /// Err if there is no memory for them.
-#[tactic(auto, using(crate::proofs::Lists::bytes_one_more))]
+#[tactic(auto, using(crate::proofs::past::Lists::bytes_one_more))]
 pub(crate) fn read_bytes(alloc: Global, kept: &[KeptByte]) -> Result<Bytes, NoMemory>
     ensures { IfOk result (λ bytes. bytes ≡ without_turns kept.now) }
 {

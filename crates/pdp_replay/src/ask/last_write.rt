@@ -4,8 +4,8 @@ ghost use Rattle.pdp_replay.specs.Ask.LastWrites.{IsLastWriteIn};
 use pdp_cpu::PagedMachine;
 use pdp_store::Agent;
 
-/// The last write to a word of core before a turn (this project's profile). A byte write counts for
-/// its word; patches and images are no writes.
+/// The last write to a word of core before a turn [P]. A byte write counts for its word; patches
+/// and images are no writes.
 #[derive(Clone, Copy)]
 pub struct LastWrite {
     /// The turn of the write, counted from 0 at power-up.
@@ -17,7 +17,7 @@ pub struct LastWrite {
 }
 
 impl LastWrite {
-    /// The last write to the core word of this number; None where there was none since power-up.
+    /// The last write to the core word of this number; None if there was none since power-up.
     pub(crate) fn read(machine: &PagedMachine, number: usize) -> Option<LastWrite>
         requires { number < length machine.now.state.world.bus.core }
         ensures { IsLastWriteIn machine.now.state number result }

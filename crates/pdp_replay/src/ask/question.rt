@@ -24,8 +24,8 @@ const MOST_WORDS: u32 = 256;
 /// The most turns that a trail lists.
 const MOST_TURNS_LISTED: u32 = 64;
 
-/// What can be asked of a run (this project's profile); each question names the turn before which
-/// the machine is looked at.
+/// What can be asked of a run [P]; each question names the turn before which the machine is looked
+/// at.
 #[derive(Clone, Copy)]
 pub enum Question {
     /// The registers before this turn, counted from 0 at power-up.
@@ -82,7 +82,7 @@ impl Question {
 
     /// Whether the question can be asked of a run with `units` units of core and `drives` drives.
     ///
-    /// Err(TurnTooLarge) where its turn is above 1,000,000,000; else of words of core what
+    /// Err(TurnTooLarge) if its turn is above 1,000,000,000; else of words of core what
     /// `check_range` refuses, of words of a drive what `check_disk_range` does, of a last write
     /// what `core_word` does, and of a trail what `check_trail` does.
     #[tactic(auto, unfolding(crate::specs::Ask::Answer::question_checked))]
@@ -114,7 +114,7 @@ impl Question {
     /// The answer about the run with this script, of which there are checkpoints: the machine is
     /// taken to the first turn that is needed, and from there through the turns that a trail lists.
     ///
-    /// Err where a growth was refused; what was kept until then stays.
+    /// Err if memory was refused; what was kept until then stays.
     pub(crate) fn answer(
         self,
         alloc: Global,
@@ -140,7 +140,7 @@ impl Question {
     /// The answer, read off the machine before the first turn that is needed; a trail's turns are
     /// run, and what is to be kept of them is kept.
     ///
-    /// Err where a growth was refused; what was kept until then stays.
+    /// Err if memory was refused; what was kept until then stays.
     #[tactic(auto, unfolding(crate::specs::Ask::Answer::answer))]
     fn read(self, alloc: Global, run: &mut KeptRun, script: &Script) -> Result<Value, NoMemory>
         requires can { CanRead self run.old }
@@ -179,8 +179,8 @@ impl Question {
 /// Whether `count` words from this address (octal, bytes) on can be asked for, of a core of `units`
 /// units.
 ///
-/// Err(CountOutOfRange) where the count is not 1 to 256; else Err(OutsideCore) where a word of the
-/// range is not in core; else Err(OddAddress) where the address is odd.
+/// Err(CountOutOfRange) if the count is not 1 to 256; else Err(OutsideCore) if a word of the range
+/// is not in core; else Err(OddAddress) if the address is odd.
 #[tactic(auto, unfolding(crate::specs::Ask::Answer::range_checked))]
 fn check_range(units: u8, address: u32, count: u32) -> Result<(), Fault>
     ensures refusal { (s : SetupData) → s.units ≡ units → range_checked address count s ≡ result }
@@ -226,7 +226,7 @@ fn check_disk_range(drives: usize, drive: u8, first: u32, count: u32) -> Result<
 
 /// Whether the last `count` turns before this turn can be listed.
 ///
-/// Err(CountOutOfRange) where the count is not 1 to 64, or is above the turn.
+/// Err(CountOutOfRange) if the count is not 1 to 64, or is above the turn.
 fn check_trail(turn: u32, count: u32) -> Result<(), Fault>
     ensures refusal { trail_checked turn count ≡ result }
     ensures within { OnOk result (count ≤ turn) }
@@ -254,7 +254,7 @@ pub enum Value {
     Devices(DeviceRegisters),
     /// The registers of memory management, as reads would give them.
     Pages(PageRegisters),
-    /// The last write to a word of core; None where there was none since power-up.
+    /// The last write to a word of core; None if there was none since power-up.
     Last(Option<LastWrite>),
     /// The turns that were asked for, each with PC before it and its act.
     Trail(Trail),

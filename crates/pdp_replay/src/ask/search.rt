@@ -42,7 +42,7 @@ impl Engine {
     ///
     /// Err(TurnTooLarge) if a turn is above 1,000,000,000; otherwise Err(CountOutOfRange) if `from`
     /// is above `to`; otherwise Err(NoMemory) if memory was refused. No refusal changes the past,
-    /// and one for another cause than memory changes nothing. (This project's profile.)
+    /// and one for another cause than memory changes nothing. [P]
     pub fn first_at(
         &mut self,
         alloc: Global,

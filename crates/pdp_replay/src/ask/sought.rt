@@ -6,7 +6,7 @@ ghost use Rattle.pdp_replay.specs.Ask.SoughtTurns.{is_pending_trap, is_sought, N
 
 use pdp_cpu::{Act, Meter, Mode, PagedMachine, WordTable};
 
-/// What a search looks for: an act by which a turn begins (this project's profile).
+/// What a search looks for: an act by which a turn begins [P].
 #[derive(Clone, Copy)]
 pub enum Sought {
     /// An instruction with PC at this address (octal, bytes) before it, in this mode of the

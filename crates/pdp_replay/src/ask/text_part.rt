@@ -25,7 +25,7 @@ use pdp_unibus::LAST_TURN;
 use pdp_word::NoMemory;
 use std::alloc::Global;
 
-/// Which bytes came out of the machine (this project's profile).
+/// Which bytes came out of the machine [P].
 #[derive(Clone, Copy)]
 pub enum TextKind {
     /// Those that were printed on the console.
@@ -66,7 +66,7 @@ impl Engine {
     ///
     /// Err(TurnTooLarge) if the turn is above 1,000,000,000; otherwise Err(NoMemory) if memory was
     /// refused. No refusal changes the past, and one for another cause than memory changes nothing.
-    /// (This project's profile.)
+    /// [P]
     pub fn text_from(
         &mut self,
         alloc: Global,
@@ -104,8 +104,7 @@ impl Engine {
     /// Otherwise the machine runs on from the known turn to the end of the turn that is found, or
     /// to turn 1,000,000,000.
     ///
-    /// Err(NoMemory) if memory was refused, and no other. No refusal changes the past. (This
-    /// project's profile.)
+    /// Err(NoMemory) if memory was refused, and no other. No refusal changes the past. [P]
     pub fn turn_of_byte(
         &mut self,
         alloc: Global,

@@ -13,7 +13,7 @@ use pdp_word::NoMemory;
 use std::alloc::Global;
 use std::marker::Model;
 
-/// One turn of a trail (this project's profile).
+/// One turn of a trail [P].
 #[derive(Clone, Copy)]
 pub struct TrailEntry {
     /// The turn, counted from 0 at power-up.
@@ -24,8 +24,7 @@ pub struct TrailEntry {
     pub act: Act,
 }
 
-/// Turns of a run, one after another, the earliest first (this project's profile). A contract sees
-/// the list of them.
+/// Turns of a run, one after another, the earliest first [P]. A contract sees the list of them.
 #[derive(Drop)]
 pub struct Trail {
     entries: HeapCircularBuffer<TrailEntry>,
@@ -41,15 +40,14 @@ impl Model for Trail {
 }
 
 impl Trail {
-    /// How many turns there are (this project's profile).
+    /// How many turns there are [P].
     pub fn len(&self) -> usize
         ensures { result ≡ length self.now }
     {
         self.entries.len()
     }
 
-    /// The turn of this index, counted from 0 at the earliest; None past the last (this project's
-    /// profile).
+    /// The turn of this index, counted from 0 at the earliest; None past the last [P].
     pub fn entry(&self, index: usize) -> Option<TrailEntry>
         ensures { result ≡ slice_get self.now index }
     {
@@ -59,8 +57,8 @@ impl Trail {
     /// Runs the next turns of the run with the events of the script, and returns their trail. Keeps
     /// what is to be kept of them.
     ///
-    /// Err where a growth was refused; what was kept until then stays.
-    #[tactic(auto, using(crate::proofs::Trails::trail_none))]
+    /// Err if memory was refused; what was kept until then stays.
+    #[tactic(auto, using(crate::proofs::ask::Trails::trail_none))]
     pub(crate) fn record(
         alloc: Global,
         run: &mut KeptRun,
@@ -89,7 +87,7 @@ impl Trail {
 /// Runs one turn with the events of the script, and returns its entry of the trail. Keeps what is
 /// to be kept of the turn.
 ///
-/// Err where a growth was refused; what was kept until then stays.
+/// Err if memory was refused; what was kept until then stays.
 fn record_turn(alloc: Global, run: &mut KeptRun, script: &Script) -> Result<TrailEntry, NoMemory>
     requires ready { CanGoOn run.old }
     requires limit { run.old.machine.state.turn < LAST_TURN }

@@ -53,8 +53,7 @@ impl Engine {
     /// Err(TurnTooLarge) if a turn is above 1,000,000,000; otherwise Err(CountOutOfRange) if `from`
     /// is above `to`; otherwise Err(OutsideCore) if the address is not in core; otherwise
     /// Err(OddAddress) if it is odd; otherwise Err(NoMemory) if memory was refused. No refusal
-    /// changes the past, and one for another cause than memory changes nothing. (This project's
-    /// profile.)
+    /// changes the past, and one for another cause than memory changes nothing. [P]
     pub fn writes(
         &mut self,
         alloc: Global,
@@ -150,7 +149,7 @@ fn find_writes(
 /// `to`. Returns the writes, and keeps what is to be kept of the turns.
 ///
 /// Err if memory was refused; what was kept until then stays.
-#[tactic(auto, using(crate::proofs::Writes::end_listed))]
+#[tactic(auto, using(crate::proofs::ask::ListedWrites::end_listed))]
 fn list_writes(
     alloc: Global,
     run: &mut KeptRun,

@@ -3,7 +3,7 @@ ghost use Rattle.pdp_replay.specs.Past.Setup.{drive_count, image_of, images_of};
 
 use crate::past::MOST_DRIVES;
 
-/// How many drives a run has (this project's profile).
+/// How many drives a run has [P].
 #[derive(Clone, Copy)]
 pub(crate) enum DriveCount {
     /// Drive 0 alone, as every run begins.
@@ -51,7 +51,7 @@ impl BaseSetup {
         self.core.get(number as usize).copied().unwrap_or(0)
     }
 
-    /// The words of the image of the drive of this number, none where it has no image.
+    /// The words of the image of the drive of this number, none if it has no image.
     pub(crate) fn image(&self, drive: usize) -> &[u16]
         ensures { result.now ≡ image_of (images_of self.now.disks.items) drive }
     {

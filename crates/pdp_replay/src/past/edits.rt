@@ -12,9 +12,10 @@ ghost use Rattle.pdp_replay.specs.Timeline.{core_edited, core_reverted, event_in
 ghost use Rattle.pdp_replay.specs.Timeline.{event_altered, event_dropped, word_patched};
 
 use crate::engine::Engine;
-use crate::past::{Patch, PatchKey, UNIT_WORDS};
+use crate::past::{Patch, UNIT_WORDS};
 use indexmap::IndexMap;
 use pdp_script::Fault;
+use pdp_store::{Part, WordAt};
 use pdp_unibus::Event;
 use pdp_word::NoMemory;
 
@@ -24,9 +25,8 @@ impl Engine {
     /// below it that accesses the word's page of 256 words in any way, and stays if there is none.
     /// No turn is run.
     ///
-    /// Err(OutsideCore) where the address is not in core; else Err(OddAddress) where it is odd;
-    /// else Err(NoMemory) where a growth was refused. A refused edit changes nothing. (This
-    /// project's profile.)
+    /// Err(OutsideCore) if the address is not in core; else Err(OddAddress) if it is odd; else
+    /// Err(NoMemory) if memory was refused. A refused edit changes nothing. [P]
     #[tactic(auto, unfolding(crate::specs::Past::Edit::core_edit))]
     pub fn set_core(&mut self, address: u32, word: u16) -> Result<(), Fault>
         ensures answer { result ≡ edit_answer (core_edit address word self.old.past)
@@ -34,24 +34,28 @@ impl Engine {
         ensures after { self.new ≡ core_edited address word (for_memory result) self.old }
         ensures refused { OnErr result (self.new ≡ self.old) }
     {
-        let key = PatchKey::Core(core_word(self.base_setup.units, address)?);
-        self.set_patch(key, word)?;
+        let number = core_word(self.base_setup.units, address)?;
+        let at = WordAt {
+            part: Part::Core,
+            number: number as usize,
+        };
+        self.set_patch(at, word)?;
         Ok(())
     }
 
     /// Makes a word equal to `word` as of power-up, in the checkpoints too. A word that has a patch
     /// keeps its place among the patches.
     ///
-    /// Err if a growth was refused; nothing changes then.
-    pub(crate) fn set_patch(&mut self, key: PatchKey, word: u16) -> Result<(), NoMemory>
-        requires there { IsThere self.old.past.setup key }
-        ensures after { self.new ≡ word_patched key word (is_err result) self.old }
+    /// Err if memory was refused; nothing changes then.
+    pub(crate) fn set_patch(&mut self, at: WordAt, word: u16) -> Result<(), NoMemory>
+        requires there { IsThere self.old.past.setup at }
+        ensures after { self.new ≡ word_patched at word (is_err result) self.old }
         ensures refused { OnErr result (self.new ≡ self.old) }
     {
         let alloc = *self.patches.allocator();
-        make_room(&mut self.patches, key)?;
-        self.run.set_word(alloc, key, word)?;
-        self.patches.insert(key, word)?;
+        make_room(&mut self.patches, at)?;
+        self.run.set_word(alloc, at, word)?;
+        self.patches.insert(at, word)?;
         Ok(())
     }
 
@@ -60,9 +64,9 @@ impl Engine {
     /// first turn below it that accesses the word's page of 256 words in any way, and stays if
     /// there is none. No turn is run.
     ///
-    /// Err(OutsideCore) where the address is not in core; else Err(OddAddress) where it is odd;
-    /// else Err(NoSuchPatch) where the word has no patch; else Err(NoMemory) where a growth was
-    /// refused. A refused edit changes nothing. (This project's profile.)
+    /// Err(OutsideCore) if the address is not in core; else Err(OddAddress) if it is odd; else
+    /// Err(NoSuchPatch) if the word has no patch; else Err(NoMemory) if memory was refused. A
+    /// refused edit changes nothing. [P]
     #[tactic(auto, unfolding(crate::specs::Past::Edit::revert_edit))]
     pub fn revert_core(&mut self, address: u32) -> Result<(), Fault>
         ensures answer { result ≡ edit_answer (revert_edit address self.old.past)
@@ -71,14 +75,17 @@ impl Engine {
         ensures refused { OnErr result (self.new ≡ self.old) }
     {
         let number = core_word(self.base_setup.units, address)?;
-        let key = PatchKey::Core(number);
-        if !self.patches.contains_key(&key) {
+        let at = WordAt {
+            part: Part::Core,
+            number: number as usize,
+        };
+        if !self.patches.contains_key(&at) {
             return Err(Fault::NoSuchPatch);
         }
         let alloc = *self.patches.allocator();
         let word = self.base_setup.core_word(number);
-        self.run.set_word(alloc, key, word)?;
-        self.patches.shift_remove(&key);
+        self.run.set_word(alloc, at, word)?;
+        self.patches.shift_remove(&at);
         Ok(())
     }
 
@@ -86,9 +93,9 @@ impl Engine {
     /// number: one more than the last that was given, 1 at first. The known turn becomes at most
     /// that turn; no turn is run.
     ///
-    /// Err(TurnTooLarge) at a turn above 1,000,000,000; else Err(ScriptFull) where 65,536 events
-    /// are there, or 4,294,967,295 numbers were given; else Err(NoMemory) where a growth was
-    /// refused. A refused edit changes nothing, and uses up no number. (This project's profile.)
+    /// Err(TurnTooLarge) at a turn above 1,000,000,000; else Err(ScriptFull) if 65,536 events are
+    /// there, or 4,294,967,295 numbers were given; else Err(NoMemory) if memory was refused. A
+    /// refused edit changes nothing, and uses up no number. [P]
     #[tactic(auto, unfolding(crate::specs::Past::Edit::event_insertion))]
     pub fn insert(&mut self, turn: u32, event: Event) -> Result<u32, Fault>
         ensures answer { result ≡ insertion_answer turn event (for_memory result) self.old.past }
@@ -104,8 +111,8 @@ impl Engine {
     /// at another it goes last among those of the turn. The known turn becomes at most the lesser
     /// of both turns; no turn is run. Takes no memory.
     ///
-    /// Err(TurnTooLarge) at a turn above 1,000,000,000; else Err(NoSuchEvent) where no event has
-    /// this number. A refused edit changes nothing. (This project's profile.)
+    /// Err(TurnTooLarge) at a turn above 1,000,000,000; else Err(NoSuchEvent) if no event has this
+    /// number. A refused edit changes nothing. [P]
     #[tactic(auto, unfolding(crate::specs::Past::Edit::event_alteration))]
     pub fn alter(&mut self, number: u32, turn: u32, event: Event) -> Result<(), Fault>
         ensures answer { result ≡ result_map (λ _. tt)
@@ -122,8 +129,7 @@ impl Engine {
     /// Takes the event of this number out of the script. Its number is never given again. The known
     /// turn becomes at most its turn; no turn is run. Takes no memory.
     ///
-    /// Err(NoSuchEvent) where no event has this number; nothing changes then. (This project's
-    /// profile.)
+    /// Err(NoSuchEvent) if no event has this number; nothing changes then. [P]
     #[tactic(auto, unfolding(crate::specs::Past::Edit::event_drop))]
     pub fn drop_event(&mut self, number: u32) -> Result<(), Fault>
         ensures answer { result ≡ result_map (λ _. tt) (event_drop number self.old.past) }
@@ -148,23 +154,24 @@ impl Engine {
     pub fn patches(&self, index: usize) -> Option<Patch>
         ensures { result ≡ patch_at self.now.past index }
     {
-        let (key, word) = self.patches.get_index(index)?;
-        Some(match key {
-            PatchKey::Core(number) => Patch::Core(number * 2, *word),
-            PatchKey::Disk(drive, number) => Patch::Disk(*drive, *number, *word),
+        let (at, word) = self.patches.get_index(index)?;
+        let number = at.number as u32;
+        Some(match at.part {
+            Part::Core => Patch::Core(number * 2, *word),
+            Part::Drive(drive) => Patch::Disk(drive, number, *word),
         })
     }
 }
 
 /// Makes room for the patch of a word that has none.
 ///
-/// Err where the growth was refused. Takes no memory for a word that has a patch.
-fn make_room(patches: &mut IndexMap<PatchKey, u16>, key: PatchKey) -> Result<(), NoMemory>
+/// Err if the memory was refused. Takes no memory for a word that has a patch.
+fn make_room(patches: &mut IndexMap<WordAt, u16>, at: WordAt) -> Result<(), NoMemory>
     ensures same { patches.new.entries ≡ patches.old.entries }
-    ensures room { OnOk result (patch_of patches.new.entries key ≡ None → 0 < spare patches.new) }
-    ensures patched { is_some (patch_of patches.old.entries key) ≡ true → result ≡ Ok tt }
+    ensures room { OnOk result (patch_of patches.new.entries at ≡ None → 0 < spare patches.new) }
+    ensures patched { is_some (patch_of patches.old.entries at) ≡ true → result ≡ Ok tt }
 {
-    if patches.contains_key(&key) {
+    if patches.contains_key(&at) {
         return Ok(());
     }
     patches.reserve(1)?;
@@ -173,7 +180,7 @@ fn make_room(patches: &mut IndexMap<PatchKey, u16>, key: PatchKey) -> Result<(),
 
 /// The number of the core word at this address (octal, bytes), of a core of `units` units.
 ///
-/// Err(OutsideCore) where the address is not in core; else Err(OddAddress) where it is odd.
+/// Err(OutsideCore) if the address is not in core; else Err(OddAddress) if it is odd.
 #[tactic(auto, unfolding(crate::specs::Past::Edit::core_word_at))]
 pub(crate) fn core_word(units: u8, address: u32) -> Result<u32, Fault>
     ensures number { (s : SetupData) → s.units ≡ units → core_word_at address s ≡ result }

@@ -12,15 +12,15 @@ use std::alloc::Global;
 
 /// Core as of power-up without patches; no word has a stamp.
 ///
-/// Err where there is no memory for it.
+/// Err if there is no memory for it.
 pub(crate) fn core_store(alloc: Global, base_setup: &BaseSetup) -> Result<Paged, NoMemory>
     requires { length base_setup.now.core.items ≤ base_setup.now.units * UNIT_WORDS }
     ensures words { IfOk result
         (λ store. store.words ≡ padded_image (base_setup.now.units * UNIT_WORDS)
         base_setup.now.core.items) }
-    ensures lasts { IfOk result
-        (λ store. store.lasts ≡ replicate (base_setup.now.units * UNIT_WORDS) None) }
-    ensures firsts { IfOk result (λ store. store.firsts
+    ensures stamps { IfOk result
+        (λ store. store.stamps ≡ replicate (base_setup.now.units * UNIT_WORDS) None) }
+    ensures first_touches { IfOk result (λ store. store.first_touches
         ≡ no_touch_in (base_setup.now.units * UNIT_WORDS)) }
 {
     let words = usize::from(base_setup.units) * UNIT_WORDS;
@@ -31,11 +31,11 @@ pub(crate) fn core_store(alloc: Global, base_setup: &BaseSetup) -> Result<Paged,
 
 /// The drive with this image as of power-up without patches.
 ///
-/// Err where there is no memory for it.
+/// Err if there is no memory for it.
 pub(crate) fn drive_store(alloc: Global, image: &[u16]) -> Result<PagedDrive, NoMemory>
     requires { length image.now ≤ DRIVE_WORDS }
     ensures words { IfOk result (λ store. store.words ≡ padded_image DRIVE_WORDS image.now) }
-    ensures firsts { IfOk result (λ store. store.firsts ≡ no_touch_in DRIVE_WORDS) }
+    ensures first_touches { IfOk result (λ store. store.first_touches ≡ no_touch_in DRIVE_WORDS) }
 {
     let mut store = PagedDrive::blank(alloc, DRIVE_WORDS)?;
     fill(&mut store, image);
@@ -53,7 +53,7 @@ pub(crate) fn more_drives(
     requires { All (λ image. length image ≤ DRIVE_WORDS) (images_of base_setup.now.disks.items) }
     ensures words { IfOk result (λ drives. map (λ drive. drive.words) drives.items
         ≡ more_drives (images_of base_setup.now.disks.items)) }
-    ensures firsts { IfOk result (λ drives. map (λ drive. drive.firsts) drives.items
+    ensures first_touches { IfOk result (λ drives. map (λ drive. drive.first_touches) drives.items
         ≡ replicate 7 (no_touch_in DRIVE_WORDS)) }
 {
     let mut drives = Vec::with_capacity(alloc, MOST_DRIVES)?;
@@ -67,9 +67,9 @@ pub(crate) fn more_drives(
 fn fill<S: Store>(store: &mut S, image: &[u16])
     requires { length image.now ≤ length (S.words store.old) }
     ensures words { S.words store.new ≡ image.now ++ drop (length image.now) (S.words store.old) }
-    ensures lasts { (n : ℕ) → S.lasts store.old ≡ replicate n None
-        → S.lasts store.new ≡ replicate n None }
-    ensures firsts { S.firsts store.new ≡ S.firsts store.old }
+    ensures stamps { (n : ℕ) → S.stamps store.old ≡ replicate n None
+        → S.stamps store.new ≡ replicate n None }
+    ensures first_touches { S.first_touches store.new ≡ S.first_touches store.old }
 {
     for (number, word) in image.iter().enumerate() {
         store.set(number, *word);

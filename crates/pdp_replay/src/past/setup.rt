@@ -22,10 +22,10 @@ pub(crate) const DRIVE_WORDS: usize = 1_247_232;
 /// The most bytes of a paper tape.
 pub(crate) const TAPE_BYTES: usize = 1_048_576;
 
-/// The stride of states that are kept where none is given, in turns (this project's profile).
+/// The stride of states that are kept if none is given, in turns [P].
 pub const DEFAULT_STRIDE: u32 = 10_000;
 
-/// What a run starts from (this project's profile).
+/// What a run starts from [P].
 #[derive(Drop)]
 pub struct Setup {
     /// The size of core in units of 4,096 words: 1 to 31.
@@ -47,9 +47,9 @@ pub struct Setup {
 impl Setup {
     /// Whether a run can start from this setup.
     ///
-    /// Err(BadSetup) where the units, the start or the stride is out of range; else Err(BadImage)
-    /// where core's image, a drive's or the tape is too long, or there are more than eight images
-    /// of drives.
+    /// Err(BadSetup) if the units, the start or the stride is out of range; else Err(BadImage) if
+    /// core's image, a drive's or the tape is too long, or there are more than eight images of
+    /// drives.
     #[tactic(auto, unfolding(crate::specs::Past::Setup::setup_checked))]
     pub(crate) fn check(&self) -> Result<(), Fault>
         ensures { result ≡ result_map (λ _. tt) (setup_checked (given_setup self.now)) }

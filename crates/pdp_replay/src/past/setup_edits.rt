@@ -7,8 +7,9 @@ ghost use Rattle.pdp_replay.specs.Timeline.{disk_edited, drives_given, timeline_
 ghost use Rattle.pdp_replay.specs.Timeline.{tape_replaced, delay_set};
 
 use crate::engine::Engine;
-use crate::past::{DRIVE_WORDS, DriveCount, PatchKey, TAPE_BYTES, more_drives};
+use crate::past::{DRIVE_WORDS, DriveCount, TAPE_BYTES, more_drives};
 use pdp_script::Fault;
+use pdp_store::{Part, WordAt};
 use pdp_unibus::{DelayedDevice, LAST_TURN};
 
 impl Engine {
@@ -20,8 +21,8 @@ impl Engine {
     /// run.
     ///
     /// Err(NoSuchDrive) if the drive is not below the number of drives; else Err(OutsideDisk) if
-    /// the word's number is 4604000 (octal; 1,247,232) or above; else Err(NoMemory) if a growth was
-    /// refused. A refused edit changes nothing. (This project's profile.)
+    /// the word's number is 4604000 (octal; 1,247,232) or above; else Err(NoMemory) if memory was
+    /// refused. A refused edit changes nothing. [P]
     #[tactic(auto, unfolding(crate::specs::Past::Edit::disk_edit))]
     pub fn set_disk(&mut self, drive: u8, number: u32, word: u16) -> Result<(), Fault>
         ensures answer { result ≡ edit_answer (disk_edit drive number word self.old.past)
@@ -29,11 +30,12 @@ impl Engine {
         ensures after { self.new ≡ disk_edited drive number word (for_memory result) self.old }
         ensures refused { OnErr result (self.new ≡ self.old) }
     {
-        let key = PatchKey::Disk(
-            drive,
-            disk_word(self.base_setup.drives.count(), drive, number)?,
-        );
-        self.set_patch(key, word)?;
+        let number = disk_word(self.base_setup.drives.count(), drive, number)?;
+        let at = WordAt {
+            part: Part::Drive(drive),
+            number: number as usize,
+        };
+        self.set_patch(at, word)?;
         Ok(())
     }
 
@@ -41,9 +43,9 @@ impl Engine {
     /// words of its image, and is 0 past them. If there are eight drives already, they stay. The
     /// known turn becomes 0, and the machine goes back to the state of turn 0; no turn is run.
     ///
-    /// Err(NoMemory) if a growth was refused. The past, the known turn and all that is kept of the
+    /// Err(NoMemory) if memory was refused. The past, the known turn and all that is kept of the
     /// run then stay; the next question goes on from a checkpoint, and not from the turn of the
-    /// last one. (This project's profile.)
+    /// last one. [P]
     pub fn eight_drives(&mut self) -> Result<(), Fault>
         ensures answer { result ≡ edit_answer (drives_edit self.old.past) (for_memory result) tt }
         ensures after { self.new ≡ drives_given (for_memory result) self.old }
@@ -65,8 +67,7 @@ impl Engine {
     /// Puts this paper tape into the reader as of power-up, in place of the one that is there. The
     /// known turn becomes 0; no turn is run. Takes no memory.
     ///
-    /// Err(BadImage) where the tape is longer than 1,048,576 bytes; nothing changes then. (This
-    /// project's profile.)
+    /// Err(BadImage) if the tape is longer than 1,048,576 bytes; nothing changes then. [P]
     #[tactic(auto, unfolding(crate::specs::Past::Edit::tape_edit))]
     pub fn set_tape(&mut self, tape: Vec<u8>) -> Result<(), Fault>
         ensures answer { result ≡ result_map (λ _. tt) (tape_edit tape.items self.old.past) }
@@ -84,8 +85,7 @@ impl Engine {
     /// operation of its device completes, and of the clock its period; with 0 by events alone. The
     /// delays of the other lines stay. The known turn becomes 0; no turn is run. Takes no memory.
     ///
-    /// Err(TurnTooLarge) where the delay is above 1,000,000,000; nothing changes then. (This
-    /// project's profile.)
+    /// Err(TurnTooLarge) if the delay is above 1,000,000,000; nothing changes then. [P]
     #[tactic(auto, unfolding(crate::specs::Past::Edit::delay_edit))]
     pub fn set_delay(&mut self, device: DelayedDevice, delay: u32) -> Result<(), Fault>
         ensures answer { result ≡ result_map (λ _. tt) (delay_edit device delay self.old.past) }

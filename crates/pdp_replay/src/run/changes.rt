@@ -1,29 +1,27 @@
 //! What edits of the past leave of what is kept of a run.
 
-ghost use Rattle.std.specs.Prelude.{◌≡◌, ◌<◌, ◌&&◌, ℕ, Some, length, map, min, nat_le, OnOk, OnErr};
+ghost use Rattle.std.specs.Prelude.{◌≡◌, ◌&&◌, length, map, min, nat_le, OnOk, OnErr};
 ghost use Rattle.std.specs.List.{All, filter};
 ghost use Rattle.pdp_checkpoint.specs.Delayed.{ladder_with_delays};
 ghost use Rattle.pdp_checkpoint.specs.Patched.{HavePageAlike};
 ghost use Rattle.pdp_cpu.specs.Saved.{HasWord};
 ghost use Rattle.pdp_operand.specs.Phases.World.{world};
-ghost use Rattle.pdp_replay.specs.Run.KeptRuns.{cut_to_first, patch_drive, patch_number};
-ghost use Rattle.pdp_replay.specs.Run.KeptRuns.{reached_by, BeginsAnew, IsForgotten, IsKeptRun};
-ghost use Rattle.pdp_replay.specs.Run.KeptRuns.{IsPatchedRun};
+ghost use Rattle.pdp_replay.specs.Run.KeptRuns.{cut_to_first, reached_by, BeginsAnew, IsForgotten};
+ghost use Rattle.pdp_replay.specs.Run.KeptRuns.{IsForgottenFrom, IsKeptRun, IsPatchedRun};
 ghost use Rattle.pdp_replay.specs.Past.{Past};
 ghost use Rattle.pdp_unibus.specs.SavedBusData.{bus_with_tape};
 
-use crate::past::PatchKey;
 use crate::run::KeptRun;
 use pdp_checkpoint::Ladder;
-use pdp_store::PagedDrive;
+use pdp_store::{PAGE_WORDS, PagedDrive, WordAt};
 use pdp_unibus::Delays;
 use pdp_word::NoMemory;
 use std::alloc::Global;
 
 impl KeptRun {
-    /// Lowers the known turn to this one where it is above it, and drops what is kept of later
-    /// turns. A machine at a later turn is in no state of the run any more. It runs no turn and
-    /// takes no memory.
+    /// Lowers the known turn to this one if it is above it, and drops what is kept of later turns.
+    /// A machine at a later turn is in no state of the run any more. It runs no turn and takes no
+    /// memory.
     pub(crate) fn lower(&mut self, turn: u32)
         ensures run { (p : Past) → IsKeptRun p self.old → IsKeptRun p self.new }
         ensures known { self.new.known ≡ min self.old.known turn }
@@ -42,9 +40,17 @@ impl KeptRun {
             return;
         }
         self.ladder.cut(known);
-        self.machine.keep_text(known);
-        self.machine.forget(known);
-        self.known = known;
+        self.forget_from(known);
+    }
+
+    // Makes this turn the known one: drops the bytes that came out in it and later, and the first
+    // touches of these turns.
+    fn forget_from(&mut self, turn: u32)
+        ensures { IsForgottenFrom turn self.old self.new }
+    {
+        self.machine.keep_text(turn);
+        self.machine.forget(turn);
+        self.known = turn;
     }
 
     /// Lowers the known turn to the first touch of the page of this word. If there is none, the
@@ -52,28 +58,19 @@ impl KeptRun {
     /// drops what is kept of later turns. The machine is in no state of the run then. It runs no
     /// turn.
     ///
-    /// Err where a growth was refused; nothing changes then.
-    pub(crate) fn set_word(
-        &mut self,
-        alloc: Global,
-        key: PatchKey,
-        word: u16,
-    ) -> Result<(), NoMemory>
-        requires there { All (λ c. HasWord (patch_drive key) (patch_number key) c.saved)
-            self.old.ladder.kept }
-        requires alike { HavePageAlike (patch_drive key) (patch_number key)
-            (filter (λ c. nat_le c.turn (reached_by key self.old)) self.old.ladder.kept) }
-        requires drive { (number : ℕ) → patch_drive key ≡ Some number
-            → number < length self.old.machine.state.world.bus.drives }
-        ensures patched { OnOk result (IsPatchedRun key word self.old self.new) }
+    /// Err if memory was refused; nothing changes then.
+    pub(crate) fn set_word(&mut self, alloc: Global, at: WordAt, word: u16) -> Result<(), NoMemory>
+        requires there { All (λ c. HasWord at c.saved) self.old.ladder.kept }
+        requires alike { HavePageAlike at
+            (filter (λ c. nat_le c.turn (reached_by at self.old)) self.old.ladder.kept) }
+        ensures patched { OnOk result (IsPatchedRun at word self.old self.new) }
         ensures refused { OnErr result (self.new ≡ self.old) }
     {
-        let reached = self.reached_by(key);
-        let number = key.number() as usize;
-        self.ladder.patch(alloc, &mut self.machine, reached, key.drive(), number, word)?;
-        self.machine.keep_text(reached);
-        self.machine.forget(reached);
-        self.known = reached;
+        let reached = self.reached_by(at);
+        let drive = at.part.drive();
+        self.ladder
+            .patch(alloc, &mut self.machine, reached, drive, at.number, word)?;
+        self.forget_from(reached);
         self.is_current = false;
         Ok(())
     }
@@ -81,7 +78,7 @@ impl KeptRun {
     /// Adds these drives after drive 0 of a machine at turn 0. Its state is then the only one that
     /// is kept, and nothing is known. It runs no turn.
     ///
-    /// Err if a growth was refused; nothing changes then.
+    /// Err if memory was refused; nothing changes then.
     pub(crate) fn add_drives(
         &mut self,
         alloc: Global,
@@ -89,9 +86,9 @@ impl KeptRun {
     ) -> Result<(), NoMemory>
         requires start { self.old.machine.state.turn ≡ 0 }
         requires one { length self.old.machine.state.world.bus.drives ≡ 1 }
-        requires firsts { length self.old.machine.firsts.drives ≡ 1 }
+        requires first_touches { length self.old.machine.first_touches.drives ≡ 1 }
         ensures anew { OnOk result (BeginsAnew (map (λ drive. drive.words) drives.items)
-            (map (λ drive. drive.firsts) drives.items) self.old self.new) }
+            (map (λ drive. drive.first_touches) drives.items) self.old self.new) }
         ensures current { self.new.is_current ≡ self.old.is_current }
         ensures stride { self.new.ladder.stride ≡ self.old.ladder.stride }
         ensures meter { self.new.meter ≡ self.old.meter }
@@ -106,23 +103,18 @@ impl KeptRun {
                 return Err(refused);
             }
         }
-        self.machine.keep_text(0);
-        self.machine.forget(0);
-        self.known = 0;
+        self.forget_from(0);
         Ok(())
     }
 
     // How far back a patch of a word reaches: to the first touch of its page, or to the known turn
     // if there is none.
-    #[tactic(auto, using(crate::proofs::RunFirsts::first_is_told))]
-    fn reached_by(&self, key: PatchKey) -> u32
-        requires { (number : ℕ) → patch_drive key ≡ Some number
-            → number < length self.now.machine.state.world.bus.drives }
-        ensures { result ≡ reached_by key self.now }
+    #[tactic(auto, using(crate::proofs::run::RunFirstTouches::first_is_told))]
+    fn reached_by(&self, at: WordAt) -> u32
+        ensures { result ≡ reached_by at self.now }
     {
         let known = self.known;
-        let page = key.number() as usize / 256;
-        match self.machine.first(key.drive(), page) {
+        match self.machine.first(at.part, at.number / PAGE_WORDS) {
             Some(turn) => known.min(turn),
             None => known,
         }
@@ -136,9 +128,7 @@ impl KeptRun {
         ensures world { self.new.machine.state.world ≡ self.old.machine.state.world }
     {
         self.ladder.set_delays(delays);
-        self.machine.keep_text(0);
-        self.machine.forget(0);
-        self.known = 0;
+        self.forget_from(0);
         self.is_current = false;
     }
 
@@ -153,9 +143,7 @@ impl KeptRun {
     {
         self.ladder.cut(0);
         self.machine.set_tape(tape);
-        self.machine.keep_text(0);
-        self.machine.forget(0);
-        self.known = 0;
+        self.forget_from(0);
         self.is_current = false;
     }
 }

@@ -43,7 +43,7 @@ impl KeptRun {
     /// A run as of power-up with one drive and the standard delays and without patches, of which
     /// the first state is kept.
     ///
-    /// Err where a growth was refused.
+    /// Err if memory was refused.
     pub(crate) fn power(
         alloc: Global,
         base_setup: &BaseSetup,
@@ -76,7 +76,7 @@ impl KeptRun {
     /// best checkpoint of the lesser of that turn and the known one (`resume`). All that is to be
     /// kept on the way is kept, and the meter counts each turn.
     ///
-    /// Err where a growth was refused; what was kept until then stays.
+    /// Err if memory was refused; what was kept until then stays.
     pub(crate) fn reach(
         &mut self,
         alloc: Global,
@@ -125,7 +125,7 @@ impl KeptRun {
 
     /// Runs the machine on to this turn, with the events of the script.
     ///
-    /// Err where a growth was refused; what was kept until then stays.
+    /// Err if memory was refused; what was kept until then stays.
     fn forward(&mut self, alloc: Global, script: &Script, to: u32) -> Result<(), NoMemory>
         requires ready { CanGoOn self.old }
         requires forward { self.old.machine.state.turn ≤ to }
@@ -144,7 +144,7 @@ impl KeptRun {
     /// Runs the machine to this turn, but not beyond the next turn whose state is to be kept, and
     /// settles there.
     ///
-    /// Err where a growth was refused; what was kept until then stays.
+    /// Err if memory was refused; what was kept until then stays.
     fn leg(&mut self, alloc: Global, script: &Script, to: u32) -> Result<(), NoMemory>
         requires ready { CanGoOn self.old }
         requires forward { self.old.machine.state.turn < to }
@@ -166,7 +166,7 @@ impl KeptRun {
 
     /// Runs one turn with the events of the script, settles after it, and tells its act.
     ///
-    /// Err where a growth was refused; what was kept until then stays.
+    /// Err if memory was refused; what was kept until then stays.
     pub(crate) fn step(&mut self, alloc: Global, script: &Script) -> Result<Act, NoMemory>
         requires ready { CanGoOn self.old }
         requires limit { self.old.machine.state.turn < LAST_TURN }
@@ -192,8 +192,8 @@ impl KeptRun {
     /// The machine came to a turn, at the latest the next one whose state is to be kept: keeps its
     /// state there, and raises the known turn to it.
     ///
-    /// Err where a growth was refused: the known turn is then at least the one before, up to which
-    /// texts are kept, and the machine is in no state of the run.
+    /// Err if memory was refused: the known turn is then at least the one before, up to which texts
+    /// are kept, and the machine is in no state of the run.
     pub(crate) fn settle(&mut self, alloc: Global) -> Result<(), NoMemory>
         requires within { self.old.machine.state.turn ≤ next_of self.old.ladder }
         requires current { self.old.is_current ≡ true }
@@ -231,7 +231,7 @@ fn is_later(stays: bool, here: u32, kept: u32) -> bool
 
 /// The machine as of power-up with one drive and the standard delays and without patches.
 ///
-/// Err where there is no memory for it.
+/// Err if there is no memory for it.
 fn first_machine(
     alloc: Global,
     base_setup: &BaseSetup,
@@ -243,7 +243,7 @@ fn first_machine(
         ≡ at (past_without_events (first_setup base_setup.now tape.items)) 0) }
     ensures kept_text { IfOk result (λ machine. machine.kept_text ≡ []) }
     ensures kept_punched { IfOk result (λ machine. machine.kept_punched ≡ []) }
-    ensures firsts { IfOk result (λ machine. machine.firsts
+    ensures first_touches { IfOk result (λ machine. machine.first_touches
         ≡ untouched_all (first_setup base_setup.now tape.items)) }
 {
     let core = core_store(alloc, base_setup)?;

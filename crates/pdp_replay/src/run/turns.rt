@@ -2,7 +2,7 @@
 
 ghost use Rattle.std.specs.Prelude.{◌≡◌, ◌+◌, ◌≤◌, ◌<◌, [], ℕ, OnOk, OnErr};
 ghost use Rattle.pdp_script.specs.Entries.{events_at};
-ghost use Rattle.pdp_replay.specs.Run.KeptRuns.{IsUnderWay, IsWithoutEvents};
+ghost use Rattle.pdp_replay.specs.Run.KeptRuns.{IsUnderWay, IsWithoutEvents, RunsUpTo};
 ghost use Rattle.pdp_replay.specs.Past.{Past};
 
 use pdp_cpu::{Meter, PagedMachine, WordTable};
@@ -12,8 +12,7 @@ use pdp_word::NoMemory;
 
 /// Runs the machine to this turn, with the events of the script; the meter counts each turn.
 ///
-/// Err where a turn's room was refused; the machine is then in the state of the turn that it came
-/// to.
+/// Err if a turn's room was refused; the machine is then in the state of the turn that it came to.
 pub(crate) fn run_part(
     machine: &mut PagedMachine,
     words: &WordTable,
@@ -26,10 +25,7 @@ pub(crate) fn run_part(
     ensures way { (p : Past) (known : ℕ) → p.script ≡ script.now → IsUnderWay p known machine.old
         → IsUnderWay p known machine.new }
     ensures turn { OnOk result (machine.new.state.turn ≡ to) }
-    ensures least { machine.old.state.turn ≤ machine.new.state.turn }
-    ensures most { machine.new.state.turn ≤ to }
-    ensures ran { meter.new + machine.old.state.turn ≤ meter.old + machine.new.state.turn }
-    ensures counted { meter.old ≤ meter.new }
+    ensures runs { RunsUpTo to machine.old machine.new meter.old meter.new }
 {
     while machine.turns() < to {
         let quiet = quiet_until(script, machine.turns(), to);
@@ -41,7 +37,7 @@ pub(crate) fn run_part(
     Ok(())
 }
 
-/// The first turn with events from this turn on, or `to` where none comes before it.
+/// The first turn with events from this turn on, or `to` if none comes before it.
 pub(crate) fn quiet_until(script: &Script, from: u32, to: u32) -> u32
     requires { from ≤ to }
     ensures least { from ≤ result }
@@ -57,8 +53,7 @@ pub(crate) fn quiet_until(script: &Script, from: u32, to: u32) -> u32
 
 /// Runs the machine to this turn without events; the meter counts each turn.
 ///
-/// Err where a turn's room was refused; the machine is then in the state of the turn that it came
-/// to.
+/// Err if a turn's room was refused; the machine is then in the state of the turn that it came to.
 fn run_quiet(
     machine: &mut PagedMachine,
     words: &WordTable,
@@ -70,10 +65,7 @@ fn run_quiet(
     ensures way { (p : Past) (known : ℕ) → IsWithoutEvents p machine.old.state.turn to
         → IsUnderWay p known machine.old → IsUnderWay p known machine.new }
     ensures turn { OnOk result (machine.new.state.turn ≡ to) }
-    ensures least { machine.old.state.turn ≤ machine.new.state.turn }
-    ensures most { machine.new.state.turn ≤ to }
-    ensures ran { meter.new + machine.old.state.turn ≤ meter.old + machine.new.state.turn }
-    ensures counted { meter.old ≤ meter.new }
+    ensures runs { RunsUpTo to machine.old machine.new meter.old meter.new }
 {
     while machine.turns() < to {
         run_some(machine, words, meter, to)?;
@@ -84,7 +76,7 @@ fn run_quiet(
 /// Runs the machine through some turns before this one, without events: as long as it is calm, or
 /// its next turn if it isn't. The meter counts each turn.
 ///
-/// Err where a turn's room was refused; the machine is then as it was.
+/// Err if a turn's room was refused; the machine is then as it was.
 fn run_some(
     machine: &mut PagedMachine,
     words: &WordTable,
@@ -96,10 +88,7 @@ fn run_some(
     ensures way { (p : Past) (known : ℕ) → IsWithoutEvents p machine.old.state.turn to
         → IsUnderWay p known machine.old → IsUnderWay p known machine.new }
     ensures on { OnOk result (machine.old.state.turn < machine.new.state.turn) }
-    ensures least { machine.old.state.turn ≤ machine.new.state.turn }
-    ensures most { machine.new.state.turn ≤ to }
-    ensures ran { meter.new + machine.old.state.turn ≤ meter.old + machine.new.state.turn }
-    ensures counted { meter.old ≤ meter.new }
+    ensures runs { RunsUpTo to machine.old machine.new meter.old meter.new }
 {
     if machine.run_calmly(words, meter, to) > 0 {
         return Ok(());
@@ -111,15 +100,15 @@ fn run_some(
 
 /// Runs the machine through its next turn, with the events of the script; the meter counts it.
 ///
-/// Err where the turn's room was refused; the machine is then as it was.
+/// Err if the turn's room was refused; the machine is then as it was.
 fn next_turn(machine: &mut PagedMachine, script: &Script, meter: &mut Meter) -> Result<(), NoMemory>
     requires limit { machine.old.state.turn < LAST_TURN }
     ensures way { (p : Past) (known : ℕ) → p.script ≡ script.now → IsUnderWay p known machine.old
         → IsUnderWay p known machine.new }
     ensures turn { OnOk result (machine.new.state.turn ≡ machine.old.state.turn + 1) }
     ensures same { OnErr result (machine.new.state.turn ≡ machine.old.state.turn) }
-    ensures ran { meter.new + machine.old.state.turn ≤ meter.old + machine.new.state.turn }
-    ensures counted { meter.old ≤ meter.new }
+    ensures runs { RunsUpTo (machine.old.state.turn + 1) machine.old machine.new
+        meter.old meter.new }
 {
     machine.ready()?;
     let turn = machine.turns();

@@ -1,4 +1,4 @@
--- What follows a command's name (this project's profile).
+-- What follows a command's name [P].
 use Rattle.std.specs.Prelude.{ℕ, min, nat_le, nat_lt, if◌then◌else◌, List, [], ◌∷◌, codes, Option}
 use Rattle.std.specs.Prelude.{None, Some}
 use Rattle.std.specs.Option.{option_map, option_and_then}
@@ -21,12 +21,12 @@ abbrev pub first_of : List (List ℕ) → Option (List ℕ × List (List ℕ))
 first_of (first ∷ others) = Some (first, others)
 first_of [] = None
 
--- the word, where there is one
+-- the word, if there is one
 abbrev pub one_of : List (List ℕ) → Option (List ℕ)
 one_of (word ∷ []) = Some word
 one_of _ = None
 
--- the words, where there are two
+-- the words, if there are two
 abbrev pub two_of : List (List ℕ) → Option (List ℕ × List ℕ)
 two_of (first ∷ second ∷ []) = Some (first, second)
 two_of _ = None
@@ -61,7 +61,7 @@ drive_first Two words = do
   d ← drive_named drive
   Some (d, others)
 
--- bytes, in octal: none where one of the words is no byte
+-- bytes, in octal: none if one of the words is no byte
 unfoldable pub bytes_named : List (List ℕ) → Option (List ℕ)
 bytes_named [] = Some []
 bytes_named (word ∷ words) = do

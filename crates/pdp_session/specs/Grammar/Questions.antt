@@ -1,5 +1,4 @@
--- The questions of the session language (this project's profile): a name, and the words that follow
--- it.
+-- The questions of the session language [P]: a name, and the words that follow it.
 use Rattle.std.specs.Prelude.{ℕ, if◌then◌else◌, List, codes, Option, None, Some}
 use Rattle.std.specs.Option.{option_map}
 use Rattle.std.specs.Str.{bytes_eq}

@@ -1,5 +1,5 @@
--- The searches of the search language (this project's profile): a name, and the words that follow
--- it. Turns are in decimal; those of a search are from the first on and before the second.
+-- The searches of the search language [P]: a name, and the words that follow it. Turns are in
+-- decimal; those of a search are from the first on and before the second.
 use Rattle.std.specs.Prelude.{ℕ, if◌then◌else◌, List, [], ◌∷◌, codes, Option, None, Some}
 use Rattle.std.specs.Option.{option_map}
 use Rattle.std.specs.Str.{bytes_eq}

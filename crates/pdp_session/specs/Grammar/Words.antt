@@ -1,4 +1,4 @@
--- The words of a line: what stands between its spaces and tabs (this project's profile).
+-- The words of a line: what stands between its spaces and tabs [P].
 use Rattle.std.specs.Prelude.{ℕ, Bool, ◌||◌, ◌==◌, nat_lt, List, length}
 use Rattle.std.specs.List.{slice_split, filter}
 

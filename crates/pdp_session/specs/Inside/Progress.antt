@@ -125,7 +125,8 @@ Finishes language past done out output output_after (Err e) =
     BreaksOff language past done out output output_after
 
 -- from wherever a session has come to, the end of the input finishes it
-abbrev pub TakesEnd : {T E : Type 0} → Language → List ℕ → Past → OutputData → OutputData → Result T E
+abbrev pub TakesEnd
+    : {T E : Type 0} → Language → List ℕ → Past → OutputData → OutputData → Result T E
     → Type 0
 TakesEnd language held now output output_after result =
     (past : Past) (done out : List ℕ) → Reached language past done out held now

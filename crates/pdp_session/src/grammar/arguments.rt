@@ -75,7 +75,7 @@ pub fn drive_first(version: Version, text: &[u8]) -> Option<(u8, &[u8])>
     }
 }
 
-// The bytes that a text's words are, in octal; `None` where one of its words is no byte.
+// The bytes that a text's words are, in octal; `None` if one of its words is no byte.
 pub fn read_bytes(text: &[u8]) -> Option<TapeBytes>
     requires { length text.now ≤ longest_line }
     ensures { option_map (λ bytes. bytes.items) result ≡ bytes_named (words_of_line text.now) }

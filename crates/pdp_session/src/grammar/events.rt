@@ -6,7 +6,7 @@ use super::arguments::{read_byte, read_word};
 use super::words::next_word;
 use pdp_replay::Event;
 
-// The event that a text's words name, where they name one.
+// The event that a text's words name, if they name one.
 pub fn read_event(text: &[u8]) -> Option<Event>
     ensures { result ≡ event_of (words_of_line text.now) }
 {

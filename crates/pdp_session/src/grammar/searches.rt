@@ -19,7 +19,7 @@ use pdp_kt11::Mode;
 use pdp_replay::{Fault, Sought, TextKind};
 use pdp_word::read_octal;
 
-// The search that a line is, less what ended it, in this version, where its language has searches;
+// The search that a line is, less what ended it, in this version, if its language has searches;
 // `None` for any other line.
 #[tactic(auto, unfolding(crate::specs::Language::search_of))]
 pub fn read_search<const SEARCHES: bool>(version: Version, line: &[u8]) -> Option<Search>

@@ -3,7 +3,7 @@ ghost use Rattle.std.specs.Prelude.{IfSome};
 ghost use Rattle.std.specs.List.{position_or_len, slice_get};
 ghost use Rattle.pdp_session.specs.Grammar.Words.{is_blank, words_of_line};
 
-// The first word of a text, and what follows it; `None` where the text has no word.
+// The first word of a text, and what follows it; `None` if the text has no word.
 #[tactic(auto, using(crate::proofs::WordLists::words))]
 pub fn next_word(text: &[u8]) -> Option<(&[u8], &[u8])>
     ensures words { MatchOption result (words_of_line text.now ≡ [])

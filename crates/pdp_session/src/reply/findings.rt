@@ -97,7 +97,7 @@ fn more_mark(more: bool) -> &'static str
     if more { " or more\n" } else { "\n" }
 }
 
-// Writes the line of the write of this index, where there is one.
+// Writes the line of the write of this index, if there is one.
 fn send_write<W: Drain>(writes: &WriteList, index: usize, writer: &mut W) -> Result<(), Failed>
     ensures { Sends (line_at write_line writes.now index)
         (W.output writer.old) (W.output writer.new) result }

@@ -50,7 +50,7 @@ pub fn send_trail<W: Drain>(trail: &Trail, writer: &mut W) -> Result<(), Failed>
     Ok(())
 }
 
-// Writes the line of the turn of this index in a trail, where there is one.
+// Writes the line of the turn of this index in a trail, if there is one.
 fn send_entry<W: Drain>(trail: &Trail, index: usize, writer: &mut W) -> Result<(), Failed>
     ensures { Sends (line_at entry_line trail.now index)
         (W.output writer.old) (W.output writer.new) result }

@@ -12,8 +12,8 @@ use crate::version::Version;
 use pdp_replay::Engine;
 use std::alloc::Global;
 
-// Answers one line, which comes without what ended it, and writes its reply. SEARCHES is whether its
-// language has searches.
+// Answers one line, which comes without what ended it, and writes its reply. SEARCHES is whether
+// its language has searches.
 fn serve_line<const SEARCHES: bool, W: Drain>(
     alloc: Global,
     engine: &mut Engine,

@@ -1,4 +1,4 @@
-use Rattle.pdp_replay.proofs.Untouched.{patched_until}
+use Rattle.pdp_replay.proofs.run.Untouched.{patched_until}
 use Rattle.pdp_replay.proofs.laws.patches_reach_the_first_touch.Goals as goal
 
 pub returns : goal.returns

@@ -1,4 +1,4 @@
-use Rattle.pdp_replay.proofs.LastWrites.{stamps_of_checkpoints, stamps_of_states}
+use Rattle.pdp_replay.proofs.ask.LastWrites.{stamps_of_checkpoints, stamps_of_states}
 use Rattle.pdp_replay.proofs.laws.stamps_of_states_are_last_writes.Goals as goal
 
 -- src/laws.rt

@@ -1,4 +1,4 @@
-use Rattle.pdp_replay.proofs.RunFirsts.{again_nothing}
+use Rattle.pdp_replay.proofs.run.RunFirstTouches.{again_nothing}
 use Rattle.pdp_replay.proofs.laws.turns_run_again_touch_nothing_new.Goals as goal
 
 pub returns : goal.returns

@@ -7,7 +7,7 @@ abbrev pub invariant-loop-page : goal.invariant-loop-page
 invariant-loop-page g l = record {
   from : l.start / 256 ≤ l.page;
   words : g.S.Store.words l.store ≡ g.S.Store.words l.initial.store;
-  lasts : g.S.Store.lasts l.store ≡ g.S.Store.lasts l.initial.store;
-  firsts : g.S.Store.firsts l.store
-      ≡ after_steps (run_touched l.start l.turn) (min l.count (l.page * 256 - l.start)) (g.S.Store.firsts l.initial.store);
+  stamps : g.S.Store.stamps l.store ≡ g.S.Store.stamps l.initial.store;
+  first_touches : g.S.Store.first_touches l.store
+      ≡ after_steps (run_touched l.start l.turn) (min l.count (l.page * 256 - l.start)) (g.S.Store.first_touches l.initial.store);
 }

@@ -2,7 +2,7 @@ use Rattle.std.proofs.Common.{◌≡◌, ◌∙◌, ◌/◌, ◌%◌, Some, ap, 
 use Rattle.std.proofs.lemmas.Option.{slice_get_read}
 use Rattle.pdp_store.specs.declared.page.Page.{Page}
 use Rattle.pdp_store.proofs.PageLists.{there_within}
-use Rattle.pdp_store.proofs.Pages.{piece-lasts_of, piece-words_of}
+use Rattle.pdp_store.proofs.Pages.{piece-stamps_of, piece-words_of}
 use Rattle.pdp_store.proofs.page_lists.page_with_word.Goals as goal
 
 pub bounds-pages-i : goal.bounds-pages-i
@@ -23,8 +23,8 @@ returns-clause-page g c =
           ap (λ (p : Page). p.words.items) named ∙ made.words
           ∙ ap (λ (p : Page). slice_set p.words.items (c.args.i % 256) c.args.w) was
           ∙ ap (λ xs. slice_set xs (c.args.i % 256) c.args.w) (sym (piece-words_of ps k old at));
-      has_lasts =
+      has_stamps =
           ap (λ (p : Page). p.stamps.value.items) named ∙ made.stamps ∙ ap (λ (p : Page). p.stamps.value.items) was
-          ∙ sym (piece-lasts_of ps k old c.requires.stamped at);
+          ∙ sym (piece-stamps_of ps k old c.requires.stamped at);
       has_serial = ap (λ (p : Page). p.serial) named ∙ made.serial;
     }

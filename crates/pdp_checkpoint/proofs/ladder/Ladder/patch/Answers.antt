@@ -3,6 +3,8 @@ use Rattle.std.specs.List.{filter}
 use Rattle.std.proofs.lemmas.List.Elements.{All-take}
 use Rattle.std.specs.Vec.{with_items}
 use Rattle.pdp_store.proofs.PagedTakes.{rewrapped}
+use Rattle.pdp_store.specs.Parts.{part_of, word_at}
+use Rattle.pdp_unibus.specs.PatchedPages.{IsPatchOf}
 use Rattle.pdp_cpu.specs.Saved.{HasWord}
 use Rattle.pdp_checkpoint.specs.declared.checkpoint.Checkpoint.{Checkpoint}
 use Rattle.pdp_checkpoint.specs.Ladder.{LadderData}
@@ -15,25 +17,28 @@ new-requires-clause-some c = omega (arith, c.self.invariant.some, length-take c.
 
 pub new-requires-clause-there : goal.new-requires-clause-there
 new-requires-clause-there c =
-    let there : Checkpoint → Type 0 = λ x. HasWord c.args.drive c.args.word x.saved in
-    All-take there c.min-count.result c.deref.result.now
-    (subst (All there) (sym (ap (λ (l : LadderData). l.kept) c.self.view_is) ∙ sym c.deref.ensures.value) c.requires.there)
+    let there : Checkpoint → Type 0 = λ x. HasWord (word_at (part_of c.args.drive) c.args.word) x.saved in
+    rw c.of.ensures (All-take there c.min-count.result c.deref.result.now
+    (subst (All there) (sym (ap (λ (l : LadderData). l.kept) c.self.view_is) ∙ sym c.deref.ensures.value) c.requires.there))
 
 pub new-requires-clause-alike : goal.new-requires-clause-alike
 new-requires-clause-alike c =
     let l : LadderData = record { kept = c.self.inside.kept.items; stride = c.self.inside.stride } in
     let low = first_are_low l c.args.turn (take c.min-count.result c.deref.result.now) c.self.invariant (cc) in
-    let alike = HavePageAlike c.args.drive c.args.word in
-    subst alike (sym low) (subst (λ (x : LadderData). alike (filter (λ s. nat_le s.turn c.args.turn) x.kept)) (sym c.self.view_is) c.requires.alike)
+    let alike = HavePageAlike (word_at (part_of c.args.drive) c.args.word) in
+    rw c.of.ensures (subst alike (sym low) (subst (λ (x : LadderData). alike (filter (λ s. nat_le s.turn c.args.turn) x.kept)) (sym c.self.view_is) c.requires.alike))
 
 after : (c : goal.After-self-1)
-    → IsPatchedTo c.args.turn c.args.drive c.args.word c.args.value (record { kept = c.self.inside.kept.items; stride = c.self.inside.stride }) (record { kept = (with_items c.truncate.new.self c.put.new.kept).items; stride = c.self.inside.stride })
+    → IsPatchedTo c.args.turn (word_at (part_of c.args.drive) c.args.word) c.args.value (record { kept = c.self.inside.kept.items; stride = c.self.inside.stride }) (record { kept = (with_items c.truncate.new.self c.put.new.kept).items; stride = c.self.inside.stride })
 after c =
     let l : LadderData = record { kept = c.self.inside.kept.items; stride = c.self.inside.stride } in
     let as_many : length c.put.new.kept ≡ c.truncate.new.self.len = search rules in
-    is_patched_to l c.args.turn c.args.drive c.args.word c.args.value c.truncate.new.self.items _ c.self.invariant (c.truncate.ensures.items ∙ cc)
+    let at = word_at (part_of c.args.drive) c.args.word in
+    let made : IsPatchOf at c.args.value c.in_ok-patch.patch.page =
+    subst (λ x. IsPatchOf (word_at x c.args.word) c.args.value c.in_ok-patch.patch.page) c.of.ensures c.in_ok-patch.ensures.patch in
+    is_patched_to l c.args.turn at c.args.value c.truncate.new.self.items _ c.self.invariant (c.truncate.ensures.items ∙ cc)
     (rewrapped c.put.new.kept c.truncate.new.self.items c.truncate.new.self.len as_many ∙ c.put.ensures ∙ ap (map _) c.deref_mut.ensures.value
-    ∙ same_change c.in_ok-patch.patch.page c.args.drive c.args.word c.args.value c.truncate.new.self.items c.in_ok-patch.ensures.patch)
+    ∙ same_change c.in_ok-patch.patch.page at c.args.value c.truncate.new.self.items made)
 
 pub invariant_of-self : goal.invariant_of-self
 invariant_of-self c = (after c).checkpoints

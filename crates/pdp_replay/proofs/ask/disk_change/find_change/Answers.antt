@@ -1,4 +1,4 @@
-use Rattle.pdp_replay.proofs.DiskChanges.{word_inside}
+use Rattle.pdp_replay.proofs.ask.DiskChanges.{word_inside}
 use Rattle.pdp_replay.proofs.ask.disk_change.find_change.Goals as goal
 
 pub search_change-requires-clause-inside : goal.search_change-requires-clause-inside

@@ -1,8 +1,8 @@
 use Rattle.std.proofs.Common.{◌∙◌, ◌==◌, None, ap, ap₂, not, subst, sym}
 use Rattle.pdp_replay.specs.Ask.DiskChanges.{word_changes}
 use Rattle.pdp_replay.specs.Ask.Searches.{EndsAfter, IsFirst, or_turn}
-use Rattle.pdp_replay.proofs.DiskChanges.{changes_here, word_stays}
-use Rattle.pdp_replay.proofs.Searches.{ends_after_turn, first_turn, reached_one}
+use Rattle.pdp_replay.proofs.ask.DiskChanges.{changes_here, word_stays}
+use Rattle.pdp_replay.proofs.ask.Searches.{ends_after_turn, first_turn, reached_one}
 use Rattle.pdp_replay.proofs.ask.disk_change.watch_turn.Goals as goal
 
 pub disk_word-after-requires : goal.disk_word-after-requires

@@ -5,9 +5,9 @@ use Rattle.pdp_replay.specs.Past.{Past}
 use Rattle.pdp_replay.specs.Run.KeptRuns.{Advances, IsOnWay, IsUnderWay}
 use Rattle.pdp_replay.specs.Ask.Searches.{EndsAfter}
 use Rattle.pdp_replay.specs.Ask.Watches.{IsFirstInRun, IsFirstOnWay, IsFirstTo, IsInside}
-use Rattle.pdp_replay.proofs.Coming.{advances_from, arrives_from, arrives_where}
-use Rattle.pdp_replay.proofs.OnWay.{on_way_settled}
-use Rattle.pdp_replay.proofs.UnderWay.{way_of_run}
+use Rattle.pdp_replay.proofs.run.Coming.{advances_from, arrives_from, arrives_where}
+use Rattle.pdp_replay.proofs.run.OnWay.{on_way_settled}
+use Rattle.pdp_replay.proofs.run.UnderWay.{way_of_run}
 use Rattle.pdp_replay.proofs.ask.search.search_leg.Goals as goal
 use Rattle.pdp_replay.proofs.ask.search.search_leg.Goals.{After-settle}
 

@@ -3,9 +3,9 @@ use Rattle.pdp_cpu.specs.Turns.MachineState.{MachineState}
 use Rattle.pdp_script.specs.Entries.{events_at}
 use Rattle.pdp_replay.specs.Ask.Searches.{EndsAfter, IsFirst}
 use Rattle.pdp_replay.specs.Ask.Watches.{IsInside, StaysWith, is_watched_at}
-use Rattle.pdp_replay.proofs.Searches.{ends_after_turn}
-use Rattle.pdp_replay.proofs.Watches.{first_met, inside_same, inside_turn}
-use Rattle.pdp_replay.proofs.Ways.{way_on_with_room, way_stays}
+use Rattle.pdp_replay.proofs.ask.Searches.{ends_after_turn}
+use Rattle.pdp_replay.proofs.ask.Watches.{first_met, inside_same, inside_turn}
+use Rattle.pdp_replay.proofs.run.Ways.{way_on_with_room, way_stays}
 use Rattle.pdp_replay.proofs.ask.search_turns.look.Goals as goal
 use Rattle.pdp_replay.proofs.ask.search_turns.look.Goals.{After-turn-act}
 
@@ -24,9 +24,9 @@ came : (c : After-turn-act) → StaysWith c.args.events.now c.args.machine.now c
 came c = λ p known is way.
     let ready = c.ready in
     way_on_with_room p known c.args.machine.now ready.new.self c.turn-act.new.self c.args.events.now way
-    ready.ensures.same ready.ensures.same_text ready.ensures.same_punched ready.ensures.same_firsts
+    ready.ensures.same ready.ensures.same_text ready.ensures.same_punched ready.ensures.same_first_touches
     (is ∙ ap (λ (s : MachineState). events_at p.script.entries s.turn) (sym ready.ensures.same))
-    c.turn-act.ensures.turn c.turn-act.ensures.kept_text c.turn-act.ensures.kept_punched c.turn-act.ensures.firsts
+    c.turn-act.ensures.turn c.turn-act.ensures.kept_text c.turn-act.ensures.kept_punched c.turn-act.ensures.first_touches
 
 pub is_met-requires : goal.is_met-requires
 is_met-requires c = record { inside = inside (goal.at.is_met-requires c).After-turn-act }
@@ -34,7 +34,7 @@ is_met-requires c = record { inside = inside (goal.at.is_met-requires c).After-t
 pub returns-in_err-ready-clause-way : goal.returns-in_err-ready-clause-way
 returns-in_err-ready-clause-way c = λ p known is way.
     let ready = c.ready in
-    way_stays p known c.args.machine.now ready.new.self way ready.ensures.same ready.ensures.same_text ready.ensures.same_punched ready.ensures.same_firsts
+    way_stays p known c.args.machine.now ready.new.self way ready.ensures.same ready.ensures.same_text ready.ensures.same_punched ready.ensures.same_first_touches
 
 pub returns-clause-way : goal.returns-clause-way
 returns-clause-way c = came (goal.at.returns-clause-way c).After-turn-act

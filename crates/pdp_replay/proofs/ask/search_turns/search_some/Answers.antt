@@ -3,9 +3,9 @@ use Rattle.pdp_cpu.proofs.CalmTurns.{calm_none}
 use Rattle.pdp_cpu.specs.Turns.CalmTurns.{after_calm_turns}
 use Rattle.pdp_replay.specs.Ask.Searches.{IsFirst, turn_reached}
 use Rattle.pdp_replay.specs.Ask.Watches.{IsFirstQuietly, IsInside, StaysQuietly, is_met_last, is_watched_at}
-use Rattle.pdp_replay.proofs.CalmWays.{ran_calmly}
-use Rattle.pdp_replay.proofs.Searches.{ends_after_turn}
-use Rattle.pdp_replay.proofs.Watches.{first_passed, inside_calmly}
+use Rattle.pdp_replay.proofs.run.CalmWays.{ran_calmly}
+use Rattle.pdp_replay.proofs.ask.Searches.{ends_after_turn}
+use Rattle.pdp_replay.proofs.ask.Watches.{first_passed, inside_calmly}
 use Rattle.pdp_replay.proofs.ask.search_turns.search_some.Goals as goal
 use Rattle.pdp_replay.proofs.ask.search_turns.search_some.Goals.{After-pass}
 

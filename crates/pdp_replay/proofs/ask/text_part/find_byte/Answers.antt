@@ -3,7 +3,7 @@ use Rattle.std.proofs.lemmas.Result.{IfOk-weaker}
 use Rattle.pdp_unibus.specs.LastTurn.{last_turn}
 use Rattle.pdp_replay.specs.Ask.Searches.{IsFirst, IsFirstTurn}
 use Rattle.pdp_replay.specs.Ask.TextParts.{comes_out, is_out_after}
-use Rattle.pdp_replay.proofs.TextParts.{arrives_past, byte_turn_is, later_turn_is, on_way_there}
+use Rattle.pdp_replay.proofs.ask.TextParts.{arrives_past, byte_turn_is, later_turn_is, on_way_there}
 use Rattle.pdp_replay.proofs.ask.text_part.find_byte.Goals as goal
 
 pub returns-in-Some-clause-found : goal.returns-in-Some-clause-found

@@ -1,6 +1,6 @@
 use Rattle.std.proofs.Common.{◌∙◌, ap, arith, drop}
 use Rattle.std.proofs.lemmas.Result.{IfOk-weaker}
-use Rattle.pdp_replay.proofs.TextParts.{part_is}
+use Rattle.pdp_replay.proofs.ask.TextParts.{part_is}
 use Rattle.pdp_replay.proofs.ask.text_part.read_from.Goals as goal
 
 pub returns-clause-bytes : goal.returns-clause-bytes

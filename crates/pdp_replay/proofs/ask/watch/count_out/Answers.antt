@@ -1,6 +1,6 @@
 use Rattle.std.proofs.Common.{◌≡◌, length, subst, sym}
 use Rattle.pdp_replay.specs.Ask.Watches.{bytes_of}
-use Rattle.pdp_replay.proofs.Watches.{count_is}
+use Rattle.pdp_replay.proofs.ask.Watches.{count_is}
 use Rattle.pdp_replay.proofs.ask.watch.count_out.Goals as goal
 
 pub returns-in-Printed : goal.returns-in-Printed

@@ -1,6 +1,6 @@
 use Rattle.std.proofs.Common.{arith, sym}
 use Rattle.pdp_cpu.proofs.CalmTurns.{calm_none}
-use Rattle.pdp_replay.proofs.Watches.{few_out}
+use Rattle.pdp_replay.proofs.ask.Watches.{few_out}
 use Rattle.pdp_replay.proofs.ask.watch.pass_output.Goals as goal
 
 pub returns-then-count_out-number-clause-turns : goal.returns-then-count_out-number-clause-turns

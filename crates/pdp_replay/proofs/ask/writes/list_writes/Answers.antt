@@ -1,8 +1,8 @@
 use Rattle.std.proofs.Common.{ap, length, arith, sym, ◌∙◌}
 use Rattle.pdp_replay.specs.Run.KeptRuns.{Advances}
-use Rattle.pdp_replay.proofs.Coming.{advances_nowhere, advances_on, arrives_nowhere, arrives_on, arrives_where, can_go_on}
-use Rattle.pdp_replay.proofs.UnderWay.{kept_of_way}
-use Rattle.pdp_replay.proofs.Writes.{listed_end, next_listed, writes_none}
+use Rattle.pdp_replay.proofs.run.Coming.{advances_nowhere, advances_on, arrives_nowhere, arrives_on, arrives_where, can_go_on}
+use Rattle.pdp_replay.proofs.run.UnderWay.{kept_of_way}
+use Rattle.pdp_replay.proofs.ask.ListedWrites.{listed_end, next_listed, writes_none}
 use Rattle.pdp_replay.proofs.ask.writes.list_writes.Goals as goal
 use Rattle.pdp_replay.proofs.ask.writes.list_writes.Goals.{After-next_write}
 

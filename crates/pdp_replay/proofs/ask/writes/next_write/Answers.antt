@@ -1,7 +1,7 @@
 use Rattle.std.proofs.Common.{◌≡◌, arith, subst}
 use Rattle.pdp_replay.specs.Past.{Past}
 use Rattle.pdp_replay.specs.Run.KeptRuns.{ArrivesAt, IsOnWay}
-use Rattle.pdp_replay.proofs.TurnWrites.{IsReadNext, read_next}
+use Rattle.pdp_replay.proofs.ask.TurnWrites.{IsReadNext, read_next}
 use Rattle.pdp_replay.proofs.ask.writes.next_write.Goals as goal
 use Rattle.pdp_replay.proofs.ask.writes.next_write.Goals.{After-write_found}
 

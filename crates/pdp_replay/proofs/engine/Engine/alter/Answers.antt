@@ -3,8 +3,8 @@ use Rattle.pdp_operand.specs.Phases.World.{World}
 use Rattle.pdp_script.specs.Entries.{entry_of}
 use Rattle.pdp_replay.specs.Past.{Past, past_from}
 use Rattle.pdp_replay.specs.Past.Setup.{setup_from}
-use Rattle.pdp_replay.proofs.EditedEngines.{engine_edited}
-use Rattle.pdp_replay.proofs.EditedStates.{SameBefore, same_before_alteration, turn_or}
+use Rattle.pdp_replay.proofs.past.EditedEngines.{engine_edited}
+use Rattle.pdp_replay.proofs.past.EditedStates.{SameBefore, same_before_alteration, turn_or}
 use Rattle.pdp_replay.proofs.engine.Engine.alter.Goals as goal
 
 pub invariant_of-self-2 : goal.invariant_of-self-2

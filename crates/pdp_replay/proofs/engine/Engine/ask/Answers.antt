@@ -3,7 +3,7 @@ use Rattle.pdp_replay.specs.Ask.Answer.{first_turn_needed}
 use Rattle.pdp_replay.specs.Ask.Known.{RunsFor, resumed_from}
 use Rattle.pdp_replay.specs.Past.{Past, past_from}
 use Rattle.pdp_replay.specs.Timeline.{Timeline}
-use Rattle.pdp_replay.proofs.Resuming.{come_is, resumed_is}
+use Rattle.pdp_replay.proofs.ask.Resuming.{come_is, resumed_is}
 use Rattle.pdp_replay.proofs.engine.Engine.ask.Goals as goal
 use Rattle.pdp_replay.proofs.engine.Engine.ask.Goals.{After-answer-answered}
 

@@ -5,8 +5,8 @@ use Rattle.pdp_replay.specs.Past.{Past, past_from}
 use Rattle.pdp_replay.specs.Timeline.{Timeline}
 use Rattle.pdp_replay.specs.Ask.Searches.{IsFirst}
 use Rattle.pdp_replay.specs.Ask.SoughtTurns.{is_sought_at}
-use Rattle.pdp_replay.proofs.Searches.{first_is}
-use Rattle.pdp_replay.proofs.Resuming.{runs_from}
+use Rattle.pdp_replay.proofs.ask.Searches.{first_is}
+use Rattle.pdp_replay.proofs.ask.Resuming.{runs_from}
 use Rattle.pdp_replay.proofs.engine.Engine.first_at.Goals as goal
 use Rattle.pdp_replay.proofs.engine.Engine.first_at.Goals.{After-find_first-found}
 

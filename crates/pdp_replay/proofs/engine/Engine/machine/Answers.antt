@@ -2,7 +2,7 @@ use Rattle.std.proofs.Common.{subst}
 use Rattle.pdp_replay.specs.Run.Checkpoints.{ShowsTexts}
 use Rattle.pdp_replay.specs.Past.{Past, past_from}
 use Rattle.pdp_replay.specs.Timeline.{Timeline}
-use Rattle.pdp_replay.proofs.KeptTexts.{texts_shown}
+use Rattle.pdp_replay.proofs.run.KeptTexts.{texts_shown}
 use Rattle.pdp_replay.proofs.engine.Engine.machine.Goals as goal
 
 pub returns-clause-shown : goal.returns-clause-shown

@@ -1,5 +1,5 @@
 use Rattle.pdp_replay.proofs.Engines.{fresh_engine}
-use Rattle.pdp_replay.proofs.Setups.{good_is}
+use Rattle.pdp_replay.proofs.past.Setups.{good_is}
 use Rattle.pdp_replay.specs.Past.Setup.{given_setup}
 use Rattle.pdp_replay.specs.declared.past.base_setup.DriveCount.TheVariants.{One}
 use Rattle.pdp_replay.proofs.engine.Engine.new.Goals as goal

@@ -5,8 +5,8 @@ use Rattle.pdp_replay.specs.Ask.Searches.{IsFirst}
 use Rattle.pdp_replay.specs.declared.ask.question.Question.TheVariants.{Regs}
 use Rattle.pdp_replay.specs.Past.{Past, past_from}
 use Rattle.pdp_replay.specs.Timeline.{Timeline}
-use Rattle.pdp_replay.proofs.Searches.{first_is}
-use Rattle.pdp_replay.proofs.Resuming.{runs_from}
+use Rattle.pdp_replay.proofs.ask.Searches.{first_is}
+use Rattle.pdp_replay.proofs.ask.Resuming.{runs_from}
 use Rattle.pdp_replay.proofs.engine.Engine.next_change.Goals as goal
 use Rattle.pdp_replay.proofs.engine.Engine.next_change.Goals.{After-find_change-found}
 

@@ -1,15 +1,23 @@
-use Rattle.std.proofs.Common.{arith, sym, ◌<◌, ◌*◌}
+use Rattle.std.proofs.Common.{arith, sym, ◌<◌}
 use Rattle.pdp_replay.specs.Past.FirstWords.{IsThere}
 use Rattle.pdp_replay.specs.Past.Setup.{SetupData, setup_from}
-use Rattle.pdp_replay.proofs.Patches.{entry_there}
+use Rattle.pdp_replay.proofs.past.Patches.{entry_there, number_is_small}
 use Rattle.pdp_replay.proofs.engine.Engine.patches.Goals as goal
+
+pub overflow_cast-number : goal.overflow_cast-number
+overflow_cast-number c =
+    let old = c.self.inside in
+    let s : SetupData = setup_from old.base_setup old.run.machine.state.world.bus.tape old.delays old.patches in
+    let at = c.in_ok-at.at.now in
+    let there : IsThere s at = entry_there s _ _ (at, c.in_ok-at.word.now) c.self.invariant.there (sym c.in_ok-at.ensures.entry) in
+    let small : at.number < 1247232 = number_is_small s c.self.invariant.good.units at.part at.number there in
+    omega (arith, small)
 
 pub overflow_mul-result : goal.overflow_mul-result
 overflow_mul-result c =
-    let units = c.self.invariant.good.units in
     let old = c.self.inside in
     let s : SetupData = setup_from old.base_setup old.run.machine.state.world.bus.tape old.delays old.patches in
-    let there : IsThere s c.in_ok-key.key.now =
-    entry_there s _ _ (c.in_ok-key.key.now, c.in_ok-key.word.now) c.self.invariant.there (sym c.in_ok-key.ensures.entry) in
-    let below : c.in-Core.number < c.self.inside.base_setup.units * 4096 = rw c.in-Core.is at there in
-    omega arith
+    let at = c.in_ok-at.at.now in
+    let there : IsThere s at = entry_there s _ _ (at, c.in_ok-at.word.now) c.self.invariant.there (sym c.in_ok-at.ensures.entry) in
+    let small : at.number < 1247232 = number_is_small s c.self.invariant.good.units at.part at.number there in
+    omega (arith, small)

@@ -2,7 +2,7 @@ use Rattle.std.proofs.Common.{ap}
 use Rattle.pdp_operand.specs.Phases.World.{World}
 use Rattle.pdp_replay.specs.Past.{Past, past_from}
 use Rattle.pdp_replay.specs.Past.Setup.{setup_from}
-use Rattle.pdp_replay.proofs.EditedDelays.{engine_delayed}
+use Rattle.pdp_replay.proofs.past.EditedDelays.{engine_delayed}
 use Rattle.pdp_replay.proofs.engine.Engine.set_delay.Goals as goal
 
 pub invariant_of-self : goal.invariant_of-self

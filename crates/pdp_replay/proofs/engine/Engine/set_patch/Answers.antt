@@ -7,22 +7,21 @@ use Rattle.pdp_replay.specs.Past.FirstWords.{IsThere}
 use Rattle.pdp_replay.specs.Past.PatchedWords.{is_same_word, patch_of}
 use Rattle.pdp_replay.specs.Past.Setup.{SetupData, setup_of}
 use Rattle.pdp_replay.specs.Timeline.{Timeline, word_patched}
-use Rattle.pdp_replay.proofs.EditedSetups.{drive_there, engine_patched, known_patched, pages_kept, timeline, told_patched, word_kept}
-use Rattle.pdp_replay.proofs.Lists.{ok_is_no_err}
-use Rattle.pdp_replay.proofs.PoweredWords.{patched}
+use Rattle.pdp_replay.proofs.past.EditedSetups.{engine_patched, known_patched, pages_kept, timeline, told_patched, word_kept}
+use Rattle.pdp_replay.proofs.past.Lists.{ok_is_no_err}
+use Rattle.pdp_replay.proofs.past.PoweredWords.{patched}
 use Rattle.pdp_replay.proofs.engine.Engine.set_patch.Goals as goal
 
 pub set_word-requires : goal.set_word-requires
 set_word-requires c =
     let old = c.self.inside in
-    let k = c.args.key in
+    let k = c.args.at in
     let p : Past = past_from old.base_setup old.run.machine.state.world.bus.tape old.delays old.patches old.script in
     let inside : IsThere p.setup k = subst (λ (t : Timeline). IsThere t.past.setup k) (sym c.self.view_is) c.requires.there in
     let kept = c.self.invariant.run.kept in
     record {
       there = word_kept p old.run.known old.run.ladder k kept.states inside;
       alike = pages_kept p k old.highest old.run c.self.invariant inside;
-      drive = drive_there p old.run k kept inside;
     }
 
 pub invariant_of-self-2 : goal.invariant_of-self-2
@@ -30,7 +29,7 @@ invariant_of-self-2 c =
     let old = c.self.inside in
     let run = c.set_word.new.self in
     let patches = c.insert.new.self in
-    let k = c.args.key in
+    let k = c.args.at in
     let p : Past = past_from old.base_setup old.run.machine.state.world.bus.tape old.delays old.patches old.script in
     let inside : IsThere p.setup k = subst (λ (t : Timeline). IsThere t.past.setup k) (sym c.self.view_is) c.requires.there in
     let q : Past = past_from old.base_setup run.machine.state.world.bus.tape old.delays patches old.script in
@@ -45,7 +44,7 @@ returns-clause-after c =
     let old = c.self.inside in
     let run = c.set_word.new.self in
     let patches = c.insert.new.self in
-    let k = c.args.key in
+    let k = c.args.at in
     let p : Past = past_from old.base_setup old.run.machine.state.world.bus.tape old.delays old.patches old.script in
     let inside : IsThere p.setup k = subst (λ (t : Timeline). IsThere t.past.setup k) (sym c.self.view_is) c.requires.there in
     let q : Past = past_from old.base_setup run.machine.state.world.bus.tape old.delays patches old.script in
@@ -61,7 +60,7 @@ returns-clause-after c =
 -- there was room for the patch, so it was put in
 put_in : {X : Type 0} (c : goal.After-from_residual-in_err-insert) → X
 put_in c =
-    let none : patch_of c.make_room.new.patches.entries c.args.key ≡ None = search rules in
+    let none : patch_of c.make_room.new.patches.entries c.args.at ≡ None = search rules in
     let room : 0 < spare c.make_room.new.patches = c.in_ok-make_room.ensures.room none in
     ok_is_no_err c.insert.result _ c.in_err-insert.was (c.insert.ensures.succeeds room)
 

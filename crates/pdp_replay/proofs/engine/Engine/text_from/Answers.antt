@@ -3,7 +3,7 @@ use Rattle.pdp_replay.specs.Ask.Known.{RunsFor}
 use Rattle.pdp_replay.specs.declared.ask.question.Question.TheVariants.{Regs}
 use Rattle.pdp_replay.specs.Past.{Past, past_from}
 use Rattle.pdp_replay.specs.Timeline.{Timeline}
-use Rattle.pdp_replay.proofs.Resuming.{runs_from}
+use Rattle.pdp_replay.proofs.ask.Resuming.{runs_from}
 use Rattle.pdp_replay.proofs.engine.Engine.text_from.Goals as goal
 use Rattle.pdp_replay.proofs.engine.Engine.text_from.Goals.{After-read_from-read}
 

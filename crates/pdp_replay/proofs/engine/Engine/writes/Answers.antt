@@ -4,8 +4,8 @@ use Rattle.pdp_replay.specs.declared.ask.question.Question.TheVariants.{Regs}
 use Rattle.pdp_replay.specs.Past.{Past, past_from}
 use Rattle.pdp_replay.specs.Timeline.{Timeline}
 use Rattle.pdp_replay.specs.Ask.Writes.{writes_in_turns}
-use Rattle.pdp_replay.proofs.Writes.{writes_listed}
-use Rattle.pdp_replay.proofs.Resuming.{runs_from}
+use Rattle.pdp_replay.proofs.ask.ListedWrites.{writes_listed}
+use Rattle.pdp_replay.proofs.ask.Resuming.{runs_from}
 use Rattle.pdp_replay.proofs.engine.Engine.writes.Goals as goal
 use Rattle.pdp_replay.proofs.engine.Engine.writes.Goals.{After-find_writes-found}
 

@@ -1,7 +1,7 @@
 use Rattle.std.proofs.Common.{◌≡◌, ◌∙◌, ◌*◌, ap, replicate}
 use Rattle.pdp_store.specs.Pages.{PagedStored}
 use Rattle.pdp_replay.specs.Past.Setup.{unit_words}
-use Rattle.pdp_replay.proofs.FirstWords.{padded_over}
+use Rattle.pdp_replay.proofs.past.FirstWords.{padded_over}
 use Rattle.pdp_replay.proofs.past.image.core_store.Goals as goal
 
 pub returns-clause-words : goal.returns-clause-words

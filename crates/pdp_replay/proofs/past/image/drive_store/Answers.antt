@@ -1,7 +1,7 @@
 use Rattle.std.proofs.Common.{◌≡◌, ap, replicate}
 use Rattle.pdp_store.specs.Pages.{PagedWords}
 use Rattle.pdp_replay.specs.Past.Setup.{drive_words}
-use Rattle.pdp_replay.proofs.FirstWords.{fits_blank, padded_over}
+use Rattle.pdp_replay.proofs.past.FirstWords.{fits_blank, padded_over}
 use Rattle.pdp_replay.proofs.past.image.drive_store.Goals as goal
 
 pub fill-requires : goal.fill-requires

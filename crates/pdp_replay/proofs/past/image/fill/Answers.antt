@@ -1,5 +1,5 @@
 use Rattle.std.proofs.Common.{◌∙◌, None, length-set}
-use Rattle.pdp_replay.proofs.Lists.{blank_stays, filled_one_more}
+use Rattle.pdp_replay.proofs.past.Lists.{blank_stays, filled_one_more}
 use Rattle.pdp_replay.proofs.past.image.fill.Goals as goal
 
 pub loop-number-preserved : goal.loop-number-preserved
@@ -8,6 +8,6 @@ loop-number-preserved g c =
     record {
       long = rw c.set.ensures.words (length-set (g.S.Store.words c.loop-number.store) c.loop-number.number _) ∙ before.long;
       words = rw (c.set.ensures.words, before.words) (filled_one_more c.args.image.now (g.S.Store.words c.args.store.now) c.loop-number.number c.loop-number-test.true c.requires);
-      lasts = λ n is. rw (c.set.ensures.lasts, before.lasts n is) (blank_stays n c.loop-number.number None);
-      firsts = c.set.ensures.firsts ∙ before.firsts;
+      stamps = λ n is. rw (c.set.ensures.stamps, before.stamps n is) (blank_stays n c.loop-number.number None);
+      first_touches = c.set.ensures.first_touches ∙ before.first_touches;
     }

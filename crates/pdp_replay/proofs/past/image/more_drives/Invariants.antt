@@ -11,5 +11,5 @@ invariant-loop-number l = record {
   so_many : length l.drives.items + 1 ≡ l.number;
   words : map (λ (drive : PagedWords). drive.words) l.drives.items
       ≡ map (padded_drive (images_of l.base_setup.disks.items)) (range_with_len 1 (length l.drives.items));
-  firsts : map (λ (drive : PagedWords). drive.firsts) l.drives.items ≡ replicate (length l.drives.items) (no_touch_in drive_words);
+  first_touches : map (λ (drive : PagedWords). drive.first_touches) l.drives.items ≡ replicate (length l.drives.items) (no_touch_in drive_words);
 }

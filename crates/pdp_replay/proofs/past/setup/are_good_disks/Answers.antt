@@ -1,5 +1,5 @@
 use Rattle.std.proofs.Common.{◌∙◌}
-use Rattle.pdp_replay.proofs.Setups.{few_good}
+use Rattle.pdp_replay.proofs.past.Setups.{few_good}
 use Rattle.pdp_replay.proofs.past.setup.are_good_disks.Goals as goal
 
 pub returns-then-disks-le-MOST_DRIVES : goal.returns-then-disks-le-MOST_DRIVES

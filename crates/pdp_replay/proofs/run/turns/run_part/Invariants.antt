@@ -1,15 +1,12 @@
-use Rattle.std.proofs.Common.{◌≡◌, ℕ, ◌+◌, ◌-◌, ◌≤◌}
-use Rattle.pdp_replay.specs.Run.KeptRuns.{IsUnderWay}
+use Rattle.std.proofs.Common.{◌≡◌, ℕ, ◌-◌}
+use Rattle.pdp_replay.specs.Run.KeptRuns.{IsUnderWay, RunsUpTo}
 use Rattle.pdp_replay.specs.Past.{Past}
 use Rattle.pdp_replay.proofs.run.turns.run_part.Given as goal
 
 abbrev pub invariant-loop-machine : goal.invariant-loop-machine
 invariant-loop-machine l = record {
   way : (p : Past) (known : ℕ) → p.script ≡ l.script → IsUnderWay p known l.fn.machine → IsUnderWay p known l.machine;
-  begun : l.fn.machine.state.turn ≤ l.machine.state.turn;
-  within : l.machine.state.turn ≤ l.to;
-  ran : l.meter + l.fn.machine.state.turn ≤ l.fn.meter + l.machine.state.turn;
-  counted : l.fn.meter ≤ l.meter;
+  runs : RunsUpTo l.to l.fn.machine l.machine l.fn.meter l.meter;
 }
 
 abbrev pub decreases-loop-machine : goal.decreases-loop-machine

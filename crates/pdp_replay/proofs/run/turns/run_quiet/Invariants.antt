@@ -1,5 +1,5 @@
-use Rattle.std.proofs.Common.{ℕ, ◌+◌, ◌-◌, ◌≤◌}
-use Rattle.pdp_replay.specs.Run.KeptRuns.{IsUnderWay, IsWithoutEvents}
+use Rattle.std.proofs.Common.{ℕ, ◌-◌}
+use Rattle.pdp_replay.specs.Run.KeptRuns.{IsUnderWay, IsWithoutEvents, RunsUpTo}
 use Rattle.pdp_replay.specs.Past.{Past}
 use Rattle.pdp_replay.proofs.run.turns.run_quiet.Given as goal
 
@@ -7,10 +7,7 @@ abbrev pub invariant-loop-machine : goal.invariant-loop-machine
 invariant-loop-machine l = record {
   way : (p : Past) (known : ℕ) → IsWithoutEvents p l.fn.machine.state.turn l.to
       → IsUnderWay p known l.fn.machine → IsUnderWay p known l.machine;
-  begun : l.fn.machine.state.turn ≤ l.machine.state.turn;
-  within : l.machine.state.turn ≤ l.to;
-  ran : l.meter + l.fn.machine.state.turn ≤ l.fn.meter + l.machine.state.turn;
-  counted : l.fn.meter ≤ l.meter;
+  runs : RunsUpTo l.to l.fn.machine l.machine l.fn.meter l.meter;
 }
 
 abbrev pub decreases-loop-machine : goal.decreases-loop-machine

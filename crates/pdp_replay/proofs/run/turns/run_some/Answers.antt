@@ -1,7 +1,7 @@
 use Rattle.std.proofs.Common.{◌∙◌, ap, arith, sym}
 use Rattle.pdp_cpu.specs.Turns.MachineState.{MachineState}
-use Rattle.pdp_replay.proofs.CalmWays.{ran_calmly}
-use Rattle.pdp_replay.proofs.Ways.{way_on_with_room, way_stays}
+use Rattle.pdp_replay.proofs.run.CalmWays.{ran_calmly}
+use Rattle.pdp_replay.proofs.run.Ways.{way_on_with_room, way_stays}
 use Rattle.pdp_replay.proofs.run.turns.run_some.Goals as goal
 
 pub returns-then-run_calmly-gt0-clause-way : goal.returns-then-run_calmly-gt0-clause-way
@@ -17,7 +17,7 @@ returns-in_err-ready-clause-way c = λ p known quiet way.
     way_stays p known ran.new.self ready.new.self
     (ran_calmly p known c.args.to ran.result c.args.machine.now ran.new.self ran.ensures.turns
     c.requires.forward ran.ensures.turn ran.ensures.most quiet way)
-    ready.ensures.same ready.ensures.same_text ready.ensures.same_punched ready.ensures.same_firsts
+    ready.ensures.same ready.ensures.same_text ready.ensures.same_punched ready.ensures.same_first_touches
 
 pub returns-clause-way : goal.returns-clause-way
 returns-clause-way c = λ p known quiet way.
@@ -29,6 +29,6 @@ returns-clause-way c = λ p known quiet way.
     way_on_with_room p known ran.new.self ready.new.self c.turn.new.self _
     (ran_calmly p known c.args.to ran.result c.args.machine.now ran.new.self ran.ensures.turns
     c.requires.forward ran.ensures.turn ran.ensures.most quiet way)
-    ready.ensures.same ready.ensures.same_text ready.ensures.same_punched ready.ensures.same_firsts
+    ready.ensures.same ready.ensures.same_text ready.ensures.same_punched ready.ensures.same_first_touches
     (sym (quiet ready.new.self.state.turn (omega (arith, same)) (omega (arith, same, none, below))))
-    c.turn.ensures.turn c.turn.ensures.kept_text c.turn.ensures.kept_punched c.turn.ensures.firsts
+    c.turn.ensures.turn c.turn.ensures.kept_text c.turn.ensures.kept_punched c.turn.ensures.first_touches

@@ -13,6 +13,6 @@ returns-clause-words g c =
 pub returns-clause-stamps : goal.returns-clause-stamps
 returns-clause-stamps g c =
     let t = c.args.self in
-    moved_as_far_or_none (disk_word t t.count) (rest_of_sector t) c.loop-i.i (λ i. None) (g.D.Store.lasts c.args.disk.now)
-    (g.D.Store.lasts c.loop-i.disk) (g.D.Store.words c.args.disk.now) c.loop-i.invariant.stamps (omega arith)
-    c.len.ensures.lasts
+    moved_as_far_or_none (disk_word t t.count) (rest_of_sector t) c.loop-i.i (λ i. None) (g.D.Store.stamps c.args.disk.now)
+    (g.D.Store.stamps c.loop-i.disk) (g.D.Store.words c.args.disk.now) c.loop-i.invariant.stamps (omega arith)
+    c.len.ensures.stamps

@@ -7,6 +7,6 @@ abbrev pub invariant-loop-i : goal.invariant-loop-i
 invariant-loop-i g l = record {
   words : g.S.Store.words l.core
       ≡ moved_items l.core_start l.i (λ i. slice_index (g.D.Store.words l.disk) (l.disk_start + i)) (g.S.Store.words l.initial.core);
-  lasts : g.S.Store.lasts l.core ≡ moved_items l.core_start l.i (λ i. Some l.stamp) (g.S.Store.lasts l.initial.core);
-  firsts : g.S.Store.firsts l.core ≡ g.S.Store.firsts l.initial.core;
+  stamps : g.S.Store.stamps l.core ≡ moved_items l.core_start l.i (λ i. Some l.stamp) (g.S.Store.stamps l.initial.core);
+  first_touches : g.S.Store.first_touches l.core ≡ g.S.Store.first_touches l.initial.core;
 }

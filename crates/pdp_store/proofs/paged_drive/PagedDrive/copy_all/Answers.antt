@@ -28,4 +28,4 @@ pub returns : goal.returns
 returns c =
     let s = c.self.inside in
     all-copied s.pages.value.items c.args.pages.now _ _ s.given s.touches c.copy_each.ensures.backings c.copy_each.ensures.own
-    ∙ ap (λ (v : PagedWords). drive_from_pages c.args.pages.now v.given v.firsts) c.self.view_is
+    ∙ ap (λ (v : PagedWords). drive_from_pages c.args.pages.now v.given v.first_touches) c.self.view_is

@@ -10,5 +10,5 @@ returns-in-Ok-clause-kept c =
     let still = c.self.invariant.unchanged c.if-self.false in
     sym c.self.view_is
     ∙ renewed s.pages.value.items s.backings.items s.own.items s.given (length s.backings.items) s.touches still.0 c.self.invariant.words still.1
-    ∙ ap (λ (v : PagedWords). drive_from_pages s.pages.value.items v.given v.firsts) c.self.view_is
-    ∙ ap (λ (v : Vec SharedPage Global). drive_from_pages v.items c.args.self.now.given c.args.self.now.firsts) (sym c.in-Ok.ensures.cases)
+    ∙ ap (λ (v : PagedWords). drive_from_pages s.pages.value.items v.given v.first_touches) c.self.view_is
+    ∙ ap (λ (v : Vec SharedPage Global). drive_from_pages v.items c.args.self.now.given c.args.self.now.first_touches) (sym c.in-Ok.ensures.cases)

@@ -12,12 +12,12 @@ fields : (pages : List SharedPage) (backings : List Backing) (own : List ℕ) (l
 fields pages backings own len whole none written zeros = rw (none, written, zeros) (fields-blank len whole)
 
 abbrev drive : List ℕ → List (Option ℕ) → List ℕ → PagedWords
-drive words bases firsts = record { words = words; bases = bases; given = 0; firsts = firsts }
+drive words bases first_touches = record { words = words; bases = bases; given = 0; first_touches = first_touches }
 
-value : (pages : List SharedPage) (backings : List Backing) (own firsts : List ℕ) (len : ℕ) → pages ≡ []
-    → backings ≡ replicate (len / 256) Written → own ≡ replicate len 0 → firsts ≡ no_touch_in len
-    → drive (words_read pages backings own) (bases_held pages backings) firsts ≡ blank_words len
-value pages backings own firsts len none written zeros blank =
+value : (pages : List SharedPage) (backings : List Backing) (own first_touches : List ℕ) (len : ℕ) → pages ≡ []
+    → backings ≡ replicate (len / 256) Written → own ≡ replicate len 0 → first_touches ≡ no_touch_in len
+    → drive (words_read pages backings own) (bases_held pages backings) first_touches ≡ blank_words len
+value pages backings own first_touches len none written zeros blank =
     rw (none, written, zeros, blank) (rw (words-blank (len / 256) len, bases-blank (len / 256)) refl)
 
 pub invariant_of-result : goal.invariant_of-result

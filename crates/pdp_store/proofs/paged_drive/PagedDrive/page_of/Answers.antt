@@ -8,7 +8,7 @@ use Rattle.pdp_store.specs.Pages.{PagedWords, SharedPage}
 use Rattle.pdp_store.specs.Bases.{IsPageOf, serial_there}
 use Rattle.pdp_store.specs.Pieces.{piece}
 use Rattle.pdp_store.specs.DriveBackings.{base_from}
-use Rattle.pdp_store.proofs.DriveTaken.{base_of_own, base_there, count_places, lasts-none, length-part, piece-own, piece-shared}
+use Rattle.pdp_store.proofs.DriveTaken.{base_of_own, base_there, count_places, stamps-none, length-part, piece-own, piece-shared}
 use Rattle.pdp_store.proofs.paged_drive.PagedDrive.page_of.Goals as goal
 
 pub index-held-requires : goal.index-held-requires
@@ -44,7 +44,7 @@ returns-in-Shared c =
           ap (λ (p : Page). p.words.items) same
           ∙ piece-shared s.pages.value.items s.backings.items s.own.items k there c.self.invariant.words (omega arith) is at
           ∙ ap (λ (v : PagedWords). piece k v.words) c.self.view_is;
-      has_lasts = ap (λ (p : Page). p.stamps.value.items) same ∙ lasts-none s.pages.value.items k there c.self.invariant.lasts at;
+      has_stamps = ap (λ (p : Page). p.stamps.value.items) same ∙ stamps-none s.pages.value.items k there c.self.invariant.stamps at;
       has_serial =
           ap (λ (p : Page). p.serial) same
           ∙ sym (ap (λ b. serial_there b c.args.given) (base_there s.pages.value.items s.backings.items _ k Shared bases (omega arith) (sym is) ∙ ap (λ p. base_from Shared p) at));
@@ -83,6 +83,6 @@ returns c =
           made.has_words ∙ words
           ∙ piece-own s.pages.value.items s.backings.items s.own.items k c.self.invariant.words (omega arith) (λ is. c.in_default.not-Shared (held ∙ is))
           ∙ ap (λ (v : PagedWords). piece k v.words) c.self.view_is;
-      has_lasts = made.has_lasts;
+      has_stamps = made.has_stamps;
       has_serial = made.has_serial ∙ c.serial_for.ensures ∙ sym (ap (λ b. serial_there b c.args.given) base);
     }) c.new_page.ensures

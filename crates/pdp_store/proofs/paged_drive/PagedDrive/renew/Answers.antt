@@ -10,7 +10,7 @@ invariant_of-self c =
     let s = c.self.inside in
     let all = count_own s.pages.value.items s.backings.items s.own.items _ (ap (λ (v : PagedWords). v.words) c.self.view_is) in
     let size = length-words_of c.args.pages.value.items in
-    fields-renewed c.args.pages.value.items _ s.own.items c.args.given (length s.backings.items) (omega (arith, c.requires.words, c.self.invariant.words)) c.self.invariant.words c.share_all.ensures (omega arith) c.requires.lasts
+    fields-renewed c.args.pages.value.items _ s.own.items c.args.given (length s.backings.items) (omega (arith, c.requires.words, c.self.invariant.words)) c.self.invariant.words c.share_all.ensures (omega arith) c.requires.stamps
 
 pub returns : goal.returns
 returns c =
@@ -18,4 +18,4 @@ returns c =
     let all = count_own s.pages.value.items s.backings.items s.own.items _ (ap (λ (v : PagedWords). v.words) c.self.view_is) in
     let size = length-words_of c.args.pages.value.items in
     renewed c.args.pages.value.items _ s.own.items c.args.given (length s.backings.items) s.touches (omega (arith, c.requires.words, c.self.invariant.words)) c.self.invariant.words c.share_all.ensures
-    ∙ ap (λ (v : PagedWords). drive_from_pages c.args.pages.value.items c.args.given v.firsts) c.self.view_is
+    ∙ ap (λ (v : PagedWords). drive_from_pages c.args.pages.value.items c.args.given v.first_touches) c.self.view_is

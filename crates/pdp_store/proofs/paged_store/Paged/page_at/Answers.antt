@@ -16,7 +16,7 @@ returns-then-index c =
     let mark : true ≡ get_or c.self.inside.written.items c.args.place true = subst (λ (m : Bool). m ≡ get_or c.self.inside.written.items c.args.place m) c.if-index.true c.index.ensures in
     let none : get_or (bases_of c.self.inside.written.items c.self.inside.bases.items) c.args.place None ≡ None
     = marked_there c.self.inside.written.items c.self.inside.bases.items c.args.place (omega arith) mark in
-    subst (λ (v : PagedStored). IfOk c.new_page.result (λ page. IsPageOf page (piece c.args.place v.words) (piece c.args.place v.lasts) (serial_there (get_or v.bases c.args.place None) c.args.given))) c.self.view_is
+    subst (λ (v : PagedStored). IfOk c.new_page.result (λ page. IsPageOf page (piece c.args.place v.words) (piece c.args.place v.stamps) (serial_there (get_or v.bases c.args.place None) c.args.given))) c.self.view_is
     (IfOk-weaker c.new_page.result _ _
     (λ page is. page_is page _ _ _ _ _ _ (c.piece_at-words.ensures.piece ∙ ap (piece c.args.place) c.deref.ensures.value)
     (c.piece_at-stamps.ensures.piece ∙ ap (piece c.args.place) c.deref-2.ensures.value)
@@ -34,7 +34,7 @@ returns-else-index c =
     = slice_get_read c.self.inside.bases.items (length c.self.inside.bases.items) c.args.place c.index-else-index.result.now refl below c.index-else-index.ensures in
     let some : get_or (bases_of c.self.inside.written.items c.self.inside.bases.items) c.args.place None ≡ Some (serial_of c.index-else-index.result.now)
     = unmarked_there c.self.inside.written.items c.self.inside.bases.items c.args.place c.index-else-index.result.now (omega arith) mark base in
-    subst (λ (v : PagedStored). IfOk c.page.result (λ page. IsPageOf page (piece c.args.place v.words) (piece c.args.place v.lasts) (serial_there (get_or v.bases c.args.place None) c.args.given))) c.self.view_is
+    subst (λ (v : PagedStored). IfOk c.page.result (λ page. IsPageOf page (piece c.args.place v.words) (piece c.args.place v.stamps) (serial_there (get_or v.bases c.args.place None) c.args.given))) c.self.view_is
     (IfOk-weaker c.page.result _ _
     (λ page is. page_is page _ _ _ _ _ _ (c.piece_at-words.ensures.piece ∙ ap (piece c.args.place) c.deref.ensures.value)
     (c.piece_at-stamps.ensures.piece ∙ ap (piece c.args.place) c.deref-2.ensures.value)

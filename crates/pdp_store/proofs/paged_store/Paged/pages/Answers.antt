@@ -28,6 +28,6 @@ returns c =
     (length-bases_of c.self.inside.written.items c.self.inside.bases.items c.self.invariant.0.places) in
     let words : length c.args.self.now.words ≡ length c.self.inside.bases.items * 256
     = subst (λ (v : PagedStored). length v.words ≡ length c.self.inside.bases.items * 256) c.self.view_is c.self.invariant.0.all_words in
-    let lasts : 0 < length c.args.self.now.lasts → length c.args.self.now.lasts ≡ length c.args.self.now.words
-    = subst (λ (v : PagedStored). 0 < length v.lasts → length v.lasts ≡ length v.words) c.self.view_is c.self.invariant.0.all_lasts in
+    let stamps : 0 < length c.args.self.now.stamps → length c.args.self.now.stamps ≡ length c.args.self.now.words
+    = subst (λ (v : PagedStored). 0 < length v.stamps → length v.stamps ≡ length v.words) c.self.view_is c.self.invariant.0.all_stamps in
     all_taken c.args.self.now c.loop-place.place c.loop-place.given c.loop-place.pages.items c.loop-place.invariant (omega arith) (omega arith) (grind arith)

@@ -1,5 +1,5 @@
 use Rattle.std.proofs.Common.{rules, ◌≡◌, ◌∙◌, ap, length, sym}
-use Rattle.pdp_store.specs.Pages.{PagedStored, words_of, lasts_of}
+use Rattle.pdp_store.specs.Pages.{PagedStored, words_of, stamps_of}
 use Rattle.pdp_store.proofs.PagedTakes.{as_many_pages, as_stamped, fields_of_pages}
 use Rattle.pdp_store.proofs.paged_store.Paged.take_pages.Goals as goal
 
@@ -17,9 +17,9 @@ pub invariant_of-self : goal.invariant_of-self
 invariant_of-self c =
     let pages : c.deref.result.now ≡ c.in_ok-pages.field-0.pages.items = search rules in
     let words : c.self.inside.words.items ≡ words_of c.deref.result.now = ap (λ (v : PagedStored). v.words) c.self.view_is ∙ sym (ap words_of pages ∙ c.in_ok-pages.ensures.all_words) in
-    let lasts : c.self.inside.stamps.items ≡ lasts_of c.deref.result.now = ap (λ (v : PagedStored). v.lasts) c.self.view_is ∙ sym (ap lasts_of pages ∙ c.in_ok-pages.ensures.all_lasts) in
-    let fields = fields_of_pages c.deref.result.now _ _ _ _ words lasts
-    (as_stamped _ _ _ _ (ap length (sym lasts)) (ap length (sym words)) c.self.invariant.0.all_lasts)
+    let stamps : c.self.inside.stamps.items ≡ stamps_of c.deref.result.now = ap (λ (v : PagedStored). v.stamps) c.self.view_is ∙ sym (ap stamps_of pages ∙ c.in_ok-pages.ensures.all_stamps) in
+    let fields = fields_of_pages c.deref.result.now _ _ _ _ words stamps
+    (as_stamped _ _ _ _ (ap length (sym stamps)) (ap length (sym words)) c.self.invariant.0.all_stamps)
     c.put_bases.ensures in
     let many : length c.deref.result.now ≡ length c.self.inside.bases.items
     = as_many_pages c.deref.result.now (length c.self.inside.bases.items) (ap length (sym words) ∙ c.self.invariant.0.all_words) in

@@ -1,6 +1,6 @@
 use Rattle.std.proofs.Common.{◌≡◌, length, take}
 use Rattle.pdp_unibus.specs.Shown.{devices_of}
-use Rattle.pdp_unibus.specs.declared.device_registers.TheConstants.{SHOWN_REGISTERS}
+use Rattle.pdp_unibus.specs.declared.show.device_registers.TheConstants.{SHOWN_REGISTERS}
 use Rattle.pdp_unibus.proofs.bus.Bus.devices.Given as goal
 
 abbrev pub invariant-loop-index : goal.invariant-loop-index

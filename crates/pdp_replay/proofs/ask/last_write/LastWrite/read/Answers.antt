@@ -1,5 +1,5 @@
 use Rattle.std.proofs.Common.{rules}
-use Rattle.pdp_replay.proofs.LastWrites.{last_is}
+use Rattle.pdp_replay.proofs.ask.LastWrites.{last_is}
 use Rattle.pdp_replay.proofs.ask.last_write.LastWrite.read.Goals as goal
 
 pub returns-in_err-stamp : goal.returns-in_err-stamp

@@ -2,7 +2,7 @@ use Rattle.std.proofs.Common.{subst}
 use Rattle.std.proofs.lemmas.Result.{on_ok_weaker}
 use Rattle.pdp_replay.specs.Ask.Answer.{turn_asked}
 use Rattle.pdp_replay.specs.Run.KeptRuns.{Advances, resumed_turn}
-use Rattle.pdp_replay.proofs.Coming.{advances_further, advances_on, arrives_on}
+use Rattle.pdp_replay.proofs.run.Coming.{advances_further, advances_on, arrives_on}
 use Rattle.pdp_replay.proofs.ask.question.Question.answer.Goals as goal
 
 pub returns-in_err-reach-clause-advances : goal.returns-in_err-reach-clause-advances

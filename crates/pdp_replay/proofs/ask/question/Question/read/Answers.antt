@@ -1,6 +1,6 @@
 use Rattle.std.proofs.Common.{◌+◌, ◌<◌, ◌≤◌, length}
 use Rattle.pdp_replay.specs.Past.Setup.{drive_words}
-use Rattle.pdp_replay.proofs.DriveSizes.{drive_is_whole}
+use Rattle.pdp_replay.proofs.run.DriveSizes.{drive_is_whole}
 use Rattle.pdp_replay.proofs.ask.question.Question.read.Goals as goal
 
 pub read_disk-requires : goal.read_disk-requires

@@ -1,6 +1,6 @@
 use Rattle.std.proofs.Common.{subst, sym}
 use Rattle.pdp_replay.specs.Ask.SoughtTurns.{NoneIsSought}
-use Rattle.pdp_replay.proofs.SoughtTurns.{none_there}
+use Rattle.pdp_replay.proofs.ask.SoughtTurns.{none_there}
 use Rattle.pdp_replay.proofs.ask.sought.Sought.pass.Goals as goal
 
 pub returns-in-Instruction-clause-none : goal.returns-in-Instruction-clause-none

@@ -3,8 +3,8 @@ use Rattle.pdp_cpu.specs.Turns.MachineState.{after_turn}
 use Rattle.pdp_script.specs.Entries.{events_at}
 use Rattle.pdp_replay.specs.Ask.Trails.{trail_entry}
 use Rattle.pdp_replay.specs.Run.KeptRuns.{Advances, ArrivesAt}
-use Rattle.pdp_replay.proofs.Coming.{advances_further, advances_on, arrives_on, can_go_on}
-use Rattle.pdp_replay.proofs.Trails.{length_pushed, listed_next, reached_next}
+use Rattle.pdp_replay.proofs.run.Coming.{advances_further, advances_on, arrives_on, can_go_on}
+use Rattle.pdp_replay.proofs.ask.Trails.{length_pushed, listed_next, reached_next}
 use Rattle.pdp_replay.proofs.ask.trail.Trail.record.Goals as goal
 use Rattle.pdp_replay.proofs.ask.trail.Trail.record.Goals.{After-record_turn}
 

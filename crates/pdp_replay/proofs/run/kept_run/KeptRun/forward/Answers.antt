@@ -1,6 +1,6 @@
 use Rattle.std.proofs.Common.{◌≡◌, arith, subst}
 use Rattle.pdp_replay.specs.Run.KeptRuns.{ArrivesAt}
-use Rattle.pdp_replay.proofs.Coming.{advances_nowhere, advances_on, arrives_nowhere, arrives_on, can_go_on}
+use Rattle.pdp_replay.proofs.run.Coming.{advances_nowhere, advances_on, arrives_nowhere, arrives_on, can_go_on}
 use Rattle.pdp_replay.proofs.run.kept_run.KeptRun.forward.Goals as goal
 
 pub loop-alloc-init : goal.loop-alloc-init

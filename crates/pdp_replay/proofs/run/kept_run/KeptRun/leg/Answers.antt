@@ -2,9 +2,9 @@ use Rattle.std.proofs.Common.{◌≡◌, arith, refl}
 use Rattle.std.proofs.lemmas.Result.{on_ok_weaker}
 use Rattle.pdp_replay.specs.Past.{Past}
 use Rattle.pdp_replay.specs.Run.KeptRuns.{Advances, IsOnWay, IsUnderWay}
-use Rattle.pdp_replay.proofs.Coming.{advances_from, arrives_from, arrives_where}
-use Rattle.pdp_replay.proofs.OnWay.{on_way_settled}
-use Rattle.pdp_replay.proofs.UnderWay.{way_of_run}
+use Rattle.pdp_replay.proofs.run.Coming.{advances_from, arrives_from, arrives_where}
+use Rattle.pdp_replay.proofs.run.OnWay.{on_way_settled}
+use Rattle.pdp_replay.proofs.run.UnderWay.{way_of_run}
 use Rattle.pdp_replay.proofs.run.kept_run.KeptRun.leg.Goals as goal
 use Rattle.pdp_replay.proofs.run.kept_run.KeptRun.leg.Goals.{After-settle}
 
@@ -16,10 +16,10 @@ came c p same on = c.run_part-ran.ensures.way p c.args.self.now.known same (way_
 -- and once it settled it is as far on
 advanced : (c : After-settle) → Advances c.args.self.now.machine.state.turn c.args.to c.args.self.now c.settle.new.self
 advanced c =
-    let part = c.run_part-ran.ensures in
+    let part = c.run_part-ran.ensures.runs in
     let before = c.replace-counting.ensures.value in
     let ran = part.ran in
-    let counted = part.counted in
+    let counted = part.counted_least in
     let most = part.most in
     let end = c.min-end.ensures in
     advances_from _ _ _ c.args.self.now _ c.settle.new.self refl refl (omega (arith, ran, before)) (omega (arith, counted, before)) c.settle.ensures.advances (omega (arith, most, end))

@@ -1,7 +1,7 @@
 use Rattle.std.proofs.Common.{◌∙◌, ap, arith, OnOk, Result, Ok, Err}
 use Rattle.std.proofs.lemmas.Result.{on_ok_weaker}
 use Rattle.pdp_replay.specs.Run.States.{at}
-use Rattle.pdp_replay.proofs.Coming.{advances_from, arrives_from}
+use Rattle.pdp_replay.proofs.run.Coming.{advances_from, arrives_from}
 use Rattle.pdp_replay.proofs.run.kept_run.KeptRun.reach.Goals as goal
 
 -- what two facts say of the same success

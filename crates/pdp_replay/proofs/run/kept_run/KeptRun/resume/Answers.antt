@@ -1,8 +1,8 @@
 use Rattle.std.proofs.Common.{◌≡◌, ◌<◌, ◌∙◌, ◌&&◌, ap₂, arith, false, nat_le, refl, sym}
 use Rattle.pdp_checkpoint.specs.Ladder.{next_of}
-use Rattle.pdp_replay.proofs.Checkpoints.{found_fits}
-use Rattle.pdp_replay.proofs.OnWay.{on_way_loaded, turn_loaded}
-use Rattle.pdp_replay.proofs.Resuming.{known_is_below, resumed_kept, says_between}
+use Rattle.pdp_replay.proofs.run.Checkpoints.{found_fits}
+use Rattle.pdp_replay.proofs.run.OnWay.{on_way_loaded, turn_loaded}
+use Rattle.pdp_replay.proofs.ask.Resuming.{known_is_below, resumed_kept, says_between}
 use Rattle.pdp_replay.proofs.run.kept_run.KeptRun.resume.Goals as goal
 
 -- the machine is at the turn of the state that was loaded
@@ -19,7 +19,7 @@ pub returns-clause-way : goal.returns-clause-way
 returns-clause-way c = λ p run.
     let best = c.best-best.ensures in
     let load = c.load.ensures in
-    on_way_loaded p c.args.self.now _ _ _ run.kept best.state (omega (arith, best.below, c.min.ensures)) refl refl load.state load.kept_text load.kept_punched load.firsts
+    on_way_loaded p c.args.self.now _ _ _ run.kept best.state (omega (arith, best.below, c.min.ensures)) refl refl load.state load.kept_text load.kept_punched load.first_touches
 
 pub returns-clause-resumed : goal.returns-clause-resumed
 returns-clause-resumed c =

@@ -1,11 +1,11 @@
 use Rattle.std.proofs.Common.{◌≡◌, ◌∙◌, ◌-◌, ◌<◌, ap, arith, length, refl, sym}
-use Rattle.pdp_store.specs.Firsts.{all_firsts_before}
+use Rattle.pdp_store.specs.FirstTouches.{all_first_touches_before}
 use Rattle.pdp_cpu.specs.KeptTexts.{kept_before}
 use Rattle.pdp_cpu.specs.Saved.{state_cut}
 use Rattle.pdp_checkpoint.specs.Ladder.{next_of}
-use Rattle.pdp_replay.proofs.Coming.{advances_settled}
-use Rattle.pdp_replay.proofs.UnderWay.{way_in_run}
-use Rattle.pdp_replay.proofs.Settled.{settled, settled_refused, settled_taken, stride_settled, stride_taken}
+use Rattle.pdp_replay.proofs.run.Coming.{advances_settled}
+use Rattle.pdp_replay.proofs.run.UnderWay.{way_in_run}
+use Rattle.pdp_replay.proofs.run.Settled.{settled, settled_refused, settled_taken, stride_settled, stride_taken}
 use Rattle.pdp_replay.proofs.run.kept_run.KeptRun.settle.Goals as goal
 use Rattle.pdp_replay.proofs.run.kept_run.KeptRun.settle.Goals.{then-turn-next+in_default, else-turn-next}
 
@@ -19,10 +19,10 @@ returns-in-Err-clause-kept c = λ p are way.
     let text : now.kept_text ≡ kept_before (m.state.turn - 1) m.kept_text = c.forget.ensures.kept_text ∙ rw (← c.turns-turn.ensures, ← taken.machine) c.keep_text.ensures.kept_text in
     let punched : now.kept_punched ≡ kept_before (m.state.turn - 1) m.kept_punched = c.forget.ensures.kept_punched ∙ rw (← c.turns-turn.ensures, ← taken.machine) c.keep_text.ensures.kept_punched in
     let state : now.state ≡ state_cut (length cut.kept_text) (length cut.kept_punched) m.state = c.forget.ensures.state ∙ rw (← taken.machine) c.keep_text.ensures.state in
-    let firsts : now.firsts ≡ all_firsts_before (m.state.turn - 1) m.firsts = rw (← c.turns-turn.ensures, ← taken.machine) (c.forget.ensures.firsts ∙ ap (all_firsts_before _) c.keep_text.ensures.firsts) in
+    let first_touches : now.first_touches ≡ all_first_touches_before (m.state.turn - 1) m.first_touches = rw (← c.turns-turn.ensures, ← taken.machine) (c.forget.ensures.first_touches ∙ ap (all_first_touches_before _) c.keep_text.ensures.first_touches) in
     record {
       kept = rw (c.max-self.ensures, taken.refused, c.turns-turn.ensures)
-          (settled_refused p c.args.self.now.known (length cut.kept_text) (length cut.kept_punched) m now c.args.self.now.ladder are way here text punched firsts (omega (arith, c.requires.limit)) state);
+          (settled_refused p c.args.self.now.known (length cut.kept_text) (length cut.kept_punched) m now c.args.self.now.ladder are way here text punched first_touches (omega (arith, c.requires.limit)) state);
       current = λ yes. absurd cc;
     }
 

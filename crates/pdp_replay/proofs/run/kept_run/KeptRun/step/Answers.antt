@@ -2,8 +2,8 @@ use Rattle.std.proofs.Common.{◌≡◌, ◌+◌, ap, arith, refl, subst}
 use Rattle.pdp_cpu.specs.Turns.MachineState.{MachineState}
 use Rattle.pdp_replay.specs.Past.{Past}
 use Rattle.pdp_replay.specs.Run.KeptRuns.{Advances, ArrivesAt, IsOnWay, IsUnderWay}
-use Rattle.pdp_replay.proofs.Coming.{advances_from, arrives_from}
-use Rattle.pdp_replay.proofs.OnWay.{on_way_settled, way_stepped}
+use Rattle.pdp_replay.proofs.run.Coming.{advances_from, arrives_from}
+use Rattle.pdp_replay.proofs.run.OnWay.{on_way_settled, way_stepped}
 use Rattle.pdp_replay.proofs.run.kept_run.KeptRun.step.Goals as goal
 use Rattle.pdp_replay.proofs.run.kept_run.KeptRun.step.Goals.{After-settle}
 
@@ -14,7 +14,7 @@ turned c p same on =
     let ready = c.ready.ensures in
     let turn = c.turn-act.ensures in
     way_stepped p c.args.script.now c.args.self.now c.ready.new.self c.turn-act.new.self c.turns-turn.result c.at.result.now same on
-    ready.same ready.same_text ready.same_punched ready.same_firsts c.turns-turn.ensures c.at.ensures.events turn.turn turn.kept_text turn.kept_punched turn.firsts
+    ready.same ready.same_text ready.same_punched ready.same_first_touches c.turns-turn.ensures c.at.ensures.events turn.turn turn.kept_text turn.kept_punched turn.first_touches
 
 -- at the turn after the one before
 turn_on : (c : After-settle) → c.turn-act.new.self.state.turn ≡ c.args.self.now.machine.state.turn + 1

@@ -1,0 +1,10 @@
+pub mod LastWrites
+pub mod Trails
+pub mod Searches
+pub mod SoughtTurns
+pub mod ListedWrites
+pub mod TurnWrites
+pub mod TextParts
+pub mod DiskChanges
+pub mod Resuming
+pub mod Watches

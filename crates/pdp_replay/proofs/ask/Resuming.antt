@@ -1,0 +1,79 @@
+-- Where a run goes on from: the machine, or the best checkpoint.
+use Rattle.std.proofs.Common.{◌≡◌, ℕ, ◌+◌, ◌-◌, ◌*◌, ◌/◌, ◌<◌, ◌≤◌, ◌&&◌, if◌then◌else◌, Bool, ap, arith, false, ltb-false, ltb-true, max, min, nat_le, nat_lt, refl, subst, sym, true}
+use Rattle.pdp_checkpoint.specs.Ladder.{best_of, next_of}
+use Rattle.pdp_replay.specs.Run.KeptRuns.{Advances, ComesTo, IsSomeRun, is_current_by, resumed_at, resumed_turn}
+use Rattle.pdp_replay.specs.Run.Checkpoints.{AreStatesOf}
+use Rattle.pdp_replay.specs.Ask.Answer.{first_turn_needed}
+use Rattle.pdp_replay.specs.Ask.Known.{IsCome, RunsFor, next_kept}
+use Rattle.pdp_replay.specs.Past.{Past}
+use Rattle.pdp_replay.specs.Timeline.{Timeline}
+use Rattle.pdp_replay.specs.declared.ask.question.Question.{Question}
+use Rattle.pdp_replay.specs.declared.run.kept_run.KeptRun.{KeptRun}
+use Rattle.pdp_replay.proofs.run.Checkpoints.{lesser_quotient}
+use Rattle.pdp_replay.proofs.run.OnWay.{known_below_next}
+
+-- is a machine in a state of a run, of a turn between two?
+abbrev pub says_between : KeptRun → ℕ → ℕ → Bool
+says_between r first last = nat_le first r.machine.state.turn && is_current_by r last
+
+-- otherwise a run goes on from the checkpoint
+pub resumed_kept : (r : KeptRun) (to kept : ℕ) → kept ≡ best_of r.ladder (min to r.known) * r.ladder.stride → says_between r kept to ≡ false
+    → kept ≡ resumed_turn r to
+resumed_kept r to kept is earlier =
+    let now : says_between r (best_of r.ladder (min to r.known) * r.ladder.stride) to ≡ false = rw (← is) earlier in
+    rw now is
+
+-- the known turn is below the next one whose state is to be kept
+pub known_is_below : (r : KeptRun) → IsSomeRun r → r.known < next_of r.ladder
+known_is_below r some = known_below_next some.past r.known r.ladder some.run.kept.states
+
+-- the turn of the best checkpoint, by the known turn and the stride alone
+kept_turn_is : (p : Past) (r : KeptRun) (to : ℕ) → AreStatesOf p r.known r.ladder → best_of r.ladder (min to r.known) ≡ min to r.known / r.ladder.stride
+kept_turn_is p r to are =
+    let count = are.count in
+    let less : min to r.known / r.ladder.stride < r.known / r.ladder.stride + 1 =
+    lesser_quotient r.ladder.stride r.known (min to r.known) are.checkpoints.positive (omega arith) in
+    omega (arith, count, less)
+
+pub resumed_is : (p : Past) (r : KeptRun) (to : ℕ) → AreStatesOf p r.known r.ladder
+    → resumed_turn r to ≡ resumed_at r.is_current r.machine.state.turn (min to r.known / r.ladder.stride * r.ladder.stride) to
+resumed_is p r to are = ap (λ n. resumed_at r.is_current r.machine.state.turn (n * r.ladder.stride) to) (kept_turn_is p r to are)
+
+-- the known turn, by whether the machine is in a state of the run
+known_as : (current : Bool) (known before turn next : ℕ) → current ≡ nat_lt turn next → turn ≤ next → known ≡ max before (min turn (next - 1))
+    → known ≡ max before (if current then turn else turn - 1)
+known_as true known before turn next is within at = let below : turn < next = ltb-true turn next (sym is) in omega (arith, below, at)
+known_as false known before turn next is within at = let above : next ≤ turn = ltb-false turn next (sym is) in omega (arith, above, within, at)
+
+-- where a run came to, as a contract of an engine tells it
+pub come_is : (before after : KeptRun) (t now : Timeline) → ComesTo before after → t.known ≡ before.known → now.known ≡ after.known
+    → now.turn ≡ after.machine.state.turn → now.current ≡ after.is_current → next_kept now ≡ next_of after.ladder → IsCome t now
+come_is before after t now come known_before known turn current next = record {
+  known = rw (turn, current, known_before, known) (known_as after.is_current after.known before.known after.machine.state.turn (next_of after.ladder) come.current come.within come.known);
+  current = rw (next, turn, current) come.current;
+}
+
+-- an engine over this past with this run
+abbrev pub timeline_of : Past → ℕ → KeptRun → Timeline
+timeline_of p highest r = record {
+  past = p;
+  known = r.known;
+  highest = highest;
+  stride = r.ladder.stride;
+  turns = r.meter;
+  turn = r.machine.state.turn;
+  current = r.is_current;
+}
+
+-- where a run went on from and what it came to, whether memory was refused or not, as a contract of an engine tells it
+pub runs_from : (p : Past) (highest to : ℕ) (q : Question) (r after : KeptRun) (now : Timeline) → AreStatesOf p r.known r.ladder
+    → AreStatesOf p after.known after.ladder → Advances (resumed_turn r (first_turn_needed q)) to r after → now.turns ≡ after.meter
+    → now.turn ≡ after.machine.state.turn → now.known ≡ after.known → now.current ≡ after.is_current → now.stride ≡ after.ladder.stride
+    → RunsFor q (timeline_of p highest r) now
+runs_from p highest to q r after now states left on turns turn known current stride =
+    let ran = subst (λ n. after.meter + n ≤ r.meter + after.machine.state.turn) (resumed_is p r (first_turn_needed q) states) on.ran in
+    record {
+      resumed = rw (turns, turn) ran;
+      come = come_is r after (timeline_of p highest r) now on.come refl known turn current
+          (rw (known, stride) (ap (λ n. n * after.ladder.stride) (sym left.count)));
+    }

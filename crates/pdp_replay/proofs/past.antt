@@ -1,0 +1,11 @@
+pub mod Lists
+pub mod Memory
+pub mod FirstWords
+pub mod Patches
+pub mod Setups
+pub mod PoweredWords
+pub mod EditedStates
+pub mod EditedEngines
+pub mod EditedDelays
+pub mod EditedSetups
+pub mod MoreDrives
