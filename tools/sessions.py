@@ -1,15 +1,20 @@
 """What the checks share: the lines of the session language, and the stored sessions of a folder.
-NAME.session is standard input, NAME.args the arguments (one a line), NAME.expected standard output,
-NAME.status the exit status (no file: 0), NAME.stderr standard error (no file: empty). A session is
-run in its folder, which has the files that its arguments name. NAME.search is one for the program
-search alone."""
+
+NAME.transcript has the lines of a session, each with its reply under it; the reply `ok` of an edit
+is left out. If bytes, status or standard error matter, a session stands in files of its own:
+NAME.session is standard input, NAME.expected standard output, NAME.status the exit status (no file:
+0), NAME.stderr standard error (no file: empty). NAME.args has the arguments, one a line. A session
+is run in its folder, which has the files that its arguments name. NAME.search-transcript and
+NAME.search are the same for the program search alone."""
 import argparse
 import os
 import re
 import subprocess
-from typing import Any, Dict, Iterable, List, NamedTuple, Tuple, Union
+from dataclasses import dataclass
+from typing import Any, Iterable, NamedTuple, Union
 
 SECONDS = 60
+LONGEST_LINE = 200
 
 
 class Ended(NamedTuple):
@@ -26,56 +31,132 @@ class Session(NamedTuple):
     name: str
     folder: str
     lines: bytes
-    args: List[str]
+    args: list[str]
     expected: Ended
 
 
+class Step(NamedTuple):
+    """A line of a session with the lines of its reply, none of them with its line feed."""
+
+    line: bytes
+    reply: list[bytes]
+
+
 class Line(NamedTuple):
-    """A line of the language: its form, as --help shows it, what kind it is, and how many lines its
-    reply has. tools/check-help compares the table with what the program's --help shows."""
+    """A line of the language: its form and what it does, as --help shows them, what kind it is, and
+    how many lines its reply has. tools/check-help compares the table with --help."""
 
     form: str
     kind: str
     reply: str
+    summary: str
 
 
 EDIT, QUESTION, LIST, SEARCH = "edit", "question", "list", "search"
 ONE_LINE, COUNTED_LINES = "one line", "a line with a count, and as many lines"
 LANGUAGE = [
-    Line("core A W", EDIT, ONE_LINE),
-    Line("uncore A", EDIT, ONE_LINE),
-    Line("disk I W", EDIT, ONE_LINE),
-    Line("patches", LIST, COUNTED_LINES),
-    Line("tape B B ..", EDIT, ONE_LINE),
-    Line("delay L N", EDIT, ONE_LINE),
-    Line("at T EVENT", EDIT, ONE_LINE),
-    Line("alter E T EVENT", EDIT, ONE_LINE),
-    Line("drop E", EDIT, ONE_LINE),
-    Line("regs N", QUESTION, ONE_LINE),
-    Line("mem N A C", QUESTION, ONE_LINE),
-    Line("dsk N I C", QUESTION, ONE_LINE),
-    Line("text N", QUESTION, ONE_LINE),
-    Line("punched N", QUESTION, ONE_LINE),
-    Line("last N A", QUESTION, ONE_LINE),
-    Line("devices N", QUESTION, ONE_LINE),
-    Line("pages N", QUESTION, ONE_LINE),
-    Line("trail N C", QUESTION, COUNTED_LINES),
-    Line("version 2", EDIT, ONE_LINE),
-    Line("disk D I W", EDIT, ONE_LINE),
-    Line("dsk N D I C", QUESTION, ONE_LINE),
+    Line("core A W", EDIT, ONE_LINE, "the core word at address A is W as of power-up"),
+    Line("uncore A", EDIT, ONE_LINE, "take that back"),
+    Line("disk I W", EDIT, ONE_LINE, "word I of the drive is W as of power-up"),
+    Line("patches", LIST, COUNTED_LINES, "list these words"),
+    Line("tape B B ..", EDIT, ONE_LINE, "these bytes are the tape in the reader as of power-up"),
+    Line(
+        "delay L N",
+        EDIT,
+        ONE_LINE,
+        "an operation of L takes N turns, the clock ticks each N turns (0: by events alone); "
+        "L is printer, reader, punch, disk or clock",
+    ),
+    Line("at T EVENT", EDIT, ONE_LINE, "put an event at turn T"),
+    Line("alter E T EVENT", EDIT, ONE_LINE, "give event E this turn and this event"),
+    Line("drop E", EDIT, ONE_LINE, "take event E out"),
+    Line("regs N", QUESTION, ONE_LINE, "the registers before turn N"),
+    Line("mem N A C", QUESTION, ONE_LINE, "C words of core from address A on, before turn N"),
+    Line("dsk N I C", QUESTION, ONE_LINE, "C words of the drive from word I on, before turn N"),
+    Line("text N", QUESTION, ONE_LINE, "what was printed on the console before turn N"),
+    Line("punched N", QUESTION, ONE_LINE, "what was punched before turn N"),
+    Line(
+        "last N A",
+        QUESTION,
+        ONE_LINE,
+        "who last wrote the core word at A before turn N, and when",
+    ),
+    Line("devices N", QUESTION, ONE_LINE, "the registers of the devices before turn N"),
+    Line("pages N", QUESTION, ONE_LINE, "the registers of memory management before turn N"),
+    Line(
+        "trail N C",
+        QUESTION,
+        COUNTED_LINES,
+        "the last C turns before turn N: PC and act of each",
+    ),
+    Line(
+        "version 2",
+        EDIT,
+        ONE_LINE,
+        "eight drives from here on, and these lines in place of those of the one drive",
+    ),
+    Line("disk D I W", EDIT, ONE_LINE, "word I of drive D is W as of power-up"),
+    Line("dsk N D I C", QUESTION, ONE_LINE, "C words of drive D from word I on, before turn N"),
 ]
 # The further lines of the program search.
 SEARCHES = [
-    Line("first N M at A", SEARCH, ONE_LINE),
-    Line("first N M at A MODE", SEARCH, ONE_LINE),
-    Line("first N M vector V", SEARCH, ONE_LINE),
-    Line("writes N M A", SEARCH, COUNTED_LINES),
-    Line("change N M I", SEARCH, ONE_LINE),
-    Line("change N M D I", SEARCH, ONE_LINE),
-    Line("text N from F", SEARCH, ONE_LINE),
-    Line("punched N from F", SEARCH, ONE_LINE),
-    Line("when F", SEARCH, ONE_LINE),
+    Line("first N M at A", SEARCH, ONE_LINE, "the first turn that runs the instruction at A"),
+    Line(
+        "first N M at A MODE",
+        SEARCH,
+        ONE_LINE,
+        "the same in one mode of the processor, kernel or user",
+    ),
+    Line(
+        "first N M vector V",
+        SEARCH,
+        ONE_LINE,
+        "the first turn that serves an interrupt through V",
+    ),
+    Line(
+        "writes N M A",
+        SEARCH,
+        COUNTED_LINES,
+        "the writes to the core word at A: turn, who wrote and the word; after 256 it ends, "
+        "with 'or more' if turns are left",
+    ),
+    Line("change N M I", SEARCH, ONE_LINE, "the first turn that changes word I of the drive"),
+    Line("change N M D I", SEARCH, ONE_LINE, "the same of drive D, in version 2"),
+    Line("text N from F", SEARCH, ONE_LINE, "what was printed before turn N, from byte F on"),
+    Line("punched N from F", SEARCH, ONE_LINE, "what was punched before turn N, from byte F on"),
+    Line(
+        "when F",
+        SEARCH,
+        ONE_LINE,
+        "the turn in which byte F was printed; the run goes on to that turn, or to turn "
+        "1000000000",
+    ),
 ]
+# The events that `at` and `alter` name, each with the letter of its number, if it has one.
+EVENTS = {
+    "key": "B",
+    "switches": "W",
+    "continue": "",
+    "tick": "",
+    "printer": "",
+    "reader": "",
+    "punch": "",
+    "disk": "",
+}
+# What a refusal says, by its number; 10 is a line that has no form of the language.
+REFUSALS = {
+    "1": "the memory that the line needs was refused",
+    "2": "the address, or one of the range, is not in core",
+    "3": "the address is odd",
+    "4": "the number, or one of the range, is past the end of a drive",
+    "5": "no event has this number; events lists them",
+    "6": "the script is full",
+    "7": "the turn or the delay is above 1000000000",
+    "8": "the count is not 1 to 256; of a trail not 1 to 64, or above its turn",
+    "9": "this core word has no patch; patches lists them",
+    "11": f"the line has more than {LONGEST_LINE} bytes",
+    "16": "the drive's number is above 7",
+}
 
 
 def command_of(line: Line) -> bytes:
@@ -84,8 +165,12 @@ def command_of(line: Line) -> bytes:
 
 
 QUESTIONS = {command_of(line) for line in LANGUAGE if line.kind == QUESTION}
+EDITS = {command_of(line) for line in LANGUAGE if line.kind == EDIT}
 # The reply begins with the command.
 COUNTED = {command_of(it) for it in LANGUAGE + SEARCHES if it.reply == COUNTED_LINES}
+REPLIES_TO_EDITS = re.compile(rb"ok|event .*|refused .*")
+# How the files of stored sessions end, each with the ending of a transcript of the same kind.
+TRANSCRIPTS = {".session": ".transcript", ".search": ".search-transcript"}
 
 
 def existing_program(path: str) -> str:
@@ -95,22 +180,34 @@ def existing_program(path: str) -> str:
     return os.path.abspath(path)
 
 
-def asked(description: str, *flags: str, numbers: Iterable[str] = ()) -> Tuple[Any, ...]:
+@dataclass(frozen=True)
+class Asked:
     """What a tool's arguments say: the program, the folders, the strides to run their sessions
-    with, whether each of its own flags is there, and each of its own numbers."""
+    with, which of its own flags are there, and each of its own numbers."""
+
+    program: str
+    folders: list[str]
+    strides: list[str]
+    flags: frozenset[str]
+    numbers: dict[str, int]
+
+
+def asked(description: str, *flags: str, numbers: Iterable[str] = ()) -> Asked:
+    """Reads a tool's arguments. A flag and a number are given as they are typed, as `--search`."""
     as_it_is = argparse.RawDescriptionHelpFormatter
     parser = argparse.ArgumentParser(description=description, formatter_class=as_it_is)
     parser.add_argument("--stride", metavar="LIST", default="", help="such as 1,4,10000")
     for flag in flags:
-        parser.add_argument(flag, action="store_true")
+        parser.add_argument(flag, dest=flag, action="store_true")
     for number in numbers:
-        parser.add_argument(number, metavar="N", type=int, default=0)
+        parser.add_argument(number, dest=number, metavar="N", type=int, default=0)
     parser.add_argument("program", metavar="PROGRAM", type=existing_program)
     parser.add_argument("folders", metavar="FOLDER", nargs="+")
     words = vars(parser.parse_args())
     strides = [stride for stride in words["stride"].split(",") if stride]
-    own = [words[word.strip("-").replace("-", "_")] for word in (*flags, *numbers)]
-    return words["program"], words["folders"], strides, *own
+    there = frozenset(flag for flag in flags if words[flag])
+    given = {number: words[number] for number in numbers}
+    return Asked(words["program"], words["folders"], strides, there, given)
 
 
 def stored(path: str, default: bytes = b"") -> bytes:
@@ -120,23 +217,64 @@ def stored(path: str, default: bytes = b"") -> bytes:
         return file.read()
 
 
-def sessions_of(folder: str, wanted: str = ".session") -> List[Session]:
-    """Every session in the folder and the folders below it whose file has the wanted ending, in the
-    order of their names."""
+def sessions_of(folder: str, wanted: str = ".session") -> list[Session]:
+    """Every session in the folder and the folders below it whose file has the wanted ending or is a
+    transcript of that kind, in the order of their names."""
     found = []
     for at, folders, files in os.walk(folder):
         folders.sort()
         for file in sorted(files):
             base, ending = os.path.splitext(os.path.join(at, file))
             if ending == wanted:
-                args = stored(base + ".args").decode().splitlines()
-                status = int(stored(base + ".status", b"0"))
-                expected = Ended(stored(base + ".expected"), status, stored(base + ".stderr"))
-                found.append(Session(base, at, stored(base + wanted), args, expected))
+                found.append(session_in_files(base, wanted))
+            elif ending == TRANSCRIPTS[wanted]:
+                found.append(session_in_transcript(base, ending))
     return found
 
 
-def with_strides(session: Session, strides: Iterable[str]) -> List[Session]:
+def arguments_of(base: str) -> list[str]:
+    return stored(base + ".args").decode().splitlines()
+
+
+def session_in_files(base: str, ending: str) -> Session:
+    status = int(stored(base + ".status", b"0"))
+    expected = Ended(stored(base + ".expected"), status, stored(base + ".stderr"))
+    folder = os.path.dirname(base)
+    return Session(base, folder, stored(base + ending), arguments_of(base), expected)
+
+
+def session_in_transcript(base: str, ending: str) -> Session:
+    steps = steps_of(stored(base + ending).splitlines())
+    lines = b"".join(step.line + b"\n" for step in steps)
+    output = b"".join(line + b"\n" for step in steps for line in step.reply)
+    folder = os.path.dirname(base)
+    return Session(base, folder, lines, arguments_of(base), Ended(output, 0, b""))
+
+
+def steps_of(lines: list[bytes]) -> list[Step]:
+    """The steps of a transcript: what follows a line that has a reply is its reply. If that can't
+    be the reply to an edit, the edit is answered `ok`."""
+    steps, left = [], list(lines)
+    while left:
+        line, reply = left.pop(0), []
+        if has_reply(line):
+            is_edit = line.split()[:1] and line.split()[0] in EDITS
+            if is_edit and not (left and REPLIES_TO_EDITS.fullmatch(left[0])):
+                reply = [b"ok"]
+            elif left:
+                count = 1 + further_lines(left[0])
+                reply, left = left[:count], left[count:]
+        steps.append(Step(line, reply))
+    return steps
+
+
+def further_lines(first: bytes) -> int:
+    """How many lines of a reply follow its first one."""
+    command, *rest = first.split() or [b""]
+    return int(rest[0]) if command in COUNTED and rest and rest[0].isdigit() else 0
+
+
+def with_strides(session: Session, strides: Iterable[str]) -> list[Session]:
     """The session with each of these strides; unchanged if there is none, or if the session has a
     stride of its own."""
     if not strides or any(arg.startswith("--stride") for arg in session.args):
@@ -147,7 +285,7 @@ def with_strides(session: Session, strides: Iterable[str]) -> List[Session]:
 
 def run(program: str, session: Session, lines: bytes, **more: Any) -> Ended:
     """Runs the program with the session's arguments on these lines; subprocess.run gets `more`."""
-    how: Dict[str, Any] = {"cwd": session.folder, "capture_output": True, "timeout": SECONDS}
+    how: dict[str, Any] = {"cwd": session.folder, "capture_output": True, "timeout": SECONDS}
     how.update(more)
     try:
         ran = subprocess.run([program, *session.args], input=lines, **how)
@@ -156,23 +294,21 @@ def run(program: str, session: Session, lines: bytes, **more: Any) -> Ended:
     return Ended(ran.stdout, ran.returncode, ran.stderr)
 
 
-def lines_of(text: bytes) -> List[bytes]:
+def lines_of(text: bytes) -> list[bytes]:
     return re.findall(rb"[^\n]*\n|[^\n]+", text)
 
 
 def has_reply(line: bytes) -> bool:
     if line.endswith(b"\n"):
         line = line[:-1].removesuffix(b"\r")
-    return len(line) > 200 or (not line.startswith(b"#") and line.strip(b" \t") != b"")
+    return len(line) > LONGEST_LINE or (not line.startswith(b"#") and line.strip(b" \t") != b"")
 
 
-def replies_of(output: bytes) -> List[bytes]:
+def replies_of(output: bytes) -> list[bytes]:
     """The replies in an output, each with all its lines."""
     lines, replies = lines_of(output), []
     while lines:
-        command, *rest = lines[0].split() or [b""]
-        is_counted = command in COUNTED and rest and rest[0].isdigit()
-        more = int(rest[0]) if is_counted else 0
+        more = further_lines(lines[0])
         replies.append(b"".join(lines[: more + 1]))
         lines = lines[more + 1 :]
     return replies
