@@ -2,7 +2,7 @@
 a later turn goes on from the one before it; one about an earlier turn begins again at a state that
 the program kept, which may be many turns before. So a search asks upwards, or by halving."""
 from dataclasses import dataclass
-from typing import Iterable, Optional, Tuple
+from typing import Iterable, Optional
 
 import sessions
 
@@ -12,7 +12,7 @@ NAMES = frozenset(it.decode() for it in QUESTIONS)
 MOST_DIGITS = 10
 
 
-def turns_of_question(line: str) -> Optional[Tuple[int, int]]:
+def turns_of_question(line: str) -> Optional[tuple[int, int]]:
     """The turns that the machine must be at before and after its reply, or None for another line.
     A trail begins at the first turn that it lists. Where a search ends its reply tells."""
     words = line.split(None, 3)

@@ -2,7 +2,8 @@
 import sys
 import threading
 import time
-from typing import Optional
+from contextlib import contextmanager
+from typing import ClassVar, Iterator, Optional
 
 from .crew import Progress
 
@@ -13,6 +14,8 @@ class AtWork:
     """While a line is done, shows how long it has been at work since it last showed something. A
     bar of a search takes its place."""
 
+    is_hidden: ClassVar[bool] = False
+
     def __init__(self, what: str):
         self.what = what
         self.is_shown = sys.stderr.isatty()
@@ -21,6 +24,16 @@ class AtWork:
         self.since = time.monotonic()
         self.written = ""
         self.thread: Optional[threading.Thread] = None
+
+    @classmethod
+    @contextmanager
+    def hidden(cls) -> Iterator[None]:
+        """A part that has the terminal to itself."""
+        cls.is_hidden = True
+        try:
+            yield
+        finally:
+            cls.is_hidden = False
 
     def __enter__(self) -> "AtWork":
         if self.is_shown:
@@ -57,7 +70,7 @@ class AtWork:
         while not self.ended.wait(SECONDS_BETWEEN):
             with self.lock:
                 seconds = time.monotonic() - self.since
-                if seconds < SECONDS_WITHOUT or self.ended.is_set():
+                if seconds < SECONDS_WITHOUT or self.ended.is_set() or self.is_hidden:
                     continue
                 if Progress.bars:
                     self.written = ""  # the bar stands over it

@@ -3,9 +3,7 @@ import subprocess
 from pathlib import Path
 from typing import Iterable, Optional, Sequence
 
-
-class ExploreError(Exception):
-    """Why a command can't be done, for the user to read."""
+from .errors import ExploreError
 
 
 class ProgramEnded(ExploreError):

@@ -1,22 +1,25 @@
 """The table of explore's own commands. Each module adds its commands to it."""
 import re
 from dataclasses import dataclass, field
-from typing import Callable, Dict, Iterator, List, Optional
+from typing import Callable, Iterator, Optional
 
-from .disassembly import Disassembler, Symbols
-from .children import ExploreError
+from .disassembly import Disassembler
+from .errors import ExploreError
 from .finder import Finder
 from .language import comma_fault
-from .machine import LAST_TURN, Machine
-from .replies import Registers
+from .machine import LAST_TURN, Machine, Start
+from .replies import Mode, Registers
+from .symbols import ADDRESS, Symbols
 
 
 @dataclass(frozen=True)
 class Step:
-    """A line at the prompt that made edits, and these edits."""
+    """A line at the prompt that made edits, and these edits; if it started the program again with
+    other options, how it was started before and is since."""
 
     line: str
-    edits: List[str]
+    edits: list[str]
+    starts: Optional[tuple[Start, Start]] = None
 
 
 @dataclass
@@ -24,15 +27,26 @@ class Steps:
     """What `undo` takes back and `redo` makes again, and how many edits there are so far."""
 
     count: int = 0
-    done: List[Step] = field(default_factory=list)
-    undone: List[Step] = field(default_factory=list)
+    done: list[Step] = field(default_factory=list)
+    undone: list[Step] = field(default_factory=list)
+    starts: Optional[tuple[Start, Start]] = None
 
-    def note(self, line: str, journal: List[str]) -> None:
-        """Takes in what a line has added to the edits."""
-        if len(journal) > self.count:
-            self.done.append(Step(line.strip(), journal[self.count :]))
+    def note(self, line: str, journal: list[str]) -> None:
+        """Takes in what a line has added to the edits, and whether it has changed the options."""
+        if len(journal) > self.count or self.starts:
+            self.done.append(Step(line.strip(), journal[self.count :], self.starts))
             self.undone = []
-        self.count = len(journal)
+        self.count, self.starts = len(journal), None
+
+
+@dataclass
+class Sitting:
+    """How somebody sits at the console: the turn where the last one was left, turns a second, and
+    whether bit 7 of what is printed is cleared."""
+
+    turn: Optional[int] = None
+    rate: int = 250_000
+    is_7bit: bool = False
 
 
 @dataclass
@@ -48,7 +62,8 @@ class Explorer:
     shown_turn: int = 0
     is_terminal: bool = False
     steps: Steps = field(default_factory=Steps)
-    saved: List[str] = field(default_factory=list)
+    saved: list[str] = field(default_factory=list)
+    sitting: Sitting = field(default_factory=Sitting)
 
     @property
     def finder(self) -> Finder:
@@ -59,7 +74,7 @@ class Explorer:
 class Arguments:
     """The named parts of a command's words. A part that isn't there is None."""
 
-    parts: Dict[str, Optional[str]]
+    parts: dict[str, Optional[str]]
 
     def optional(self, name: str) -> Optional[str]:
         return self.parts[name]
@@ -86,6 +101,7 @@ class Command:
     summary: str
     detail: str
     run: Run
+    addresses: frozenset[str] = frozenset()
 
     @property
     def name(self) -> str:
@@ -103,10 +119,14 @@ class Command:
             check_drive(explorer.machine)
         if "\0" in words:
             raise ExploreError("the line has a NUL")
+        mode = parts.get("mode")
+        for name in self.addresses.intersection(it for it, text in parts.items() if text):
+            number = explorer.symbols.number(parts[name], Mode(mode) if mode else None)
+            parts[name] = f"{number:o}"
         return self.run(explorer, Arguments(parts))
 
 
-COMMANDS: Dict[str, Command] = {}
+COMMANDS: dict[str, Command] = {}
 
 
 def check_turn(turn: int) -> None:
@@ -120,10 +140,12 @@ def check_drive(machine: Machine) -> None:
         raise ExploreError("version 1 has one drive, which isn't named; see version 2")
 
 
-# The parts of patterns: a turn, a count and an event are decimal, an address and a word octal.
+# The parts of patterns: a turn, a count and an event are decimal, a word is octal, and so is an
+# address, or it is a symbol.
 PARTS = {
     "decimal": r"\d{1,10}",
     "octal": r"[0-7]{1,10}",
+    "address": ADDRESS,
     "from": r"((^| )from (?P<first>\d{1,10}))?",
     "to": r"((^| )to (?P<last>\d{1,10}))?",
 }
@@ -136,12 +158,13 @@ def command(form: str, pattern: str, summary: str) -> Callable[[Run], Run]:
     def part(found: "re.Match[str]") -> str:
         return f"(?P<{found[1]}>{PARTS[found[2]]})"
 
+    addresses = frozenset(re.findall(r"<(\w+):address>", pattern))
     whole = re.sub(r"<(\w+):(\w+)>", part, pattern)
     whole = whole.replace("{from}", PARTS["from"]).replace("{to}", PARTS["to"]).replace(" ", r"\s+")
 
     def register(run: Run) -> Run:
         detail = "\n".join(line.strip() for line in (run.__doc__ or "").strip().splitlines())
-        made = Command(form, re.compile(whole), summary, detail, run)
+        made = Command(form, re.compile(whole), summary, detail, run, addresses)
         COMMANDS[made.name] = made
         return run
 

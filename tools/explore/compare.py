@@ -1,6 +1,6 @@
 """Two pasts beside each other: `compare`."""
 from dataclasses import dataclass
-from typing import Dict, Iterator, List, Optional
+from typing import Iterator, Optional
 
 from .commands import Arguments, Explorer, command, turn_range
 from .crew import Progress
@@ -37,7 +37,7 @@ class Parting:
     after: str
 
 
-def looks_of(turns: range) -> List[int]:
+def looks_of(turns: range) -> list[int]:
     """Each of the first turns, and then further ones by a stride."""
     singly = range(turns.start, min(turns.stop, turns.start + LOOKED_AT_SINGLY))
     stride = max(1, (turns.stop - singly.stop) // LOOKS)
@@ -47,7 +47,7 @@ def looks_of(turns: range) -> List[int]:
 def parting(one: Machine, other: Machine, aspect: Aspect, turns: range) -> Optional[Parting]:
     """Where the replies part first, of the turns that are looked at, and then by halving."""
 
-    def pair(turn: int) -> List[str]:
+    def pair(turn: int) -> list[str]:
         return [it.read(aspect.question.format(turn)) for it in (one, other)]
 
     equal: Optional[int] = None
@@ -76,7 +76,7 @@ def differences(before: str, after: str) -> str:
     if len(ours) != len(theirs) or before.startswith("text"):
         return f"{before[-60:]} | {after[-60:]}"
     skipped = len(ours) % 2 if before.startswith("devices") else 0
-    names: Dict[str, str] = {}
+    names: dict[str, str] = {}
     for at in range(skipped, len(ours) - 1, 2):
         if ours[at + 1] != theirs[at + 1]:
             names[ours[at]] = f"{ours[at + 1]} | {theirs[at + 1]}"

@@ -7,9 +7,9 @@ import time
 from contextlib import closing
 from dataclasses import dataclass
 from operator import length_hint
-from typing import Callable, ClassVar, Dict, Iterable, Iterator, List, Optional, Tuple, TypeVar
+from typing import Callable, ClassVar, Iterable, Iterator, Optional, TypeVar
 
-from .children import ExploreError
+from .errors import ExploreError
 from .machine import Machine
 
 Task = TypeVar("Task")
@@ -63,14 +63,14 @@ def each_of(
     work: Callable[[Machine, Task], Result],
     hands: int,
     stride: Optional[int] = None,
-) -> Iterator[Tuple[Task, Result]]:
+) -> Iterator[tuple[Task, Result]]:
     """Does each task on one of so many twins of the machine, and yields the results as they come.
     A task is taken when a twin is free for it. When nobody reads on, the twins end with what they
     do."""
     left, taking = iter(tasks), threading.Lock()
-    results: "queue.SimpleQueue[Optional[Tuple[Task, Result]]]" = queue.SimpleQueue()
-    faults: List[Exception] = []
-    twins: List[Machine] = []
+    results: "queue.SimpleQueue[Optional[tuple[Task, Result]]]" = queue.SimpleQueue()
+    faults: list[Exception] = []
+    twins: list[Machine] = []
     stop = threading.Event()
 
     def hand() -> None:
@@ -107,9 +107,9 @@ def each_of(
             twin.close()
 
 
-def in_order(results: Iterator[Tuple[int, Result]]) -> Iterator[Tuple[int, Result]]:
+def in_order(results: Iterator[tuple[int, Result]]) -> Iterator[tuple[int, Result]]:
     """The results of the tasks 0, 1 and so on in this order."""
-    kept: Dict[int, Result] = {}
+    kept: dict[int, Result] = {}
     wanted = 0
     for number, result in results:
         kept[number] = result

@@ -3,7 +3,7 @@ function of the disk completes, and a function takes the disk's delay, unless an
 it. So between two looks no further apart than the delay, with no event `disk` between them, a word
 changes once at most, and looks at these turns see every change."""
 from dataclasses import dataclass
-from typing import Dict, Iterator, List, Mapping, Optional, Sequence
+from typing import Iterator, Mapping, Optional, Sequence
 
 from .commands import Explorer, check_drive
 from .crew import Progress
@@ -42,7 +42,7 @@ class DiskWord:
     def value(self, turn: int) -> int:
         return self.machine.disk_word(turn, self.drive, self.index)
 
-    def looks(self, turns: range) -> List[int]:
+    def looks(self, turns: range) -> list[int]:
         """The turns to look at, so that no change between the first and the last is missed."""
         delay = self.machine.past.delays["disk"]
         events = (it for turn in self.machine.past.disk_events() for it in (turn, turn + 1))
@@ -55,7 +55,7 @@ class DiskWord:
         delay = self.machine.past.delays["disk"]
         return (len(turns) // delay if delay else 0) + 2 * len(self.machine.past.disk_events())
 
-    def values(self, looks: List[int]) -> Iterator[int]:
+    def values(self, looks: list[int]) -> Iterator[int]:
         """The word before each of these turns, which ascend."""
         lines = [self.machine.disk_line(it, self.drive, self.index) for it in looks]
         with Progress(len(looks), "turns looked at") as progress:
@@ -87,7 +87,7 @@ class DiskWord:
 
 def functions_in_words(
     explorer: Explorer, turns: Sequence[int], begins: Mapping[int, Optional[int]]
-) -> Dict[int, str]:
+) -> dict[int, str]:
     """The functions of the disk that complete in these turns, which ascend, and what began them,
     by turn. The turns that began them are looked for if they aren't known."""
     machine = explorer.machine

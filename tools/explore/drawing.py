@@ -2,7 +2,7 @@
 import html
 from collections import Counter
 from dataclasses import dataclass, field
-from typing import Dict, Iterator, List, Mapping, Optional, Sequence, Tuple
+from typing import Iterator, Mapping, Optional, Sequence
 
 from .picture import Byte, Column, Picture, Transfer, WordHistory
 from .replies import VECTORS, Mode, Turn
@@ -14,7 +14,7 @@ MOST_ROWS, MOST_AHEAD = 8, 4
 FEW_VALUES = 6
 VISIBLE = {0o12: "", 0o15: "", 0o40: " "}
 # The symbols of each mode that occurs: addresses and names.
-Symbols = Mapping[Mode, Sequence[Tuple[int, str]]]
+Symbols = Mapping[Mode, Sequence[tuple[int, str]]]
 
 
 def shown(byte: int) -> str:
@@ -29,7 +29,7 @@ class Canvas:
     turns: range
     left: int
     right: int = RIGHT
-    parts: List[str] = field(default_factory=list)
+    parts: list[str] = field(default_factory=list)
     bottom: float = 8.0
 
     @property
@@ -90,7 +90,7 @@ class Labels:
 
     canvas: Canvas
     top: float
-    found: List[Label] = field(default_factory=list)
+    found: list[Label] = field(default_factory=list)
 
     def put(self, x: float, text: str, kind: str, count: int = 1) -> None:
         self.found.append(Label(x, text, kind, count))
@@ -98,7 +98,7 @@ class Labels:
     def left(self, label: Label) -> float:
         return max(4.0, min(label.x, self.canvas.width - 4 - CHARACTER * len(label.text)))
 
-    def placed(self) -> Iterator[Tuple[Label, Optional[int]]]:
+    def placed(self) -> Iterator[tuple[Label, Optional[int]]]:
         """Each label with its row, or without one if no row has room."""
         ends = [0.0] * MOST_ROWS
         for label in self.found:
@@ -134,7 +134,7 @@ class Labels:
         self.canvas.bottom = max(self.canvas.bottom, bottom)
 
 
-def ticks_of(turns: range, most: int) -> List[int]:
+def ticks_of(turns: range, most: int) -> list[int]:
     """Round turns, at most so many."""
     steps = (factor * 10**power for power in range(10) for factor in (1, 2, 5))
     step = next(it for it in steps if len(turns) / it <= most)
@@ -158,7 +158,7 @@ def draw_bands(canvas: Canvas, columns: Sequence[Column], top: float, height: fl
             begin = at
 
 
-def band_of(column: Column) -> Tuple[str, str]:
+def band_of(column: Column) -> tuple[str, str]:
     title = f"{column.mode.value} mode, priority {column.priority}"
     if column.mode != Mode.KERNEL:
         return "user", title
@@ -218,7 +218,7 @@ def draw_axes(canvas: Canvas, scale: Scale, symbols: Symbols) -> None:
 
 
 def draw_axis_of(
-    canvas: Canvas, scale: Scale, marks: Sequence[Tuple[int, str]], is_left: bool
+    canvas: Canvas, scale: Scale, marks: Sequence[tuple[int, str]], is_left: bool
 ) -> None:
     seen = scale.top + 6
     x = canvas.left - 4 if is_left else canvas.end + 4
@@ -274,7 +274,7 @@ def draw_interrupts(canvas: Canvas, picture: Picture) -> None:
         return
     top = canvas.lane("interrupts", ROW)
     labels = Labels(canvas, top + 18)
-    marks: Dict[Tuple[int, str], List[str]] = {}
+    marks: dict[tuple[int, str], list[str]] = {}
     for turn in picture.interrupts:
         place = round(canvas.x(turn.turn)), vector_name(turn)
         marks.setdefault(place, []).append(f"turn {turn.turn}: {turn.interrupt()}")
@@ -312,8 +312,8 @@ def draw_text(canvas: Canvas, picture: Picture) -> None:
         canvas.bottom += ROW
 
 
-def console_labels(canvas: Canvas, text: Sequence[Byte]) -> List[Tuple[float, str]]:
-    found: List[Tuple[float, str]] = []
+def console_labels(canvas: Canvas, text: Sequence[Byte]) -> list[tuple[float, str]]:
+    found: list[tuple[float, str]] = []
     begin, label = 0.0, ""
     for byte in text:
         x, end = canvas.x(byte.turn), begin + CHARACTER * len(label)
@@ -330,7 +330,7 @@ def console_labels(canvas: Canvas, text: Sequence[Byte]) -> List[Tuple[float, st
 # Words and events
 
 
-def heights_of(history: WordHistory) -> Dict[int, float]:
+def heights_of(history: WordHistory) -> dict[int, float]:
     """How high each value is drawn, 0 to 1: in equal steps if there are few, otherwise to scale."""
     values = sorted({it.word for it in history.values})
     if len(values) <= FEW_VALUES:
@@ -366,10 +366,10 @@ def range_of(history: WordHistory) -> str:
 
 
 def draw_steps(
-    canvas: Canvas, history: WordHistory, level: Dict[int, float], labels: Labels
+    canvas: Canvas, history: WordHistory, level: dict[int, float], labels: Labels
 ) -> None:
-    path: List[str] = []
-    marks: List[str] = []
+    path: list[str] = []
+    marks: list[str] = []
     for value in history.values:
         x, y = canvas.x(value.turn), level[value.word]
         path.append(f"H{x:.1f}V{y:.1f}" if path else f"M{x:.1f} {y:.1f}")
@@ -409,7 +409,7 @@ def draw_axis(canvas: Canvas) -> None:
 # The legend
 
 
-def notes_of(picture: Picture) -> List[Tuple[str, str]]:
+def notes_of(picture: Picture) -> list[tuple[str, str]]:
     """What the picture's parts mean, each with the kind of its sample, if it has one."""
     kinds = {band_of(it)[0] for it in picture.columns}
     bands = [("user", "user mode"), ("raised", "kernel, priority above 0")]

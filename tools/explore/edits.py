@@ -1,15 +1,16 @@
 """Edits that are taken back: `undo`, `redo`, `drop from`."""
 from typing import Iterator
 
-from .children import ExploreError
 from .commands import Arguments, Explorer, Step, command
+from .errors import ExploreError
 from .interrupts import INTERRUPTS
 from .journal import counted
+from .restart import begin_as
 
 
 def step_in_words(step: Step) -> str:
     count = len(step.edits)
-    return step.line if count == 1 else f"{step.line} ({counted(count)})"
+    return step.line if count < 2 else f"{step.line} ({counted(count)})"
 
 
 @command("undo", r"", "takes back the edits of the last line that made any")
@@ -21,7 +22,10 @@ def undo(explorer: Explorer, arguments: Arguments) -> Iterator[str]:
         raise ExploreError("no edit was made here; those of the session stay")
     step = steps.done[-1]
     with INTERRUPTS.held():
-        explorer.machine.take_back(len(step.edits))
+        if step.edits:
+            explorer.machine.take_back(len(step.edits))
+        if step.starts:
+            begin_as(explorer.machine, step.starts[0])
         steps.undone.append(steps.done.pop())
         steps.count = len(explorer.machine.journal)
     yield f"taken back: {step_in_words(step)}"
@@ -36,6 +40,8 @@ def redo(explorer: Explorer, arguments: Arguments) -> Iterator[str]:
     step = steps.undone[-1]
     explorer.machine.begin()
     with INTERRUPTS.held():
+        if step.starts:
+            begin_as(explorer.machine, step.starts[1])
         explorer.machine.edit_all(step.edits)
         steps.done.append(steps.undone.pop())
         steps.count = len(explorer.machine.journal)

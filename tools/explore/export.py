@@ -2,9 +2,8 @@
 import shlex
 import struct
 from pathlib import Path
-from typing import Iterator, List, Tuple
+from typing import Iterator
 
-from .children import ExploreError
 from .commands import Arguments, Explorer, command
 from .files import OUTPUT, write_whole
 from .machine import MOST_WORDS, Machine
@@ -15,14 +14,14 @@ MODEL_NAMES = {Mode.KERNEL: "KI", Mode.USER: "UI"}
 ENABLE, DONE = 0o100, 0o200
 
 
-def parsed(replies: Iterator[str]) -> Iterator[List[int]]:
+def parsed(replies: Iterator[str]) -> Iterator[list[int]]:
     """The words of replies. Most of them are zeros, which are not read one by one."""
     zeros = " 000000" * MOST_WORDS
     for reply in replies:
         yield [0] * MOST_WORDS if reply[3:] == zeros else words_of(reply)
 
 
-def core_words(machine: Machine, turn: int) -> List[int]:
+def core_words(machine: Machine, turn: int) -> list[int]:
     """All of core before the turn."""
     places = range(0, machine.units() * UNIT_BYTES, 2 * MOST_WORDS)
     lines = [f"mem {turn} {at:o} {MOST_WORDS}" for at in places]
@@ -37,7 +36,7 @@ def drive_image(machine: Machine, turn: int, drive: int) -> bytes:
     )
 
 
-def runs_of(words: List[int]) -> Iterator[Tuple[int, int, int]]:
+def runs_of(words: list[int]) -> Iterator[tuple[int, int, int]]:
     """Runs of equal words that aren't 0: the first address, the last address, the word."""
     begin = 0
     for at in range(1, len(words) + 1):
@@ -47,7 +46,7 @@ def runs_of(words: List[int]) -> Iterator[Tuple[int, int, int]]:
             begin = at
 
 
-def core_lines(words: List[int]) -> Iterator[str]:
+def core_lines(words: list[int]) -> Iterator[str]:
     for first, last, word in runs_of(words):
         yield f"d {first:o} {word:o}" if first == last else f"d {first:o}-{last:o} {word:o}"
 

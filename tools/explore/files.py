@@ -1,20 +1,34 @@
 """The files that explore writes: each is there whole or not at all, and takes no other's place."""
+import fcntl
 import os
 import stat
 import tempfile
+import time
 from contextlib import suppress
 from dataclasses import dataclass, field
 from pathlib import Path
-from typing import Dict, Optional, Tuple
+from typing import Optional
 
-from .children import ExploreError
+from .errors import ExploreError
 
+LOCK_SECONDS = 1.0
 # A file as it was left, to tell whether it is still that file.
-Stamp = Tuple[int, int, int, int]
+Stamp = tuple[int, int, int, int]
 
 
 def stamp_of(found: os.stat_result) -> Stamp:
     return found.st_dev, found.st_ino, found.st_size, found.st_mtime_ns
+
+
+def is_locked_here(handle: int) -> bool:
+    """Locks a file; false if another explore has it. A child that is just being started still holds
+    what was open before, until it runs its program: so the lock is tried for a moment."""
+    for seconds in (0.0, *[LOCK_SECONDS / 20] * 20):
+        time.sleep(seconds)
+        with suppress(OSError):
+            fcntl.flock(handle, fcntl.LOCK_EX | fcntl.LOCK_NB)
+            return True
+    return False
 
 
 def usual_mode() -> int:
@@ -50,11 +64,11 @@ class Output:
     """The files that this run has written, the command that writes now, and whether it may
     overwrite others."""
 
-    left: Dict[Path, Stamp] = field(default_factory=dict)
+    left: dict[Path, Stamp] = field(default_factory=dict)
     command: str = ""
     overwrites: bool = False
 
-    def target(self, path: Path) -> Tuple[Path, Optional[os.stat_result]]:
+    def target(self, path: Path) -> tuple[Path, Optional[os.stat_result]]:
         """What the path names, through links, and what is there. An error if it mustn't be
         written."""
         target = Path(os.path.realpath(path))

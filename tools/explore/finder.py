@@ -2,7 +2,7 @@
 goes back and forth between a turn and the next."""
 import re
 from dataclasses import dataclass
-from typing import Callable, Iterator, List, Optional, Tuple
+from typing import Callable, Iterator, Optional
 
 from .crew import Progress, each_of, in_order, processors
 from .machine import Machine
@@ -76,8 +76,8 @@ class Finder:
         return None
 
     def _on_twins(
-        self, blocks: List[range], search: Search
-    ) -> Iterator[Tuple[range, Optional[int]]]:
+        self, blocks: list[range], search: Search
+    ) -> Iterator[tuple[range, Optional[int]]]:
         """What is found in each of the blocks, in their order."""
 
         def work(twin: Machine, number: int) -> Optional[int]:
@@ -131,7 +131,7 @@ class Finder:
 
     # The text
 
-    def end_of_text(self, turns: range, string: bytes) -> Optional[Tuple[int, int]]:
+    def end_of_text(self, turns: range, string: bytes) -> Optional[tuple[int, int]]:
         """The first of the turns that prints the last byte of the string, and how many bytes are
         printed then."""
         printed = self.machine.text_length(turns.start)

@@ -1,19 +1,23 @@
 """The journal: a session on the disk that has each edit at once, so that no edit is lost with the
 terminal or with the power."""
-import fcntl
 import os
+import threading
 import time
+from contextlib import contextmanager
 from dataclasses import dataclass, field, replace
 from pathlib import Path
-from typing import Iterator, List, Optional, Sequence
+from typing import Iterator, Optional, Sequence
 
 import sessions
 
-from .children import ExploreError
+from .errors import ExploreError
+from .files import is_locked_here
+from .options import MARK
 
 EDITS = {it.form.split()[0] for it in sessions.LANGUAGE if it.kind == sessions.EDIT}
 ENDING = ".journal"
 MOST_KEPT = 30
+SECONDS_BETWEEN_SYNCS = 0.05
 AT_THE_PROMPT = "# at the prompt"
 OF_SESSION = "# session "
 
@@ -30,9 +34,9 @@ class Contents:
     each of the latter ends, in bytes. What follows the last line feed was cut off."""
 
     session: str
-    of_session: List[str]
-    edits: List[str]
-    ends: List[int]
+    of_session: list[str]
+    edits: list[str]
+    ends: list[int]
 
     @classmethod
     def of(cls, path: Path) -> "Contents":
@@ -65,11 +69,25 @@ def opened(path: Path, flags: int) -> int:
         raise ExploreError(f"{path} is there already; --resume {path} takes it up") from None
     except OSError as error:
         raise ExploreError(f"{path}: {error.strerror}") from error
-    try:
-        fcntl.flock(handle, fcntl.LOCK_EX | fcntl.LOCK_NB)
-    except OSError:
+    if not is_locked_here(handle):
         os.close(handle)
-        raise ExploreError(f"{path} is in use by another explore") from None
+        raise ExploreError(f"{path} is in use by another explore")
+    return handle
+
+
+def replaced(path: Path, data: bytes) -> int:
+    """Puts a file with these bytes, locked, in the place of this one."""
+    beside = path.with_name(f".explore-{os.getpid()}")
+    handle = opened(beside, os.O_CREAT | os.O_EXCL)
+    try:
+        while data:
+            data = data[os.write(handle, data) :]
+        os.fsync(handle)
+        os.replace(beside, path)
+    except BaseException:
+        os.close(handle)
+        beside.unlink(missing_ok=True)
+        raise
     return handle
 
 
@@ -82,14 +100,17 @@ class Journal:
     path: Optional[Path] = None
     is_own: bool = False
     handle: Optional[int] = None
-    ends: List[int] = field(default_factory=list)
-    waiting: List[str] = field(default_factory=list)
+    ends: list[int] = field(default_factory=list)
+    waiting: list[str] = field(default_factory=list)
+    options: Optional[Sequence[str]] = None  # those that wait to be written
     fault: str = ""
+    is_synced: bool = True
 
     @property
     def place(self) -> Optional[Path]:
         """Where all edits are, if they are in a file."""
-        return None if self.handle is None or self.waiting else self.path
+        is_behind = self.waiting or self.options is not None
+        return None if self.handle is None or is_behind else self.path
 
     @classmethod
     def taken_up(cls, path: Path, is_own: bool) -> "Journal":
@@ -105,11 +126,34 @@ class Journal:
         try:
             if self.handle is None:
                 self._create(before)
+            if self.options is not None:
+                self._write_options(self.options)
+                self.options = None
             self._write(self.waiting)
             self.waiting, self.fault = [], ""
         except (OSError, ExploreError) as error:
             said = error.strerror if isinstance(error, OSError) else str(error)
             self.fault = f"the journal can't be written: {said}"
+
+    def change_options(self, lines: Sequence[str]) -> None:
+        """Puts these lines of options in the place of those that it has. If the file can't be
+        written, they wait for the next edit."""
+        self.heading = [*lines, *(it for it in self.heading if not it.startswith(MARK))]
+        if self.handle is not None:
+            self.options = lines
+            self.add((), ())
+
+    def _write_options(self, lines: Sequence[str]) -> None:
+        """Writes the file anew with these options, whole or not at all."""
+        assert self.handle is not None and self.path is not None
+        before = self.path.read_bytes()
+        kept = [it for it in before.split(b"\n") if not it.startswith(MARK.encode())]
+        options = [it.encode(errors="surrogateescape") for it in lines]
+        after = b"\n".join([*options, *kept])
+        handle = replaced(Path(os.path.realpath(self.path)), after)
+        os.close(self.handle)
+        self.handle = handle
+        self.ends = [it + len(after) - len(before) for it in self.ends]
 
     def take_back(self, count: int) -> None:
         """Takes out the last edits."""
@@ -118,6 +162,34 @@ class Journal:
         if self.handle is not None:
             os.ftruncate(self.handle, self.ends[-1])
             os.fsync(self.handle)
+
+    @contextmanager
+    def together(self) -> Iterator[None]:
+        """Each edit of this part is in the file at once. For the disk a thread waits, so that no
+        edit does: a power cut may lose those of the last moment."""
+        ended = threading.Event()
+        syncing = threading.Thread(target=self._sync_often, args=(ended,), daemon=True)
+        self.is_synced = False
+        syncing.start()
+        try:
+            yield
+        finally:
+            ended.set()
+            syncing.join()
+            self.is_synced = True
+
+    def _sync_often(self, ended: threading.Event) -> None:
+        """Waits for the disk whenever the file has grown, and once more when this part ends."""
+        size, is_last = 0, False
+        while not is_last:
+            is_last = ended.wait(SECONDS_BETWEEN_SYNCS)
+            end = (self.ends or [0])[-1]
+            try:
+                if self.handle is not None and end != size:
+                    size = end
+                    os.fsync(self.handle)
+            except OSError as error:
+                self.fault = f"the journal can't be written: {error.strerror}"
 
     def remove(self) -> None:
         """Removes the file, unless the user has named it."""
@@ -143,7 +215,8 @@ class Journal:
         try:
             while data:
                 data = data[os.write(self.handle, data) :]
-            os.fsync(self.handle)
+            if self.is_synced:
+                os.fsync(self.handle)
         except OSError:
             os.ftruncate(self.handle, self.ends[-1])
             raise

@@ -1,14 +1,14 @@
 """The forms of the session language, and which word of a refused line is the wrong one."""
 import re
 from dataclasses import dataclass
-from typing import Dict, FrozenSet, List, Optional
+from typing import Optional
 
 import sessions
 
 from .past import LINE_DEVICES, Past
 
 OCTAL, DECIMAL = frozenset("01234567"), frozenset("0123456789")
-LONGEST_LINE, MOST_DIGITS = 200, 10
+LONGEST_LINE, MOST_DIGITS = sessions.LONGEST_LINE, 10
 
 
 def comma_fault(words: str) -> str:
@@ -22,7 +22,7 @@ class Number:
     """A number of the language, by its letter."""
 
     title: str
-    digits: FrozenSet[str]
+    digits: frozenset[str]
     largest: Optional[int] = None
 
     def fault(self, letter: str, word: str) -> Optional[str]:
@@ -50,61 +50,35 @@ NUMBERS = {
     "C": Number("a count", DECIMAL),
     "E": Number("the number of an event", DECIMAL),
 }
-FORMS = {
-    "core": "A W",
-    "uncore": "A",
-    "disk": "I W",
-    "patches": "",
-    "tape": "B ..",
-    "delay": "L N",
-    "at": "T event",
-    "alter": "E T event",
-    "drop": "E",
-    "regs": "N",
-    "mem": "N A C",
-    "dsk": "N I C",
-    "text": "N",
-    "punched": "N",
-    "last": "N A",
-    "devices": "N",
-    "pages": "N",
-    "trail": "N C",
-    "version": "2",
+
+
+def word_of(line: sessions.Line) -> str:
+    return line.form.split()[0]
+
+
+def rest_of(line: sessions.Line) -> str:
+    """The form of a line without its first word."""
+    return line.form.partition(" ")[2].replace("B B ..", "B ..").replace("EVENT", "event")
+
+
+# The lines of the language by their first words; those of version 2 come last and stand apart.
+SINCE_VERSION_2 = [it.form for it in sessions.LANGUAGE].index("version 2")
+FORMS = {word_of(it): rest_of(it) for it in sessions.LANGUAGE[: SINCE_VERSION_2 + 1]}
+FORMS_OF_EIGHT_DRIVES = {
+    word_of(it): rest_of(it) for it in sessions.LANGUAGE[SINCE_VERSION_2 + 1 :]
 }
-SEARCHES = frozenset(sessions.command_of(it).decode() for it in sessions.SEARCHES)
-FORMS_OF_EIGHT_DRIVES = {"disk": "D I W", "dsk": "N D I C"}
-EVENTS = {
-    "key": "B",
-    "switches": "W",
-    "continue": "",
-    "tick": "",
-    "printer": "",
-    "reader": "",
-    "punch": "",
-    "disk": "",
-}
-MEANINGS = {
-    "1": "the memory that the line needs was refused",
-    "2": "the address, or one of the range, is not in core",
-    "3": "the address is odd",
-    "4": "the number, or one of the range, is past the end of a drive",
-    "5": "no event has this number; events lists them",
-    "6": "the script is full",
-    "7": "the turn or the delay is above 1000000000",
-    "8": "the count is not 1 to 256; of a trail not 1 to 64, or above its turn",
-    "9": "this core word has no patch; patches lists them",
-    "11": f"the line has more than {LONGEST_LINE} bytes",
-    "16": "the drive's number is above 7",
-}
+SUMMARIES = {word_of(it): it.summary for it in sessions.LANGUAGE[: SINCE_VERSION_2 + 1]}
+SEARCHES = frozenset(word_of(it) for it in sessions.SEARCHES)
+EVENTS, MEANINGS = sessions.EVENTS, sessions.REFUSALS
 
 
 def form_of(word: str, past: Past) -> str:
     """The form of a line that begins with this word, such as `core A W`."""
-    own: Dict[str, str] = FORMS_OF_EIGHT_DRIVES if past.version == 2 else {}
+    own: dict[str, str] = FORMS_OF_EIGHT_DRIVES if past.version == 2 else {}
     return f"{word} {own.get(word, FORMS[word])}".rstrip()
 
 
-def fault_of_event(words: List[str]) -> Optional[str]:
+def fault_of_event(words: list[str]) -> Optional[str]:
     if not words:
         return "the event is missing"
     if words[0] not in EVENTS:
@@ -113,7 +87,7 @@ def fault_of_event(words: List[str]) -> Optional[str]:
     return fault_of_words(EVENTS[words[0]].split(), words[1:])
 
 
-def fault_of_words(letters: List[str], words: List[str]) -> Optional[str]:
+def fault_of_words(letters: list[str], words: list[str]) -> Optional[str]:
     """What is wrong with the words in the places of these letters."""
     for at, letter in enumerate(letters):
         if letter == "event":
@@ -140,7 +114,7 @@ def fault_of_word(letter: str, word: str) -> Optional[str]:
     return NUMBERS[letter].fault(letter, word)
 
 
-def forms_of_searches(word: str) -> List[str]:
+def forms_of_searches(word: str) -> list[str]:
     """The lines of searches that begin with this word."""
     return [it.form for it in sessions.SEARCHES if it.form.split()[0] == word]
 

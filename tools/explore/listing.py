@@ -1,11 +1,10 @@
-"""Turns and instructions with their texts: `see`, `show`, `list`, `symbols`."""
+"""Turns and instructions with their texts: `see`, `show`, `list`."""
 import itertools
 from dataclasses import dataclass
-from pathlib import Path
-from typing import Dict, Iterator, List, Optional, Sequence
+from typing import Iterator, Optional, Sequence
 
 from .commands import Arguments, Explorer, command
-from .children import ExploreError
+from .errors import ExploreError
 from .machine import SHORT_SENT_AHEAD, Machine, is_refused
 from .replies import (
     INSTRUCTION,
@@ -54,7 +53,7 @@ class Fetch:
 
     registers: Registers
     physical: Optional[int]
-    words: List[int]
+    words: list[int]
 
     @classmethod
     def of(cls, registers: Registers, pages: Pages, address: int, top: int) -> "Fetch":
@@ -64,11 +63,11 @@ class Fetch:
         return cls(registers, found[0], [it for it in core if it is not None])
 
 
-def fetches_of(machine: Machine, turns: Sequence[Turn]) -> List[Fetch]:
+def fetches_of(machine: Machine, turns: Sequence[Turn]) -> list[Fetch]:
     lines = [f"{name} {it.turn}" for it in turns for name in ("regs", "pages")]
     replies = machine.ask_all(lines, SHORT_SENT_AHEAD)
-    known: Dict[str, Pages] = {}
-    found: List[Fetch] = []
+    known: dict[str, Pages] = {}
+    found: list[Fetch] = []
     for turn, registers, pages in zip(turns, replies, replies):
         for reply in (registers, pages):
             if is_refused(reply):
@@ -80,9 +79,9 @@ def fetches_of(machine: Machine, turns: Sequence[Turn]) -> List[Fetch]:
     return found
 
 
-def parts_that_follow(addresses: Sequence[int]) -> List[List[int]]:
+def parts_that_follow(addresses: Sequence[int]) -> list[list[int]]:
     """The addresses in parts of words that follow one another."""
-    parts: List[List[int]] = []
+    parts: list[list[int]] = []
     for address in addresses:
         if parts and parts[-1][-1] + 2 == address:
             parts[-1].append(address)
@@ -93,7 +92,7 @@ def parts_that_follow(addresses: Sequence[int]) -> List[List[int]]:
 
 def fetched_words(
     machine: Machine, turns: Sequence[Turn], fetches: Sequence[Fetch]
-) -> List[List[int]]:
+) -> list[list[int]]:
     """The words that the instruction of each turn was fetched from, as the act of the turn found
     them: a transfer that ends in the turn comes before it."""
     places = [(turn.turn, it.words) for turn, it in zip(turns, fetches)]
@@ -124,7 +123,7 @@ def fetched_words(
     return [[values[turn, it] for it in words] for turn, words in places]
 
 
-def instruction_text(explorer: Explorer, address: int, words: List[int]) -> str:
+def instruction_text(explorer: Explorer, address: int, words: list[int]) -> str:
     if not words:
         return "(can't be fetched)"
     padded = (words + [0] * INSTRUCTION_WORDS)[:INSTRUCTION_WORDS]
@@ -132,7 +131,7 @@ def instruction_text(explorer: Explorer, address: int, words: List[int]) -> str:
     return found.text if found.words <= len(words) else f"{found.text} (can't be fetched whole)"
 
 
-def act_text(explorer: Explorer, turn: Turn, fetch: Fetch, words: List[int]) -> str:
+def act_text(explorer: Explorer, turn: Turn, fetch: Fetch, words: list[int]) -> str:
     if turn.act == INTERRUPT:
         return turn.interrupt()
     if turn.act == INSTRUCTION:
@@ -153,7 +152,7 @@ def seen(explorer: Explorer, turns: Sequence[Turn]) -> Iterator[SeenTurn]:
         yield SeenTurn(turn, mode, fetch.physical, text, symbol)
 
 
-def turns_in_words(explorer: Explorer, numbers: Sequence[int]) -> List[str]:
+def turns_in_words(explorer: Explorer, numbers: Sequence[int]) -> list[str]:
     """Turns, which ascend, each in one line, such as `kernel 001040 ADD #7,@#2000`."""
     replies = explorer.machine.ask_all([f"trail {it + 1} 1" for it in numbers])
     turns = [turns_of(reply)[0] for reply in replies]
@@ -204,7 +203,7 @@ def show(explorer: Explorer, arguments: Arguments) -> Iterator[str]:
 
 @command(
     "list [kernel|user] A C at N",
-    r"((?P<mode>kernel|user) )?<address:octal> <count:decimal> at <turn:decimal>",
+    r"((?P<mode>kernel|user) )?<address:address> <count:decimal> at <turn:decimal>",
     "C instructions from address A on, before turn N",
 )
 def list_instructions(explorer: Explorer, arguments: Arguments) -> Iterator[str]:
@@ -232,16 +231,3 @@ def list_instructions(explorer: Explorer, arguments: Arguments) -> Iterator[str]
         name = explorer.symbols.near(mode or Mode.KERNEL, address % 0o200000)
         yield f"{address:06o}  {octal:<20}  {shown.text:<28}  {name}".rstrip()
         address += 2 * shown.words
-
-
-@command(
-    "symbols FILE [kernel|user]", r"(?P<file>.+?)( (?P<mode>kernel|user))?", "names of addresses"
-)
-def read_symbols(explorer: Explorer, arguments: Arguments) -> Iterator[str]:
-    """Takes names for the last column of `see` and `list`: lines `NAME OCTAL`, or what nm writes
-    (with `nm -t o`, or nm of an old Unix, octal; with eight digits, hexadecimal). What follows a
-    `#` is a comment. With `kernel` or `user` the names are those of that mode alone."""
-    only = arguments.optional("mode")
-    modes = [Mode(only)] if only else [Mode.KERNEL, Mode.USER]
-    count = explorer.symbols.read(Path(arguments.text("file")), modes)
-    yield f"{count} symbols"

@@ -5,12 +5,13 @@ from contextlib import contextmanager
 from dataclasses import dataclass, field, replace
 from io import BufferedReader
 from pathlib import Path
-from typing import Iterator, List, Optional, Sequence, Tuple, cast
+from typing import Iterator, Optional, Sequence, cast
 
 import sessions
 
 from .asked import Asked
-from .children import Child, ExploreError, ProgramEnded
+from .children import Child, ProgramEnded
+from .errors import ExploreError
 from .interrupts import INTERRUPTS
 from .journal import Journal
 from .past import Past
@@ -86,7 +87,7 @@ class Start:
         ]
         return replace(self, options=[*others, "--stride", str(stride)])
 
-    def command(self) -> List[str]:
+    def command(self) -> list[str]:
         has_stride = any(it.split("=")[0] == "--stride" for it in self.options)
         # the program doubles the stride as a run grows, so a small one costs long runs nothing
         return [self.program, *([] if has_stride else ["--stride", "64"]), *self.options]
@@ -106,9 +107,9 @@ class Machine:
     again, with these edits."""
 
     start: Start
-    journal: List[str] = field(default_factory=list)
+    journal: list[str] = field(default_factory=list)
     past: Past = field(default_factory=Past)
-    replies: List[str] = field(default_factory=list)
+    replies: list[str] = field(default_factory=list)
     is_closed: bool = False
     file: Optional[Journal] = None
     asked: Asked = field(default_factory=Asked)
@@ -179,11 +180,11 @@ class Machine:
         (reply,) = self.edit_all([line]) if is_edit else self.ask_all([line])
         return reply
 
-    def edit_all(self, lines: Sequence[str]) -> List[str]:
+    def edit_all(self, lines: Sequence[str]) -> list[str]:
         """The replies to edits. All that were taken are kept, or none if the program ends."""
         self.begin()  # here, where Ctrl-C can stop it
         with INTERRUPTS.held():
-            replies = list(self.ask_all(lines))
+            replies = list(self.ask_all(lines, SHORT_SENT_AHEAD))
             taken = [pair for pair in zip(lines, replies) if is_taken(pair[1])]
             if self.file is not None and taken:
                 self.file.add(self.journal, [line for line, _ in taken])
@@ -192,6 +193,15 @@ class Machine:
                 self.replies.append(reply)
                 self.past.apply(line, reply)
         return replies
+
+    @contextmanager
+    def edits_together(self) -> Iterator[None]:
+        """A part in which no edit waits for the journal to be on the disk."""
+        if self.file is None:
+            yield
+            return
+        with self.file.together():
+            yield
 
     def take_back(self, count: int) -> None:
         """Takes the last edits back, as if they hadn't been made."""
@@ -258,7 +268,7 @@ class Machine:
     def pages(self, turn: int) -> Pages:
         return Pages.of(self.read(f"pages {turn}"))
 
-    def words(self, turn: int, address: int, count: int = 1) -> List[int]:
+    def words(self, turn: int, address: int, count: int = 1) -> list[int]:
         return words_of(self.read(f"mem {turn} {address:o} {count}"))
 
     def word(self, turn: int, address: int) -> int:
@@ -305,7 +315,7 @@ class Machine:
         self.asked.reach(max(self.asked.greatest, turn + 1))
         return turn
 
-    def writes(self, turns: range, address: int) -> Tuple[List[str], range]:
+    def writes(self, turns: range, address: int) -> tuple[list[str], range]:
         """A line for each of the first writes to a core word in these turns, and the turns that are
         left."""
         head, *lines = self.read(f"writes {turns.start} {turns.stop} {address:o}").splitlines()
@@ -331,7 +341,7 @@ class Machine:
         """What the machine does in this turn."""
         return turns_of(self.read(f"trail {turn + 1} 1"))[0]
 
-    def trail_lines(self, first: int, count: int) -> List[str]:
+    def trail_lines(self, first: int, count: int) -> list[str]:
         """The questions that list these turns."""
         ends = range(first, first + count, MOST_TURNS_OF_A_TRAIL)
         parts = [(at, min(MOST_TURNS_OF_A_TRAIL, first + count - at)) for at in ends]

@@ -4,19 +4,19 @@ import os
 import subprocess
 import sys
 from pathlib import Path
-from typing import Iterator, List, Optional
+from typing import Iterator, Optional
 
 import sessions
 
-from .children import ExploreError
 from .commands import Explorer
 from .disassembly import Disassembler
+from .errors import ExploreError
 from .interrupts import INTERRUPTS
 from .journal import OF_SESSION, Contents, Journal, counted, newest, state_folder, told
 from .language import explanation
+from .load import warnings_of
 from .machine import EDITS, Machine, Start, existing_program, is_refused
-from .options import FILES, VALUES, option_lines, options_of_session, options_of_words
-from .options import words_of_options
+from .options import Options, add_options, option_lines, options_of, words_of_options
 from .output import Unwritable, complain, drop_output, fault_in_words, flush, prepare_streams, put
 from .prompt import Prompt, read_at_terminal, read_lines
 from .sweep import raw_lines
@@ -32,24 +32,22 @@ comment lines `#! OPTIONS` before its first line, as `save` writes them. Without
 of a file beside it with the ending .args hold, one word a line. An option that is given here takes
 the place of the one with its name there. Paths in them are those of the session's folder.
 Lines from a pipe are read too: ./explore --echo SESSION < my.lines
+./explore web [SESSION] opens the machine as a page in the browser: ./explore web --help
 
 At a terminal each edit is written at once to a journal, a session in ~/.local/state/nezdrab (or in
-the folder nezdrab of XDG_STATE_HOME), so that a closed terminal or a power cut loses none. It goes
-when all edits are saved, or with `quit!`; the 30 newest are kept."""
+the folder nezdrab of XDG_STATE_HOME), so that a closed terminal or a power cut loses none (but of a
+console's keys a power cut may lose those of the last moment). It goes when all edits are saved, or
+with `quit!`; the 30 newest are kept."""
 
 
-def arguments(words: List[str]) -> argparse.Namespace:
+def arguments(words: list[str]) -> argparse.Namespace:
     parser = argparse.ArgumentParser(
         prog="explore",
         description=DESCRIPTION,
         allow_abbrev=False,
         formatter_class=argparse.RawDescriptionHelpFormatter,
     )
-    of_program = parser.add_argument_group("options of pdp11 (./pdp11 --help)")
-    for name in FILES:
-        of_program.add_argument(f"--{name}", metavar="FILE")
-    for name, value in VALUES.items():
-        of_program.add_argument(f"--{name}", metavar=value)
+    add_options(parser)
     parser.add_argument(
         "--echo", action="store_true", help="shows each line from a pipe before its replies"
     )
@@ -76,14 +74,6 @@ def arguments(words: List[str]) -> argparse.Namespace:
     journal.add_argument("--no-journal", action="store_true", help="there is no journal")
     parser.add_argument("session", metavar="SESSION", nargs="?")
     return parser.parse_args(words)
-
-
-def options_of(found: argparse.Namespace, session: Optional[Path]) -> List[str]:
-    """The options of the program: those of the session, and those that are given."""
-    named = [(name, getattr(found, name)) for name in (*FILES, *VALUES)]
-    words = [word for name, value in named if value is not None for word in (f"--{name}", value)]
-    given = options_of_words(words, "explore", Path.cwd())
-    return words_of_options({**(options_of_session(session) if session else {}), **given})
 
 
 def found_program(name: str) -> str:
@@ -131,13 +121,13 @@ def resumed(found: argparse.Namespace) -> Path:
     return path
 
 
-def journal_of(found: argparse.Namespace, options: List[str]) -> Optional[Journal]:
+def journal_of(found: argparse.Namespace, options: Options) -> Optional[Journal]:
     """The journal of this run, if it has one."""
     if found.no_journal or not (found.journal or sys.stdin.isatty()):
         return None
     session = os.path.abspath(found.session) if found.session else "none"
     of_session = f"{OF_SESSION}{session}".replace("\n", " ")
-    heading = [*option_lines(options_of_words(options, "explore", Path.cwd())), of_session]
+    heading = [*option_lines(options), of_session]
     if not found.journal:
         return Journal(heading, is_own=True)
     path = Path(found.journal)
@@ -170,8 +160,10 @@ def begun(found: argparse.Namespace) -> Explorer:
     taken_up = resumed(found) if found.resume is not None else None
     session = Path(found.session) if found.session else None
     options = options_of(found, taken_up or session)
+    for warning in warnings_of(options):
+        complain(warning)
     program = existing_program(found.program) if found.program else found_program("search")
-    machine = Machine(Start(program, options, Path.cwd()))
+    machine = Machine(Start(program, words_of_options(options), Path.cwd()))
     explorer = Explorer(machine, disassembler_of(found.disassembler))
     explorer.is_terminal = sys.stdin.isatty()
     explorer.session = session.name if session else ""
@@ -216,7 +208,13 @@ def main() -> int:
     INTERRUPTS.install()
     prepare_streams()
     try:
-        explore(arguments(sys.argv[1:]))
+        if sys.argv[1:2] == ["web"]:
+            from .web import show_page  # what a prompt doesn't need, and takes a while to read
+
+            with INTERRUPTS.allowed():
+                show_page(sys.argv[2:])
+        else:
+            explore(arguments(sys.argv[1:]))
         return 0
     except ExploreError as error:
         complain(str(error))

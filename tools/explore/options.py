@@ -1,11 +1,12 @@
 """The options of the program: those that are given, and those that stand in a session. There they
 are comment lines `#! OPTIONS`, which the program passes over."""
+import argparse
 import re
 import shlex
 from pathlib import Path
-from typing import Dict, Iterable, Iterator, List, Optional
+from typing import Iterable, Iterator, Optional
 
-from .children import ExploreError
+from .errors import ExploreError
 
 FILES = ["core", "disk", *(f"disk{it}" for it in range(1, 8)), "tape"]
 VALUES = {"units": "N", "start": "A", "stride": "N"}
@@ -14,10 +15,27 @@ MARK = "#!"
 LONGEST_PART = 190
 
 # A value by the name of its option.
-Options = Dict[str, str]
+Options = dict[str, str]
 
 
-def words_of_options(options: Options) -> List[str]:
+def add_options(parser: argparse.ArgumentParser) -> None:
+    """Has a parser take the options of the program."""
+    of_program = parser.add_argument_group("options of pdp11 (./pdp11 --help)")
+    for name in FILES:
+        of_program.add_argument(f"--{name}", metavar="FILE")
+    for name, value in VALUES.items():
+        of_program.add_argument(f"--{name}", metavar=value)
+
+
+def options_of(found: argparse.Namespace, session: Optional[Path]) -> Options:
+    """The options of the program: those of the session, and those that are given."""
+    named = [(name, getattr(found, name)) for name in (*FILES, *VALUES)]
+    words = [word for name, value in named if value is not None for word in (f"--{name}", value)]
+    given = options_of_words(words, "explore", Path.cwd())
+    return {**(options_of_session(session) if session else {}), **given}
+
+
+def words_of_options(options: Options) -> list[str]:
     return [word for name, value in options.items() for word in (f"--{name}", value)]
 
 
@@ -40,7 +58,7 @@ def option_lines(options: Options) -> Iterator[str]:
     text = " ".join(shlex.quote(it) for it in words_of_options(options))
     if "\n" in text:
         raise ExploreError("a path with a line feed can't be saved")
-    parts: List[str] = [""]
+    parts: list[str] = [""]
     for character in text:
         if len(f"{parts[-1]}{character}".encode(errors="surrogateescape")) > LONGEST_PART:
             parts.append("")

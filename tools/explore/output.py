@@ -4,7 +4,6 @@ import io
 import os
 import sys
 import traceback
-from typing import Tuple
 
 
 class Unwritable(Exception):
@@ -38,7 +37,7 @@ def complain(text: str) -> None:
         pass
 
 
-def as_typed(error: UnicodeError) -> Tuple[str, int]:
+def as_typed(error: UnicodeError) -> tuple[str, int]:
     """A byte that is no text is shown in octal, as `type` has it. A character that the encoding
     lacks is shown as an escape."""
     if not isinstance(error, UnicodeEncodeError):

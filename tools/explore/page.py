@@ -2,12 +2,12 @@
 import html
 import re
 from pathlib import Path
-from typing import Dict, Iterator, List, Sequence, Tuple
+from typing import Iterator, Sequence
 
-from .commands import Arguments, Explorer, check_turn, command
 from . import styles
+from .commands import Arguments, Explorer, check_turn, command
 from .drawing import shown, svg
-from .children import ExploreError
+from .errors import ExploreError
 from .language import comma_fault
 from .past import DELAYS
 from .picture import Byte, Picture, WordHistory, guessed_last, picture_of
@@ -32,10 +32,10 @@ def section(title: str, inside: str) -> str:
     return f"<h2>{html.escape(title)}</h2>{inside}" if inside else ""
 
 
-def text_rows(text: Sequence[Byte]) -> List[Tuple[str, str, str]]:
+def text_rows(text: Sequence[Byte]) -> list[tuple[str, str, str]]:
     """The lines of the console: the turns of the first and last byte, and the text."""
-    rows: List[Tuple[str, str, str]] = []
-    line: List[Byte] = []
+    rows: list[tuple[str, str, str]] = []
+    line: list[Byte] = []
     for byte in text:
         line.append(byte)
         if byte.value == 0o12:
@@ -110,7 +110,7 @@ def interrupts_of(picture: Picture) -> str:
     )
 
 
-def symbols_of(explorer: Explorer, picture: Picture) -> Dict[Mode, List[Tuple[int, str]]]:
+def symbols_of(explorer: Explorer, picture: Picture) -> dict[Mode, list[tuple[int, str]]]:
     """The symbols that label the PC: those of each mode in which turns run, if it has any."""
     modes = {it.mode for it in picture.columns}
     names = explorer.symbols.names
@@ -161,9 +161,9 @@ KEYS = {
 FORM = "page FILE [from N] [to M] [words A ..] [disk [D:]I ..]"
 
 
-def keyed(words: Sequence[str]) -> Dict[str, List[str]]:
+def keyed(words: Sequence[str]) -> dict[str, list[str]]:
     """What follows each of the keys."""
-    found: Dict[str, List[str]] = {it: [] for it in KEYS}
+    found: dict[str, list[str]] = {it: [] for it in KEYS}
     key = ""
     for word in words:
         if word in KEYS:
@@ -189,7 +189,8 @@ def page(explorer: Explorer, arguments: Arguments) -> Iterator[str]:
     as a hatched band with samples, and the legend says what else is sampled. Symbols that were read
     label the PC, those of each mode at a side of their own."""
     machine, path = explorer.machine, Path(arguments.text("file"))
-    found = keyed(arguments.text("rest").split())
+    rest = arguments.text("rest").split()
+    found = keyed([it if it in KEYS else explorer.symbols.in_octal(it) for it in rest])
     first = int((found["from"] or ["0"])[-1])
     check_turn(first)
     last = int(found["to"][-1]) if found["to"] else guessed_last(machine, first)

@@ -1,6 +1,6 @@
 """The past as explore knows it: what the edits that the program took have made of it."""
 from dataclasses import dataclass, field
-from typing import Dict, Iterable, Iterator, List, Optional, Tuple, Union
+from typing import Iterable, Iterator, Optional, Union
 
 DELAYS = {"printer": 1, "reader": 4, "punch": 4, "disk": 10, "clock": 0}
 LINE_DEVICES = frozenset(DELAYS)
@@ -30,7 +30,7 @@ class Event:
 
 
 # A patch is of ("core", address), or of ("disk", drive, number of the word).
-Patch = Tuple[Union[str, int], ...]
+Patch = tuple[Union[str, int], ...]
 
 
 @dataclass
@@ -38,10 +38,10 @@ class Past:
     """Version, patches, tape, delays and events."""
 
     version: int = 1
-    patches: Dict[Patch, int] = field(default_factory=dict)
-    tape: Optional[List[str]] = None
-    delays: Dict[str, int] = field(default_factory=lambda: dict(DELAYS))
-    events: Dict[int, Event] = field(default_factory=dict)
+    patches: dict[Patch, int] = field(default_factory=dict)
+    tape: Optional[list[str]] = None
+    delays: dict[str, int] = field(default_factory=lambda: dict(DELAYS))
+    events: dict[int, Event] = field(default_factory=dict)
     places: int = 0
 
     @classmethod
@@ -71,7 +71,7 @@ class Past:
         else:
             self._apply_to_script(word, rest, reply)
 
-    def _apply_to_script(self, word: str, rest: List[str], reply: str) -> None:
+    def _apply_to_script(self, word: str, rest: list[str], reply: str) -> None:
         if word == "drop":
             del self.events[int(rest[0])]
             return
@@ -85,15 +85,15 @@ class Past:
                 event.turn, event.place = int(rest[1]), self.places
             event.text = " ".join(rest[2:])
 
-    def script(self) -> List[Event]:
+    def script(self) -> list[Event]:
         """All events, in the order in which they happen."""
         return sorted(self.events.values(), key=lambda it: (it.turn, it.place))
 
-    def disk_events(self) -> List[int]:
+    def disk_events(self) -> list[int]:
         """The turns in which an event completes what the disk does."""
         return [it.turn for it in self.script() if it.text == "disk"]
 
-    def key_turns(self) -> List[int]:
+    def key_turns(self) -> list[int]:
         return [it.turn for it in self.script() if it.text.startswith("key")]
 
     def lines(self) -> Iterator[str]:

@@ -3,7 +3,7 @@ isn't known of each turn is kept as samples, and says so."""
 import itertools
 import re
 from dataclasses import dataclass, field
-from typing import Dict, Iterator, List, Optional, Sequence, Tuple
+from typing import Iterator, Optional, Sequence
 
 from .commands import Explorer
 from .crew import Progress
@@ -43,7 +43,7 @@ class Byte:
 class ConsoleText:
     """The bytes that were printed in the turns, or the first of them."""
 
-    shown: List[Byte]
+    shown: list[Byte]
     printed: int
 
     @property
@@ -68,7 +68,7 @@ class WordHistory:
     turn. Otherwise `unknown` says why not, and the values are samples."""
 
     name: str
-    values: List[Value]
+    values: list[Value]
     unknown: str = ""
 
 
@@ -86,15 +86,15 @@ class Transfer:
 class DiskLane:
     """What the disk does: each function; or, of very many turns, the looks at which it was busy."""
 
-    transfers: List[Transfer]
-    busy: List[Tuple[int, str]] = field(default_factory=list)
+    transfers: list[Transfer]
+    busy: list[tuple[int, str]] = field(default_factory=list)
     looks: int = 0
 
     @property
     def is_whole(self) -> bool:
         return not self.looks
 
-    def begins(self) -> Dict[int, Optional[int]]:
+    def begins(self) -> dict[int, Optional[int]]:
         """The turn that began each function whose begin is known, by the turn that completed it."""
         return {it.end: it.begin for it in self.transfers if it.end and it.begin is not None}
 
@@ -104,14 +104,14 @@ class Picture:
     """All that is drawn."""
 
     turns: range
-    columns: List[Column]
-    interrupts: List[Turn]
+    columns: list[Column]
+    interrupts: list[Turn]
     block: int
     lists_all_turns: bool
     disk: DiskLane
     text: ConsoleText
-    words: List[WordHistory]
-    events: List[Event]
+    words: list[WordHistory]
+    events: list[Event]
 
 
 def guessed_last(machine: Machine, first: int) -> int:
@@ -151,18 +151,18 @@ def listed(machine: Machine, turns: range) -> Iterator[Turn]:
             yield from turns_of(reply)
 
 
-def columns_of(machine: Machine, turns: range) -> Tuple[List[Column], List[Turn]]:
+def columns_of(machine: Machine, turns: range) -> tuple[list[Column], list[Turn]]:
     """The columns of the picture, and the interrupts."""
     size = block_size(turns)
-    interrupts: List[Turn] = []
-    counters: Dict[int, List[int]] = {}
+    interrupts: list[Turn] = []
+    counters: dict[int, list[int]] = {}
     for turn in listed(machine, turns):
         counters.setdefault((turn.turn - turns.start) // size, []).append(turn.pc)
         if turn.act == INTERRUPT:
             interrupts.append(turn)
     starts = [(turns.start + number * size, found) for number, found in sorted(counters.items())]
     replies = machine.ask_all([f"regs {turn}" for turn, _ in starts])
-    columns: List[Column] = []
+    columns: list[Column] = []
     for (begin, found), reply in zip(starts, replies):
         registers = Registers.of(reply)
         ends = min(found), max(found)
@@ -173,12 +173,12 @@ def columns_of(machine: Machine, turns: range) -> Tuple[List[Column], List[Turn]
 # The disk
 
 BUSY = re.compile(r"RKCS ([0-7]+) RKWC ([0-7]+) RKBA ([0-7]+) RKDA ([0-7]+)")
-Drive = Tuple[str, ...]
+Drive = tuple[str, ...]
 
 
-def drives_before(machine: Machine, looks: Sequence[int]) -> Iterator[Tuple[int, Drive, str]]:
+def drives_before(machine: Machine, looks: Sequence[int]) -> Iterator[tuple[int, Drive, str]]:
     """Before each of the turns the registers of the disk, and what it does, if anything."""
-    titles: Dict[Drive, str] = {}
+    titles: dict[Drive, str] = {}
     turns = iter(looks)
     with Progress(len(looks), "turns, disk") as progress:
         for block in machine.blocks([f"devices {it}" for it in looks], DEVICES_BYTES):
@@ -193,10 +193,10 @@ def drives_before(machine: Machine, looks: Sequence[int]) -> Iterator[Tuple[int,
                 yield turn, drive, titles[drive]
 
 
-def transfers_of(machine: Machine, turns: range) -> List[Transfer]:
+def transfers_of(machine: Machine, turns: range) -> list[Transfer]:
     """The functions of the disk, by a look before each turn. One that is begun in the turn in
     which another completes has other registers."""
-    found: List[Transfer] = []
+    found: list[Transfer] = []
     before: Drive = ()
     begin: Optional[int] = None
     what = ""
@@ -228,7 +228,7 @@ def disk_lane(machine: Machine, turns: range) -> DiskLane:
 # The console
 
 # Turns from one on up to another, and how much text there is before the one and before the other.
-Part = Tuple[int, int, int, int]
+Part = tuple[int, int, int, int]
 
 
 def halved(machine: Machine, parts: Sequence[Part]) -> Iterator[Part]:
@@ -249,7 +249,7 @@ def text_of_turns(machine: Machine, turns: range) -> ConsoleText:
     begin = machine.text_length(turns.start)
     text = machine.text(turns.stop)
     last = min(len(text), begin + MOST_BYTES)
-    parts: List[Part] = [(turns.start, turns.stop, begin, len(text))]
+    parts: list[Part] = [(turns.start, turns.stop, begin, len(text))]
     while any(high - low > 1 for low, high, _, _ in parts):
         parts = [it for it in halved(machine, parts) if it[2] < min(it[3], last)]
     shown = [Byte(low, text[at]) for low, _, first, stop in parts for at in range(first, stop)]
@@ -277,7 +277,7 @@ def core_history(explorer: Explorer, address: int, turns: range, disk: DiskLane)
 
 def how_written(
     explorer: Explorer, writes: Sequence[LastWrite], disk: DiskLane
-) -> Dict[int, str]:
+) -> dict[int, str]:
     """By turn, the instruction or the function of the disk that wrote."""
     by_cpu = [it.turn for it in writes if it.writer == "cpu"]
     by_disk = [it.turn for it in writes if it.writer == "disk"]
@@ -300,7 +300,7 @@ def disk_history(
     else:
         looks = word.looks(turns)
     seen = list(word.values(looks))
-    changes: Dict[int, int] = {}
+    changes: dict[int, int] = {}
     for before, after, old, new in zip(looks, looks[1:], seen, seen[1:]):
         if old != new:
             changes[after - 1 if disk.is_whole else word.change_between(before, after)] = new
@@ -310,7 +310,7 @@ def disk_history(
 
 
 def picture_of(
-    explorer: Explorer, turns: range, addresses: List[int], drive_words: List[Tuple[int, int]]
+    explorer: Explorer, turns: range, addresses: list[int], drive_words: list[tuple[int, int]]
 ) -> Picture:
     machine = explorer.machine
     columns, interrupts = columns_of(machine, turns)

@@ -1,48 +1,29 @@
 """The prompt: lines of the session language go through, explore's own commands are done here."""
 import os
+import re
 import readline
 import sys
 from pathlib import Path
-from typing import Iterable, List, Optional
+from typing import Iterable, Optional
 
 import sessions
 
 # these add commands
-from . import compare, edits, export, listing, page, screen, script, search  # noqa: F401
+from . import compare, console, edits, export, listing, page, screen, script, search  # noqa: F401
 from . import stepping, sweep  # noqa: F401
+from . import images, load, simh  # noqa: F401
 from .at_work import AtWork
 from .commands import COMMANDS, Explorer
-from .language import FORMS, SEARCHES, explanation, form_of, forms_of_searches
-from .children import ExploreError
+from .errors import ExploreError
 from .files import OUTPUT
 from .interrupts import INTERRUPTS, typed_line
 from .journal import counted, state_folder
+from .language import FORMS, SEARCHES, SUMMARIES, explanation, form_of, forms_of_searches
 from .machine import is_refused
 from .output import Unwritable, fault_in_words, put
 
 PROMPT = "explore> "
-INTRODUCTION = "lines of the session language, and help, see, until, sweep ..; quit ends"
-LINE_HELP = {
-    "core": "makes the core word at A equal to W as of power-up: a patch",
-    "uncore": "takes back the patch of the core word at A",
-    "disk": "makes a word of a drive equal to W as of power-up: a patch",
-    "patches": "lists the patches",
-    "tape": "puts a paper tape with these bytes into the reader as of power-up",
-    "delay": "sets how many turns printer, reader, punch, disk or clock takes",
-    "at": "puts an event at turn T: key B, tick, switches W, continue, or a device",
-    "alter": "gives event E another turn and another event",
-    "drop": "takes event E out",
-    "regs": "the registers before turn N",
-    "mem": "C words of core from address A on, before turn N",
-    "dsk": "C words of a drive from word I on, before turn N",
-    "text": "what was printed before turn N",
-    "punched": "what was punched before turn N",
-    "last": "the last write to the core word at A before turn N",
-    "devices": "the registers of the devices before turn N",
-    "pages": "the registers of memory management before turn N",
-    "trail": "the C turns before turn N: PC and act",
-    "version": "gives the machine eight drives",
-}
+INTRODUCTION = "lines of the session language, and help, console, see, until ..; quit ends"
 OWN_HELP = {
     "help": ("help [WORD]", "what there is, or what the command WORD does"),
     "quit": ("quit", "ends, as q, exit and Ctrl-D do; quit! drops edits that weren't saved"),
@@ -53,10 +34,10 @@ SEARCH_HELP = (
     " Details: docs/LANGUAGE.md, Searches"
 )
 # With `!` these overwrite a file that this run hasn't written.
-WRITING = {"save", "page", "export", "sweep"}
+WRITING = {"save", "page", "export", "sweep", "core", "disk"}
 NUMBERS = (
-    "A, X, I, D, W and B are octal, N, M, T, C, K and E decimal. A question about turn N is about "
-    "the machine before it."
+    "A, X, I, D, W and B are octal, N, M, T, C, K and E decimal. A and X may be a symbol, with "
+    "octal numbers after + and -. A question about turn N is about the machine before it."
 )
 
 
@@ -64,7 +45,7 @@ class Prompt:
     """Does lines, and shows what each gives."""
 
     def __init__(self, explorer: Explorer, echo: bool = False):
-        self.completions: List[str] = []
+        self.completions: list[str] = []
         self.told_fault = ""
         self.explorer = explorer
         self.echo = echo
@@ -119,12 +100,12 @@ class Prompt:
         machine = self.explorer.machine
         if machine.file is None:
             return
-        edits = sum(len(it.edits) for it in self.explorer.steps.done)
-        if is_dropped or not edits or machine.journal == self.explorer.saved:
+        count = sum(len(it.edits) for it in self.explorer.steps.done)
+        if is_dropped or not count or machine.journal == self.explorer.saved:
             machine.file.remove()
         elif machine.file.place:
             how = "--resume" if machine.file.is_own else f"--resume {machine.file.place}"
-            self.show([f"the past isn't saved: ./explore {how} takes up {counted(edits)}"])
+            self.show([f"the past isn't saved: ./explore {how} takes up {counted(count)}"])
 
     # Completion
 
@@ -149,15 +130,16 @@ class Prompt:
 
     def pass_on(self, line: str) -> None:
         machine = self.explorer.machine
+        line = self.explorer.symbols.line_in_octal(line, machine.past)
         reply = machine.ask(line)
         why = explanation(line, reply, machine.past) if is_refused(reply) else ""
         self.show([reply, f"  {why}"] if why else [reply])
 
-    def help_lines(self, word: str) -> List[str]:
+    def help_lines(self, word: str) -> list[str]:
         past = self.explorer.machine.past
-        lines: List[str] = []
+        lines: list[str] = []
         if word in FORMS:
-            lines += [form_of(word, past), "", f"{LINE_HELP[word]}. Details: docs/LANGUAGE.md"]
+            lines += [form_of(word, past), "", f"{SUMMARIES[word]}. Details: docs/LANGUAGE.md"]
         if word in SEARCHES:
             lines += [*([""] if lines else []), *forms_of_searches(word), "", SEARCH_HELP]
         if word in COMMANDS:
@@ -169,7 +151,7 @@ class Prompt:
             return [f"there is no command '{word}'; help lists them"]
         return lines or self.overview()
 
-    def overview(self) -> List[str]:
+    def overview(self) -> list[str]:
         past = self.explorer.machine.past
         own = sorted([*((it.form, it.summary) for it in COMMANDS.values()), *OWN_HELP.values()])
         lines = ["commands of explore (help WORD has more):"]
@@ -178,7 +160,7 @@ class Prompt:
                 lines.append(f"  {part}")
             lines.append(f"      {summary}")
         lines += ["", "lines of the session language (docs/LANGUAGE.md):"]
-        lines += [f"  {form_of(word, past):<16}  {text}" for word, text in LINE_HELP.items()]
+        lines += [f"  {form_of(word, past):<16}  {text}" for word, text in SUMMARIES.items()]
         lines += ["", "lines of searches (docs/LANGUAGE.md):"]
         lines += [f"  {it.form}" for it in sessions.SEARCHES]
         return [*lines, "", NUMBERS]
@@ -189,17 +171,18 @@ def is_own(word: str, rest: str) -> bool:
     if word in SEARCHES and rest[:1].isdigit():
         return False
     if word in FORMS:
-        return word in COMMANDS and rest.startswith("from")
+        writes = word in WRITING and re.search(r"\sat\s+\S+$", rest.rstrip())
+        return word in COMMANDS and (rest.startswith("from") or bool(writes))
     return word in COMMANDS or word[-1] == "!" and word[:-1] in WRITING
 
 
-def words_from(text: str) -> List[str]:
+def words_from(text: str) -> list[str]:
     """The commands and lines that begin so. After the only one comes a space."""
     found = [it for it in {*COMMANDS, *OWN_HELP, *FORMS, *SEARCHES} if it.startswith(text)]
     return sorted(found) if len(found) > 1 else [f"{it} " for it in found]
 
 
-def paths_from(text: str) -> List[str]:
+def paths_from(text: str) -> list[str]:
     """The files and folders whose path begins so."""
     folder, name = os.path.split(text)
     try:

@@ -1,7 +1,7 @@
 """The replies of the session language as types with names."""
 from dataclasses import dataclass
 from enum import Enum
-from typing import Dict, List, Optional, Tuple
+from typing import Optional
 
 
 class Mode(Enum):
@@ -21,7 +21,7 @@ class Mode(Enum):
         return list(cls)[ps >> 12 & 3]
 
 
-def named_words(fields: List[str]) -> Dict[str, int]:
+def named_words(fields: list[str]) -> dict[str, int]:
     """The words of a reply such as `R0 000005 R1 000000 ..`, by their names."""
     return {name: int(word, 8) for name, word in zip(fields[::2], fields[1::2])}
 
@@ -30,7 +30,7 @@ def named_words(fields: List[str]) -> Dict[str, int]:
 class Registers:
     """The reply of `regs`."""
 
-    words: Dict[str, int]
+    words: dict[str, int]
     state: str
 
     @classmethod
@@ -89,7 +89,7 @@ KEY_WAITS, DISK_READY = 0o200, 0o200
 class Devices:
     """The reply of `devices`."""
 
-    words: Dict[str, int]
+    words: dict[str, int]
 
     @classmethod
     def of(cls, reply: str) -> "Devices":
@@ -142,14 +142,14 @@ class Pages:
 
     sr0: int
     sr2: int
-    descriptors: Dict[Mode, Tuple[int, ...]]
-    addresses: Dict[Mode, Tuple[int, ...]]
+    descriptors: dict[Mode, tuple[int, ...]]
+    addresses: dict[Mode, tuple[int, ...]]
 
     @classmethod
     def of(cls, reply: str) -> "Pages":
         fields = reply.split()
 
-        def words(name: str, count: int) -> Tuple[int, ...]:
+        def words(name: str, count: int) -> tuple[int, ...]:
             at = fields.index(name) + 1
             return tuple(int(word, 8) for word in fields[at : at + count])
 
@@ -234,12 +234,12 @@ class Turn:
         return f"interrupt {vector:03o} {VECTORS.get(vector, '')}".rstrip()
 
 
-def words_of(reply: str) -> List[int]:
+def words_of(reply: str) -> list[int]:
     """The words of a reply of `mem` or `dsk`."""
     return [int(word, 8) for word in reply.split()[1:]]
 
 
-def turns_of(reply: str) -> List[Turn]:
+def turns_of(reply: str) -> list[Turn]:
     return [Turn.of(line) for line in reply.splitlines()[1:]]
 
 

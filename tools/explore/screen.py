@@ -1,8 +1,9 @@
 """The console's text as a terminal shows it: `screen`."""
 from dataclasses import dataclass, field
-from typing import Iterator, List
+from typing import Iterator
 
 from .commands import Arguments, Explorer, command
+from .errors import ExploreError
 
 BACKSPACE, TAB, LINE_FEED, RETURN, ESCAPE, DELETE = 0o10, 0o11, 0o12, 0o15, 0o33, 0o177
 TAB_WIDTH = 8
@@ -19,7 +20,7 @@ def visible(byte: int) -> str:
 class Screen:
     """Lines of a terminal, and where the next character goes."""
 
-    lines: List[List[str]] = field(default_factory=lambda: [[]])
+    lines: list[list[str]] = field(default_factory=lambda: [[]])
     column: int = 0
 
     def take(self, byte: int) -> None:
@@ -44,17 +45,21 @@ class Screen:
 
 
 @command(
-    "screen N [LAST]",
-    r"<turn:decimal>( <count:decimal>)?",
+    "screen [N [LAST]]",
+    r"(<turn:decimal>( <count:decimal>)?)?",
     "the text before turn N, line by line as a terminal shows it",
 )
 def screen(explorer: Explorer, arguments: Arguments) -> Iterator[str]:
-    """Shows what was printed before turn N with its line ends; with LAST the last LAST lines. CR,
-    LF, BS and TAB move as on a terminal, so what is printed over a character takes its place.
-    Other control bytes are shown: ^[ is ESC, ^G Ctrl-G, ^? DEL, and \\377 the byte 377. An escape
-    sequence is shown too, and has no effect. `text N` shows each byte."""
+    """Shows what was printed before turn N with its line ends; with LAST the last LAST lines.
+    Without N it is the turn at which the last console was left. CR, LF, BS and TAB move as on a
+    terminal, so what is printed over a character takes its place. Other control bytes are shown:
+    ^[ is ESC, ^G Ctrl-G, ^? DEL, and \\377 the byte 377. An escape sequence is shown too, and has
+    no effect. `text N` shows each byte."""
+    left = explorer.sitting.turn
+    if left is None and not arguments.optional("turn"):
+        raise ExploreError("no console was left here: screen N shows the text before turn N")
     shown = Screen()
-    for byte in explorer.machine.text(arguments.decimal("turn")):
+    for byte in explorer.machine.text(arguments.decimal("turn", left or 0)):
         shown.take(byte)
     lines = ["".join(it).rstrip() for it in shown.lines]
     if not lines[-1]:

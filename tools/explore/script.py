@@ -1,10 +1,10 @@
 """Events and the past: `events`, `save`, `type`."""
 import re
 from pathlib import Path
-from typing import Iterator, List, Optional
+from typing import Iterator, Optional
 
 from .commands import Arguments, Explorer, check_turn, command
-from .children import ExploreError
+from .errors import ExploreError
 from .files import write_whole as write_whole
 from .language import comma_fault
 from .machine import LAST_TURN, Machine, is_refused
@@ -24,7 +24,7 @@ def events(explorer: Explorer, arguments: Arguments) -> Iterator[str]:
         yield f"event {event.number:>5}  at {event.turn:>10}  {event.explained()}"
 
 
-def session_lines(machine: Machine) -> List[str]:
+def session_lines(machine: Machine) -> list[str]:
     """A session that gives the same machine, with its options."""
     options = options_of_words(machine.start.options, "explore", machine.start.folder)
     return [*option_lines(options), *machine.past.lines()]
@@ -56,14 +56,14 @@ def bytes_of(text: str) -> bytes:
         raise ExploreError(said) from None
 
 
-def typed_bytes(text: str) -> List[int]:
+def typed_bytes(text: str) -> list[int]:
     """The bytes of a TEXT: `\\r`, `\\n`, `\\t`, `\\e`, and three octal digits, as in replies."""
     if len(text) > 1 and text[0] == text[-1] == '"':
         text = text[1:-1]
     elif re.search(r" (from|every)( |$)", text):
         wrong = comma_fault(text) or "a turn is missing"
         raise ExploreError(f"{wrong}; a TEXT with ' from ' or ' every ' stands in quotes")
-    found: List[int] = []
+    found: list[int] = []
     for octal, escape, plain in re.findall(r"\\([0-3][0-7]{2})|\\(.?)|([^\\]+)", text):
         if octal:
             found.append(int(octal, 8))

@@ -2,8 +2,8 @@
 from typing import Iterator, Optional
 
 from .commands import Arguments, Explorer, command, searched_range
-from .children import ExploreError
 from .disk_words import DiskWord, change_lines, functions_in_words, last_change
+from .errors import ExploreError
 from .finder import mode_is, register_with
 from .listing import turn_in_words
 from .replies import LastWrite, Mode
@@ -41,7 +41,7 @@ UNTIL = ("PC X", "vector V", "mode user|kernel", "R = W", "text STRING")
 
 @command(
     "  or  ".join(f"until {it} [from N] [to M]" for it in UNTIL),
-    r"(?P<what>(PC|pc) <address:octal>|vector <vector:octal>|mode (?P<mode>user|kernel)"
+    r"(?P<what>(PC|pc) <address:address>|vector <vector:octal>|mode (?P<mode>user|kernel)"
     r"|(?P<register>[Rr][0-5]|[KUku][Ss][Pp]|[Pp][Ss])\s*=\s*<word:octal>"
     r"|text (?P<text>.+?)){from}{to}",
     "the first turn that runs the instruction at X, or has what is named",
@@ -93,12 +93,12 @@ WORD_OF_DISK = r"((?P<drive>[0-7]) )?"
 
 
 def disk_word_of(explorer: Explorer, arguments: Arguments) -> DiskWord:
-    return DiskWord(explorer.machine, arguments.octal("drive"), arguments.octal("address"))
+    return DiskWord(explorer.machine, arguments.octal("drive"), arguments.octal("index"))
 
 
 @command(
     "next A [from N] [to M]  or  next disk [D] I [from N] [to M]",
-    rf"((?P<kind>disk) {WORD_OF_DISK})?<address:octal>{{from}}{{to}}",
+    rf"((?P<kind>disk) {WORD_OF_DISK}<index:octal>|<address:address>){{from}}{{to}}",
     "the next write to a core word, or change of a disk word",
 )
 def next_command(explorer: Explorer, arguments: Arguments) -> Iterator[str]:
@@ -127,7 +127,8 @@ def next_on_disk(explorer: Explorer, word: DiskWord, turns: range) -> Iterator[s
 
 @command(
     "first core A = W [from N] [to M]  or  first disk [D] I = W [from N] [to M]",
-    rf"(?P<kind>core|disk) {WORD_OF_DISK}<address:octal>\s*=\s*<value:octal>{{from}}{{to}}",
+    rf"(core <address:address>|(?P<kind>disk) {WORD_OF_DISK}<index:octal>)\s*=\s*<value:octal>"
+    r"{from}{to}",
     "the first turn that makes a word W",
 )
 def first(explorer: Explorer, arguments: Arguments) -> Iterator[str]:
@@ -136,7 +137,7 @@ def first(explorer: Explorer, arguments: Arguments) -> Iterator[str]:
     so far. It is exact."""
     value, turns = word_of(arguments, "value"), searched_range(explorer, arguments)
     machine, address = explorer.machine, arguments.octal("address")
-    if arguments.text("kind") == "disk":
+    if arguments.optional("kind"):
         word = disk_word_of(explorer, arguments)
         yield from first_on_disk(explorer, word, value, turns)
         return
@@ -165,7 +166,7 @@ def first_on_disk(
 
 @command(
     "where disk [D] I N",
-    rf"disk {WORD_OF_DISK}<address:octal> <turn:decimal>",
+    rf"disk {WORD_OF_DISK}<index:octal> <turn:decimal>",
     "the turn in which a disk word last got another value",
 )
 def where(explorer: Explorer, arguments: Arguments) -> Iterator[str]:

@@ -1,8 +1,8 @@
 """Words that people know from other debuggers: `step`, `back`, `run`."""
 from typing import Iterator
 
-from .children import ExploreError
 from .commands import COMMANDS, Arguments, Explorer, check_turn, command
+from .errors import ExploreError
 
 
 def shown(explorer: Explorer, turn: int) -> Iterator[str]:

@@ -1,5 +1,4 @@
 """One event at each of many turns: `sweep`."""
-import fcntl
 import hashlib
 import os
 import re
@@ -7,15 +6,15 @@ import shlex
 import stat
 from dataclasses import dataclass, field
 from pathlib import Path
-from typing import Container, Dict, Iterator, List, Optional, Sequence, Tuple
+from typing import Container, Iterator, Optional, Sequence
 
 from sessions import has_reply
 
 from .asked import turns_of_question
-from .children import ExploreError
 from .commands import Arguments, Explorer, check_turn, command
 from .crew import Progress, each_of, processors
-from .files import write_whole
+from .errors import ExploreError
+from .files import is_locked_here, write_whole
 from .interrupts import INTERRUPTS, typed_line
 from .language import comma_fault, explanation
 from .machine import EDITS, Machine, is_refused
@@ -37,7 +36,7 @@ class Sweep:
     number: Optional[int]
     turns: range
     question: str
-    numbers: Dict[int, int] = field(default_factory=dict)
+    last_event: int  # of the script, before the sweep
 
     @classmethod
     def of(cls, machine: Machine, text: str) -> "Sweep":
@@ -59,7 +58,7 @@ class Sweep:
         is_comment = not has_reply(question.encode(errors="surrogateescape"))
         if is_comment or question.split()[0] in EDITS:
             raise ExploreError(f"{'a comment' if is_comment else 'an edit'} is no question")
-        return cls(event, number, turns, question)
+        return cls(event, number, turns, question, max(machine.past.events, default=0))
 
     def check(self, machine: Machine) -> None:
         """Tries the event and the question, once, on a twin."""
@@ -71,14 +70,15 @@ class Sweep:
 
     def work(self, twin: Machine, turn: int) -> str:
         """The reply with the event at this turn. A twin has the event once, and moves it on."""
-        number = self.number or self.numbers.get(id(twin))
-        edit = "at" if number is None else f"alter {number}"
-        edited, reply = self.asked_of(twin, f"{edit} {turn} {self.event}")
+        added = (it for it in twin.past.events if it > self.last_event)
+        number = self.number or next(added, None)
+        edit = f"{'at' if number is None else f'alter {number}'} {turn} {self.event}"
+        edited, reply = self.asked_of(twin, edit)
         if number is None:
-            self.numbers[id(twin)] = int(edited.split()[1])
+            twin.past.apply(edit, edited)  # lines that are asked aren't noted
         return reply.replace("\n", " / ")
 
-    def asked_of(self, twin: Machine, edit: str) -> List[str]:
+    def asked_of(self, twin: Machine, edit: str) -> list[str]:
         """The replies to an edit and the question. An error if one is refused."""
         lines = [edit, self.question]
         replies = list(twin.ask_all(lines))
@@ -110,8 +110,8 @@ class Results:
     """Replies by turn, in lines `TURN REPLY` of a file after a heading."""
 
     heading: str
-    replies: Dict[int, str] = field(default_factory=dict)
-    known: Dict[str, str] = field(default_factory=dict)
+    replies: dict[int, str] = field(default_factory=dict)
+    known: dict[str, str] = field(default_factory=dict)
 
     def add(self, turn: int, reply: str) -> None:
         """Equal replies are kept as one text."""
@@ -141,7 +141,7 @@ class Results:
 
     def lines(self, step: int) -> Iterator[str]:
         """Runs of turns with equal replies."""
-        runs: List[Tuple[int, int, str]] = []
+        runs: list[tuple[int, int, str]] = []
         for turn, reply in sorted(self.replies.items()):
             if runs and runs[-1][2] == reply and turn - runs[-1][1] == step:
                 runs[-1] = (runs[-1][0], turn, reply)
@@ -173,10 +173,8 @@ class ResultFile:
     def take(self, results: Results) -> None:
         """Takes in what is there. A last line without its end was cut off, and goes. Without any
         the heading is written before the first result."""
-        try:
-            fcntl.flock(self.handle, fcntl.LOCK_EX | fcntl.LOCK_NB)
-        except BlockingIOError:
-            raise ExploreError(f"{self.path}: another sweep is writing to it") from None
+        if not is_locked_here(self.handle):
+            raise ExploreError(f"{self.path}: another sweep is writing to it")
         data = self.path.read_bytes()
         whole = data[: data.rfind(b"\n") + 1]
         results.take(self.path, whole.decode(errors="replace"))
@@ -200,7 +198,7 @@ class ResultFile:
 
 def swept(
     machine: Machine, sweep: Sweep, known: Container[int], hands: int
-) -> Iterator[Tuple[int, str]]:
+) -> Iterator[tuple[int, str]]:
     """The turns that aren't known yet, with their replies, as they come."""
     count = sum(1 for it in sweep.turns if it not in known) if known else len(sweep.turns)
     wanted = (it for it in sweep.turns if it not in known)
@@ -309,7 +307,7 @@ def sweep_command(explorer: Explorer, arguments: Arguments) -> Iterator[str]:
     --jobs FILE writes commands for GNU parallel instead, on this machine or on others with the same
     folders, and --gather FILE .. reads what they have written."""
     words = arguments.text("words").strip()
-    options: Dict[str, str] = {}
+    options: dict[str, str] = {}
     if words.startswith("--gather"):
         yield from gathered(words.split()[1:])
         return
@@ -321,7 +319,9 @@ def sweep_command(explorer: Explorer, arguments: Arguments) -> Iterator[str]:
     hands = options.get("-j", str(processors()))
     if not hands.isdecimal() or not 1 <= int(hands) <= 256:
         raise ExploreError("N of -j is 1 to 256")
-    sweep = Sweep.of(explorer.machine, words)
+    head, colon, question = words.partition(":")
+    question = explorer.symbols.line_in_octal(question, explorer.machine.past)
+    sweep = Sweep.of(explorer.machine, f"{head}{colon}{question}")
     if len(sweep.turns) > MOST_TURNS_UNASKED and not options.keys() & {"-y", "--jobs"}:
         ask_first(explorer, sweep.turns)
     if "--jobs" in options:

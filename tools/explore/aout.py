@@ -1,0 +1,127 @@
+"""Programs of Unix V6, V7 and 2BSD: a.out. Eight words stand first: the magic number, the bytes of
+text, of data and of bss, those of the symbol table, the entry, a word that isn't used, and whether
+there is no relocation. Then come text, data, their relocation, and the symbols: a name of eight
+bytes, a type and a value each. 2.11BSD has symbols of eight bytes, with names in a table after
+them. A long of the PDP-11 has its high word first."""
+import struct
+from dataclasses import dataclass
+from typing import Iterator, Optional
+
+from .errors import ExploreError
+from .symbol_files import Symbol
+
+HEAD = struct.Struct("<8H")
+ENTRY, ENTRY_OF_211 = struct.Struct("<8sHH"), struct.Struct("<HHBBH")
+PLAIN, SHARED = 0o407, 0o410
+PAGE_BYTES = 0o20000  # the text of an 0410 fills pages, since it can't be written
+REFUSED = {
+    0o405: "an overlay, or a program of the first Unix",
+    0o411: "it has separate spaces for instructions and data, and a PDP-11/40 has one;"
+    " link it without -i",
+    0o430: "its text has overlays, which only 2BSD can run",
+    0o431: "its text has overlays and a space of its own, and a PDP-11/40 has one space",
+}
+# 0407 is a branch too, which the boot block of a disk may begin with
+AS_WORDS = "if it is no a.out: load words FILE at A"
+MAGIC = {PLAIN, SHARED, *REFUSED}
+TYPE, ABSOLUTE, TEXT, DATA, BSS = 0o37, 1, 2, 3, 4
+
+
+def begins_as_aout(data: bytes) -> bool:
+    return len(data) >= 2 and int.from_bytes(data[:2], "little") in MAGIC
+
+
+@dataclass(frozen=True)
+class Program:
+    """An a.out, with the places of its parts as its own addresses have them."""
+
+    magic: int
+    text: bytes
+    data: bytes
+    bss: int
+    entry: int
+    symbols: list[Symbol]
+
+    @property
+    def data_address(self) -> int:
+        end = len(self.text)
+        return end if self.magic == PLAIN else -(-end // PAGE_BYTES) * PAGE_BYTES
+
+    @property
+    def end(self) -> int:
+        return self.data_address + len(self.data) + self.bss
+
+    @property
+    def bytes(self) -> dict[int, int]:
+        """Its bytes, with bss as zeros."""
+        found = dict(enumerate(self.text))
+        found.update(enumerate(self.data + bytes(self.bss), self.data_address))
+        return found
+
+    @property
+    def parts(self) -> str:
+        data = f"{len(self.data)} of data at {self.data_address:o}"
+        return f"{len(self.text)} bytes of text at 0, {data}, {self.bss} of bss"
+
+
+def program_of(data: bytes) -> Program:
+    """The program in a file, or an error that says what is wrong."""
+    if len(data) < HEAD.size:
+        raise ExploreError(f"the file ends in the head, which has {HEAD.size} bytes")
+    magic, text, words, bss, symbols, entry, _, is_bare = HEAD.unpack_from(data)
+    if magic in REFUSED:
+        raise ExploreError(f"the magic number is {magic:04o}: {REFUSED[magic]}")
+    if text % 2 or words % 2 or bss % 2:
+        raise ExploreError(f"its head has an odd number of bytes for a part; {AS_WORDS}")
+    start_of_symbols = HEAD.size + (text + words) * (1 if is_bare else 2)
+    end = start_of_symbols + symbols
+    if len(data) < end:
+        sizes = f"the file has {len(data)} bytes, and by its head at least {end}"
+        raise ExploreError(f"{sizes}; {AS_WORDS}")
+    at = HEAD.size + text
+    found = symbols_of(data[start_of_symbols:end], data[end:])
+    return Program(magic, data[HEAD.size : at], data[at : at + words], bss, entry, found)
+
+
+def symbols_of(table: bytes, rest: bytes) -> list[Symbol]:
+    """The symbols that have an address, or a constant."""
+    is_old = not rest.strip(b"\0")  # a file may be filled up with zeros
+    entries = entries_of(table) if is_old else entries_of_211(table, rest)
+    return [
+        Symbol(name, value, kind == ABSOLUTE, kind != ABSOLUTE)
+        for name, kind, value in entries
+        if kind in (ABSOLUTE, TEXT, DATA, BSS)
+    ]
+
+
+def entries_of(table: bytes) -> Iterator[tuple[str, int, int]]:
+    """Name, type and value of the symbols of V6, V7 and the earlier 2BSD."""
+    if len(table) % ENTRY.size:
+        raise ExploreError(f"the symbol table has {len(table)} bytes, not {ENTRY.size} a symbol")
+    for padded, kind, value in ENTRY.iter_unpack(table):
+        yield name_of(padded.rstrip(b"\0")), kind & TYPE, value
+
+
+def entries_of_211(table: bytes, rest: bytes) -> Iterator[tuple[str, int, int]]:
+    """The same of 2.11BSD. What follows the table are its names, after their length."""
+    high, low = struct.unpack("<HH", rest[:4].ljust(4, b"\0"))
+    length = high << 16 | low
+    if len(rest) < max(4, length):
+        raise ExploreError(f"the file ends in the names of its symbols, which have {length} bytes")
+    if len(table) % ENTRY_OF_211.size:
+        raise ExploreError(f"the symbol table has {len(table)} bytes, not {ENTRY_OF_211.size} each")
+    for high, low, kind, _, value in ENTRY_OF_211.iter_unpack(table):
+        yield name_of(string_at(rest[:length], high << 16 | low)), kind & TYPE, value
+
+
+def string_at(names: bytes, at: int) -> bytes:
+    end: Optional[int] = names.find(b"\0", at) if 4 <= at < len(names) else -1
+    if end == -1:
+        raise ExploreError(f"a symbol has its name at byte {at} of the names, where none ends")
+    return names[at:end]
+
+
+def name_of(name: bytes) -> str:
+    if not name or any(not 0o40 < it < 0o177 for it in name):
+        raise ExploreError(f"the symbol table has a name that is none: {name!r}")
+    return name.decode("ascii")

@@ -1,0 +1,5 @@
+"""What goes wrong and is told to the user."""
+
+
+class ExploreError(Exception):
+    """Why a command can't be done, for the user to read."""

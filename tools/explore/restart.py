@@ -1,0 +1,73 @@
+"""The program started again with other options, and with all edits."""
+from dataclasses import replace
+from pathlib import Path
+from typing import Callable, Mapping, Sequence
+
+from .commands import Explorer
+from .errors import ExploreError
+from .interrupts import INTERRUPTS
+from .machine import Machine, Start, is_refused
+from .options import Options, option_lines, options_of_words, words_of_options
+
+FIRST_START = "1000"
+
+
+def options_of(start: Start) -> Options:
+    """The options that a program is started with. Paths are absolute."""
+    return options_of_words(start.options, "explore", Path(start.folder))
+
+
+def start_address(machine: Machine) -> int:
+    return int(options_of(machine.start).get("start", FIRST_START), 8)
+
+
+def begin_as(machine: Machine, start: Start) -> None:
+    """Starts the program so, with all edits, and the journal says so. If it doesn't run, all is as
+    before."""
+    before = machine.start
+    if start == before:
+        return
+    machine.restart()
+    machine.start = start
+    try:
+        machine.begin()
+    except BaseException:
+        machine.restart()
+        machine.start = before
+        raise
+    if machine.file is not None:
+        machine.file.change_options(list(option_lines(options_of(start))))
+
+
+def make(
+    explorer: Explorer, options: Mapping[str, str], edits: Callable[[], list[str]]
+) -> list[str]:
+    """Starts the program again if it hasn't these options, and makes the edits, which it returns.
+    If the program refuses anything, all is as before."""
+    machine, steps = explorer.machine, explorer.steps
+    before = machine.start
+    now = options_of(before)
+    as_now = {"start": FIRST_START, **now}
+    is_other = any(as_now.get(name) != value for name, value in options.items())
+    with INTERRUPTS.held():
+        if is_other:
+            begin_as(machine, replace(before, options=words_of_options({**now, **options})))
+            steps.starts, explorer.saved = (before, machine.start), []
+        try:
+            made = edits()
+            edit_whole(machine, made)
+        except BaseException:
+            begin_as(machine, before)
+            steps.starts = None
+            raise
+    return made
+
+
+def edit_whole(machine: Machine, edits: Sequence[str]) -> None:
+    """Makes all these edits, or none."""
+    count = len(machine.journal)
+    for line, reply in zip(edits, machine.edit_all(edits)):
+        if is_refused(reply):
+            if len(machine.journal) > count:
+                machine.take_back(len(machine.journal) - count)
+            raise ExploreError(f"{line}: {reply}; nothing was changed")

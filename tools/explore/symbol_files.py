@@ -1,0 +1,218 @@
+"""Names of addresses in files of text: lists, what nm writes, listings of MACRO-11, and the maps of
+the linkers of RT-11 and RSX-11."""
+import re
+from dataclasses import dataclass, replace
+from typing import Callable, Iterator, Optional, Sequence
+
+LARGEST = 0o177777
+NAME = r"[A-Za-z_.$~%?@][^\s=:;,()\[\]<>]*"
+NAME_OF_DEC = r"[A-Za-z$.][A-Za-z0-9$._]*"
+
+
+@dataclass(frozen=True)
+class Symbol:
+    """A name with its value. A constant, such as the address of a device's register or an offset,
+    names no place of the program. A relocatable one counts from the begin of its section."""
+
+    name: str
+    value: int
+    is_constant: bool = False
+    is_relocatable: bool = False
+
+    def moved(self, base: int) -> "Symbol":
+        return replace(self, value=self.value + base) if self.is_relocatable else self
+
+
+@dataclass(frozen=True)
+class SymbolFile:
+    """The symbols of a file, what it is, and how many of its lines have no symbol."""
+
+    kind: str
+    symbols: list[Symbol]
+    skipped: int
+
+    def line(self) -> str:
+        """How many there are, in words."""
+        count = len(self.symbols)
+        of_kind = f" of {self.kind}" if self.kind else ""
+        lines = f", {self.skipped} line{'' if self.skipped == 1 else 's'} skipped"
+        skipped = lines if self.skipped else ""
+        return f"{count} symbol{'' if count == 1 else 's'}{of_kind}{skipped}"
+
+
+# Lists: a line is a symbol, or it is none.
+
+NAME_OCTAL = re.compile(rf"(?P<name>{NAME})\s+(?P<value>[0-7]{{1,6}})")
+OCTAL_NAME = re.compile(rf"(?P<value>[0-7]{{1,6}})\s+(?P<name>{NAME})")
+ASSIGNED = re.compile(rf"(?P<name>{NAME})\s*==?:?\s*(?P<value>[0-7]{{1,6}})")
+OF_NM = re.compile(r"(?P<value>[0-9a-fA-F]+)\s*[A-Za-z?]\s+(?P<name>\S+)")
+UNDEFINED_OF_NM = re.compile(r"[Uu]\s+\S+")
+
+
+def symbol_of(line: str) -> Optional[Symbol]:
+    """The symbol of a line of a list."""
+    for form in (NAME_OCTAL, OCTAL_NAME, ASSIGNED):
+        found = form.fullmatch(line)
+        if found:
+            return Symbol(found["name"], int(found["value"], 8))
+    found = OF_NM.fullmatch(line)
+    if found is None:
+        return None
+    # six digits of an old Unix's nm and eleven of nm -t o are octal, eight of nm hexadecimal
+    base = 16 if len(found["value"]) in (4, 8, 16) else 8
+    try:
+        return Symbol(found["name"], int(found["value"], base))
+    except ValueError:
+        return None
+
+
+def of_list(lines: Sequence[str]) -> SymbolFile:
+    bare = (re.split(r"[#;]", it, maxsplit=1)[0].strip() for it in lines)
+    meant = [it for it in bare if it and not UNDEFINED_OF_NM.fullmatch(it)]
+    found = [symbol_of(it) for it in meant]
+    symbols = [it for it in found if it is not None and it.value <= LARGEST]
+    return SymbolFile("", symbols, len(found) - len(symbols))
+
+
+# Listings of MACRO-11. On the left are the line's number, which may be missing, the address, and
+# the words or bytes of the line, with ' or G behind those that the linker changes. Then comes the
+# source.
+
+SOURCE = re.compile(
+    r"\f?\s*(\d{1,5}\s+)?(?P<address>[0-7]{6})(?P<words>(\s+([0-7]{6}|[0-7]{3})['GC]{0,2}(?!\S))*)"
+    r"(\s+(?P<source>.*))?"
+)
+COMMENT = re.compile(r"\s*(\d{1,5}\s*)?(;.*)?")
+LABEL = re.compile(rf"(?P<name>{NAME_OF_DEC})::?\s*")
+IN_SOURCE = re.compile(
+    rf"\f?\s*(\d{{1,5}}\s+)?([0-7]{{6}}['GC]?\s+)?(?P<name>{NAME_OF_DEC})\s*==?:?\s*"
+    r"(?P<value>[0-7]{1,6})\s*(;.*)?"
+)
+TABLE = re.compile(r"\f?\s*symbol table\s*", re.IGNORECASE)
+END_OF_TABLE = re.compile(r"\s*(\. ABS\.|\*\*\*|errors detected)", re.IGNORECASE)
+IN_TABLE = re.compile(
+    rf"(?<!\S)(?P<name>{NAME_OF_DEC}?)\s*(?P<mark>=?)\s*(?P<register>%?)(?<![0-7])"
+    r"(?P<value>[0-7]{6}|\*{6})\s?(?P<flags>R?( ?[GXLCW]{1,2})?)(\s+(?P<section>\d{3}))?(?=\s|$)"
+)
+
+
+def labels_of(source: str) -> Iterator[str]:
+    """The labels that a line of source begins with."""
+    found = LABEL.match(source)
+    while found:
+        yield found["name"]
+        source = source[found.end() :]
+        found = LABEL.match(source)
+
+
+def of_columns(line: str) -> list[Symbol]:
+    """The labels of a line of a listing, or its assignment of a number."""
+    assigned = IN_SOURCE.fullmatch(line)
+    if assigned and assigned["name"] != ".":
+        return [Symbol(assigned["name"], int(assigned["value"], 8), is_constant=True)]
+    found = SOURCE.fullmatch(line)
+    address = int(found["address"], 8) if found else 0
+    return [Symbol(it, address) for it in labels_of(found["source"] or "")] if found else []
+
+
+def of_table(line: str) -> list[Symbol]:
+    """The symbols of a line of the table at the end of a listing, except registers and those that
+    are defined elsewhere."""
+    return [
+        Symbol(it["name"], int(it["value"], 8), it["mark"] == "=", it["flags"][:1] == "R")
+        for it in IN_TABLE.finditer(line)
+        if not it["register"] and it["value"].isdigit() and it["name"] != "."
+    ]
+
+
+def is_listing(lines: Sequence[str]) -> bool:
+    """A listing has a table of symbols, or labels beside addresses and words."""
+    return any(TABLE.fullmatch(it) for it in lines) or any(
+        found and found["words"] and LABEL.match(found["source"] or "")
+        for found in map(SOURCE.fullmatch, lines)
+    )
+
+
+def of_listing(lines: Sequence[str]) -> SymbolFile:
+    """The table has each symbol; labels on the left tell which name a place. Without a table the
+    left columns have them all."""
+    labels: dict[str, Symbol] = {}
+    table: dict[str, Symbol] = {}
+    in_table, skipped = False, 0
+    for line in lines:
+        if COMMENT.fullmatch(line):
+            continue
+        in_table = bool(TABLE.fullmatch(line)) or in_table and not END_OF_TABLE.match(line)
+        found = of_table(line) if in_table else of_columns(line)
+        into = table if in_table else labels
+        into.update((it.name, it) for it in found)
+        skipped += not found
+    places = {name.upper() for name, it in labels.items() if not it.is_constant}
+    named = [
+        replace(it, is_constant=it.is_constant and it.name.upper() not in places)
+        for it in table.values()
+    ]
+    return SymbolFile("a MACRO-11 listing", named or list(labels.values()), skipped)
+
+
+# Maps: lines that are pairs of a name and a value, and nothing else.
+
+PAIR = rf"(?P<name>{NAME_OF_DEC})\s+(@\s*)?(?P<value>[0-7]{{6}})(?P<mark>-R)?(?=\s|$)"
+PAIRS = re.compile(rf"\s*({re.sub(r'[?]P<[a-z]+>', '', PAIR)}\s*)+")
+MAP_OF_RT11 = re.compile(r"\f?\s*RT-11 LINK\b.*", re.IGNORECASE)
+GLOBALS_OF_RSX = re.compile(r"\f?\s*global symbols:\s*", re.IGNORECASE)
+SECTION_OF_RT11 = re.compile(rf"\s*(?P<name>{NAME_OF_DEC}|\. ABS\.)?\s*[0-7]{{6}}\s+[0-7]{{6}}\b.*")
+
+
+def pairs_of(line: str) -> Iterator[tuple[str, int, bool]]:
+    """Name, value, and whether the value is one that was moved."""
+    if PAIRS.fullmatch(line):
+        for found in re.finditer(PAIR, line):
+            yield found["name"], int(found["value"], 8), bool(found["mark"])
+
+
+def of_map_of_rt11(lines: Sequence[str]) -> SymbolFile:
+    """The globals of each section. Those of `. ABS.` are constants."""
+    symbols: list[Symbol] = []
+    in_absolute, skipped = False, 0
+    for line in filter(str.strip, lines):
+        found = [Symbol(name, value, in_absolute) for name, value, _ in pairs_of(line)]
+        if not found and SECTION_OF_RT11.fullmatch(line):
+            in_absolute = line.strip().startswith(". ABS.")
+        symbols += found
+        skipped += not found
+    return SymbolFile("a map of RT-11's linker", symbols, skipped)
+
+
+def of_map_of_rsx(lines: Sequence[str]) -> SymbolFile:
+    """What stands after `Global symbols:`. The mark -R says that a value is an address."""
+    symbols: list[Symbol] = []
+    in_globals, skipped = False, 0
+    for line in filter(str.strip, lines):
+        begins = GLOBALS_OF_RSX.fullmatch(line)
+        in_globals = bool(begins) or in_globals and not line.lstrip().startswith("***")
+        found = list(pairs_of(line)) if in_globals else []
+        symbols += [Symbol(name, value, not is_moved) for name, value, is_moved in found]
+        skipped += not found
+    return SymbolFile("a map of the Task Builder", symbols, skipped)
+
+
+def readers(lines: Sequence[str]) -> Iterator[Callable[[Sequence[str]], SymbolFile]]:
+    """How the file may be read, the likeliest way first."""
+    if any(map(GLOBALS_OF_RSX.fullmatch, lines)):
+        yield of_map_of_rsx
+    if any(map(MAP_OF_RT11.fullmatch, lines)):
+        yield of_map_of_rt11
+    if is_listing(lines):
+        yield of_listing
+    yield of_list
+
+
+def symbol_file(text: str) -> SymbolFile:
+    """The symbols of a file. If all are constants, they count as places."""
+    lines = text.splitlines()
+    files = [it(lines) for it in readers(lines)]
+    found = next((it for it in files if it.symbols), files[0])
+    if all(it.is_constant for it in found.symbols):
+        return replace(found, symbols=[replace(it, is_constant=False) for it in found.symbols])
+    return found

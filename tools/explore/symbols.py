@@ -1,0 +1,111 @@
+"""Names of addresses: beside an address, and in its place."""
+import bisect
+import re
+from dataclasses import dataclass, field
+from typing import Iterable, Optional, Sequence
+
+import sessions
+
+from .errors import ExploreError
+from .language import FORMS, form_of
+from .past import Past
+from .replies import Mode
+from .symbol_files import Symbol
+
+FARTHEST = 0o10000
+OFFSETS = r"([+-][0-7]{1,10})*"
+# What stands for an address: an octal number, or a symbol, with octal numbers after + and -.
+ADDRESS = rf"([0-7]{{1,10}}|[A-Za-z_.$~%?@][^\s=:+-]*){OFFSETS}"
+OCTAL = re.compile(r"[0-7]+")
+
+
+@dataclass
+class Symbols:
+    """Names of virtual addresses, those of kernel mode and those of user mode."""
+
+    values: dict[Mode, list[int]] = field(default_factory=lambda: {Mode.KERNEL: [], Mode.USER: []})
+    names: dict[tuple[Mode, int], str] = field(default_factory=dict)
+    numbers: dict[Mode, dict[str, int]] = field(
+        default_factory=lambda: {Mode.KERNEL: {}, Mode.USER: {}}
+    )
+
+    def take(self, found: Iterable[Symbol], modes: Sequence[Mode]) -> None:
+        """Takes these in place of those there were. A constant has a number, and is the name of no
+        address."""
+        symbols = sorted(found, key=lambda it: (it.value, it.name))
+        places = [it for it in symbols if not it.is_constant]
+        for mode in modes:
+            self.names = {key: name for key, name in self.names.items() if key[0] != mode}
+            self.names.update({(mode, it.value): it.name for it in places})
+            self.values[mode] = sorted({it.value for it in places})
+            self.numbers[mode] = {it.name: it.value for it in symbols}
+
+    def near(self, mode: Mode, address: int) -> str:
+        """The symbol at or before the address, such as `main+4`, or an empty text."""
+        values = self.values.get(mode, [])
+        at = bisect.bisect_right(values, address) - 1
+        if at < 0 or address - values[at] >= FARTHEST:
+            return ""
+        name, offset = self.names[mode, values[at]], address - values[at]
+        return f"{name}+{offset:o}" if offset else name
+
+    def named(self, name: str, mode: Optional[Mode]) -> dict[int, Mode]:
+        """The numbers that a name has, in this mode, or in any. If none has this name, capital
+        letters and small ones count alike."""
+        modes = [mode] if mode in self.numbers else list(self.numbers)
+        found = {self.numbers[it][name]: it for it in modes if name in self.numbers[it]}
+        return found or {
+            value: it
+            for it in modes
+            for other, value in self.numbers[it].items()
+            if other.upper() == name.upper()
+        }
+
+    def number(self, text: str, mode: Optional[Mode] = None) -> int:
+        """The number that a text of the form ADDRESS is."""
+        first, *offsets = re.split(r"(?=[+-])", text)
+        if OCTAL.fullmatch(first):
+            number = int(first, 8)
+        else:
+            found = self.named(first, mode)
+            if not found:
+                raise ExploreError(f"there is no symbol '{first}'; symbols FILE reads them")
+            if len(found) > 1:
+                values = ", ".join(f"{it:o} of {of.value}" for it, of in found.items())
+                raise ExploreError(f"there are several symbols '{first}': {values}; name a number")
+            (number,) = found
+        number += sum(int(it, 8) for it in offsets)
+        if number < 0:
+            raise ExploreError(f"{text} is less than 0")
+        return number
+
+    def is_named(self, word: str) -> bool:
+        """Whether a word is a symbol or a number with an offset, so that a number takes its
+        place."""
+        first, *offsets = re.split(r"(?=[+-])", word)
+        if re.fullmatch(ADDRESS, word) is None:
+            return False
+        return bool(offsets) if OCTAL.fullmatch(first) else bool(self.named(first, None))
+
+    def in_octal(self, word: str) -> str:
+        """The word, or the number that it names."""
+        return f"{self.number(word):o}" if self.is_named(word) else word
+
+    def line_in_octal(self, line: str, past: Past) -> str:
+        """A line of the language or of searches, with numbers for symbols where it has addresses of
+        core."""
+        words = line.split()
+        for form in forms_of(words[0], past) if words else []:
+            if len(form) == len(words) and all(it.isupper() or it in words for it in form[1:]):
+                found = [
+                    self.in_octal(word) if it == "A" else word for it, word in zip(form, words)
+                ]
+                return line if found == words else " ".join(found)
+        return line
+
+
+def forms_of(word: str, past: Past) -> list[list[str]]:
+    """The forms of the lines that begin with this word, word by word."""
+    own = [form_of(word, past)] if word in FORMS else []
+    searches = [it.form for it in sessions.SEARCHES if it.form.split()[0] == word]
+    return [it.split() for it in (*own, *searches)]

@@ -1,0 +1,117 @@
+"""`explore web`: the page of web/ with a session in it, as one file."""
+import argparse
+import webbrowser
+from pathlib import Path
+from typing import Optional
+
+import bundle
+from webassembly import files as modules
+
+from .errors import ExploreError
+from .files import OUTPUT, write_whole
+from .options import FILES, Options, add_options, options_of
+from .output import complain, put
+
+PAGE = modules.ROOT / "web" / "index.html"
+PROGRAMS = ("search", "disassemble")
+# Symbols of the two modes, if they lie beside the session.
+SYMBOLS = ("kernel.sym", "user.sym")
+SESSION_ELEMENT = b'<script type="application/json" id="session">'
+DESCRIPTION = """\
+Writes the machine as a page, one HTML file with all in it, and opens it in the browser. The page
+begins with SESSION and its images; kernel.sym and user.sym beside SESSION are its symbols. FILE is
+SESSION's name with the ending .html in this folder, if it isn't given."""
+
+
+def held(path: Path) -> bytes:
+    try:
+        return path.read_bytes()
+    except OSError as error:
+        raise ExploreError(f"{path}: {error.strerror}") from error
+
+
+def packed_files(options: Options) -> tuple[list[str], dict[str, bytes]]:
+    """The options with their files' names alone, and the files by these names."""
+    words: list[str] = []
+    found: dict[str, bytes] = {}
+    for option, value in options.items():
+        name = value
+        if option in FILES:
+            inside = held(Path(value))
+            name = Path(value).name
+            # two files of one name lie in different folders
+            while found.get(name, inside) != inside:
+                name = f"{option}-{name}"
+            found[name] = inside
+        words += [f"--{option}", name]
+    return words, found
+
+
+def session_for_page(session: Optional[Path], options: Options) -> bundle.Session:
+    """The session and all that its options name; an empty one without a session."""
+    words, found = packed_files(options)
+    if session is None:
+        return bundle.Session("", words, (), found)
+    for name in SYMBOLS:
+        beside = session.parent / name
+        if beside.is_file():
+            found.setdefault(name, held(beside))
+    lines = held(session).decode("latin-1").split("\n")
+    if lines[-1] == "":
+        lines.pop()
+    return bundle.Session(session.name, words, [it.removesuffix("\r") for it in lines], found)
+
+
+def page_of(session: bundle.Session, programs: Path) -> str:
+    """The text of the page's one file; `programs` has the WebAssembly modules."""
+    try:
+        found = {it: (programs / f"{it}.wasm").read_bytes() for it in PROGRAMS}
+        return bundle.page(PAGE, found, session)
+    except OSError as error:
+        raise ExploreError(f"{error.filename}: {error.strerror}; tools/web --make") from error
+    except bundle.PackingError as error:
+        raise ExploreError(str(error)) from error
+
+
+def arguments(words: list[str]) -> argparse.Namespace:
+    parser = argparse.ArgumentParser(
+        prog="explore web",
+        description=DESCRIPTION,
+        allow_abbrev=False,
+        formatter_class=argparse.RawDescriptionHelpFormatter,
+    )
+    add_options(parser)
+    parser.add_argument("--to", metavar="FILE", type=Path, help="the file to write")
+    parser.add_argument("--no-open", action="store_true", help="only writes the file")
+    parser.add_argument(
+        "--programs",
+        metavar="FOLDER",
+        type=Path,
+        default=modules.RELEASE,
+        help="has search.wasm and disassemble.wasm, in place of release/",
+    )
+    parser.add_argument("session", metavar="SESSION", type=Path, nargs="?")
+    return parser.parse_args(words)
+
+
+def write_page(to: Path, text: str) -> None:
+    """Writes the page. It takes the place of an older page, and of no other file."""
+    OUTPUT.overwrites = to.is_file() and SESSION_ELEMENT in held(to)
+    if to.is_file() and not OUTPUT.overwrites:
+        raise ExploreError(f"{to} is there already, and is no page of the machine")
+    write_whole(to, text)
+
+
+def show_page(words: list[str]) -> None:
+    found = arguments(words)
+    session = found.session
+    if session and not session.is_file():
+        raise ExploreError(f"{session}: no such file")
+    text = page_of(session_for_page(session, options_of(found, session)), found.programs)
+    to = found.to or Path(f"{session.stem if session else 'nezdrab'}.html")
+    if found.programs == modules.RELEASE and not all(map(modules.is_current, PROGRAMS)):
+        complain("release/search.wasm or disassemble.wasm is older than the sources")
+    write_page(to, text)
+    put(str(to))
+    if not found.no_open and not webbrowser.open(to.resolve().as_uri()):
+        complain(f"no browser was found: open {to} in one")

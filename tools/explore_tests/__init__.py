@@ -1,1 +1,0 @@
-"""The tests of explore, which tools/test_explore.py runs."""

@@ -1,0 +1,117 @@
+"""Searches ask upwards: how often a command asks about an earlier turn than just before."""
+from pathlib import Path
+from typing import Sequence
+from unittest import mock
+
+from explore import prompt  # noqa: F401, it adds the commands
+from explore.commands import COMMANDS, Explorer
+from explore.disassembly import Disassembler
+from explore.machine import Machine, Start
+from explore.main import read_session
+from explore.sweep import Sweep
+
+from .common import BUILT, ROOT, Case
+
+LEDGER = "ledger/ledger.session"
+# MOV #1000,R0; INC @#2000; SOB R0,.-4; HALT: the word at 2000 is written 512 times, up to 001000
+COUNTING = ("1000 12700", "1002 1000", "1004 5237", "1006 2000", "1010 77003", "1012 0")
+
+
+class Depth(Case):
+    """Commands on a machine of this process, whose questions can be looked at."""
+
+    def explorer(self, session: str = "", edits: Sequence[str] = ()) -> Explorer:
+        machine = Machine(Start(BUILT.program, [], Path.cwd()))
+        self.addCleanup(machine.close)
+        disassembler = Disassembler(BUILT.disassembler)
+        self.addCleanup(disassembler.close)
+        if session:
+            read_session(machine, ROOT / "examples" / session)
+        for line in edits:
+            self.assertEqual(machine.ask(line), "ok")
+        return Explorer(machine, disassembler)
+
+    def done(self, explorer: Explorer, line: str, most: int) -> list[str]:
+        """What the command writes. It may go back so often."""
+        word, _, rest = line.partition(" ")
+        before = explorer.machine.asked.went_back
+        written = list(COMMANDS[word].lines(explorer, rest))
+        self.assertLessEqual(explorer.machine.asked.went_back - before, most, line)
+        return written
+
+    def test_a_question_about_an_earlier_turn_goes_back(self) -> None:
+        machine = self.explorer().machine
+        lines = "regs 5,mem 5 0 1,regs 3,trail 9 6,regs 9,trail 9 1,last 9 0"
+        for line in lines.split(","):
+            machine.read(line)
+        self.assertEqual((machine.asked.went_back, machine.asked.greatest), (2, 9))
+        # a question that is refused was not asked
+        for line in ("regs 9999999999", "mem 900 1 1"):
+            self.assertTrue(machine.ask(line).startswith("refused"))
+        self.assertEqual(machine.asked.greatest, 9)
+
+    def test_see(self) -> None:
+        explorer = self.explorer(LEDGER)
+        self.assertEqual(len(self.done(explorer, "see 131000 5000", 7)), 5001)
+        # a word of an instruction that the turn itself changes
+        explorer = self.explorer("", ("core 1000 5267", "core 1002 177776"))
+        self.assertEqual(self.done(explorer, "see 1 1", 3)[1].split()[4:], ["INC", "1002"])
+
+    def test_until(self) -> None:
+        explorer = self.explorer(LEDGER)
+        self.done(explorer, "until PC 7776 to 60000", 0)
+        self.assertIn("turn 138127: kernel", self.done(explorer, "until PC 1454 from 128000", 2)[0])
+        self.assertIn("user 000002", self.done(explorer, "until mode user from 1000", 3)[0])
+        self.done(explorer, "until text =000110", 1)
+
+    def test_page(self) -> None:
+        explorer = self.explorer(LEDGER)
+        # halving for the text, and one further for each function of the disk that is told
+        self.done(explorer, f"page {self.folder}/it.html to 100000 words 30000 disk 0", 40)
+        # halving for the halt
+        halted = self.explorer("", [f"core {it}" for it in COUNTING])
+        self.done(halted, f"page {self.folder}/it.html words 2000", 30)
+
+    def test_first_core(self) -> None:
+        explorer = self.explorer(LEDGER)
+        found = self.done(explorer, "first core 30000 = 132", 2)
+        self.assertEqual(found, ["turn 127850: cpu 000132, by user 000012 ADD R2,@#20000"])
+        counting = self.explorer("", [f"core {it}" for it in COUNTING])
+        self.assertIn("turn 1023: cpu 001000", self.done(counting, "first core 2000 = 1000", 2)[0])
+        found = self.done(counting, "first core 2000 = 1001 to 5000", 1)
+        self.assertEqual(found, ["not in the turns 0 to 5000"])
+        writes = list(counting.finder.writes(range(3000), 0o2000))
+        self.assertEqual([it.turn for it in writes], list(range(1, 1024, 2)))
+        self.assertEqual([it.word for it in writes], list(range(1, 513)))
+
+    def test_disk_words_of_very_many_looks(self) -> None:
+        """The disk takes three turns, so a million looks would be needed."""
+        explorer = self.explorer(LEDGER, ["delay disk 3"])
+        words = list(explorer.machine.single_words([f"dsk {it} 0 1" for it in range(240_000)]))
+        self.assertGreater(len(set(words)), 10)
+        for word in sorted(set(words) - {words[0]}):
+            found = self.done(explorer, f"first disk 0 = {word:o} to 3000000", 12)[0]
+            self.assertTrue(found.startswith(f"turn {words.index(word) - 1}: "), found)
+        changes = [at for at, pair in enumerate(zip(words, words[1:])) if pair[0] != pair[1]]
+        for first, turn in zip([0, *(it + 1 for it in changes)], changes):
+            found = self.done(explorer, f"next disk 0 from {first}", 12)[0]
+            self.assertTrue(found.startswith(f"turn {turn}: disk 0000000 goes from "), found)
+
+    def test_a_sweep_runs_no_program_but_those_that_work(self) -> None:
+        explorer = self.explorer()
+        with mock.patch.object(Machine, "twin", autospec=True, side_effect=Machine.twin) as twin:
+            written = self.done(explorer, "sweep -j 2 key 101 from 5 to 9: regs 20", 0)
+            self.assertEqual(twin.call_count, 2)
+        self.assertEqual(written[-1], "5 turns, 1 run of equal replies")
+
+    def test_a_sweep_keeps_a_state_shortly_before_its_first_turn(self) -> None:
+        machine = self.explorer().machine
+        for first, asked in ((99_997_000, 100_000_000), (126_400, 131_000), (70_000, 10_000_000)):
+            text = f"key 101 from {first} to {first + 999}: mem {asked} 1000 1"
+            stride = Sweep.of(machine, text).stride() or 0
+            self.assertLess(first % stride, 256)
+            self.assertGreaterEqual(stride * 256, asked)
+        self.assertIsNone(Sweep.of(machine, "tick from 0 to 9: regs 20").stride())
+        twin = machine.twin(stride=12_345)
+        self.addCleanup(twin.close)
+        self.assertEqual(twin.start.options, ["--stride", "12345"])

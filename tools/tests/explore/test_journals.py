@@ -1,0 +1,224 @@
+"""Edits that outlast a closed terminal, and edits that are taken back."""
+import os
+import shutil
+import signal
+import subprocess
+from pathlib import Path
+
+from .common import SECONDS
+from .terminal import AtTerminal
+
+PAST = "regs 40\nevents\npatches\n"
+
+
+class Journals(AtTerminal):
+    """The journal of a run, and the one that takes it up."""
+
+    def journals(self) -> list[Path]:
+        return sorted((self.folder / "state" / "nezdrab").glob("*.journal"))
+
+    def edit_and_die(self, how: signal.Signals, *words: str) -> None:
+        self.begin(*words)
+        for line, reply in (("core 2000 123", b"ok"), ("at 5 key 101", b"event ")):
+            self.type(f"{line}\n")
+            self.wait_for(reply)
+        self.type("at 9 key 142\n")
+        self.wait_for(b"event ")
+        self.wait_for(b"explore> ")
+        os.killpg(self.child.pid, how)
+        self.child.wait(SECONDS)
+        self.seen = b""
+
+    def past_of(self, lines: str, *words: str) -> str:
+        written = self.explore(lines + PAST, *words)
+        return "".join(it for it in written.splitlines(True) if "taken up" not in it)
+
+    def test_a_killed_run_is_taken_up(self) -> None:
+        shutil.copy(self.folder / "examples" / "one-key-sooner.session", self.folder / "my.session")
+        for how in (signal.SIGKILL, signal.SIGHUP, signal.SIGTERM):
+            self.edit_and_die(how, "--units", "4", "my.session")
+            wanted = self.explore(
+                "core 2000 123\nat 5 key 101\nat 9 key 142\n" + PAST + "mem 0 100000 1\n",
+                "--units", "4", "my.session",
+            ).splitlines()[3:]
+            self.begin()
+            self.wait_for(b"a journal has 3 edits of ")
+            self.wait_for(b"./explore --resume takes them up")
+            self.type("quit\n")
+            self.assertEqual(self.child.wait(SECONDS), 0)
+            self.assertEqual(len(self.journals()), 1)
+            written = self.explore(PAST + "mem 0 100000 1\n", "--resume").splitlines()
+            self.assertTrue(written[0].startswith("3 edits taken up (session: "), written[0])
+            self.assertEqual(written[1:], wanted)
+            self.begin("--resume")
+            self.wait_for(b"3 edits taken up")
+            self.type("quit!\n")
+            self.assertEqual(self.child.wait(SECONDS), 0)
+            self.assertEqual(self.journals(), [])
+            self.seen = b""
+
+    def test_a_run_that_is_taken_up_goes_on_with_its_journal(self) -> None:
+        self.edit_and_die(signal.SIGKILL)
+        self.begin("--resume")
+        self.type("undo\n")
+        self.wait_for(b"taken back: at 9 key 142")
+        self.type("at 8 key 7\n")
+        self.wait_for(b"event 2")
+        self.wait_for(b"explore> ")
+        os.killpg(self.child.pid, signal.SIGKILL)
+        self.child.wait(SECONDS)
+        (journal,) = self.journals()
+        edits = journal.read_text().split("# at the prompt\n")[1]
+        self.assertEqual(edits, "core 2000 123\nat 5 key 101\nat 8 key 7\n")
+
+    def test_a_line_that_was_cut_off(self) -> None:
+        """Of a last line without its end nothing is known."""
+        self.edit_and_die(signal.SIGKILL)
+        (journal,) = self.journals()
+        with journal.open("a") as file:
+            file.write("core 2002 1")
+        written = self.explore("patches\n", "--resume")
+        self.assertIn("3 edits taken up", written)
+        self.assertIn("patches 1\ncore 002000 000123\n", written)
+
+    def test_edits_that_are_saved_leave_no_journal(self) -> None:
+        self.begin()
+        self.type("core 2000 5\n")
+        self.wait_for(b"ok")
+        self.type("save it\n")
+        self.wait_for(b"lines in it")
+        self.assertEqual(len(self.journals()), 1)
+        self.end()
+        self.assertEqual(self.journals(), [])
+
+    def test_edits_that_are_not_saved_are_told(self) -> None:
+        for word in ("quit\n", "q\n", "exit\n", "\x04"):
+            self.begin()
+            self.type("core 2000 5\n")
+            self.wait_for(b"ok")
+            self.type(word)
+            self.wait_for(b"the past isn't saved: ./explore --resume takes up 1 edit\r\n")
+            self.assertEqual(self.child.wait(SECONDS), 0)
+            self.seen = b""
+        self.assertEqual(len(self.journals()), 4)
+
+    def test_two_runs_have_two_journals(self) -> None:
+        self.edit_and_die(signal.SIGKILL)
+        self.begin("--resume")
+        self.wait_for(b"3 edits taken up")
+        (journal,) = self.journals()
+        self.assertEqual(self.explore("", "--resume", status=1), "")
+        self.assertIn("no journal with edits is kept", self.error)
+        self.assertEqual(self.explore("", "--resume", str(journal), status=1), "")
+        self.assertIn("is in use by another explore", self.error)
+        self.end()
+
+    def test_a_file_of_its_own_and_none(self) -> None:
+        self.explore("core 2000 5\nat 3 key 7\nundo\n", "--journal", "mine")
+        text = (self.folder / "mine").read_text()
+        self.assertEqual(text, "#!\n# session none\n# at the prompt\ncore 2000 5\n")
+        self.explore("core 2000 7\n", "--journal", "mine", status=1)
+        self.assertIn("mine is there already; --resume mine takes it up", self.error)
+        self.explore("core 2002 7\n", "--resume", "mine")
+        self.assertTrue((self.folder / "mine").read_text().endswith("5\ncore 2002 7\n"))
+        self.begin("--no-journal")
+        self.type("core 2000 5\n")
+        self.wait_for(b"ok")
+        self.end()
+        self.assertEqual(self.journals(), [])
+
+    def test_a_session_is_no_journal(self) -> None:
+        (self.folder / "my.session").write_text("core 1000 5\nregs 5\n")
+        self.explore("", "--resume", "my.session", status=1)
+        self.assertIn("my.session:2: no line of a journal", self.error)
+        self.assertEqual((self.folder / "my.session").read_text(), "core 1000 5\nregs 5\n")
+
+    def test_some_tens_are_kept(self) -> None:
+        folder = self.folder / "state" / "nezdrab"
+        folder.mkdir(parents=True)
+        for number in range(40):
+            path = folder / f"{number:02}.journal"
+            path.write_text("#!\n# session none\n# at the prompt\ncore 2000 5\n")
+            os.utime(path, (1_000_000 + number, 1_000_000 + number))
+        self.edit_and_die(signal.SIGKILL)
+        kept = self.journals()
+        self.assertEqual(len(kept), 30)
+        self.assertIn("11.journal", [it.name for it in kept])
+        self.assertNotIn("10.journal", [it.name for it in kept])
+
+    def test_a_full_disk_is_told_and_edits_go_on(self) -> None:
+        lines = "".join(f"core {it:o} 5\n" for it in range(0o1000, 0o3000, 2))
+        limited = ["bash", "-c", 'ulimit -f 1; trap "" XFSZ; exec "$@"', "bash"]
+        ended = subprocess.run(
+            [*limited, *self.command("--journal", "mine")],
+            input=f"{lines}patches\n",
+            cwd=self.folder,
+            env=self.environment(),
+            capture_output=True,
+            text=True,
+            timeout=SECONDS,
+        )
+        told = "the journal can't be written: File too large; edits are in memory alone"
+        self.assertEqual(ended.stdout.count(told), 1)
+        self.assertIn("patches 512\n", ended.stdout)
+        journal = (self.folder / "mine").read_text()
+        self.assertTrue(f"#!\n# session none\n# at the prompt\n{lines}".startswith(journal))
+        self.assertTrue(journal.endswith(" 5\n"))
+
+
+class TakenBack(AtTerminal):
+    """undo, redo and drop from."""
+
+    def test_undo_gives_back_the_past_and_the_numbers(self) -> None:
+        edits = [
+            "core 2000 1",
+            "core 2002 2",
+            "core 2000 7",
+            "uncore 2002",
+            "disk 5 6",
+            "delay disk 50",
+            "tape 1 2 3",
+            "at 9 key 101",
+            "at 5 tick",
+            "alter 1 9 key 104",
+            "alter 2 8 tick",
+            "drop 1",
+            "type a from 0",
+            "drop from 5",
+            "version 2",
+        ]
+        asked = PAST + "dsk 40 5 1\npunched 40\nat 50 tick\nundo\nsave! it\n"
+        for count, edit in enumerate(edits):
+            before = "".join(f"{it}\n" for it in edits[:count])
+            wanted = self.explore(before + asked).splitlines()[count:]
+            wanted_file = (self.folder / "it").read_text()
+            again = "undo\nredo\nundo\n" if count % 2 else "undo\n"
+            taken = self.explore(f"{before}{edit}\n{again}{asked}").splitlines()
+            self.assertEqual(taken[-len(wanted) :], wanted, edit)
+            self.assertEqual((self.folder / "it").read_text(), wanted_file)
+
+    def test_redo_makes_the_same_events(self) -> None:
+        lines, session = "type go from 40\nat 4 tick\n", "examples/two-tasks.session"
+        wanted = self.explore(lines + PAST, session).splitlines()[3:]
+        written = self.explore(f"{lines}undo\nundo\nredo\nredo\n{PAST}", session).splitlines()
+        self.assertEqual(
+            written[3:7],
+            [
+                "taken back: at 4 tick",
+                "taken back: type go from 40 (2 edits)",
+                "made again: type go from 40 (2 edits)",
+                "made again: at 4 tick",
+            ],
+        )
+        self.assertEqual(written[7:], wanted)
+
+    def test_the_ends(self) -> None:
+        written = self.explore("undo\nredo\n", "examples/one-key-sooner.session")
+        self.assertEqual(written, "undo: no edit was made here; those of the session stay\n"
+                         "redo: nothing was taken back, or an edit came after it\n")
+
+    def test_all_events_from_a_turn_on(self) -> None:
+        lines = "at 9 key 101\nat 5 tick\nat 12 tick\nat 10 key 1\ndrop from 10\nevents\n"
+        written = self.explore(lines + "undo\nevents\ndrop from\n").splitlines()[4:]
+        self.assertEqual(written[:2], ["2 events dropped", "2 events"])
+        self.assertEqual(written[4:6], ["taken back: drop from 10 (2 edits)", "4 events"])

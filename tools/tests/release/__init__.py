@@ -1,0 +1,1 @@
+"""Tests of how programs are found, made, checked and packed."""

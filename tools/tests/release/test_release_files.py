@@ -1,0 +1,128 @@
+"""The release files that tools/release makes, checks and packs."""
+import hashlib
+import os
+import subprocess
+from pathlib import Path
+from typing import Optional
+
+from .tree import BUILT, PROGRAM, RELEASE, Tree
+
+
+class Checked(Tree):
+    """What tools/release makes, checks and packs."""
+
+    def setUp(self) -> None:
+        super().setUp()
+        self.make_release()
+        for name in "pdp11", "disassemble":
+            self.write(f"crates/{name}/out/{name}", PROGRAM, 0o755)
+
+    def counted(self, how: str) -> str:
+        ended = self.run_in("tools/release", how, kit=how == "--check")
+        line = ended.stdout.splitlines()[-1]
+        self.assertEqual(ended.returncode == 0, line.endswith(" 0 failed"), self.said)
+        return line
+
+    def test_all_is_right(self) -> None:
+        self.assertEqual(self.counted("--verify"), "11 passed, 0 failed")
+        self.assertEqual(self.counted("--check"), "14 passed, 0 failed")
+
+    def test_a_changed_byte_is_seen(self) -> None:
+        for name, verified, checked in [
+            ("crates/low/src/lib.rt", 2, 2),
+            ("crates/pdp11/src/main.rt", 1, 1),
+            (RELEASE, 1, 2),
+            (RELEASE + ".sources", 1, 1),
+            ("release/SHA256SUMS", 2, 2),
+            ("release/KIT", 2, 3),
+            (BUILT, 0, 1),
+        ]:
+            with self.subTest(name):
+                self.change_a_byte(name)
+                for how, facts, wrong in ("--verify", 11, verified), ("--check", 14, checked):
+                    said = f"{facts - wrong} passed, {wrong} failed"
+                    self.assertEqual(self.counted(how), said)
+                self.change_a_byte(name)
+
+    def test_a_file_of_no_program(self) -> None:
+        self.write("release/more", "")
+        self.assertEqual(self.counted("--verify"), "11 passed, 1 failed")
+
+    def test_a_file_that_is_missing(self) -> None:
+        (self.tree / RELEASE).unlink()
+        self.assertIn(" failed", self.counted("--verify"))
+        self.assertFalse(self.counted("--verify").endswith(" 0 failed"))
+
+    def test_an_older_program_is_not_released(self) -> None:
+        os.utime(self.tree / BUILT, (0, 0))
+        made = self.run_in("tools/release", "--make", kit=True)
+        self.assertEqual(made.returncode, 1, self.said)
+        self.assertIn("older than a source", made.stderr)
+        self.assertEqual(self.counted("--check"), "14 passed, 0 failed")
+
+    def commit(self) -> None:
+        self.write(".gitignore", "out/\n")
+        name = ["-c", "user.name=a", "-c", "user.email=a@b.c", "-c", "commit.gpgsign=false"]
+        for words in ["init", "-q"], ["add", "-A"], [*name, "commit", "-qm", "all"]:
+            self.assertEqual(self.run_in("git", *words).returncode, 0, self.said)
+
+    def archive(self, folder: str) -> Optional[Path]:
+        (self.folder / folder).mkdir()
+        ended = self.run_in("tools/release", "--archive", str(self.folder / folder))
+        return Path(ended.stdout.strip()) if ended.returncode == 0 else None
+
+    def test_an_archive_is_the_same_each_time(self) -> None:
+        self.commit()
+        first = self.archive("first")
+        assert first is not None, self.said
+        os.utime(self.tree / RELEASE, (0, 0))
+        self.addCleanup(os.umask, os.umask(0o077))
+        second = self.archive("second")
+        assert second is not None, self.said
+        self.assertEqual(first.name, second.name)
+        self.assertEqual(first.read_bytes(), second.read_bytes())
+        self.tree = self.folder / "unpacked" / first.name[: -len(".tar.gz")]
+        self.tree.parent.mkdir()
+        subprocess.run(["tar", "-xf", first, "-C", self.tree.parent], check=True)
+        self.assertRuns()
+
+    def test_an_archive_has_what_is_committed_and_released(self) -> None:
+        self.commit()
+        self.write("crates/low/src/more.rt", "")
+        self.assertIsNone(self.archive("first"))
+        self.assertIn("committed", self.said)
+        self.commit()
+        self.assertIsNone(self.archive("second"))
+        self.assertIn("release --make", self.said)
+
+    def module(self, content: str) -> None:
+        """A module of pdp11 with this content, as made of these sources."""
+        self.write("release/pdp11.wasm", content)
+        way = b"".join(
+            it.name.encode() + b"\n" + it.read_bytes()
+            for it in sorted((self.tree / "tools/webassembly").iterdir())
+            if it.name in ("heap.ll", "kit.py", "retarget.py")
+        )
+        sources = self.run_in("tools/sources-sum", "pdp11").stdout.strip()
+        sums = [hashlib.sha256(it).hexdigest() for it in (way, content.encode())]
+        lines = f"sources {sources}\nway {sums[0]}\nbinaryen any\nmodule {sums[1]}\n"
+        self.write("release/pdp11.wasm.sources", lines)
+
+    def test_an_archive_has_no_module_that_is_older(self) -> None:
+        self.module("a module")
+        self.assertEqual(self.counted("--verify"), "13 passed, 0 failed")
+        self.commit()
+        self.assertIsNotNone(self.archive("first"), self.said)
+        for number, name in enumerate(("release/pdp11.wasm", "tools/webassembly/heap.ll")):
+            self.change_a_byte(name)
+            self.commit()
+            self.assertIsNone(self.archive(f"changed {number}"))
+            self.assertIn("release/pdp11.wasm", self.said)
+            self.assertIn("tools/web --make", self.said)
+            self.change_a_byte(name)
+
+    def test_new_release_files_leave_the_modules(self) -> None:
+        self.module("a module")
+        made = self.run_in("tools/release", "--make", kit=True)
+        self.assertEqual(made.returncode, 0, self.said)
+        self.assertEqual((self.tree / "release/pdp11.wasm").read_text(), "a module")

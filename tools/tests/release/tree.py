@@ -1,0 +1,121 @@
+"""A small tree of four crates. Scripts stand in the place of the programs and of the kit's rt."""
+import os
+import shutil
+import subprocess
+import tempfile
+import unittest
+from pathlib import Path
+
+ROOT = Path(__file__).resolve().parents[3]
+SECONDS = 60
+TOOLS = [
+    *("pdp11", "tools/start", "tools/program", "tools/build", "tools/sources-sum"),
+    *("tools/release", ".ci/run", "tools/web", "tools/bundle.py", "tools/sessions.py"),
+    *(str(it.relative_to(ROOT)) for it in sorted(ROOT.glob("tools/explore/*.py"))),
+    *(str(it.relative_to(ROOT)) for it in sorted(ROOT.glob("tools/webassembly/*.*"))),
+]
+STORED_HELP = "rows/program/help.expected"
+RELEASE = "release/pdp11-linux-x86_64"
+BUILT = "crates/pdp11/out/pdp11"
+CRATES = "low:\npdp11: low\ndisassemble: low\nother:\n"
+# What stands for the kit's rt: `lib` proves, and `run` builds the program of the current crate.
+RT = """\
+#!/bin/sh
+case $1 in
+version) echo the kit; echo line of the kit ;;
+doc) echo /nowhere/kit/START-HERE.md ;;
+run) mkdir -p out && printf '%s' "$PROGRAM" >out/${PWD##*/} && chmod +x out/${PWD##*/} ;;
+esac
+"""
+PROGRAM = "#!/bin/sh\necho a program: $*\n"
+NEWER_GLIBC = "#!/bin/sh\necho 'libc.so.6: version GLIBC_2.34 not found' >&2\nexit 1\n"
+
+
+class Tree(unittest.TestCase):
+    """A small tree in a folder of its own, and commands in it, with or without rt."""
+
+    def setUp(self) -> None:
+        folder = tempfile.TemporaryDirectory()
+        self.addCleanup(folder.cleanup)
+        self.folder = Path(folder.name).resolve()
+        self.tree = self.folder / "tree"
+        self.path = path_without_rt(self.folder)
+        self.said = ""
+        for name in [*TOOLS, STORED_HELP, "HANDLES"]:
+            self.copy(name)
+        self.write("crates.txt", CRATES)
+        for name in "low", "pdp11", "disassemble", "other":
+            root = "lib" if name in ("low", "other") else "main"
+            self.write(f"crates/{name}/src/{root}.rt", f"// the crate {name}\n")
+        self.write("crates/low/specs/Low.antt", "-- a definition\n")
+        self.write("../kit/rt", RT, 0o755)
+
+    def copy(self, name: str) -> None:
+        (self.tree / name).parent.mkdir(parents=True, exist_ok=True)
+        shutil.copy(ROOT / name, self.tree / name)
+
+    def write(self, name: str, text: str, mode: int = 0o644) -> None:
+        path = self.tree / name
+        path.parent.mkdir(parents=True, exist_ok=True)
+        path.write_text(text)
+        path.chmod(mode)
+
+    def change_a_byte(self, name: str) -> None:
+        path = self.tree / name
+        held = bytearray(path.read_bytes())
+        held[-2] ^= 1
+        path.write_bytes(held)
+
+    def run_in(
+        self, *command: str, kit: bool = False, program: str = PROGRAM, given: str = ""
+    ) -> "subprocess.CompletedProcess[str]":
+        """Runs a command at the top of the tree, and shows what it said if a test fails."""
+        folders = [self.folder / "kit"] if kit else []
+        path = os.pathsep.join(map(str, [self.folder / "bin", *folders, *self.path]))
+        ended = subprocess.run(
+            command,
+            cwd=self.tree,
+            env={**os.environ, "PATH": path, "PROGRAM": program},
+            input=given,
+            capture_output=True,
+            text=True,
+            timeout=SECONDS,
+        )
+        self.said = f"{ended.stdout}{ended.stderr}"
+        return ended
+
+    def make_release(self, program: str = PROGRAM) -> None:
+        """The release files of this tree, as after rt ci."""
+        for name in "pdp11", "disassemble":
+            self.write(f"crates/{name}/out/{name}", program, 0o755)
+        made = self.run_in("tools/release", "--make", kit=True)
+        self.assertEqual(made.returncode, 0, self.said)
+        for name in "pdp11", "disassemble":
+            shutil.rmtree(self.tree / "crates" / name / "out")
+
+    def assertRuns(self) -> None:
+        ended = self.run_in("./pdp11", "a", "b")
+        self.assertEqual((ended.returncode, ended.stdout), (0, "a program: a b\n"), self.said)
+
+    def assertRefuses(self, *words: str) -> None:
+        """Without the kit ./pdp11 runs nothing, and says why."""
+        ended = self.run_in("./pdp11", "a", "b")
+        self.assertEqual((ended.returncode, ended.stdout), (1, ""), self.said)
+        for it in words:
+            self.assertIn(it, ended.stderr)
+
+
+def path_without_rt(folder: Path) -> list[Path]:
+    """The folders of PATH. One that has rt is replaced by one with links to its other commands."""
+    found = []
+    for number, name in enumerate(os.environ["PATH"].split(os.pathsep)):
+        place = Path(name)
+        if (place / "rt").exists():
+            links = folder / f"path-{number}"
+            links.mkdir()
+            for it in place.iterdir():
+                if it.name != "rt":
+                    (links / it.name).symlink_to(it)
+            place = links
+        found.append(place)
+    return found

@@ -1,0 +1,50 @@
+"""What is tested. The environment names it: TESTED_SEARCH and TESTED_DISASSEMBLE are the programs,
+TESTED_MODULES is the folder of the WebAssembly modules, TESTED_PAGE the address of the page, and
+TESTED_SHOTS the folder that gets screenshots. Otherwise tools/program finds a program, release/ has
+the modules, and the page is packed of them."""
+import functools
+import os
+import subprocess
+from pathlib import Path
+from typing import Optional
+
+from webassembly import files
+
+PREFIX = "TESTED_"
+
+
+def name_it(what: str, value: object) -> None:
+    """Names in the environment what is tested."""
+    os.environ[PREFIX + what.upper()] = str(value)
+
+
+def named(what: str) -> Optional[str]:
+    return os.environ.get(PREFIX + what.upper()) or None
+
+
+@functools.lru_cache(maxsize=None)
+def program(name: str) -> str:
+    """The absolute path of a program."""
+    given = named(name)
+    if given is not None:
+        return os.path.abspath(given)
+    finder = [str(files.ROOT / "tools" / "program"), "--at-hand", name]
+    found = subprocess.run(finder, stdout=subprocess.PIPE, text=True)
+    if found.returncode != 0:
+        raise FileNotFoundError(
+            f"no program {name} of these sources is here: {PREFIX}{name.upper()} names one"
+        )
+    return found.stdout.strip()
+
+
+def modules() -> Path:
+    return Path(named("modules") or files.RELEASE)
+
+
+def page() -> Optional[str]:
+    return named("page")
+
+
+def shots() -> Optional[Path]:
+    folder = named("shots")
+    return None if folder is None else Path(folder)

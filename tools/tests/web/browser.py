@@ -1,0 +1,245 @@
+"""Drives a headless Chromium by the DevTools protocol over two pipes."""
+import base64
+import json
+import os
+import select
+import shutil
+import signal
+import subprocess
+import tempfile
+import time
+from typing import Any, Optional
+
+SECONDS, WAIT = 120.0, 120.0
+OPTIONS = (
+    "--headless=new",
+    "--no-sandbox",
+    "--disable-gpu",
+    "--no-first-run",
+    "--disable-extensions",
+    "--disable-background-networking",
+    "--remote-debugging-pipe",
+)
+# The codes of keys that aren't characters.
+KEYS = {
+    "ArrowLeft": 37,
+    "ArrowRight": 39,
+    "PageUp": 33,
+    "PageDown": 34,
+    "Home": 36,
+    "End": 35,
+    "Enter": 13,
+    "Escape": 27,
+    "Tab": 9,
+}
+ALT, SHIFT = 1, 8
+
+
+def found_browser() -> Optional[str]:
+    names = ("chromium", "chromium-browser", "google-chrome")
+    return next(filter(None, map(shutil.which, names)), None)
+
+
+class BrowserError(Exception):
+    """The browser doesn't do what it is told."""
+
+
+class Browser:
+    """A browser with one page."""
+
+    def __init__(self, program: str) -> None:
+        self.folder = tempfile.mkdtemp()
+        (own_in, self.output), (self.input, own_out) = os.pipe(), os.pipe()
+
+        def give_pipes() -> None:
+            os.dup2(own_in, 1003)
+            os.dup2(own_out, 1004)
+            os.dup2(1003, 3)
+            os.dup2(1004, 4)
+
+        self.process = subprocess.Popen(
+            [program, *OPTIONS, f"--user-data-dir={self.folder}", "about:blank"],
+            stdin=subprocess.DEVNULL,
+            stdout=subprocess.DEVNULL,
+            stderr=subprocess.DEVNULL,
+            preexec_fn=give_pipes,
+            close_fds=False,
+            start_new_session=True,
+        )
+        os.close(own_in)
+        os.close(own_out)
+        self.read = b""
+        self.number = 0
+        self.session = ""
+        self.messages: list[str] = []
+        self.requests: list[str] = []
+        self._attach()
+
+    def _attach(self) -> None:
+        targets = self.call("Target.getTargets")["targetInfos"]
+        page = next(it["targetId"] for it in targets if it["type"] == "page")
+        attached = self.call("Target.attachToTarget", targetId=page, flatten=True)
+        self.session = attached["sessionId"]
+        for name in ("Page", "Runtime", "Log", "Network", "DOM"):
+            self.call(f"{name}.enable")
+        self.call("Emulation.setFocusEmulationEnabled", enabled=True)
+
+    def close(self) -> None:
+        os.killpg(self.process.pid, signal.SIGKILL)
+        self.process.wait()
+        os.close(self.output)
+        os.close(self.input)
+        shutil.rmtree(self.folder, ignore_errors=True)
+
+    def call(self, method: str, **parameters: Any) -> dict[str, Any]:
+        """Calls a method of the protocol; returns its result."""
+        self.number += 1
+        message = {"id": self.number, "method": method, "params": parameters}
+        if self.session:
+            message["sessionId"] = self.session
+        rest = json.dumps(message).encode() + b"\0"
+        while rest:
+            rest = rest[os.write(self.output, rest) :]
+        end = time.monotonic() + SECONDS
+        while True:
+            found = self._message(end - time.monotonic())
+            if found.get("id") == self.number:
+                if "error" in found:
+                    raise BrowserError(f"{method}: {found['error']['message']}")
+                return dict(found["result"])
+            self._note(found)
+
+    def _message(self, seconds: float) -> dict[str, Any]:
+        end = time.monotonic() + seconds
+        while b"\0" not in self.read:
+            left = end - time.monotonic()
+            if left <= 0 or not select.select([self.input], [], [], left)[0]:
+                raise BrowserError("the browser doesn't reply")
+            part = os.read(self.input, 1 << 20)
+            if not part:
+                raise BrowserError("the browser has ended")
+            self.read += part
+        first, _, self.read = self.read.partition(b"\0")
+        return dict(json.loads(first))
+
+    def _note(self, message: dict[str, Any]) -> None:
+        """Keeps what the console says of errors, and what is asked of the network."""
+        method, parameters = message.get("method"), message.get("params", {})
+        if method == "Runtime.exceptionThrown":
+            details = parameters["exceptionDetails"]
+            said = details.get("exception", {}).get("description", "")
+            self.messages.append(f"{details['text']} {said}")
+        elif method == "Runtime.consoleAPICalled" and parameters["type"] in ("error", "warning"):
+            self.messages.append(" ".join(str(it.get("value", it)) for it in parameters["args"]))
+        elif method == "Log.entryAdded" and parameters["entry"]["level"] == "error":
+            self.messages.append(parameters["entry"]["text"])
+        elif method == "Network.requestWillBeSent":
+            self.requests.append(parameters["request"]["url"])
+
+    # The page
+
+    def open(self, address: str) -> None:
+        """Opens an address, and waits until the page is ready."""
+        self.messages, self.requests = [], []
+        self.call("Page.navigate", url="about:blank")
+        self.call("Page.navigate", url=address)
+        self.wait("document.documentElement?.dataset.state === 'ready'")
+
+    def size(self, width: int, height: int, is_dark: bool = False) -> None:
+        self.call(
+            "Emulation.setDeviceMetricsOverride",
+            width=width,
+            height=height,
+            deviceScaleFactor=1,
+            mobile=False,
+        )
+        scheme = {"name": "prefers-color-scheme", "value": "dark" if is_dark else "light"}
+        self.call("Emulation.setEmulatedMedia", features=[scheme])
+
+    def value(self, expression: str) -> Any:
+        """The value of an expression of JavaScript; a promise is waited for."""
+        found = self.call(
+            "Runtime.evaluate", expression=expression, returnByValue=True, awaitPromise=True
+        )
+        if "exceptionDetails" in found:
+            details = found["exceptionDetails"]
+            said = details.get("exception", {}).get("description", details["text"])
+            raise BrowserError(f"{expression}: {said}")
+        return found["result"].get("value")
+
+    def wait(self, expression: str, seconds: float = WAIT) -> Any:
+        """Waits until the expression holds."""
+        end = time.monotonic() + seconds
+        while True:
+            found = self.value(expression)
+            if found:
+                return found
+            if time.monotonic() > end:
+                said = "; ".join(self.messages)
+                raise BrowserError(f"this doesn't come: {expression}; messages: {said}")
+            time.sleep(0.03)
+
+    def text(self, selector: str) -> str:
+        return str(self.value(f"document.querySelector({json.dumps(selector)}).textContent"))
+
+    def middle(self, selector: str) -> list[float]:
+        """The middle of an element, after it was scrolled into sight."""
+        name = json.dumps(selector)
+        found = self.value(
+            f"(() => {{ const it = document.querySelector({name});"
+            "it.scrollIntoView({block: 'nearest'});"
+            "const box = it.getBoundingClientRect();"
+            "return [box.x + box.width / 2, box.y + box.height / 2]; })()"
+        )
+        return list(found)
+
+    # Pointer and keys
+
+    def mouse(self, kind: str, x: float, y: float, **more: Any) -> None:
+        self.call("Input.dispatchMouseEvent", type=kind, x=x, y=y, **more)
+
+    def click(self, selector: str) -> None:
+        self.click_at(*self.middle(selector))
+
+    def click_at(self, x: float, y: float) -> None:
+        self.mouse("mouseMoved", x, y)
+        self.mouse("mousePressed", x, y, button="left", clickCount=1)
+        self.mouse("mouseReleased", x, y, button="left", clickCount=1)
+
+    def drag(self, selector: str, by: float, steps: int = 8, is_let_go: bool = True) -> None:
+        """Drags an element sideways."""
+        x, y = self.middle(selector)
+        self.mouse("mouseMoved", x, y)
+        self.mouse("mousePressed", x, y, button="left", buttons=1, clickCount=1)
+        for step in range(1, steps + 1):
+            self.mouse("mouseMoved", x + by * step / steps, y, button="left", buttons=1)
+        if is_let_go:
+            self.mouse("mouseReleased", x + by, y, button="left", clickCount=1)
+
+    def touch(self, kind: str, *points: tuple[float, float]) -> None:
+        """Touches the page at these points: touchStart, touchMove or touchEnd."""
+        touched = [{"x": x, "y": y, "id": number} for number, (x, y) in enumerate(points)]
+        self.call("Input.dispatchTouchEvent", type=kind, touchPoints=touched)
+
+    def key(self, name: str, modifiers: int = 0) -> None:
+        """Strikes a key, by its name or its character."""
+        code = KEYS.get(name, ord(name[0].upper()))
+        words = {"key": name, "windowsVirtualKeyCode": code, "modifiers": modifiers}
+        text = name if len(name) == 1 else "\r" if name == "Enter" else ""
+        kind = "keyDown" if text else "rawKeyDown"
+        self.call("Input.dispatchKeyEvent", type=kind, text=text, **words)
+        self.call("Input.dispatchKeyEvent", type="keyUp", **words)
+
+    def type(self, text: str) -> None:
+        for character in text:
+            self.key(character)
+
+    def give_files(self, selector: str, paths: list[str]) -> None:
+        """Chooses files for an input."""
+        root = self.call("DOM.getDocument")["root"]["nodeId"]
+        node = self.call("DOM.querySelector", nodeId=root, selector=selector)["nodeId"]
+        self.call("DOM.setFileInputFiles", files=paths, nodeId=node)
+
+    def screenshot(self, is_whole: bool = False) -> bytes:
+        found = self.call("Page.captureScreenshot", format="png", captureBeyondViewport=is_whole)
+        return base64.b64decode(found["data"])

@@ -1,0 +1,141 @@
+"""What the tests share: the browser, the page, and the program that it is compared with."""
+import atexit
+import json
+import subprocess
+import sys
+import tempfile
+import unittest
+from pathlib import Path
+from typing import Optional
+
+from tests import under_test
+
+from .browser import Browser, found_browser
+
+ROOT = Path(__file__).resolve().parents[3]
+LEDGER = ROOT / "examples" / "ledger"
+SECONDS = 60
+LOST, SAFE = "137", "145"
+KEY = '[data-event="15"]'
+
+
+class Shared:
+    """The one browser, and the page."""
+
+    browser: Optional[Browser] = None
+    page = under_test.page()
+
+
+def packed_page() -> str:
+    """The address of the page; it is packed once."""
+    if Shared.page is None:
+        modules = under_test.modules()
+        wanted = [modules / f"{it}.wasm" for it in ("search", "disassemble")]
+        missing = [it.name for it in wanted if not it.exists()]
+        if missing:
+            raise unittest.SkipTest(f"{modules.name}/ has no {' and no '.join(missing)}")
+        folder = tempfile.TemporaryDirectory()
+        atexit.register(folder.cleanup)
+        path = Path(folder.name) / "nezdrab.html"
+        packer = [sys.executable, str(ROOT / "tools" / "web"), "--pack"]
+        words = [*packer, "--programs", str(modules), str(path)]
+        subprocess.run(words, check=True, capture_output=True, timeout=SECONDS)
+        Shared.page = path.as_uri()
+    return Shared.page
+
+
+def the_browser() -> Browser:
+    if Shared.browser is None:
+        program = found_browser()
+        if program is None:
+            raise unittest.SkipTest("chromium isn't installed")
+        Shared.browser = Browser(program)
+        atexit.register(Shared.browser.close)
+    return Shared.browser
+
+
+def replies_of(lines: list[str], *words: str, folder: Optional[Path] = None) -> list[str]:
+    """What the program answers to a session."""
+    ended = subprocess.run(
+        [under_test.program("search"), *words],
+        input="".join(f"{it}\n" for it in lines),
+        cwd=folder,
+        capture_output=True,
+        text=True,
+        timeout=SECONDS,
+        check=True,
+    )
+    return ended.stdout.splitlines()
+
+
+def ledger_lines() -> list[str]:
+    return (LEDGER / "ledger.session").read_text().splitlines()
+
+
+class PageCase(unittest.TestCase):
+    """A test with the page open at its first session. It ends without an error in the console."""
+
+    maxDiff = 4000
+    fragment = ""
+    address: str
+    browser: Browser
+
+    @classmethod
+    def setUpClass(cls) -> None:
+        cls.address = packed_page()
+        cls.browser = the_browser()
+
+    def setUp(self) -> None:
+        self.browser.size(1280, 1000)
+        self.browser.open(self.address + self.fragment)
+        self.browser.wait("document.querySelector('#balance').textContent !== '..'")
+
+    def tearDown(self) -> None:
+        self.assertEqual(self.browser.messages, [])
+
+    def folder(self) -> Path:
+        made = tempfile.TemporaryDirectory()
+        self.addCleanup(made.cleanup)
+        return Path(made.name)
+
+    def wait_text(self, selector: str, part: str) -> str:
+        """Waits until the element's text has a part; returns the text."""
+        name, wanted = json.dumps(selector), json.dumps(part)
+        self.browser.wait(f"document.querySelector({name})?.textContent.includes({wanted})")
+        return self.browser.text(selector)
+
+    def wait_still(self, seconds: float = SECONDS) -> None:
+        """Waits until the picture is drawn and nothing is under way."""
+        self.browser.wait("document.documentElement.dataset.work === 'none'", seconds)
+
+    def balance(self, wanted: str) -> None:
+        self.wait_text("#balance", wanted)
+
+    def turn(self) -> int:
+        return int(self.browser.value("document.querySelector('#turns').ariaValueNow"))
+
+    def type_line(self, line: str) -> str:
+        """Types a line and Enter; returns what the page says of it."""
+        self.fill("#line")
+        self.browser.type(line)
+        self.browser.key("Enter")
+        return self.wait_text("#reply", f"{line}: ")
+
+    def fill(self, selector: str, text: str = "") -> None:
+        """Puts the focus into a field, and types in it."""
+        name = json.dumps(selector)
+        self.browser.value(
+            f"(() => {{ const it = document.querySelector({name}); it.value = ''; it.focus(); }})()"
+        )
+        self.browser.type(text)
+
+    def give(self, *paths: Path) -> None:
+        """Opens files by the dialog's input."""
+        self.browser.give_files("#files", [str(it) for it in paths])
+        self.wait_text("#reply", "Opened: ")
+
+    def edits(self) -> list[str]:
+        found = self.browser.value(
+            "[...document.querySelectorAll('#edits li')].map(it => it.textContent)"
+        )
+        return list(found)

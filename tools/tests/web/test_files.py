@@ -1,0 +1,102 @@
+"""Files: opened by the dialog and by a drop, saved as a session and as a page."""
+import base64
+import json
+import time
+from pathlib import Path
+
+from .common import KEY, LOST, ROOT, SAFE, PageCase, packed_page, replies_of
+
+EXAMPLES = ROOT / "examples"
+
+
+class Files(PageCase):
+    def drop(self, *paths: Path) -> None:
+        """Drops files on the page."""
+        held = {it.name: base64.b64encode(it.read_bytes()).decode() for it in paths}
+        self.browser.value(
+            "(() => { const data = new DataTransfer();"
+            f"for (const [name, text] of Object.entries({json.dumps(held)})) {{"
+            "const bytes = Uint8Array.from(atob(text), it => it.charCodeAt(0));"
+            "data.items.add(new File([bytes], name)); }"
+            "const event = new DragEvent('drop',"
+            "{dataTransfer: data, bubbles: true, cancelable: true});"
+            "document.querySelector('main').dispatchEvent(event); })()"
+        )
+        self.wait_text("#reply", "Opened: ")
+
+    def saved(self, selector: str) -> Path:
+        """The file that a button saves."""
+        folder = self.folder()
+        self.browser.call(
+            "Browser.setDownloadBehavior", behavior="allow", downloadPath=str(folder)
+        )
+        self.browser.click(selector)
+        end = time.monotonic() + 30
+        while time.monotonic() < end:
+            found = [it for it in folder.iterdir() if it.suffix in (".session", ".html")]
+            if found:
+                return found[0]
+            time.sleep(0.05)
+        raise AssertionError("no file was saved")
+
+    def test_a_session_is_dropped(self) -> None:
+        self.drop(EXAMPLES / "who-wrote-this-word.session")
+        self.wait_text("#session-name", "who-wrote-this-word.session")
+        self.assertTrue(self.browser.value("document.querySelector('#story').hidden"))
+        self.wait_still()
+        self.assertIn("dsk 000107", self.type_line("dsk 40 0 1"))
+
+    def test_a_session_with_its_disk_is_dropped(self) -> None:
+        name = "text-from-disk"
+        self.drop(EXAMPLES / f"{name}.session", EXAMPLES / f"{name}.disk")
+        self.wait_text("#session-name", name)
+        self.wait_still()
+        lines = (EXAMPLES / f"{name}.session").read_text().splitlines()
+        last = [it for it in lines if it.startswith("text")][-1]
+        disk = str(EXAMPLES / f"{name}.disk")
+        wanted = replies_of(lines, "--disk", disk)
+        said = self.type_line(last)
+        self.assertIn(said.partition(": ")[2], wanted)
+
+    def test_a_disk_is_booted(self) -> None:
+        """The bootstrap with its image and its options, dropped together."""
+        names = ("boot-rk0.session", "boot-rk0.disk", "boot-rk0.args")
+        self.drop(*(EXAMPLES / it for it in names))
+        self.wait_text("#session-name", "boot-rk0")
+        self.assertIn("BOOTED FROM RK0", self.type_line("text 1000"))
+        self.wait_still()
+
+    def test_files_are_chosen(self) -> None:
+        self.give(EXAMPLES / "first-run.session")
+        self.wait_text("#session-name", "first-run.session")
+
+    def test_an_image_that_is_wrong_is_told(self) -> None:
+        if packed_page().startswith("http"):
+            self.skipTest("the page isn't packed")
+        path = self.folder() / "odd.disk"
+        path.write_bytes(b"abc")
+        self.browser.give_files("#files", [str(path)])
+        self.wait_text("#reply", "BadImage")
+        self.balance(LOST)
+
+    def test_a_saved_session_has_the_same_replies(self) -> None:
+        self.browser.drag(KEY, 110)
+        self.balance(SAFE)
+        self.browser.wait("document.querySelectorAll('#edits li').length === 1")
+        path = self.saved("#save")
+        lines = path.read_text().splitlines()
+        asked = ["regs 150000", "mem 238614 30000 4", "dsk 238614 0 1", "text 238614"]
+        native = replies_of([*lines, *asked])[-4:]
+        for line, reply in zip(asked, native):
+            self.assertEqual(self.type_line(line), f"{line}: {reply}")
+
+    def test_a_saved_page_has_it_all(self) -> None:
+        self.browser.drag(KEY, 110)
+        self.balance(SAFE)
+        self.browser.wait("document.querySelectorAll('#edits li').length === 1")
+        path = self.saved("#save-page")
+        if packed_page().startswith("http"):
+            self.skipTest("the page isn't packed")
+        self.browser.open(path.as_uri())
+        self.balance(SAFE)
+        self.assertIn(SAFE, self.wait_text("#text", SAFE))

@@ -1,0 +1,106 @@
+"""How the page looks: wide and narrow, light and dark, with names for those who don't see it."""
+import struct
+import zlib
+
+from tests import under_test
+
+from .common import KEY, SAFE, PageCase
+
+SIZES = ((1280, 900), (400, 800))
+
+
+def pixels_of(png: bytes) -> tuple[int, int, list[bytes]]:
+    """Width, height and the rows of a PNG of eight bits for each of three or four colours."""
+    width, height, depth, kind = struct.unpack(">IIBB", png[16:26])
+    assert depth == 8 and kind in (2, 6), (depth, kind)
+    size, at, packed = 3 if kind == 2 else 4, 8, b""
+    while at < len(png):
+        length, name = struct.unpack(">I4s", png[at : at + 8])
+        packed += png[at + 8 : at + 8 + length] if name == b"IDAT" else b""
+        at += 12 + length
+    raw = zlib.decompress(packed)
+    stride = width * size
+    return width, height, [raw[it + 1 : it + 1 + stride] for it in range(0, len(raw), stride + 1)]
+
+
+class Tour(PageCase):
+    """Screenshots, which whoever changes the page looks at: --shots FOLDER keeps them."""
+
+    def shot(self, name: str) -> None:
+        self.wait_still()
+        png = self.browser.screenshot()
+        folder = under_test.shots()
+        if folder is not None:
+            folder.mkdir(parents=True, exist_ok=True)
+            (folder / f"{name}.png").write_bytes(png)
+        _, height, rows = pixels_of(png)
+        differing = sum(it != rows[0] for it in rows)
+        self.assertGreater(differing, height // 2, f"{name} is nearly empty")
+
+    def test_the_tour(self) -> None:
+        for width, height in SIZES:
+            for look in ("light", "dark"):
+                with self.subTest(width=width, look=look):
+                    self.tour(width, height, look)
+
+    def tour(self, width: int, height: int, look: str) -> None:
+        self.browser.size(width, height, look == "dark")
+        self.browser.open(self.address)
+        name = f"{look}-{width}"
+        self.shot(f"{name}-first")
+        self.browser.drag(KEY, width / 12)
+        self.balance(SAFE)
+        self.wait_text("#difference", "Drive 0")
+        self.browser.value("scrollTo(0, 0)")
+        self.shot(f"{name}-dragged")
+        for panel in ("registers", "memory", "console", "sweep"):
+            self.browser.value(
+                f"document.querySelector('#{panel}-panel')?.scrollIntoView({{block: 'start'}})"
+            )
+            self.shot(f"{name}-{panel}")
+        self.browser.value("scrollTo(0, 0)")
+        self.browser.value("document.querySelector('[data-key=\"0\"]').click()")
+        self.wait_text("#notes", "the first of each")
+        self.shot(f"{name}-whole")
+
+    def test_nothing_is_wider_than_the_page(self) -> None:
+        for width in (400, 1280):
+            self.browser.size(width, 800)
+            self.wait_still()
+            wide = self.browser.value("document.documentElement.scrollWidth")
+            self.assertLessEqual(wide, width)
+
+    def test_the_look_is_chosen(self) -> None:
+        ground = "getComputedStyle(document.body).backgroundColor"
+        light = self.browser.value(ground)
+        self.browser.value(
+            "(() => { const it = document.querySelector('#look'); it.value = 'dark';"
+            "it.dispatchEvent(new Event('change')); })()"
+        )
+        self.assertNotEqual(self.browser.value(ground), light)
+        self.browser.size(1280, 900, is_dark=True)
+        self.browser.open(self.address)
+        self.assertNotEqual(self.browser.value(ground), light)
+
+
+class Names(PageCase):
+    ROLES = {"button", "textbox", "combobox", "slider", "link", "checkbox", "spinbutton"}
+
+    def test_each_control_has_a_name(self) -> None:
+        self.wait_still()
+        nodes = self.browser.call("Accessibility.getFullAXTree")["nodes"]
+        controls = [it for it in nodes if it.get("role", {}).get("value") in self.ROLES]
+        self.assertGreater(len(controls), 20)
+        names = [it.get("name", {}).get("value", "") for it in controls]
+        self.assertIn("Event 15, key 66 '6', turn 126967", names)
+        self.assertIn("Turn of the run", names)
+        unnamed = [it for it in controls if not it.get("name", {}).get("value")]
+        self.assertEqual(unnamed, [])
+
+    def test_events_are_told(self) -> None:
+        label = self.browser.value(f"document.querySelector('{KEY}').ariaLabel")
+        self.assertEqual(label, "Event 15, key 66 '6', turn 126967")
+
+    def test_the_cursor_is_told(self) -> None:
+        text = "document.querySelector('#turns').ariaValueText"
+        self.assertEqual(self.browser.value(text), "before turn 126967")

@@ -1,0 +1,66 @@
+"""What the panels show is what the program replies."""
+import re
+
+from .common import PageCase, ledger_lines, replies_of
+
+TURN = 127_163
+
+
+class Panels(PageCase):
+    fragment = f"#turn={TURN}&from=126300&turns=2600&core=30000"
+
+    def replies(self, *lines: str) -> list[str]:
+        return replies_of([*ledger_lines()[:-2], *lines])[-len(lines) :]
+
+    def test_registers(self) -> None:
+        self.wait_text("#registers", "kernel")
+        shown = re.sub(r"\s+", "", self.browser.text("#registers dl")).replace("*", "")
+        (reply,) = self.replies(f"regs {TURN}")
+        self.assertEqual(shown, "".join(reply.split()[:-1]))
+        changed = self.browser.value(
+            "[...document.querySelectorAll('#registers .changed dt')].map(it => it.textContent)"
+        )
+        old, now = (it.split() for it in self.replies(f"regs {TURN - 1}", f"regs {TURN}"))
+        differ = [name for name, a, b in zip(now[::2], old[1::2], now[1::2]) if a != b]
+        self.assertEqual(changed, differ)
+
+    def test_devices(self) -> None:
+        self.wait_text("#devices", "RKCS")
+        shown = re.sub(r"\s+", "", self.browser.text("#devices dl"))
+        (reply,) = self.replies(f"devices {TURN}")
+        self.assertEqual(shown, "".join(reply.split()[1:]))
+
+    def test_memory_and_who_wrote_it(self) -> None:
+        self.wait_text("#memory", "030036")
+        (words, last) = self.replies(f"mem {TURN} 30000 1", f"last {TURN} 30000")
+        first = self.browser.text("#memory tbody tr")
+        self.assertIn(words.split()[1], first)
+        _, turn, writer, _ = last.split()
+        self.assertIn(f"{writer}, turn {turn}", first)
+
+    def test_a_word_is_changed_as_of_power_up(self) -> None:
+        self.wait_text("#memory", "030036")
+        self.browser.click("#memory tbody tr td:nth-child(2) .link")
+        line = self.browser.value("document.querySelector('#line').value")
+        self.assertRegex(line, "^core 30000 [0-7]{6}$")
+        selected = self.browser.value("getSelection().toString()")
+        self.assertEqual(selected, line.split()[-1])
+
+    def test_instructions_with_symbols(self) -> None:
+        shown = self.wait_text("#instructions", "next")
+        self.assertIn("127162user000002interrupt 060 keyboardCLERK+2", shown)
+        self.assertIn("kernel001232MOV R0,-(SP)KEY", shown)
+
+    def test_pages_in_words(self) -> None:
+        (reply,) = self.replies(f"pages {TURN}")
+        begin = int(reply.partition("UPAR ")[2].split()[1], 8) << 6
+        shown = f"core {begin:06o} to {begin + 0o7777:06o}, read and write"
+        self.wait_text("#pages", shown)
+
+    def test_a_word_is_drawn_and_taken_away(self) -> None:
+        self.fill("#watch", "1520")
+        self.browser.key("Enter")
+        self.browser.wait("document.querySelector('#words').textContent.includes('core 001520')")
+        self.wait_still()
+        self.browser.click("#words button:last-child")
+        self.browser.wait("!document.querySelector('#words').textContent.includes('core 001520')")

@@ -1,0 +1,94 @@
+"""The console pane and the sweep."""
+from .common import PageCase, ledger_lines, replies_of
+
+# echoes what is typed: TSTB @#TKS; BPL .-4; MOVB @#TKB,R0; MOVB R0,@#TPB; BR to the start
+ECHO = ("105737", "177560", "100375", "113700", "177562", "110037", "177566", "770")
+
+
+class TheConsole(PageCase):
+    def setUp(self) -> None:
+        super().setUp()
+        path = self.folder() / "echo.session"
+        lines = [f"core {0o1000 + 2 * at:o} {word}" for at, word in enumerate(ECHO)]
+        path.write_text("\n".join([*lines, "regs 100", ""]))
+        self.give(path)
+        self.wait_text("#session-name", "echo")
+
+    def test_what_is_typed_is_an_event_and_comes_back(self) -> None:
+        self.browser.value("document.querySelector('#terminal').focus()")
+        self.browser.type("hi")
+        self.wait_text("#terminal", "hi")
+        self.browser.key("Tab")
+        self.browser.wait("document.activeElement.id !== 'terminal'")
+        self.browser.wait("document.querySelectorAll('#edits li').length === 2")
+        first, second = self.edits()
+        self.assertRegex(first, r"^at \d+ key 150$")
+        self.assertRegex(second, r"^at \d+ key 151$")
+        lines = [f"core {0o1000 + 2 * at:o} {word}" for at, word in enumerate(ECHO)]
+        turn = int(second.split()[1]) + 100
+        self.assertEqual(replies_of([*lines, first, second, f"text {turn}"])[-1], "text 2:hi")
+        self.wait_still()
+
+    def test_it_stops_without_the_focus(self) -> None:
+        self.browser.value("document.querySelector('#terminal').focus()")
+        self.wait_text("#terminal-status", "before turn ")
+        self.browser.value("document.querySelector('#terminal').blur()")
+        self.wait_still()
+        before = self.turn()
+        self.assertGreater(before, 0)
+        self.browser.value("new Promise(it => setTimeout(it, 200))")
+        self.assertEqual(self.turn(), before)
+
+    def test_keys_that_move_the_cursor_are_typed_here(self) -> None:
+        self.browser.value("document.querySelector('#terminal').focus()")
+        self.browser.type("+0-")
+        self.wait_text("#terminal", "+0-")
+        self.browser.value("document.querySelector('#terminal').blur()")
+        self.wait_still()
+
+
+class TheSweep(PageCase):
+    def sweep(self, first: int, last: int) -> None:
+        self.browser.value(
+            f"(() => {{ document.querySelector('#sweep-from').value = '{first}';"
+            f"document.querySelector('#sweep-to').value = '{last}';"
+            "document.querySelector('#sweep-form').requestSubmit(); })()"
+        )
+
+    def test_turns_with_equal_outcomes(self) -> None:
+        """As `sweep 15 from 126820 to 126840` of explore has them."""
+        self.sweep(126_820, 126_840)
+        self.wait_text("#sweep-status", "21 of 21 turns: each was tried.")
+        rows = self.browser.value(
+            "[...document.querySelectorAll('#outcomes tbody tr')].map(it =>"
+            "[...it.cells].map(cell => cell.textContent))"
+        )
+        turns = [it[1] for it in rows]
+        self.assertEqual(turns, ["126820 to 126829", "126830 to 126832", "126833 to 126840"])
+        self.assertEqual(rows[0][::2], rows[-1][::2])
+        lines = ledger_lines()[:-2]
+        for row in rows:
+            turn = row[1].split()[0]
+            asked = [f"alter 15 {turn} key 66", "dsk 238614 0 1"]
+            self.assertEqual(replies_of([*lines, *asked])[-1], row[2])
+        self.browser.click("#outcomes tbody tr:nth-child(2) .link")
+        self.browser.wait("document.querySelectorAll('#edits li').length === 1")
+        self.assertEqual(self.edits(), ["alter 15 126830 key 66"])
+        self.assertIn("126820", self.browser.text("#outcomes"))
+
+    def test_it_can_be_stopped(self) -> None:
+        self.sweep(100_000, 119_000)
+        self.wait_text("#sweep-status", " of 19001 turns: tried so far")
+        self.browser.click("#sweep-stop")
+        self.wait_still()
+        self.assertIn("between them isn't known", self.browser.text("#sweep-status"))
+
+    def test_another_edit_takes_the_outcomes_away(self) -> None:
+        self.sweep(126_600, 126_603)
+        self.wait_text("#sweep-status", "4 of 4 turns")
+        self.type_line("drop 3")
+        self.browser.wait("document.querySelector('#outcomes').textContent === ''")
+
+    def test_a_wrong_range_is_told(self) -> None:
+        self.sweep(126_600, 5)
+        self.wait_text("#sweep-status", "two turns")

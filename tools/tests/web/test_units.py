@@ -1,0 +1,70 @@
+"""Tests of the page's modules, which run in the browser: each is a function of units.js."""
+import http.server
+import re
+import threading
+import unittest
+from pathlib import Path
+from typing import Any, Callable
+
+from .browser import BrowserError
+from .common import ROOT, the_browser
+
+UNITS = Path(__file__).with_name("units.js")
+KINDS = {".js": "text/javascript", ".html": "text/html"}
+PAGE = (
+    b'<!DOCTYPE html><meta charset="utf-8"><script type="module">'
+    b'import * as units from "/units.js"; window.units = units;'
+    b'document.documentElement.dataset.state = "ready";</script>'
+)
+
+
+class Handler(http.server.BaseHTTPRequestHandler):
+    """Gives the modules of the page, and their tests."""
+
+    def do_GET(self) -> None:
+        name = self.path.lstrip("/")
+        path = UNITS if name == UNITS.name else ROOT / "web" / Path(name).name
+        body = PAGE if not name else path.read_bytes() if path.is_file() else None
+        self.send_response(404 if body is None else 200)
+        self.send_header("Content-Type", KINDS.get(path.suffix if name else ".html", "text/plain"))
+        self.end_headers()
+        self.wfile.write(body or b"")
+
+    def log_message(self, *words: Any) -> None:
+        pass
+
+
+class Units(unittest.TestCase):
+    server: http.server.ThreadingHTTPServer
+
+    @classmethod
+    def setUpClass(cls) -> None:
+        browser = the_browser()
+        cls.server = http.server.ThreadingHTTPServer(("127.0.0.1", 0), Handler)
+        threading.Thread(target=cls.server.serve_forever, daemon=True).start()
+        host, port = cls.server.server_address[:2]
+        browser.open(f"http://{str(host)}:{port}/")
+
+    @classmethod
+    def tearDownClass(cls) -> None:
+        cls.server.shutdown()
+        cls.server.server_close()
+
+
+def unit(name: str) -> Callable[[Units], None]:
+    def run(self: Units) -> None:
+        try:
+            the_browser().value(f"units.{name}()")
+        except BrowserError as error:
+            self.fail(str(error))
+
+    return run
+
+
+def names() -> tuple[str, ...]:
+    found = re.findall(r"^export (?:async )?function (test_\w+)", UNITS.read_text(), re.MULTILINE)
+    return tuple(found)
+
+
+for _name in names():
+    setattr(Units, _name, unit(_name))
