@@ -1,0 +1,157 @@
+"""Packs a page of web/ into one file that opens from a disk: the page with its style, its modules
+as one script, and in elements of their own, which a browser doesn't run, the text of the worker,
+the WebAssembly modules and a session. A content security policy allows what is packed to run, and
+nothing elsewhere to be reached.
+
+A module imports by lines `import { a, b } from "./name.js";`, and exports functions, classes and
+constants where they are declared. In the script each module is a function that returns what it
+exports."""
+import base64
+import gzip
+import hashlib
+import json
+import re
+import zlib
+from pathlib import Path
+from typing import Mapping, NamedTuple, Sequence
+
+WORKER = "machine-worker.js"
+IMPORT = re.compile(r'^import \{([^}]*)\} from "\./([a-z-]+\.js)";\n', re.M)
+EXPORT = re.compile(r"^export (?=(?:async )?(?:function|class|const) (\w+))", re.M)
+COMMENT = re.compile(r"^\s*(?:/?\*|//).*$", re.M)
+OTHER_FORMS = re.compile(r"^(?:import|export)\b.*|\bimport(?:\(|\.meta)", re.M)
+ENDS_SCRIPT = re.compile(r"</script|<!--", re.I)
+SCRIPT = re.compile(r'<script type="module" src="([a-z-]+\.js)"></script>')
+STYLE = re.compile(r'<link rel="stylesheet" href="([a-z-]+\.css)">')
+HEAD = '<meta charset="utf-8">\n'
+
+
+class PackingError(Exception):
+    """Why a page can't be packed, for the user to read."""
+
+
+class Session(NamedTuple):
+    """A session for the page: its name, the words of the program's command line, its lines, and the
+    files that those words name."""
+
+    name: str
+    arguments: Sequence[str]
+    lines: Sequence[str]
+    files: Mapping[str, bytes]
+
+
+EMPTY = Session("", (), (), {})
+
+
+def text_of(path: Path) -> str:
+    try:
+        return path.read_text(encoding="utf-8")
+    except (OSError, UnicodeDecodeError) as error:
+        raise PackingError(f"{path}: {getattr(error, 'strerror', None) or error}") from error
+
+
+def in_order(folder: Path, entry: str) -> list[str]:
+    """The module and all that it imports, each after those that it imports."""
+    found: list[str] = []
+    under_way: list[str] = []
+
+    def add(name: str) -> None:
+        if name in under_way:
+            raise PackingError(f"modules import each other: {' '.join([*under_way, name])}")
+        if name in found:
+            return
+        under_way.append(name)
+        for match in IMPORT.finditer(text_of(folder / name)):
+            add(match[2])
+        found.append(under_way.pop())
+
+    add(entry)
+    return found
+
+
+def as_function(folder: Path, name: str) -> str:
+    """A module's text as a function that returns what the module exports."""
+    text = text_of(folder / name)
+    exported = EXPORT.findall(text)
+    text = EXPORT.sub("", IMPORT.sub(taken, text))
+    other = OTHER_FORMS.search(COMMENT.sub("", text)) or ENDS_SCRIPT.search(text)
+    if other:
+        raise PackingError(f"{folder / name}: the packing doesn't know '{other[0]}'")
+    given = ", ".join(exported)
+    return f'modules["{name}"] = (() => {{\n{text}return {{ {given} }};\n}})();\n'
+
+
+def taken(match: "re.Match[str]") -> str:
+    names = match[1].replace(" as ", ": ")
+    return f'const {{{names}}} = modules["{match[2]}"];\n'
+
+
+def script_of(folder: Path, entry: str) -> str:
+    """The module and all that it imports as one script."""
+    functions = "".join(as_function(folder, name) for name in in_order(folder, entry))
+    return f'"use strict";\nconst modules = {{}};\n{functions}'
+
+
+def packed_bytes(held: bytes) -> str:
+    return base64.b64encode(gzip.compress(held, 9, mtime=0)).decode("ascii")
+
+
+def unpacked_bytes(text: str) -> bytes:
+    """What was packed; a ValueError if it can't be read."""
+    try:
+        return gzip.decompress(base64.b64decode(text, validate=True))
+    except (OSError, EOFError, zlib.error) as error:
+        raise ValueError(f"it can't be unpacked: {error}") from error
+
+
+def element(kind: str, name: str, text: str) -> str:
+    return f'<script type="{kind}" id="{name}">{text}</script>\n'
+
+
+def session_element(session: Session) -> str:
+    files = {name: packed_bytes(held) for name, held in session.files.items()}
+    held = {
+        "name": session.name,
+        "arguments": list(session.arguments),
+        "lines": list(session.lines),
+        "files": files,
+    }
+    return element("application/json", "session", json.dumps(held).replace("<", "\\u003c"))
+
+
+def policy(script: str, styles: Sequence[str]) -> str:
+    """The content security policy: the page's own script and style, compiling WebAssembly, and a
+    worker that the page made; nothing of any host."""
+    style = " ".join(source_of(it) for it in styles) or "'none'"
+    return (
+        f"default-src 'none'; script-src {source_of(script)} 'wasm-unsafe-eval'; "
+        f"style-src {style}; worker-src blob:; img-src data: blob:; "
+        "base-uri 'none'; form-action 'none'"
+    )
+
+
+def source_of(text: str) -> str:
+    digest = hashlib.sha256(text.encode()).digest()
+    return f"'sha256-{base64.b64encode(digest).decode('ascii')}'"
+
+
+def page(path: Path, programs: Mapping[str, bytes], session: Session = EMPTY) -> str:
+    """The page at `path` with the WebAssembly modules of these programs, and the session."""
+    text, folder = text_of(path), path.parent
+    entry = SCRIPT.findall(text)
+    if len(entry) != 1 or text.count(HEAD) != 1 or re.search(r"\sstyle=", text):
+        raise PackingError(
+            f"{path}: a page has one line {HEAD.strip()}, one <script type=\"module\" src=..>, and"
+            " no attribute style, which its policy forbids"
+        )
+    script = script_of(folder, entry[0])
+    styles: dict[str, str] = {name: text_of(folder / name) for name in STYLE.findall(text)}
+    inside = element("text/plain", WORKER, script_of(folder, WORKER))
+    for name in sorted(programs):
+        inside += element("text/plain", f"{name}.wasm", packed_bytes(programs[name]))
+    inside += session_element(session)
+    allowed = policy(script, list(styles.values()))
+    head = f'<meta http-equiv="Content-Security-Policy" content="{allowed}">\n'
+    text = text.replace(HEAD, HEAD + head)
+    text = STYLE.sub(lambda match: f"<style>{styles[match[1]]}</style>", text)
+    return SCRIPT.sub(lambda _: f'{inside}<script type="module">{script}</script>', text)

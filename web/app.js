@@ -1,0 +1,451 @@
+// The page: a session, its run, the old past beside it, and the panels.
+
+import { Comparison } from "./comparison.js";
+import { CursorPanels } from "./cursor.js";
+import { notesOf } from "./lanes.js";
+import { Ended, Machine, Stopped } from "./machine.js";
+import { Differences, marked } from "./differences.js";
+import { pageOfPast, saveFile, savedName, sessionOfFiles, textOfPast } from "./files.js";
+import { delayed, element, make } from "./page.js";
+import { isEdit } from "./past.js";
+import { PictureMaker, nameOfWord } from "./picture.js";
+import { keepPlace, placeOf } from "./place.js";
+import { LAST_TURN, isRefused, octal, readableText, tailOf, visibleName } from "./replies.js";
+import { Priority, Run } from "./run.js";
+import { lastTurnOf, symbolsOfSession } from "./session.js";
+import { Sweep } from "./sweep.js";
+import { STORY, STORY_SESSION, verdictOf } from "./story.js";
+import { Timeline } from "./timeline.js";
+
+const MOST_TEXT = 40_000;
+
+export class App {
+  constructor() {
+    this.works = 0;
+    this.disassembler = new Machine({ program: "disassemble", arguments: [], files: {} });
+    this.panels = new CursorPanels(this.disassembler, {
+      onTurn: turn => this.goTo(turn),
+      onChange: (address, word) => this.writeLine(`core ${address.toString(8)} `, octal(word)),
+      onWatch: address => this.watch({ kind: "core", drive: 0, at: address }),
+    });
+    this.timeline = new Timeline(element("timeline"), {
+      onCursor: () => this.cursorMoved(), onView: () => this.viewChanged(),
+      onDrag: (event, turn) => this.preview(event, turn),
+      onDrop: (event, turn) => this.drop(event, turn),
+      onOpen: event => this.openEvent(event),
+    });
+    this.sweep = new Sweep(this);
+    this.tokens = {};
+    this.words = [];
+    this.differences = new Differences(element("difference"), turn => this.goTo(turn));
+    this.drawLater = delayed(60, () => {
+      this.countWork(-1);
+      this.isDelayed = false;
+      this.drawPicture();
+    });
+    this.keepPlaceLater = delayed(300, () => keepPlace(this.place(), false));
+  }
+
+  /** A token for work of a kind: what was under way of this kind is given up. */
+  token(kind) {
+    if (this.tokens[kind]) this.tokens[kind].isStopped = true;
+    this.tokens[kind] = { isStopped: false };
+    return this.tokens[kind];
+  }
+
+  /** Does work, and shows why it failed, unless it was given up. */
+  async attempt(work) {
+    this.countWork(1);
+    try {
+      await work();
+    } catch (error) {
+      if (!(error instanceof Stopped)) this.fail(error);
+    } finally {
+      this.countWork(-1);
+    }
+  }
+
+  fail(error) {
+    this.say(`This failed: ${error.message}`);
+    if (!(error instanceof Ended)) console.error(error);
+  }
+
+  /** The page says whether work is under way. */
+  countWork(by) {
+    this.works += by;
+    document.documentElement.dataset.work = this.works ? "some" : "none";
+  }
+
+  say(text) {
+    element("reply").textContent = text;
+  }
+
+  // Sessions
+
+  /** @param {import("./session.js").Session} session */
+  async open(session) {
+    for (const kind of Object.keys(this.tokens)) this.token(kind);
+    this.run?.end();
+    this.old?.end();
+    this.old = null;
+    this.session = session;
+    const setup = { arguments: session.arguments, files: session.files };
+    this.run = new Run(setup, it => this.showWork(it));
+    const refused = await this.run.load(session.lines);
+    this.begun = [...this.run.taken];
+    this.refusedNote = refused.length ? `${refused.length} lines were refused, the first: `
+      + `${visibleName(refused[0].line)}: ${refused[0].reply}` : "";
+    this.say(this.refusedNote);
+    this.end = Math.min(LAST_TURN, lastTurnOf(session.lines) || 1_000);
+    this.symbols = symbolsOfSession(session);
+    element("session-name").textContent = visibleName(session.name);
+    this.isStory = session.name === STORY_SESSION;
+    element("story").hidden = !this.isStory;
+    this.timeline.symbols = this.symbols;
+    this.timeline.whole = this.end;
+    this.words = this.isStory ? storyWords() : [];
+    this.timeline.ghost = null;
+    this.oldText = undefined;
+    if (this.isStory) this.timeline.show(STORY.first, STORY.span);
+    else this.timeline.show(0, Math.max(16, this.end));
+    this.timeline.setCursor(this.isStory ? STORY.cursor : 0, { isTold: false });
+    this.offerSweep();
+    this.changed();
+    this.goToPlace(placeOf(location.hash));
+  }
+
+  offerSweep() {
+    const question = this.isStory ? `dsk ${this.end} 0 1` : `text ${this.end}`;
+    this.sweep.offer(this.run.past, question, this.isStory ? STORY.sweep : null);
+  }
+
+  /** The run is shown at least up to this turn. */
+  reach(turn) {
+    this.end = Math.max(this.end, turn);
+    this.timeline.whole = this.end;
+  }
+
+  /** Opens files: a session begins anew; images and symbols are added to what is open. */
+  async openFiles(files) {
+    await this.attempt(async () => {
+      const { session, notes } = await sessionOfFiles(this.session, this.run.past.lines(), files);
+      history.replaceState(null, "", "#");
+      await this.openOrReturn(session);
+      const names = files.map(it => visibleName(it.name)).join(", ");
+      this.say([`Opened: ${names}.`, ...notes, this.refusedNote].filter(Boolean).join(" "));
+    });
+  }
+
+  /** Opens a session. If its program can't begin, what was open before is opened again. */
+  async openOrReturn(session) {
+    const before = { ...this.session, lines: this.run.past.lines() };
+    try {
+      await this.open(session);
+    } catch (error) {
+      await this.open(before);
+      throw error;
+    }
+  }
+
+  saveSession() {
+    const { session, run, end } = this;
+    saveFile(savedName(session, ".session"), textOfPast(session, run.past, end), "text/plain");
+    const files = Object.keys(session.files).map(visibleName).join(", ");
+    this.say(files ? `Saved. It is asked with its files: ${files}` : "Saved.");
+  }
+
+  async savePage() {
+    await this.attempt(async () => {
+      const { session, run, end } = this;
+      const page = await pageOfPast(session, run.past, end);
+      saveFile(savedName(session, ".html"), page, "text/html");
+      this.say("Saved: one file with all in it.");
+    });
+  }
+
+  // What follows an edit, or a move
+
+  /** The past has changed: all that is shown is asked anew. */
+  changed() {
+    this.timeline.events = this.run.past.script();
+    this.timeline.wanted = this.isStory && !this.run.edits.length ? STORY.sweep.event : 0;
+    this.showWords();
+    this.timeline.oldEvents = this.old?.past.script() ?? [];
+    this.timeline.draw();
+    this.showEdits();
+    this.sweep.pastChanged(this.run.past);
+    this.drawPicture();
+    this.showText();
+    this.showCursor();
+    this.compare();
+  }
+
+  cursorMoved() {
+    element("turn").value = String(this.timeline.cursor);
+    this.showCursor();
+    this.keepPlaceLater();
+  }
+
+  viewChanged() {
+    if (!this.run) return;
+    if (!this.isDelayed) this.countWork(1);
+    this.isDelayed = true;
+    this.drawLater();
+    this.keepPlaceLater();
+  }
+
+  showCursor() {
+    const { run, timeline } = this;
+    if (!run) return;
+    const token = this.token("cursor");
+    this.attempt(() => this.panels.show(run, timeline.cursor, this.symbols, token));
+  }
+
+  drawPicture() {
+    const { run, timeline, old } = this;
+    const { view } = timeline;
+    const first = Math.max(0, Math.floor(view.first));
+    const end = Math.min(LAST_TURN, Math.max(first + 1, Math.ceil(view.end)));
+    const wanted = { first, end, columns: Math.max(64, Math.round(view.width)), words: this.words };
+    const token = this.token("picture");
+    this.attempt(async () => {
+      await new PictureMaker(run, wanted, token, it => this.showPicture(it, "picture")).make();
+      if (!old) return;
+      await new PictureMaker(old, wanted, token, it => this.showPicture(it, "ghost")).make();
+    });
+  }
+
+  /** Shows a picture. The one before, if there is one, stays until this one is made. */
+  showPicture(picture, place) {
+    if (place === "picture") {
+      element("notes").textContent = picture.isMade ? notesOf(picture).join(" ")
+        : "The machine is asked for what is in sight ..";
+    }
+    if (!picture.isMade && this.timeline[place]) return;
+    this.timeline[place] = picture;
+    this.timeline.draw();
+  }
+
+  // The console's text
+
+  showText() {
+    const { run, end } = this;
+    const token = this.token("text");
+    this.attempt(async () => {
+      this.showReply(await run.askOne(`text ${end}`, Priority.CURSOR, token));
+    });
+  }
+
+  showReply(reply) {
+    const { bytes, isCut } = tailOf(reply, MOST_TEXT);
+    const text = readableText(bytes);
+    const cut = isCut ? `, its last ${bytes.length} bytes` : "";
+    element("text-turn").textContent = `before turn ${this.end}${cut}`;
+    element("text").replaceChildren(...marked(text, this.oldText ?? text));
+    if (this.oldText === undefined) this.oldText = text;
+    if (!this.isStory) return;
+    const { balance, verdict, isGood } = verdictOf(text, this.run.edits.length > 0);
+    element("balance").textContent = balance;
+    element("verdict").textContent = verdict;
+    element("outcome").className = isGood ? "good" : "bad";
+  }
+
+  // Edits
+
+  /** A line of the user: an edit, or a question. */
+  async do(line) {
+    if (isEdit(line)) await this.edit(line);
+    else await this.attempt(async () => this.say(`${line}: ${await this.run.askOne(line)}`));
+  }
+
+  async edit(line) {
+    await this.attempt(async () => {
+      await this.keepOld();
+      const reply = await this.run.edit(line);
+      this.say(`${line}: ${reply}`);
+      if (!isRefused(reply)) this.changed();
+      else this.showEdits();
+    });
+  }
+
+  /** The past as the session was opened, on a machine of its own. */
+  async keepOld() {
+    if (this.old) return;
+    const setup = { arguments: this.session.arguments, files: this.session.files };
+    this.old = new Run(setup);
+    this.timeline.ghost = this.timeline.picture;
+    await this.old.load(this.begun);
+  }
+
+  /** While an event is dragged its turn is tried, if the machine is quick enough. */
+  preview(event, turn) {
+    this.tried ??= { line: `alter ${event.number} ${event.turn} ${event.text}`, text: event.text };
+    this.tried.wanted = `alter ${event.number} ${turn} ${event.text}`;
+    this.say(`${this.tried.wanted}`);
+    if (!this.tried.work) this.tried.work = this.attempt(() => this.tryTurns(this.tried));
+  }
+
+  async tryTurns(tried) {
+    const { run, end } = this;
+    while (tried.wanted && tried.wanted !== tried.now) {
+      tried.now = tried.wanted;
+      const [reply, text] = await run.ask([tried.now, `text ${end}`], Priority.EDIT);
+      if (!isRefused(reply)) run.take(tried.now, reply);
+      if (this.tried === tried) this.showReply(text);
+    }
+    tried.work = null;
+  }
+
+  /** Ends a drag: the event is put back, and then altered by one edit. */
+  async drop(event, turn) {
+    const { tried } = this;
+    this.tried = null;
+    if (tried) {
+      tried.wanted = null;
+      await tried.work;
+      await this.attempt(async () => {
+        const reply = await this.run.askOne(tried.line, Priority.EDIT);
+        if (!isRefused(reply)) this.run.take(tried.line, reply);
+      });
+    }
+    if (turn === null) this.changed();
+    else await this.edit(`alter ${event.number} ${turn} ${event.text}`);
+  }
+
+  openEvent(event) {
+    this.writeLine(`alter ${event.number} `, String(event.turn), ` ${event.text}`);
+  }
+
+  /** Puts a line into the field of edits, with the part selected that is to be changed. */
+  writeLine(before, changed, after = "") {
+    const line = element("line");
+    line.value = `${before}${changed}${after}`;
+    line.focus();
+    line.setSelectionRange(before.length, before.length + changed.length);
+  }
+
+  async undo() {
+    await this.attempt(async () => {
+      await this.run.undo();
+      this.say("undone");
+      this.changed();
+    });
+  }
+
+  async redo() {
+    await this.attempt(async () => {
+      await this.run.redo();
+      this.changed();
+    });
+  }
+
+  showEdits() {
+    const { edits, undone } = this.run;
+    element("edits").replaceChildren(...edits.map(it => make("li", {}, make("code", {}, it.line))));
+    element("undo").disabled = !edits.length;
+    element("redo").disabled = !undone.length;
+  }
+
+  // The old past and the new
+
+  compare() {
+    const { run, old, end } = this;
+    this.timeline.part = null;
+    const token = this.token("comparison");
+    if (!old || !run.edits.length) {
+      this.differences.showNone();
+      return;
+    }
+    this.attempt(async () => {
+      const comparison = new Comparison(run, old, token);
+      this.timeline.part = await this.differences.show(comparison, end);
+      this.timeline.draw();
+      await this.differences.showWords(comparison, end);
+    });
+  }
+
+  // Places
+
+  /** Goes to a turn, as a place to come back from. */
+  goTo(turn) {
+    this.timeline.setCursor(turn, { isTold: false });
+    element("turn").value = String(this.timeline.cursor);
+    keepPlace(this.place(), true);
+    this.showCursor();
+  }
+
+  place() {
+    const { cursor, view } = this.timeline;
+    return { turn: cursor, first: view.first, span: view.span, core: this.panels.address };
+  }
+
+  /** Goes to the place that the address names. */
+  goToPlace({ turn, first, span, core }) {
+    if (core !== undefined) this.showAddress(core);
+    if (span !== undefined) this.timeline.show(first ?? 0, span);
+    if (turn !== undefined) this.timeline.setCursor(turn, { isTold: false });
+    element("turn").value = String(this.timeline.cursor);
+    this.showCursor();
+  }
+
+  showAddress(address) {
+    this.panels.address = address & ~1;
+    element("address").value = this.panels.address.toString(8);
+  }
+
+  /** Draws a word of core or of a drive; if it is drawn already, no longer. */
+  watch(word) {
+    const others = this.words.filter(it => nameOfWord(it) !== nameOfWord(word));
+    this.words = others.length < this.words.length ? others : [...this.words, word];
+    this.showWords();
+    this.drawPicture();
+    this.timeline.draw();
+  }
+
+  /** The words that are drawn, each with a button that takes it away. */
+  showWords() {
+    this.timeline.words = this.words.map(nameOfWord);
+    element("words").replaceChildren(...this.words.map(word => make("button", {
+      type: "button", title: "Draw this word no longer", onclick: () => this.watch(word),
+    }, `${nameOfWord(word)} \u2715`)));
+  }
+
+  /** A word by its name, such as `2000`, `core 2000`, `disk 0` or `disk 1 0`. */
+  watchNamed(name) {
+    const found = /^(?:(core|disk) +)?(?:([0-7]) +)?([0-7]{1,7})$/.exec(name);
+    if (!found) return this.say(`No word is named so: ${name}`);
+    const [, kind = "core", drive = "0", at] = found;
+    return this.watch({ kind, drive: Number(drive), at: parseInt(at, 8) });
+  }
+
+  // Work under way
+
+  showWork(work) {
+    clearTimeout(this.workTimer);
+    const place = element("work");
+    if (!work) {
+      place.hidden = true;
+      this.workBegan = 0;
+      return;
+    }
+    this.workBegan ||= performance.now();
+    if (performance.now() - this.workBegan < 300) return;
+    place.hidden = false;
+    element("bar").value = work.done / work.all;
+    element("work-text").textContent = `${work.done} of ${work.all} ${work.what}`;
+  }
+
+  async stop() {
+    await this.attempt(async () => {
+      for (const kind of Object.keys(this.tokens)) this.token(kind);
+      this.run.stop();
+      this.old?.stop();
+      this.say("Stopped. The edits are kept.");
+    });
+  }
+}
+
+const storyWords = () => [
+  { kind: "core", drive: 0, at: 0o30000 }, { kind: "core", drive: 0, at: 0o40000 },
+  { kind: "disk", drive: 0, at: 0 },
+];

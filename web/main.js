@@ -1,0 +1,79 @@
+// Begins: the page's parts are bound to what they do, and the session in the page is opened.
+
+import { App } from "./app.js";
+import { Console } from "./console.js";
+import { takeDrops } from "./files.js";
+import { keepLook } from "./look.js";
+import { packedSession } from "./packed.js";
+import { element } from "./page.js";
+import { placeOf } from "./place.js";
+
+function onClick(id, act) {
+  element(id).addEventListener("click", act);
+}
+
+/** The field's form does this with its value, which is trimmed. */
+function onForm(id, field, act) {
+  element(id).addEventListener("submit", event => {
+    event.preventDefault();
+    act(element(field).value.trim());
+  });
+}
+
+function bindFiles(app) {
+  onClick("open", () => element("files").click());
+  element("files").addEventListener("change", () => {
+    const files = [...element("files").files];
+    element("files").value = "";
+    if (files.length) app.openFiles(files);
+  });
+  onClick("save", () => app.saveSession());
+  onClick("save-page", () => app.savePage());
+  takeDrops(document.body, files => app.openFiles(files));
+}
+
+function bindTurns(app) {
+  onForm("turn-form", "turn", value => /^\d{1,10}$/.test(value) && app.goTo(Number(value)));
+  for (const button of document.querySelectorAll("[data-key]")) {
+    button.addEventListener("click", event => app.timeline.act(button.dataset.key, event.shiftKey));
+  }
+  document.body.addEventListener("keydown", event => {
+    const isFree = event.target === document.body || event.target.closest(".link");
+    if (!isFree || event.altKey || event.ctrlKey || event.metaKey || event.key === " ") return;
+    if (app.timeline.act(event.key, event.shiftKey)) event.preventDefault();
+  });
+}
+
+function bindEdits(app) {
+  onForm("edit-form", "line", line => line && app.do(line));
+  onForm("memory-form", "address", value => {
+    if (!/^[0-7]{1,6}$/.test(value)) return;
+    app.showAddress(parseInt(value, 8));
+    app.goTo(app.timeline.cursor);
+  });
+  onForm("watch-form", "watch", value => app.watchNamed(value));
+  onClick("undo", () => app.undo());
+  onClick("redo", () => app.redo());
+  onClick("stop", () => app.stop());
+  onForm("sweep-form", "sweep-question", () => app.attempt(() => app.sweep.begin()));
+  onClick("sweep-stop", () => app.sweep.end());
+}
+
+function begin() {
+  const app = new App();
+  bindFiles(app);
+  bindTurns(app);
+  bindEdits(app);
+  app.console = new Console(app);
+  keepLook(element("look"), () => app.timeline.draw());
+  for (const name of ["popstate", "hashchange"]) {
+    addEventListener(name, () => app.goToPlace(placeOf(location.hash)));
+  }
+  app.attempt(async () => {
+    await app.open(await packedSession());
+    document.documentElement.dataset.state = "ready";
+  });
+  return app;
+}
+
+begin();

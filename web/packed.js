@@ -1,0 +1,57 @@
+// What the page's one file holds besides its code: the modules, the text of the worker, and a
+// session. `tools/web --pack` puts each into an element of its own, which the browser doesn't run.
+
+const textOf = id => document.getElementById(id).textContent;
+
+// The page as it was when it was opened: a module's script runs once all is there.
+const opened = document.documentElement.cloneNode(true);
+
+const bytesOf = base64 => Uint8Array.from(atob(base64), it => it.charCodeAt(0));
+
+async function inflated(base64) {
+  const stream = new Blob([bytesOf(base64)]).stream().pipeThrough(new DecompressionStream("gzip"));
+  return new Uint8Array(await new Response(stream).arrayBuffer());
+}
+
+async function deflated(bytes) {
+  const stream = new Blob([bytes]).stream().pipeThrough(new CompressionStream("gzip"));
+  const packed = new Uint8Array(await new Response(stream).arrayBuffer());
+  return btoa(Array.from(packed, it => String.fromCharCode(it)).join(""));
+}
+
+const modules = new Map();
+
+// The compiled module of a program; it is compiled once.
+export function packedModule(program) {
+  if (!modules.has(program)) {
+    const bytes = inflated(textOf(`${program}.wasm`));
+    modules.set(program, bytes.then(it => WebAssembly.compile(it)));
+  }
+  return modules.get(program);
+}
+
+let workerAddress = null;
+
+export function newWorker() {
+  workerAddress ??= URL.createObjectURL(
+    new Blob([textOf("machine-worker.js")], { type: "text/javascript" }),
+  );
+  return new Worker(workerAddress);
+}
+
+// The session in the file: {name, arguments: [..], lines: [..], files: {name: Uint8Array}}.
+export async function packedSession() {
+  const { files, ...session } = JSON.parse(textOf("session"));
+  const found = Object.entries(files).map(async ([name, it]) => [name, await inflated(it)]);
+  return { ...session, files: Object.fromEntries(await Promise.all(found)) };
+}
+
+// The text of this page's file with another session in it.
+export async function pageWith({ files, ...session }) {
+  const packed = Object.entries(files).map(async ([name, it]) => [name, await deflated(it)]);
+  const held = { ...session, files: Object.fromEntries(await Promise.all(packed)) };
+  const page = opened.cloneNode(true);
+  // `<` can't stand in the element as itself: it may begin its end
+  page.querySelector("#session").textContent = JSON.stringify(held).replaceAll("<", "\\u003c");
+  return `<!DOCTYPE html>\n${page.outerHTML}\n`;
+}

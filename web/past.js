@@ -1,0 +1,156 @@
+// The past as the page knows it: what the edits that the program took have made of it.
+
+import { keyName } from "./replies.js";
+
+const DELAYS = { printer: 1, reader: 4, punch: 4, disk: 10, clock: 0 };
+const EDITS = new Set(
+  ["core", "uncore", "disk", "tape", "delay", "version", "at", "alter", "drop"]);
+
+/** The words of a line; a comment has none. */
+export const wordsOfLine = line => line.startsWith("#") ? [] : line.split(/[ \t]+/).filter(Boolean);
+
+export const isEdit = line => EDITS.has(wordsOfLine(line)[0]);
+
+/** The largest turn that a line of a session names, or 0. */
+export function turnNamed(line) {
+  const words = wordsOfLine(line);
+  const turnAt = { alter: 2, first: 2, writes: 2, change: 2 }[words[0]] ?? 1;
+  const hasNone = ["core", "uncore", "disk", "tape", "delay", "version", "drop", "patches", "when"];
+  if (hasNone.includes(words[0])) return 0;
+  const turn = Number(words[turnAt]);
+  return Number.isFinite(turn) ? turn : 0;
+}
+
+/** An event with the name of its key, such as `key 66 '6'`. */
+export function eventInWords(event) {
+  const [word, byte] = event.text.split(" ");
+  return word === "key" ? `key ${byte} '${keyName(parseInt(byte, 8))}'` : event.text;
+}
+
+/** What stands on an event's mark. */
+export function eventLabel(event) {
+  const [word, value] = event.text.split(" ");
+  if (word === "key") return keyName(parseInt(value, 8));
+  return value === undefined ? word : `${word} ${value}`;
+}
+
+/** Version, patches, tape, delays and events. */
+export class Past {
+  constructor() {
+    this.version = 1;
+    /** @type {Map<string, number>} by `core A`, or `disk D I` with octal digits */
+    this.patches = new Map();
+    /** @type {string[] | null} */
+    this.tape = null;
+    this.delays = { ...DELAYS };
+    /** @type {Map<number, {number: number, turn: number, text: string, place: number}>} */
+    this.events = new Map();
+    this.places = 0;
+  }
+
+  /** A past of its own with the same contents. */
+  copy() {
+    const made = new Past();
+    Object.assign(made, { version: this.version, tape: this.tape, places: this.places });
+    made.patches = new Map(this.patches);
+    made.delays = { ...this.delays };
+    for (const [number, event] of this.events) made.events.set(number, { ...event });
+    return made;
+  }
+
+  /** Takes an edit that the program has answered `ok` or `event E`. */
+  apply(line, reply) {
+    const [word, ...rest] = wordsOfLine(line);
+    if (word === "core") this.patches.set(coreName(rest[0]), parseInt(rest[1], 8));
+    else if (word === "uncore") this.patches.delete(coreName(rest[0]));
+    else if (word === "disk") this.patches.set(diskName(rest), parseInt(rest.at(-1), 8));
+    else if (word === "tape") this.tape = rest;
+    else if (word === "delay") this.delays[rest[0]] = Number(rest[1]);
+    else if (word === "version") this.version = Number(rest[0]);
+    else this.applyToScript(word, rest, reply);
+  }
+
+  applyToScript(word, rest, reply) {
+    if (word === "drop") {
+      this.events.delete(Number(rest[0]));
+      return;
+    }
+    this.places += 1;
+    if (word === "at") {
+      const number = Number(reply.split(" ")[1]);
+      const [turn, text] = [Number(rest[0]), rest.slice(1).join(" ")];
+      this.events.set(number, { number, turn, text, place: this.places });
+    } else if (word === "alter") {
+      const event = this.events.get(Number(rest[0]));
+      if (event.turn !== Number(rest[1])) {
+        Object.assign(event, { turn: Number(rest[1]), place: this.places });
+      }
+      event.text = rest.slice(2).join(" ");
+    }
+  }
+
+  /** All events, in the order in which they happen. */
+  script() {
+    return [...this.events.values()].sort((a, b) => a.turn - b.turn || a.place - b.place);
+  }
+
+  /** The lines that take back an edit, asked before the edit is made. */
+  inverse(line) {
+    const [word, ...rest] = wordsOfLine(line);
+    if (word === "core" || word === "uncore") return [this.inverseOfCore(rest[0])];
+    if (word === "disk") return [this.inverseOfDisk(rest)];
+    if (word === "delay") return [`delay ${rest[0]} ${this.delays[rest[0]]}`];
+    if (word === "drop" || word === "alter") return this.inverseOfEvent(Number(rest[0]), word);
+    return null;
+  }
+
+  inverseOfCore(address) {
+    const word = this.patches.get(coreName(address));
+    return word === undefined ? `uncore ${address}` : `core ${address} ${word.toString(8)}`;
+  }
+
+  /** A disk's word without a patch has its image's value, which isn't known here. */
+  inverseOfDisk(words) {
+    const word = this.patches.get(diskName(words));
+    const where = words.slice(0, -1).join(" ");
+    return word === undefined ? null : `disk ${where} ${word.toString(8)}`;
+  }
+
+  /** The event as it was, and after it those that came after it in the same turn. */
+  inverseOfEvent(number, word) {
+    const event = this.events.get(number);
+    if (!event) return null;
+    const back = word === "drop" ? `at ${event.turn} ${event.text}`
+      : `alter ${number} ${event.turn} ${event.text}`;
+    const later = this.script().filter(it => it.turn === event.turn && it.place > event.place);
+    const away = it => `alter ${it.number} ${it.turn + 1} ${it.text}`;
+    const again = it => `alter ${it.number} ${it.turn} ${it.text}`;
+    return [back, ...later.flatMap(it => [away(it), again(it)])];
+  }
+
+  /** A session that gives the same machine. Its events are numbered anew, in their order. */
+  lines() {
+    const found = [];
+    if (this.version !== 1) found.push(`version ${this.version}`);
+    if (this.tape !== null) found.push(["tape", ...this.tape].join(" "));
+    for (const [device, turns] of Object.entries(this.delays)) {
+      if (turns !== DELAYS[device]) found.push(`delay ${device} ${turns}`);
+    }
+    for (const [name, word] of this.patches) {
+      const [kind, ...where] = name.split(" ");
+      const at = kind === "disk" && this.version === 1 ? where.slice(1) : where;
+      found.push([kind, ...at, word.toString(8)].join(" "));
+    }
+    return [...found, ...this.script().map(it => `at ${it.turn} ${it.text}`)];
+  }
+}
+
+const plain = digits => parseInt(digits, 8).toString(8);
+
+const coreName = address => `core ${plain(address)}`;
+
+/** `words` are D, I and W, or in version 1 I and W. */
+function diskName(words) {
+  const [drive, index] = words.length === 3 ? words : ["0", words[0]];
+  return `disk ${plain(drive)} ${plain(index)}`;
+}

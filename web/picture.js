@@ -1,0 +1,248 @@
+// What the timeline draws, asked of the machine for the pixels that are there.
+
+import { Priority } from "./run.js";
+import {
+  TURNS_OF_A_TRAIL, bytesOf, devicesOf, functionInWords, interruptsOf, octal, registersOf, turnOf,
+  wordsOf, writesOf,
+} from "./replies.js";
+
+// If there are no more turns than this, each is looked at.
+export const MOST_SINGLE_TURNS = 4_096;
+// So many looks are taken apart at once, in a few milliseconds.
+const LOOKS_AT_ONCE = 128;
+const TIME_OF_A_PART = 250;
+const MOST_WRITES = 400, MOST_BYTES = 1_500, MOST_CHANGES = 400;
+const MOST_SEARCHED_TURNS = 20_000_000;
+
+/**
+ * A word that is drawn as steps: of core by its address, or of a drive by its number.
+ * @typedef {{kind: "core" | "disk", drive: number, at: number}} WatchedWord
+ */
+
+/** The name of a word as the session language has it. */
+export const nameOfWord = word => word.kind === "core" ? `core ${octal(word.at)}`
+  : `disk ${word.drive ? `${word.drive} ` : ""}${octal(word.at, 7)}`;
+
+/** The question for a word before a turn. */
+export function questionOf(past, word, turn) {
+  if (word.kind === "core") return `mem ${turn} ${word.at.toString(8)} 1`;
+  const drive = past.version === 2 ? `${word.drive} ` : "";
+  return `dsk ${turn} ${drive}${word.at.toString(8)} 1`;
+}
+
+/** Collects a picture in parts, and tells of each part so that it is drawn at once. */
+export class PictureMaker {
+  /**
+   * @param {import("./run.js").Run} run
+   * @param {{first: number, end: number, columns: number, words: WatchedWord[]}} wanted
+   */
+  constructor(run, wanted, token, onPart) {
+    Object.assign(this, { run, wanted, token, onPart, told: 0 });
+    this.past = run.past;
+    const turns = wanted.end - wanted.first;
+    this.step = turns <= MOST_SINGLE_TURNS ? 1 : Math.ceil(turns / wanted.columns);
+    this.picture = {
+      first: wanted.first, end: wanted.end, step: this.step, isMade: false, looks: [],
+      interrupts: [],
+      listsAllTurns: this.step <= TURNS_OF_A_TRAIL,
+      disk: { bars: [], busy: [], isWhole: false },
+      text: { bytes: [], printed: 0, each: 1 }, words: [],
+    };
+  }
+
+  ask(lines) {
+    return this.run.ask(lines, Priority.PICTURE, this.token);
+  }
+
+  async make() {
+    await this.look();
+    await Promise.all([this.collectText(), this.collectDisk(), this.collectWords()]);
+    this.picture.isMade = true;
+    this.onPart(this.picture);
+    return this.picture;
+  }
+
+  // The looks
+
+  /** Looks at the machine before the first turn of each column, upwards. */
+  async look() {
+    const { first, end, words } = this.wanted;
+    const turns = [];
+    for (let turn = first; turn < end; turn += this.step) turns.push(turn);
+    const asked = turns.map(it => this.linesOfLook(it, words));
+    for (let begin = 0; begin < turns.length; begin += LOOKS_AT_ONCE) {
+      const looks = asked.slice(begin, begin + LOOKS_AT_ONCE);
+      const replies = await this.ask(looks.flat());
+      let at = 0;
+      looks.forEach((lines, number) => {
+        this.addLook(turns[begin + number], replies.slice(at, at + lines.length));
+        at += lines.length;
+      });
+      this.tellPart();
+    }
+  }
+
+  /** Tells of the picture as it grows, a few times a second. */
+  tellPart() {
+    const now = performance.now();
+    if (now - this.told < TIME_OF_A_PART) return;
+    this.told = now;
+    this.onPart(this.picture);
+  }
+
+  linesOfLook(turn, words) {
+    const lines = [`regs ${turn}`, `devices ${turn}`];
+    lines.push(...words.map(it => questionOf(this.past, it, turn)));
+    const isListed = this.step > 1 || (turn - this.wanted.first) % TURNS_OF_A_TRAIL === 0;
+    const span = this.step > 1 ? Math.min(this.step, TURNS_OF_A_TRAIL) : TURNS_OF_A_TRAIL;
+    const count = Math.min(span, this.wanted.end - turn);
+    if (isListed) lines.push(`trail ${turn + count} ${count}`);
+    return lines;
+  }
+
+  addLook(turn, replies) {
+    const [registers, devices, ...rest] = replies;
+    const { pc, mode, priority, state } = registersOf(registers);
+    const disk = devicesOf(devices);
+    const words = rest.slice(0, this.wanted.words.length).map(it => wordsOf(it)[0]);
+    const busy = disk.diskIsReady ? null : disk;
+    this.picture.looks.push({ turn, pc, mode, priority, state, busy, words });
+    const trail = rest[this.wanted.words.length];
+    if (!trail) return;
+    this.picture.interrupts.push(...interruptsOf(trail));
+  }
+
+  // The console
+
+  /** The bytes printed in the turns. The bytes before a turn are found by halving. */
+  async collectText() {
+    const { first, end } = this.wanted;
+    const [before, until] = await this.textLengths([first, end]);
+    const each = Math.ceil((until - before) / MOST_BYTES) || 1;
+    const numbers = [];
+    for (let byte = before; byte < until; byte += each) numbers.push(byte);
+    const text = numbers.length ? bytesOf(await this.one(`text ${end} from ${before}`)) : [];
+    const turns = (await this.ask(numbers.map(it => `when ${it}`))).map(turnOf);
+    const bytes = numbers.map((it, at) => ({ turn: turns[at], byte: text[it - before] }));
+    this.picture.text = { bytes, printed: until - before, each };
+  }
+
+  async one(line) {
+    return (await this.ask([line]))[0];
+  }
+
+  /** How many bytes were printed before each of the turns. */
+  async textLengths(turns) {
+    const replies = await this.ask(turns.map(it => `text ${it}`));
+    return replies.map(it => Number(it.slice(5, it.indexOf(":"))));
+  }
+
+  // The disk
+
+  /** The disk's functions. A function lasts the disk's delay, unless an event ends it. So looks
+      no further apart miss none, and halving between two finds where it begins and ends. */
+  async collectDisk() {
+    const { looks } = this.picture;
+    const delay = this.past.delays.disk;
+    const byEvent = this.past.script().some(it => it.text === "disk");
+    const isWhole = this.step === 1 || delay >= this.step && !byEvent;
+    const busy = looks.filter(it => it.busy);
+    if (!isWhole) {
+      this.picture.disk = { bars: [], busy, isWhole };
+      return;
+    }
+    const edges = [];
+    looks.forEach((look, at) => {
+      const isBusy = Boolean(look.busy);
+      if (at && isBusy !== Boolean(looks[at - 1].busy)) {
+        edges.push({ low: looks[at - 1].turn, high: look.turn, isBusy });
+      }
+    });
+    await this.halve(edges);
+    this.picture.disk = { bars: this.barsOf(edges, looks), busy: [], isWhole };
+  }
+
+  /** Narrows each edge to the turn after whose beginning the disk is busy or ready. */
+  async halve(edges) {
+    for (;;) {
+      const wide = edges.filter(it => it.high - it.low > 1);
+      if (!wide.length) return;
+      const middles = wide.map(it => it.low + it.high >> 1);
+      const replies = await this.ask(middles.map(it => `devices ${it}`));
+      wide.forEach((edge, at) => {
+        const isBusy = !devicesOf(replies[at]).diskIsReady;
+        if (isBusy === edge.isBusy) edge.high = middles[at];
+        else edge.low = middles[at];
+      });
+    }
+  }
+
+  barsOf(edges, looks) {
+    const bars = [];
+    let begin = looks[0]?.busy ? null : undefined;
+    const what = (low, high) => {
+      const found = looks.find(it => it.busy && it.turn >= low && it.turn <= high);
+      return found ? { name: found.busy.diskFunction, title: functionInWords(found.busy) }
+        : { name: "busy", title: "busy" };
+    };
+    for (const edge of edges) {
+      if (edge.isBusy) begin = edge.low;
+      else if (begin !== undefined) {
+        bars.push({ begin, end: edge.low, ...what(begin ?? 0, edge.high) });
+        begin = undefined;
+      }
+    }
+    if (begin !== undefined) bars.push({ begin, end: null, ...what(begin ?? 0, Infinity) });
+    return bars;
+  }
+
+  // The words
+
+  async collectWords() {
+    const { words } = this.wanted;
+    const found = words.map((word, at) => word.kind === "core" ? this.writesOf(word, at)
+      : this.changesOf(word, at));
+    this.picture.words = await Promise.all(found);
+  }
+
+  samplesOf(word, at) {
+    const valueOf = it => ({ turn: it.turn, word: it.words[at], writer: "" });
+    const values = this.picture.looks.map(valueOf);
+    return { name: nameOfWord(word), values, isWhole: false };
+  }
+
+  /** All writes to a core word, or the values at the looks if there are too many. */
+  async writesOf(word, at) {
+    const { first, end } = this.wanted;
+    if (end - first > MOST_SEARCHED_TURNS) return this.samplesOf(word, at);
+    const values = [{ turn: first, word: this.picture.looks[0].words[at], writer: "" }];
+    for (let begin = first; values.length <= MOST_WRITES;) {
+      const { writes, hasMore } = writesOf(
+        await this.one(`writes ${begin} ${end} ${word.at.toString(8)}`));
+      values.push(...writes);
+      if (!hasMore) return { name: nameOfWord(word), values, isWhole: true };
+      begin = writes.at(-1).turn + 1;
+    }
+    return this.samplesOf(word, at);
+  }
+
+  /** The changes of a word of a drive. Only a function's completion changes it. */
+  async changesOf(word, at) {
+    const { looks } = this.picture;
+    const { first, end } = this.wanted;
+    const delay = this.past.delays.disk;
+    const isWhole = this.step === 1 || delay >= this.step || end - first <= MOST_SEARCHED_TURNS;
+    if (!isWhole) return this.samplesOf(word, at);
+    const values = [{ turn: first, word: looks[0].words[at], writer: "" }];
+    const place = this.past.version === 2 ? `${word.drive} ${word.at.toString(8)}`
+      : word.at.toString(8);
+    for (let begin = first; values.length <= MOST_CHANGES;) {
+      const turn = turnOf(await this.one(`change ${begin} ${end} ${place}`));
+      if (turn === null) return { name: nameOfWord(word), values, isWhole: true };
+      const [value] = wordsOf(await this.one(questionOf(this.past, word, turn + 1)));
+      values.push({ turn, word: value, writer: "disk" });
+      begin = turn + 1;
+    }
+    return this.samplesOf(word, at);
+  }
+}

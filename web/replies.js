@@ -1,0 +1,205 @@
+// The replies of the session language as values with names.
+
+export const LAST_TURN = 1_000_000_000;
+export const WORDS_AT_ONCE = 256;
+export const TURNS_OF_A_TRAIL = 64;
+
+const IO_PAGE = 0o160000;
+const PHYSICAL = 0o1000000;
+const MODES = ["kernel", "mode 01", "mode 10", "user"];
+const VECTORS = new Map([
+  [0o4, "bus error"], [0o10, "reserved"], [0o14, "trace"], [0o20, "IOT"], [0o30, "EMT"],
+  [0o34, "TRAP"], [0o60, "keyboard"], [0o64, "printer"], [0o70, "reader"], [0o74, "punch"],
+  [0o100, "clock"], [0o220, "disk"], [0o250, "page fault"],
+]);
+const FUNCTIONS = [
+  "control reset", "write", "read", "write check", "seek", "read check", "drive reset",
+  "write lock",
+];
+
+/** A number in octal digits, as the session language writes words. */
+export const octal = (word, digits = 6) => word.toString(8).padStart(digits, "0");
+
+export const isRefused = reply => reply.startsWith("refused ");
+
+/** @param {string[]} fields names and words, one after the other */
+function namedWords(fields) {
+  /** @type {Object<string, number>} */
+  const words = {};
+  for (let at = 0; at + 1 < fields.length; at += 2) words[fields[at]] = parseInt(fields[at + 1], 8);
+  return words;
+}
+
+/** The name of the device or trap of a vector, or the vector. */
+export const vectorName = vector => VECTORS.get(vector) ?? octal(vector, 3);
+
+/** The reply of `regs`. */
+export function registersOf(reply) {
+  const fields = reply.split(" ");
+  const words = namedWords(fields);
+  const ps = words.PS;
+  return {
+    words, state: fields.at(-1), pc: words.PC, ps,
+    mode: MODES[ps >> 14 & 3], priority: ps >> 5 & 7,
+  };
+}
+
+/** PS in words, such as `user, previous kernel, priority 4, N..C`. */
+export function statusInWords(ps) {
+  const codes = [..."NZVC"].map((name, at) => ps >> 3 - at & 1 ? name : ".").join("");
+  const trace = ps >> 4 & 1 ? ", trace" : "";
+  const [mode, previous] = [MODES[ps >> 14 & 3], MODES[ps >> 12 & 3]];
+  return `${mode}, previous ${previous}, priority ${ps >> 5 & 7}${trace}, ${codes}`;
+}
+
+/** The reply of `devices`, with what the disk does. */
+export function devicesOf(reply) {
+  const words = namedWords(reply.split(" ").slice(1));
+  const address = words.RKDA;
+  const track = (address >> 5 & 0o377) * 2 + (address >> 4 & 1);
+  return {
+    words,
+    keyWaits: (words.TKS & 0o200) !== 0,
+    diskIsReady: (words.RKCS & 0o200) !== 0,
+    diskFunction: FUNCTIONS[words.RKCS >> 1 & 7],
+    busAddress: (words.RKCS & 0o60) << 12 | words.RKBA & 0o177776,
+    wordCount: 0o200000 - words.RKWC,
+    drive: address >> 13,
+    sector: track * 12 + (address & 0o17),
+  };
+}
+
+/** What the disk's function moves, in words. */
+export function functionInWords(devices) {
+  const core = `core ${octal(devices.busAddress)}`;
+  const sector = `sector ${devices.sector} of drive ${devices.drive}`;
+  const [from, to] = devices.diskFunction === "write" ? [core, sector] : [sector, core];
+  return `${devices.diskFunction} of ${devices.wordCount} words from ${from} to ${to}`;
+}
+
+/** The reply of `pages`. */
+export function pagesOf(reply) {
+  const fields = reply.split(" ");
+  const words = (name, count) => {
+    const at = fields.indexOf(name) + 1;
+    return fields.slice(at, at + count).map(it => parseInt(it, 8));
+  };
+  return {
+    sr0: words("SR0", 1)[0], sr2: words("SR2", 1)[0],
+    descriptors: { kernel: words("KPDR", 8), user: words("UPDR", 8) },
+    addresses: { kernel: words("KPAR", 8), user: words("UPAR", 8) },
+  };
+}
+
+/** Where a read of this virtual address goes, or null if memory management aborts it. */
+export function physicalOf(pages, mode, address) {
+  if (!(pages.sr0 & 1)) return address < IO_PAGE ? address : address + PHYSICAL - 0o200000;
+  const descriptors = pages.descriptors[mode];
+  if (!descriptors) return null;
+  const [page, block] = [address >> 13, address >> 6 & 0o177];
+  const descriptor = descriptors[page];
+  const length = descriptor >> 8 & 0o177;
+  const isOutside = descriptor >> 3 & 1 ? block < length : block > length;
+  if (isOutside || ![1, 3].includes(descriptor >> 1 & 3)) return null;
+  return ((pages.addresses[mode][page] + block << 6) + (address & 0o77)) % PHYSICAL;
+}
+
+/** A page in words, such as `core 020000 to 037777, read and write`. */
+export function pageInWords(pages, mode, page) {
+  const descriptor = pages.descriptors[mode][page];
+  const access = { 1: "read only", 3: "read and write" }[descriptor >> 1 & 3];
+  if (!access) return "not resident";
+  const [length, begin] = [descriptor >> 8 & 0o177, pages.addresses[mode][page] << 6];
+  const [low, high] = descriptor >> 3 & 1 ? [length, 0o177] : [0, length];
+  return `core ${octal(begin + low * 64)} to ${octal(begin + high * 64 + 63)}, ${access}`;
+}
+
+/** The lines of the reply of `trail`. */
+export function turnsOf(reply) {
+  return reply.split("\n").slice(1).map(line => {
+    const [turn, pc, act, vector] = line.split(" ");
+    return {
+      turn: Number(turn), pc: parseInt(pc, 8), act,
+      vector: vector === undefined ? null : parseInt(vector, 8),
+    };
+  });
+}
+
+/** The interrupts of the reply of `trail`. */
+export function interruptsOf(reply) {
+  const found = reply.matchAll(/^(\d+) [0-7]{6} irq ([0-7]{3})$/gm);
+  return [...found].map(it => ({ turn: Number(it[1]), vector: parseInt(it[2], 8) }));
+}
+
+/** The lines of the reply of `writes`: who wrote a word, and whether there are more. */
+export function writesOf(reply) {
+  const [head, ...lines] = reply.split("\n");
+  const writes = lines.map(line => {
+    const [turn, writer, word] = line.split(" ");
+    return { turn: Number(turn), writer, word: parseInt(word, 8) };
+  });
+  return { writes, hasMore: head.endsWith("or more") };
+}
+
+/** The reply of `last`, or null if the word was never written. */
+export function lastOf(reply) {
+  const [, turn, writer, word] = reply.split(" ");
+  return turn === "never" ? null : { turn: Number(turn), writer, word: parseInt(word, 8) };
+}
+
+/** The words of a reply of `mem` or `dsk`. */
+export const wordsOf = reply => reply.split(" ").slice(1).map(it => parseInt(it, 8));
+
+/** The turn of a reply such as `first 11` or `when none`, or null. */
+export function turnOf(reply) {
+  const turn = reply.split(" ")[1];
+  return turn === "none" ? null : Number(turn);
+}
+
+/** The bytes of a reply of `text` or `punched`. */
+export function bytesOf(reply) {
+  const [first, ...rest] = reply.slice(reply.indexOf(":") + 1).split("\\");
+  const codes = [...first].map(it => it.charCodeAt(0));
+  for (const part of rest) {
+    codes.push(parseInt(part.slice(0, 3), 8));
+    for (const it of part.slice(3)) codes.push(it.charCodeAt(0));
+  }
+  return Uint8Array.from(codes);
+}
+
+/** The bytes of a reply of `text`; of a long one the lines at its end. */
+export function tailOf(reply, most) {
+  const from = reply.length > most ? reply.indexOf("\\012", reply.length - most) : -1;
+  if (from < 0) return { bytes: bytesOf(reply), isCut: false };
+  return { bytes: bytesOf(`:${reply.slice(from + 4)}`), isCut: true };
+}
+
+/** A byte as one character; a byte that can't be seen is a dot. */
+export const shownByte = byte =>
+  byte >= 0o40 && byte < 0o177 ? String.fromCharCode(byte) : "\u00b7";
+
+/** Console text for reading: lines end at LF, and a CR before or after it isn't shown. */
+export function readableText(bytes) {
+  let text = "";
+  bytes.forEach((byte, at) => {
+    const endsLine = byte === 0o15 && [bytes[at - 1], bytes[at + 1]].includes(0o12);
+    if (byte === 0o12) text += "\n";
+    else if (!endsLine) text += shownByte(byte);
+  });
+  return text;
+}
+
+/** The name of a key's byte, such as `A`, `CR` or `Ctrl-C`. */
+export function keyName(byte) {
+  const names = new Map(
+    [[0o12, "LF"], [0o15, "CR"], [0o33, "ESC"], [0o40, "space"], [0o177, "DEL"]]);
+  if (names.has(byte)) return names.get(byte);
+  if (byte > 0o177) return octal(byte, 3);
+  return byte < 0o40 ? `Ctrl-${String.fromCharCode(byte + 64)}` : String.fromCharCode(byte);
+}
+
+/** A name from outside with what can't be seen, or turns the direction of text, written out. */
+export function visibleName(name) {
+  return name.replace(/[\p{Cc}\p{Cf}\p{Zl}\p{Zp}]/gu,
+    it => `\\u${it.codePointAt(0).toString(16).padStart(4, "0")}`);
+}

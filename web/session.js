@@ -1,0 +1,91 @@
+// A session as the page holds it: options, files, lines and symbols; how it is read and stored.
+
+import { turnNamed, wordsOfLine } from "./past.js";
+
+const OPTIONS_WITH_FILES = /^--(core|tape|disk[1-7]?)$/;
+
+/**
+ * Files are images, a tape, and symbols.
+ * @typedef {{name: string, arguments: string[], files: Object<string, Uint8Array>,
+ *   lines: string[]}} Session
+ */
+
+/** A session of these lines, without images. @returns {Session} */
+export function sessionOf(name, text) {
+  return { name, arguments: [], files: {}, lines: linesOf(text) };
+}
+
+export const linesOf = text => text.split("\n").map(it => it.replace(/\r$/, ""));
+
+/** The last turn that the lines are about: an event's, or that of a question. */
+export const lastTurnOf = lines => Math.max(0, ...lines.map(turnNamed));
+
+/** The symbols among the files of a session: those of each mode. */
+export function symbolsOfSession(session) {
+  const found = { kernel: [], user: [] };
+  for (const [name, bytes] of Object.entries(session.files)) {
+    if (kindOfFile(name) !== "symbols") continue;
+    const symbols = symbolsOf(new TextDecoder().decode(bytes));
+    for (const mode of modesOfSymbols(name)) found[mode] = symbols;
+  }
+  return found;
+}
+
+/** The modes whose addresses a file of symbols names: its name has one, or it is for both. */
+function modesOfSymbols(name) {
+  if (/user/i.test(name)) return ["user"];
+  return /kernel/i.test(name) ? ["kernel"] : ["kernel", "user"];
+}
+
+/** Symbols: lines `NAME OCTAL`, or what nm writes in octal or with eight digits hexadecimal. */
+export function symbolsOf(text) {
+  const found = [];
+  for (const line of linesOf(text)) {
+    const own = /^\s*(\S+)\s+([0-7]{1,6})\s*$/.exec(line.replace(/#.*/, ""));
+    const nm = /^\s*([0-9a-fA-F]+)\s*[A-Za-z?]\s+(\S+)\s*$/.exec(line);
+    if (nm) {
+      const base = [4, 8, 16].includes(nm[1].length) ? 16 : 8;
+      found.push({ name: nm[2], value: parseInt(nm[1], base) });
+    } else if (own) found.push({ name: own[1], value: parseInt(own[2], 8) });
+  }
+  return found.filter(it => it.value < 0o200000).sort((a, b) => a.value - b.value);
+}
+
+/** The symbol at or before an address, such as `DISK+4`, or an empty text. */
+export function symbolNear(symbols, address) {
+  let best = null;
+  for (const it of symbols ?? []) if (it.value <= address) best = it;
+  if (!best || address - best.value >= 0o10000) return "";
+  const offset = address - best.value;
+  return offset ? `${best.name}+${offset.toString(8)}` : best.name;
+}
+
+/** What a file that was opened is, by its name: an image, symbols or a session. */
+export function kindOfFile(name) {
+  const end = name.toLowerCase().split(".").at(-1);
+  if (["disk", "rk05", "rk", "dsk", "img"].includes(end)) return "disk";
+  if (["core", "bin"].includes(end)) return "core";
+  if (["tape", "ptap", "pt"].includes(end)) return "tape";
+  if (["sym", "symbols", "nm"].includes(end)) return "symbols";
+  return end === "args" ? "arguments" : "session";
+}
+
+/** The options with a file in the place of the one that the option had. */
+export function withFile(session, option, name, bytes) {
+  const words = [...session.arguments];
+  const at = words.indexOf(`--${option}`);
+  const files = { ...session.files };
+  if (at >= 0) {
+    delete files[words[at + 1]];
+    words.splice(at, 2);
+  }
+  files[name] = bytes;
+  return { ...session, files, arguments: [...words, `--${option}`, name] };
+}
+
+/** Options that are written in one line, those with files left out. */
+export function plainOptions(text) {
+  const words = wordsOfLine(text);
+  return words.filter((it, at) => !OPTIONS_WITH_FILES.test(it)
+    && !OPTIONS_WITH_FILES.test(words[at - 1] ?? ""));
+}
