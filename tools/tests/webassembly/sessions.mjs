@@ -16,7 +16,7 @@ function asSearch({ expected, ...session }) {
 const asksForHelp = it => it.args.includes("--help") || it.args.includes("-h");
 
 function ofDisassemble() {
-  const folder = new URL("../../crates/disassemble/", import.meta.url);
+  const folder = new URL("../../../crates/disassemble/", import.meta.url);
   const [lines, output] = ["stdin", "stdout"].map(it => fs.readFileSync(new URL(it, folder)));
   const expected = { status: 0, output, error: Buffer.alloc(0) };
   return { name: "crates/disassemble/stdin", folder: ".", lines, args: [], expected };
