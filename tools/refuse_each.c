@@ -1,15 +1,17 @@
-/* A library to preload (LD_PRELOAD): each request of a program for memory is refused in turn, in copies of the program that
-   are made for it. At a request the program forks: the copy is refused this request, as if there were no memory left. If
-   REFUSE_LATER is 1 it forks once more, and that copy is refused every later request too. A copy goes on to its end, on the
-   same standard input from the same place, and with output of its own, which begins with what the program has written so
-   far. The program itself is refused nothing. Its standard input and output must be files.
-   REFUSE_FIRST, REFUSE_PAST and REFUSE_MOST are numbers: the first requests, so many, are refused so, and of those past
-   the second number as many as the third says.
-   REFUSE_TOLD is a file descriptor. To it is written, of each copy, a line with the number of its request, 'alone' or
-   'later', its exit status (256 and the signal, where one ended it), the bytes of its output and of its standard error, and
-   then these bytes; and at the program's end a line with the number of all requests.
-   Requests are malloc, calloc, realloc to a size other than 0, aligned_alloc and posix_memalign, counted together from
-   the program's start on. */
+/* A library to preload (LD_PRELOAD): each request of a program for memory is refused in turn, in
+   copies of the program that are made for it. At a request the program forks: the copy is refused
+   this request, as if there were no memory left. If REFUSE_LATER is 1 it forks once more, and that
+   copy is refused every later request too. A copy goes on to its end, on the same standard input
+   from the same place, and with output of its own, which begins with what the program has written
+   so far. The program itself is refused nothing. Its standard input and output must be files.
+   REFUSE_FIRST, REFUSE_PAST and REFUSE_MOST are numbers of requests: the first REFUSE_FIRST are
+   refused so, and of those past number REFUSE_PAST the first REFUSE_MOST.
+   REFUSE_TOLD is a file descriptor. To it is written, of each copy, a line with the number of its
+   request, 'alone' or 'later', its exit status (256 and the signal, if one ended it), the bytes of
+   its output and of its standard error, and then these bytes; and at the program's end a line with
+   the number of all requests.
+   Requests are malloc, calloc, realloc to a size other than 0, aligned_alloc and posix_memalign,
+   counted together from the program's start on. */
 #define _GNU_SOURCE
 #include <errno.h>
 #include <fcntl.h>
@@ -59,7 +61,7 @@ static void write_all(int to, const char *bytes, size_t count) {
     }
 }
 
-/* Copies the first bytes of a file, so many. */
+/* Copies the first `count` bytes of a file. */
 static void copy(int from, int to, off_t count) {
     char bytes[4096];
     for (off_t at = 0; at < count;) {
@@ -96,13 +98,15 @@ static void tell(pid_t copied, int output, int error, const char *how) {
     must(waitpid(copied, &status, 0) == copied);
     status = WIFEXITED(status) ? WEXITSTATUS(status) : 256 + WTERMSIG(status);
     off_t written = lseek(output, 0, SEEK_END), erred = lseek(error, 0, SEEK_END);
-    int length = snprintf(line, sizeof line, "%ld %s %d %ld %ld\n", requests, how, status, (long)written, (long)erred);
+    int length = snprintf(line, sizeof line, "%ld %s %d %ld %ld\n",
+                          requests, how, status, (long)written, (long)erred);
     write_all(told, line, (size_t)length);
     copy(output, told, written);
     copy(error, told, erred);
 }
 
-/* Makes a copy that is refused this request. Answers 1 in the copy, and 0 in the program once the copy has ended. */
+/* Makes a copy that is refused this request. Returns 1 in the copy, and 0 in the program once the
+   copy has ended. */
 static int is_in_copy(int refuses) {
     int output = memfd_create("output", 0), error = memfd_create("error", 0);
     must(output >= 0 && error >= 0);

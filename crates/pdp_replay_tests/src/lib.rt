@@ -7,8 +7,6 @@
 #![tactic(auto)]
 
 #[cfg(test)]
-mod cut_streams;
-#[cfg(test)]
 mod dropped_lines;
 #[cfg(test)]
 mod failing_streams;

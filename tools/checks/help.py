@@ -1,0 +1,109 @@
+"""check-help PDP11 SEARCH: compares the tables of the languages in tools/sessions.py with the lines
+that the --help of pdp11 and of search show: the same forms in the same order with the same texts,
+and of a session's lines a question exactly if its text says 'before turn N'. It also compares what
+./pdp11 --help and ./search --help show while there is no program. The last line is 'N passed, M
+failed'."""
+import argparse
+import itertools
+import os
+import re
+import shutil
+import subprocess
+import sys
+import tempfile
+from typing import Iterator, Optional
+
+import sessions
+
+
+ROOT = os.path.join(os.path.dirname(os.path.abspath(__file__)), "..", "..")
+# What ./pdp11 --help and ./search --help need if nothing is built and there is no release file.
+UNBUILT = ["tools/start", "tools/program", "tools/build", "tools/sources-sum", "crates.txt"]
+# By program: where its help is stored, and the heads of its lines, each with the table that it
+# shows.
+OF_SESSIONS = ("Lines of a session", sessions.LANGUAGE)
+OF_SEARCHES = ("Lines of searches", sessions.SEARCHES)
+PROGRAMS = {
+    "pdp11": ("rows/program/help.expected", [OF_SESSIONS]),
+    "search": ("rows/searches/help.expected", [OF_SESSIONS, OF_SEARCHES]),
+}
+# A form begins in the third column, and its text two or more spaces behind it. A further line of
+# the text is indented deeper.
+ROW = re.compile(r"  (\S.*?)  +(\S.*)")
+
+
+def lines_shown(text: str, head: str) -> list[tuple[str, str]]:
+    """The forms that a help shows below this head for lines, each with its text."""
+    rows = text.split(f"\n{head}", 1)[1].split("\n\n", 1)[0].splitlines()[1:]
+    shown: list[tuple[str, str]] = []
+    for row in rows:
+        begun = ROW.fullmatch(row)
+        if begun:
+            shown.append((begun[1], begun[2]))
+        elif shown:
+            shown[-1] = (shown[-1][0], f"{shown[-1][1]} {row.strip()}")
+    return shown
+
+
+def kind_shown(text: str) -> str:
+    return "question" if "before turn N" in text else "no question"
+
+
+def differences(
+    shown: list[tuple[str, str]], table: list[sessions.Line]
+) -> Iterator[Optional[str]]:
+    """What is wrong at each line of the language, or None."""
+    for row, line in itertools.zip_longest(shown, table):
+        if row is None:
+            yield f"{line.form}: --help doesn't show it"
+        elif line is None:
+            yield f"{row[0]}: the table of tools/sessions.py lacks it"
+        elif row[0] != line.form:
+            yield f"--help shows '{row[0]}' in the place of the table's '{line.form}'"
+        elif row[1] != line.summary:
+            yield f"{line.form}: --help says '{row[1]}', the table '{line.summary}'"
+        elif line.kind == sessions.SEARCH:
+            yield None
+        elif (line.kind == sessions.QUESTION) != (kind_shown(row[1]) == "question"):
+            yield f"{line.form}: the table has {line.kind}, --help has {kind_shown(row[1])}"
+        else:
+            yield None
+
+
+def unbuilt_help(name: str, stored: str) -> bytes:
+    """What the program's --help writes in a copy of the repository that has no program."""
+    with tempfile.TemporaryDirectory() as copy:
+        for it in [name, stored, *UNBUILT]:
+            os.makedirs(os.path.dirname(os.path.join(copy, it)), exist_ok=True)
+            shutil.copy(os.path.join(ROOT, it), os.path.join(copy, it))
+        command = [os.path.join(copy, name), "--help"]
+        return subprocess.run(command, stdin=subprocess.DEVNULL, capture_output=True).stdout
+
+
+def failures(name: str, program: str) -> Iterator[Optional[str]]:
+    """What is wrong with the help of a program, for each line of its language, or None."""
+    stored, heads = PROGRAMS[name]
+    text = subprocess.run([program, "--help"], stdout=subprocess.PIPE, check=True).stdout
+    for head, table in heads:
+        for wrong in differences(lines_shown(text.decode(), head), table):
+            yield wrong and f"{name}: {wrong}"
+    if unbuilt_help(name, stored) == text:
+        yield None
+    else:
+        yield f"./{name} --help shows something else while there is no program"
+
+
+def main() -> int:
+    parser = argparse.ArgumentParser(description=__doc__)
+    for name in PROGRAMS:
+        parser.add_argument(name, metavar=name.upper(), type=sessions.existing_program)
+    programs = vars(parser.parse_args())
+    found = [it for name in PROGRAMS for it in failures(name, programs[name])]
+    wrong = [it for it in found if it is not None]
+    print("".join(f"{it}\n" for it in wrong), end="")
+    print(f"{len(found) - len(wrong)} passed, {len(wrong)} failed")
+    return int(len(wrong) > 0)
+
+
+if __name__ == "__main__":
+    sys.exit(main())
