@@ -64,27 +64,29 @@ def each_of(
     hands: int,
     stride: Optional[int] = None,
 ) -> Iterator[tuple[Task, Result]]:
-    """Does each task on one of so many twins of the machine, and yields the results as they come.
-    A task is taken when a twin is free for it. When nobody reads on, the twins end with what they
-    do."""
-    left, taking = iter(tasks), threading.Lock()
+    """Does each task on one of `hands` twins of the machine, and yields the results as they come.
+    A task is taken, in the order of the tasks, when a twin is free for it. After a fault no task is
+    taken any more: what is at work ends, and the fault of the first task that has one is raised,
+    whichever came first. When nobody reads on, the twins end with what they do."""
+    left, taking = enumerate(tasks), threading.Lock()
     results: "queue.SimpleQueue[Optional[tuple[Task, Result]]]" = queue.SimpleQueue()
-    faults: list[Exception] = []
+    faults: list[tuple[int, Exception]] = []
     twins: list[Machine] = []
     stop = threading.Event()
 
     def hand() -> None:
+        number = -1
         try:
             with closing(machine.twin(stride=stride)) as twin:
                 twins.append(twin)
-                while not stop.is_set():
+                while not stop.is_set() and not faults:
                     with taking:
-                        task = next(left)
+                        number, task = next(left)
                     results.put((task, work(twin, task)))
         except StopIteration:
             pass
         except Exception as error:  # it is raised again by the one who reads the results
-            faults.append(error)
+            faults.append((number, error))
         results.put(None)
 
     count = min(hands, length_hint(tasks, hands))
@@ -93,13 +95,14 @@ def each_of(
         for thread in threads:
             thread.start()
         working = count
-        while working and not faults:
+        while working:
             result = results.get()
             if result is None:
                 working -= 1
             else:
                 yield result
-        for error in faults:
+        if faults:
+            _, error = min(faults, key=lambda it: it[0])
             raise error if isinstance(error, ExploreError) else ExploreError(repr(error))
     finally:
         stop.set()
