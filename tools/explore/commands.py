@@ -135,7 +135,7 @@ def check_turn(turn: int) -> None:
 
 
 def check_drive(machine: Machine) -> None:
-    """An error where no drive is named."""
+    """An error in version 1, in which no line names a drive."""
     if machine.past.version == 1:
         raise ExploreError("version 1 has one drive, which isn't named; see version 2")
 
@@ -175,7 +175,8 @@ SEARCHED_TURNS = 1_000_000
 
 
 def turn_range(arguments: Arguments, first: int = 0, turns: int = SEARCHED_TURNS) -> range:
-    """The turns of `[from N] [to M]`: from this turn on, and so many, if nothing else is said."""
+    """The turns of `[from N] [to M]`: without `from` they begin at `first`, and without `to` they
+    are this number of turns."""
     begin = arguments.decimal("first", first)
     last = arguments.decimal("last", begin + turns - 1)
     if last < begin:

@@ -135,7 +135,7 @@ class Labels:
 
 
 def ticks_of(turns: range, most: int) -> list[int]:
-    """Round turns, at most so many."""
+    """Round turns, `most` of them at most."""
     steps = (factor * 10**power for power in range(10) for factor in (1, 2, 5))
     step = next(it for it in steps if len(turns) / it <= most)
     return list(range(-(-turns.start // step) * step, turns.stop, step))

@@ -9,8 +9,8 @@ from .machine import Machine
 from .replies import LastWrite, Mode
 
 BLOCK, BLOCKS_OF_ONE = 65_536, 4
-TURNS_OF_A_LOOK = 10  # so many turns run in the time in which one is looked at
-TURNS_OF_A_SEARCH = 10_000_000  # so many turns are searched at once, in a tenth of a second or more
+TURNS_OF_A_LOOK = 10  # how many turns run in the time in which one is looked at
+TURNS_OF_A_SEARCH = 10_000_000  # searched at once, in a tenth of a second or more
 REGISTERS_BYTES = 120
 # A search of some turns that follow one another: the first of them that has what is looked for.
 Search = Callable[[Machine, range], Optional[int]]

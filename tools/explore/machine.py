@@ -51,8 +51,8 @@ class Program(Child):
             yield from [self.reply() for _ in part]
 
     def block(self, lines: Sequence[str], reply_lines: int) -> bytes:
-        """The replies to these lines as they come, unread. Each has so many lines, or is a refusal
-        of one line."""
+        """The replies to these lines as they come, unread. Each has `reply_lines` lines, or is a
+        refusal of one line."""
         self.send(lines)
         data = bytearray()
         ends, wanted, may_be_refused = 0, len(lines) * reply_lines, False
@@ -225,7 +225,8 @@ class Machine:
         self, lines: Sequence[str], reply_bytes: int, reply_lines: int = 1
     ) -> Iterator[bytes]:
         """The replies to many questions as bytes, some at a time: for searches, which look for few
-        of them. No reply has more bytes, and each has so many lines. None may be refused."""
+        of them. No reply has more than `reply_bytes` bytes, and each has `reply_lines`
+        lines. None may be refused."""
         ahead = max(1, ROOM_OF_A_PIPE // reply_bytes)
         with self._started_again():
             for at in range(0, len(lines), ahead):

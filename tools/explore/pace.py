@@ -36,7 +36,7 @@ class Slice:
     turns: int = FIRST_TURNS
 
     def note(self, turns: int, took: float) -> None:
-        """So many turns took so many seconds."""
+        """Notes how many seconds this number of turns took."""
         share = min(2.0, max(0.5, self.seconds / max(took, 1e-6)))
         if share < 1 or turns == self.turns:
             least = LEAST_TURNS if took < LATE_SECONDS else 1

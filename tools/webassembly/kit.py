@@ -45,16 +45,19 @@ class Program(NamedTuple):
     waits: bool
 
 
-def run(words: Sequence[object], folder: Path, show_last: bool = False) -> str:
-    """Runs a command to its end. What it says is the error's text if it fails."""
+def said_by(words: Sequence[object], folder: Path) -> tuple[int, str]:
+    """Runs a command to its end: its exit status, and what it says."""
     command = [str(it) for it in words]
     ran = subprocess.run(command, cwd=folder, stdout=subprocess.PIPE, stderr=subprocess.STDOUT)
-    said = ran.stdout.decode(errors="replace").strip()
-    if ran.returncode:
-        what = shlex.join(command[:3])
-        raise MakingError(f"{what} .. ended with {ran.returncode}: {said[-900:]}")
-    if show_last and said:
-        print(said.splitlines()[-1], flush=True)
+    return ran.returncode, ran.stdout.decode(errors="replace").strip()
+
+
+def run(words: Sequence[object], folder: Path) -> str:
+    """What a command says that succeeds; the text of the error if it fails."""
+    status, said = said_by(words, folder)
+    if status:
+        what = shlex.join([str(it) for it in words][:3])
+        raise MakingError(f"{what} .. ended with {status}: {said[-900:]}")
     return said
 
 
@@ -80,8 +83,8 @@ class Kit:
         self.clang = folder / "toolchain" / "bin" / "clang"
 
     def stand_in(self) -> Path:
-        """A toolchain whose clang keeps the module that it is given and its arguments in the room,
-        and then is the kit's clang. All else is the kit's."""
+        """A toolchain whose clang only keeps the module that it is given and its arguments in the
+        room: a program for this processor isn't wanted. All else is the kit's."""
         made = self.room / "toolchain"
         (made / "bin").mkdir(parents=True)
         shutil.copytree(self.folder / "toolchain" / "lib", made / "lib")
@@ -94,6 +97,7 @@ class Kit:
             "#!/bin/bash\n"
             f"if [[ -f {MODULE} ]]; then\n"
             f'    cp {MODULE} {kept}/ && printf "%s\\n" "$@" >{kept}/arguments\n'
+            "    exit 1\n"
             "fi\n"
             f'exec -a "$0" {shlex.quote(str(self.clang))} "$@"\n'
         )
@@ -101,7 +105,7 @@ class Kit:
         return made
 
     def build(self, folder: Path, *words: object) -> None:
-        """Runs `rattle build` in a folder with the stand-in toolchain."""
+        """Runs `rattle build` in a folder with the stand-in toolchain, up to the module."""
         shutil.rmtree(self.room / "toolchain", ignore_errors=True)
         (self.room / MODULE).unlink(missing_ok=True)
         command = [
@@ -110,9 +114,9 @@ class Kit:
             "--logic-built", self.folder / "logic_built",
             "--toolchain", self.stand_in(), "-o", self.room / "made",
         ]  # fmt: skip
-        run(command, folder, show_last=True)
+        said = said_by(command, folder)[1]
         if not (self.room / MODULE).exists():
-            raise MakingError(f"rattle build gave clang no {MODULE}: {LEANS}")
+            raise MakingError(f"rattle build gave clang no {MODULE}: {LEANS}: {said[-900:]}")
 
     def library(self, name: str) -> str:
         return f"{name}={self.folder / 'rlibs' / name}.rlib"

@@ -70,7 +70,7 @@ class Files(Case):
         self.assertIn("core 1000 5\n", (self.folder / "made").read_text())
 
     def device(self, name: str, minor: int) -> Path:
-        """A device of its own, where one may be made, since a wrong program replaces it. Who may
+        """A device of its own, if one may be made, since a wrong program replaces it. Who may
         make none can't replace those of the system either, and gets a link."""
         node = self.folder / name
         try:
