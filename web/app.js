@@ -9,7 +9,7 @@ import { pageOfPast, saveFile, savedName, sessionOfFiles, textOfPast } from "./f
 import { delayed, element, make } from "./page.js";
 import { isEdit } from "./past.js";
 import { PictureMaker, nameOfWord } from "./picture.js";
-import { keepPlace, placeOf } from "./place.js";
+import { keepPlace } from "./place.js";
 import { LAST_TURN, isRefused, octal, readableText, tailOf, visibleName } from "./replies.js";
 import { Priority, Run } from "./run.js";
 import { lastTurnOf, symbolsOfSession } from "./session.js";
@@ -82,8 +82,11 @@ export class App {
 
   // Sessions
 
-  /** @param {import("./session.js").Session} session */
-  async open(session) {
+  /**
+   * @param {import("./session.js").Session} session
+   * @param {Partial<import("./place.js").Place>} place where it is shown
+   */
+  async open(session, place) {
     for (const kind of Object.keys(this.tokens)) this.token(kind);
     this.run?.end();
     this.old?.end();
@@ -111,7 +114,7 @@ export class App {
     this.timeline.setCursor(this.isStory ? STORY.cursor : 0, { isTold: false });
     this.offerSweep();
     this.changed();
-    this.goToPlace(placeOf(location.hash));
+    this.goToPlace(place);
   }
 
   offerSweep() {
@@ -138,11 +141,11 @@ export class App {
 
   /** Opens a session. If its program can't begin, what was open before is opened again. */
   async openOrReturn(session) {
-    const before = { ...this.session, lines: this.run.past.lines() };
+    const before = { ...this.session, lines: this.run.past.lines() }, place = this.place();
     try {
-      await this.open(session);
+      await this.open(session, {});
     } catch (error) {
-      await this.open(before);
+      await this.open(before, place);
       throw error;
     }
   }

@@ -3,7 +3,7 @@
 
 const PAGE = 65536;
 const SMALLEST = 16;
-// The memory grows by at least so many pages, since each growth takes a while.
+// The memory grows by at least this number of pages, since each growth takes a while.
 const GROWTH = 256;
 
 export class Heap {
@@ -58,7 +58,7 @@ export class Heap {
     return address;
   }
 
-  // Whether the memory has so many bytes, after it has grown if it must.
+  // Whether the memory has this number of bytes, after it has grown if it must.
   reaches(bytes) {
     if (bytes > this.limit) return false;
     const missing = Math.ceil((bytes - this.memory.buffer.byteLength) / PAGE);

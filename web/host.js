@@ -10,8 +10,8 @@ const UNWOUND_BYTES = 1 << 20;
 const UNWINDING = 1, REWINDING = 2;     // states of binaryen's asyncify
 
 export class Host {
-  // `read(most)` gives at most so many bytes of standard input, none at its end. The result may be
-  // a promise if the module can wait. `write(descriptor, bytes)` takes the bytes that go to
+  // `read(most)` gives at most this number of bytes of standard input, none at its end. The result
+  // may be a promise if the module can wait. `write(descriptor, bytes)` takes the bytes that go to
   // standard output (1) or error (2). `open(name)` gives a file's reader, a function of the most
   // bytes, or null if there is no such file. `heap` has the options of the heap.
   constructor(module, { args, read, write, open = () => null, heap = {} }) {

@@ -31,7 +31,7 @@ export class View {
   }
 }
 
-/** Round turns for an axis, at most so many. */
+/** Round turns for an axis, at most `most`. */
 export function ticksOf(view, most) {
   let step = 1;
   for (let power = 1; view.span / step > most; power *= 10) {

@@ -15,7 +15,7 @@ const OUTPUT = 1;
 const latin1 = parts => {
   let text = "";
   for (const part of parts) {
-    // not all at once: a call takes only so many arguments
+    // not all at once: the arguments of a call are limited
     for (let at = 0; at < part.length; at += 4096) {
       text += String.fromCharCode(...part.subarray(at, at + 4096));
     }

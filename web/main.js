@@ -70,7 +70,7 @@ function begin() {
     addEventListener(name, () => app.goToPlace(placeOf(location.hash)));
   }
   app.attempt(async () => {
-    await app.open(await packedSession());
+    await app.open(await packedSession(), placeOf(location.hash));
     document.documentElement.dataset.state = "ready";
   });
   return app;
