@@ -1,4 +1,4 @@
-// wasm.mjs FILE.wasm TURNS TIMES: runs the lines of standard input, and then so many turns, by a
+// wasm.mjs FILE.wasm TURNS TIMES: runs the lines of standard input, and then TURNS turns, by a
 // module of pdp11, each time in a new instance. Writes the seconds of each run of the turns, as JSON.
 import fs from "node:fs";
 import { Host, readerOf } from "../web/host.js";

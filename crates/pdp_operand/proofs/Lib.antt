@@ -1,10 +1,5 @@
 pub mod Steps
 pub mod RegisterIds
-pub mod Stacks
-pub mod Deferred
-pub mod GivenBack
-pub mod Found
-pub mod CoreReferences
 pub mod Flattening
 pub mod Carried
 pub mod Shape

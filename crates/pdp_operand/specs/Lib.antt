@@ -3,7 +3,6 @@ pub mod Phases
 -- how functions of the code and plans belong together
 pub mod Contract
 pub mod Laws
-pub mod CoreOperand
 -- what attributes open, by a shorter path
 unfoldable pub use Rattle.pdp_operand.specs.Handbook.Operand.{find}
 unfoldable pub use Rattle.pdp_operand.specs.Handbook.Processor.{IsRunning, register_of}

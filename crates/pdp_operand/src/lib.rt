@@ -11,9 +11,6 @@
 //!   pending, and whether the write went to the program status word (`fetch`, `fetch_before_store`,
 //!   `store`, `read_word` to `write_byte`).
 //! - A reference is translated in the space of its mode, and then makes one bus cycle, or traps.
-//! - An operand in core is found, read and written as its phases do, by accesses that change no
-//!   mapping register, or nothing changes (`find_core`, `fetch_core`, `store_core`, `give_back`,
-//!   `pushed`).
 //! - A reference that memory management aborts changes no word of core, and neither does a write
 //!   through a read-only page (`aborts_change_no_core_word`).
 //! - A plan is the run of its phases (`plan_is_its_phases`).
@@ -22,16 +19,12 @@
 //! pdp_instruction.
 #![tactic(auto)]
 
-mod core_operand;
-mod deferred_operand;
 mod laws;
 mod operand;
 mod place;
 mod processor;
 mod reference;
-mod route;
 
-pub use core_operand::{MemoryOperand, find_core, give_back, is_far_from_limit, pushed};
 pub use laws::{
     aborts_change_no_core_word, courses_leave_what_they_never_touch, plan_is_its_phases,
     stamps_of_courses_are_last_writes, touches_of_courses_are_of_their_turn,
@@ -41,4 +34,3 @@ pub use pdp_action::Trap;
 pub use place::{Cell, Fill, Place};
 pub use processor::{GeneralRegister, Processor, RegisterId, RunState};
 pub use reference::{read_byte, read_decoded, read_word, write_byte, write_word};
-pub use route::{Route, fetch_core, read_core, read_index, store_core};
