@@ -42,9 +42,6 @@ const WORD_BYTES: usize = 2;
 ///
 /// All files are read before an image is looked at: if a file can't be read and an image has an odd
 /// number of bytes, the file is what the exit reports. `NoMemory` as soon as memory is refused.
-///
-/// It is out of line since its size moves the code of bursts by 16 bytes: docs/SPEED.md, Turns.
-#[inline(never)]
 pub fn read_media<F: Files>(
     alloc: Global,
     units: u8,
