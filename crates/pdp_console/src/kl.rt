@@ -70,6 +70,7 @@ impl Kl {
     }
 
     /// What a read of the register gives, without the effect of a read.
+    #[inline(always)]
     pub fn value(&self, register: KlRegister) -> u16
         ensures { result ≡ kl_value register self.now }
     {

@@ -64,6 +64,7 @@ impl Pc {
     }
 
     /// What a read of the register gives, without the effect of a read.
+    #[inline(always)]
     pub fn value(&self, register: PcRegister) -> u16
         ensures { result ≡ pc_value register self.now }
     {

@@ -67,6 +67,7 @@ impl IoPage {
 
     /// What a read of the register gives, with so many drives on the disk, without the effect of a
     /// read.
+    #[inline(always)]
     #[tactic(auto, unfolding(crate::specs::Register::value_in))]
     pub fn value(&self, register: Register, drives: usize) -> u16
         ensures { result ≡ value_in register drives self.now }
