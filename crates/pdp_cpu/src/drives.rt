@@ -19,7 +19,7 @@ impl<S: Store, D: Store + Drop> Machine<S, D> {
             (self.old.first_touches.drives ++ map D.first_touches drives.items) self.old) }
         ensures left { IsErr result → self.new ≡ self.old }
     {
-        self.bus.add_drives(drives)
+        self.computer.bus.add_drives(drives)
     }
 
     /// Keeps the first `count` drives and removes the others. If the machine has fewer, all stay.
@@ -29,6 +29,6 @@ impl<S: Store, D: Store + Drop> Machine<S, D> {
             (take count self.old.state.world.bus.drives)
             (take count self.old.first_touches.drives) self.old }
     {
-        self.bus.keep_drives(count);
+        self.computer.bus.keep_drives(count);
     }
 }

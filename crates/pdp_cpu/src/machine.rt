@@ -24,6 +24,7 @@ use pdp_icache::Lines;
 use pdp_instruction::instruct;
 use pdp_kt11::Mode;
 use pdp_operand::{Processor, RegisterId, RunState};
+use pdp_quick::Computer;
 use pdp_store::{Stamp, Store};
 use pdp_unibus::{Bus, Delays, DeviceRegisters, Event, LAST_TURN, PageRegisters};
 use pdp_word::NoMemory;
@@ -37,8 +38,7 @@ use std::marker::Model;
 /// is room, and the first touches of the pages of core and of the drives.
 #[derive(Drop)]
 pub struct Machine<S: Store, D: Store> {
-    pub(crate) processor: Processor,
-    pub(crate) bus: Bus<S, D>,
+    pub(crate) computer: Computer<S, D>,
     pub(crate) turn: u32,
     pub(crate) text: KeptText,
     pub(crate) punched: KeptText,
@@ -53,7 +53,7 @@ impl<S: Store, D: Store> Model for Machine<S, D> {
     ghost view = { λ m. record {
       state = record {
         turn = m.turn;
-        world = without_first_touches (world m.processor m.bus);
+        world = without_first_touches (world m.computer.processor m.computer.bus);
         text = m.text.text;
         punched = m.punched.text;
       };
@@ -61,7 +61,7 @@ impl<S: Store, D: Store> Model for Machine<S, D> {
       kept_punched = m.punched.bytes;
       text_room = m.text.room;
       punched_room = m.punched.room;
-      first_touches = m.bus.first_touches;
+      first_touches = m.computer.bus.first_touches;
     } };
 }
 
@@ -87,8 +87,10 @@ impl<S: Store, D: Store> Machine<S, D> {
             ≡ first_touches_of (S.first_touches words) (map D.first_touches drives.items) }
     {
         Machine {
-            processor: Processor::power(start),
-            bus: Bus::new(lines, words, drives, tape, delays),
+            computer: Computer {
+                processor: Processor::power(start),
+                bus: Bus::new(lines, words, drives, tape, delays),
+            },
             turn: 0,
             text: KeptText::new(alloc),
             punched: KeptText::new(alloc),
@@ -194,7 +196,7 @@ impl<S: Store, D: Store> Machine<S, D> {
         ensures kept_punched { self.new.kept_punched
             ≡ punched_kept events.now (touched_machine self.old) }
     {
-        if !events.is_empty() || !self.bus.begin_quietly(self.turn) {
+        if !events.is_empty() || !self.computer.bus.begin_quietly(self.turn) {
             self.begin_turn(events);
         }
     }
@@ -211,11 +213,11 @@ impl<S: Store, D: Store> Machine<S, D> {
         ensures kept_text { self.new.kept_text ≡ self.old.kept_text }
         ensures kept_punched { self.new.kept_punched ≡ self.old.kept_punched }
     {
-        if nothing_is_pending(&self.processor, &self.bus) {
-            instruct(&mut self.processor, &mut self.bus);
+        if nothing_is_pending(&self.computer.processor, &self.computer.bus) {
+            instruct(&mut self.computer.processor, &mut self.computer.bus);
             Act::Instr
         } else {
-            take_what_is_due(&mut self.processor, &mut self.bus)
+            take_what_is_due(&mut self.computer.processor, &mut self.computer.bus)
         }
     }
 
@@ -223,7 +225,7 @@ impl<S: Store, D: Store> Machine<S, D> {
     pub fn clear_lines(&mut self)
         ensures { self.new ≡ self.old }
     {
-        self.bus.clear_lines();
+        self.computer.bus.clear_lines();
     }
 
     /// How many turns it has run since power-up, which is the number of the turn that comes next
@@ -239,7 +241,7 @@ impl<S: Store, D: Store> Machine<S, D> {
     pub fn regs(&self) -> Regs
         ensures { result ≡ regs_of self.now.state.world }
     {
-        let p = &self.processor;
+        let p = &self.computer.processor;
         Regs {
             r: [
                 p.register(RegisterId::R0),
@@ -252,7 +254,7 @@ impl<S: Store, D: Store> Machine<S, D> {
             ksp: p.register(RegisterId::KernelStack),
             usp: p.register(RegisterId::UserStack),
             pc: p.register(RegisterId::ProgramCounter),
-            ps: self.bus.status().word(),
+            ps: self.computer.bus.status().word(),
             state: p.run,
         }
     }
@@ -262,7 +264,7 @@ impl<S: Store, D: Store> Machine<S, D> {
     pub fn pc(&self) -> u16
         ensures { result ≡ (regs_of self.now.state.world).pc }
     {
-        self.processor.register(RegisterId::ProgramCounter)
+        self.computer.processor.register(RegisterId::ProgramCounter)
     }
 
     /// The mode of the processor, as bits 15 and 14 of the program status word give it.
@@ -270,7 +272,7 @@ impl<S: Store, D: Store> Machine<S, D> {
     pub fn mode(&self) -> Mode
         ensures { result ≡ self.now.state.world.bus.io_page.status.mode }
     {
-        self.bus.mode()
+        self.computer.bus.mode()
     }
 
     /// The core word of this number (half its byte address), without a bus cycle.
@@ -278,7 +280,7 @@ impl<S: Store, D: Store> Machine<S, D> {
         requires { number < length self.now.state.world.bus.core }
         ensures { result ≡ slice_index self.now.state.world.bus.core number }
     {
-        self.bus.word(number)
+        self.computer.bus.word(number)
     }
 
     /// The turn and the agent of the last write to the core word of this number (half its byte
@@ -287,7 +289,7 @@ impl<S: Store, D: Store> Machine<S, D> {
         requires { number < length self.now.state.world.bus.core }
         ensures { result ≡ slice_index_or self.now.state.world.bus.stamps number None }
     {
-        self.bus.last(number)
+        self.computer.bus.last(number)
     }
 
     /// The word of this number on the drive of this number, both from 0 on, without a transfer.
@@ -296,7 +298,7 @@ impl<S: Store, D: Store> Machine<S, D> {
         ensures { result ≡ slice_index (words_of_drive self.now.state.world.bus.drives
             drive) number }
     {
-        self.bus.disk_word(drive, number)
+        self.computer.bus.disk_word(drive, number)
     }
 
     /// The bytes that were printed on the console since power-up, in their order, each with its
@@ -323,7 +325,7 @@ impl<S: Store, D: Store> Machine<S, D> {
     pub fn devices(&self) -> DeviceRegisters
         ensures { result ≡ devices_of self.now.state.world.bus }
     {
-        self.bus.devices()
+        self.computer.bus.devices()
     }
 
     /// The registers of memory management as reads would give them (DEC PDP-11/40 Processor
@@ -332,7 +334,7 @@ impl<S: Store, D: Store> Machine<S, D> {
     pub fn pages(&self) -> PageRegisters
         ensures { result ≡ page_registers_of self.now.state.world.bus }
     {
-        self.bus.pages()
+        self.computer.bus.pages()
     }
 
     // A turn begins that has events, or in which something comes of the devices.
@@ -348,8 +350,8 @@ impl<S: Store, D: Store> Machine<S, D> {
         ensures kept_punched { self.new.kept_punched
             ≡ punched_kept events.now (touched_machine self.old) }
     {
-        take_processor_events(&mut self.processor, events);
-        let output = self.bus.events(self.turn, events);
+        take_processor_events(&mut self.computer.processor, events);
+        let output = self.computer.bus.events(self.turn, events);
         self.text.keep(self.turn, output.printed);
         self.punched.keep(self.turn, output.punched);
     }

@@ -66,10 +66,10 @@ impl Machine<Paged, PagedDrive> {
         ensures same { self.new ≡ self.old }
         ensures saved { IfOk result (λ saved. saved ≡ saved_machine self.old.state) }
     {
-        let bus = self.bus.save(alloc)?;
+        let bus = self.computer.bus.save(alloc)?;
         Ok(Saved {
             turn: self.turn,
-            processor: self.processor,
+            processor: self.computer.processor,
             bus,
             text_length: self.text.count(),
             punched_length: self.punched.count(),
@@ -87,8 +87,8 @@ impl Machine<Paged, PagedDrive> {
         ensures first_touches { self.new.first_touches ≡ self.old.first_touches }
     {
         self.turn = saved.turn;
-        self.processor = saved.processor;
-        self.bus.load(&saved.bus);
+        self.computer.processor = saved.processor;
+        self.computer.bus.load(&saved.bus);
         self.text.show(saved.text_length);
         self.punched.show(saved.punched_length);
     }
@@ -114,6 +114,6 @@ impl Machine<Paged, PagedDrive> {
         ensures kept_punched { self.new.kept_punched ≡ self.old.kept_punched }
         ensures first_touches { self.new.first_touches ≡ self.old.first_touches }
     {
-        self.bus.set_tape(tape);
+        self.computer.bus.set_tape(tape);
     }
 }

@@ -15,7 +15,7 @@ impl<S: Store, D: Store> Machine<S, D> {
         ensures { result ≡ first_turn
             (slice_index_or (first_touches_in part self.now.first_touches) page never) }
     {
-        self.bus.first(part, page)
+        self.computer.bus.first(part, page)
     }
 
     /// Drops the first touches of this turn and of later turns; earlier ones stay. Takes no memory.
@@ -27,6 +27,6 @@ impl<S: Store, D: Store> Machine<S, D> {
         ensures kept_text { self.new.kept_text ≡ self.old.kept_text }
         ensures kept_punched { self.new.kept_punched ≡ self.old.kept_punched }
     {
-        self.bus.forget(turn);
+        self.computer.bus.forget(turn);
     }
 }

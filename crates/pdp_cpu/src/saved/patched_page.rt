@@ -31,7 +31,8 @@ impl Saved {
         ensures patch { IfOk result (λ page. IsPatchOf at value page) }
         ensures page { IfOk result (λ page. IsPatchIn self.now.bus page) }
     {
-        self.bus.patched_page(alloc, &mut machine.bus, at, value)
+        self.bus
+            .patched_page(alloc, &mut machine.computer.bus, at, value)
     }
 
     /// What takes the place of the page that was patched here: all the memory that `put_pages`

@@ -9,7 +9,7 @@ pub returns-then-nothing_is_pending-clause-world : goal.returns-then-nothing_is_
 returns-then-nothing_is_pending-clause-world g c =
     let s = c.self.inside in
     let new = c.instruct.new in
-    act_is s.processor new.processor s.bus new.bus due.Instruction
+    act_is s.computer.processor new.processor s.computer.bus new.bus due.Instruction
     (c.nothing_is_pending.ensures c.if-nothing_is_pending.true)
     (c.instruct.ensures.follows clear_latch)
     ∙ ap (λ (m : MachineWithTexts). act_end (machine_world m)) c.self.view_is
@@ -18,6 +18,6 @@ pub returns-else-nothing_is_pending-clause-world : goal.returns-else-nothing_is_
 returns-else-nothing_is_pending-clause-world g c =
     let s = c.self.inside in
     let new = c.take_what_is_due.new in
-    act_is s.processor new.processor s.bus new.bus _ refl
+    act_is s.computer.processor new.processor s.computer.bus new.bus _ refl
     (c.take_what_is_due.ensures.follows clear_latch)
     ∙ ap (λ (m : MachineWithTexts). act_end (machine_world m)) c.self.view_is
