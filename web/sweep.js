@@ -99,8 +99,10 @@ export class Sweep {
     this.run = run;
     Object.assign(this, { outcomes: new Map(), replies: [], event: { ...event } });
     this.tried = this.others(app.run.past);
-    await run.load(app.run.taken);
     const turns = spreadTurns(from, to);
+    // at once: what the outcomes take of the page doesn't move the button later
+    this.show(turns.length);
+    await run.load(app.run.taken);
     for (let at = 0; at < turns.length && this.run === run; at += TURNS_AT_ONCE) {
       await this.tryTurns(run, turns.slice(at, at + TURNS_AT_ONCE), question);
       this.show(turns.length);

@@ -79,8 +79,8 @@ class TheSweep(PageCase):
     def test_it_can_be_stopped(self) -> None:
         self.sweep(100_000, 119_000)
         self.wait_text("#sweep-status", " of 19001 turns: tried so far")
-        # not by the mouse: outcomes that come in meanwhile can move the button
-        self.browser.value("document.querySelector('#sweep-stop').click()")
+        self.browser.wait("document.querySelector('#outcomes tbody tr') !== null")
+        self.browser.click("#sweep-stop")
         self.wait_still()
         self.assertIn("between them isn't known", self.browser.text("#sweep-status"))
 
