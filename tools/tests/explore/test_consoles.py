@@ -29,7 +29,7 @@ BOOT = ("--start", "2000", "examples/boot-rk0.session")
 def take_terminal() -> None:
     """Makes standard input the terminal of the session, and ends what the caller ignores."""
     fcntl.ioctl(0, termios.TIOCSCTTY, 0)
-    for number in (signal.SIGINT, signal.SIGHUP):
+    for number in (signal.SIGINT, signal.SIGHUP, signal.SIGQUIT):
         signal.signal(number, signal.SIG_DFL)
 
 
