@@ -1,6 +1,6 @@
 """The WebAssembly modules in release/. Beside NAME.wasm there is NAME.wasm.sources, which says of
 what it was made: the sum of the program's sources (tools/sources-sum), the sum of the way that it
-was made, the version of binaryen, and the sum of the module itself."""
+was made, the lines of the kit and of binaryen, and the sum of the module itself."""
 import hashlib
 import subprocess
 from pathlib import Path
@@ -18,10 +18,11 @@ WAITING = ("pdp11", "search")
 
 
 class Record(NamedTuple):
-    """Of what a module was made, and its own sum."""
+    """Of what a module was made and by what, and its own sum."""
 
     sources: str
     way: str
+    kit: str
     binaryen: str
     module: str
 
@@ -102,8 +103,9 @@ def is_built(name: str) -> bool:
     return not found.stdout
 
 
-def new_record(name: str, module: Path, version: str) -> Record:
-    return Record(sum_of_sources(name), sum_of_way(), version, sum_of(module.read_bytes()))
+def new_record(name: str, module: Path, kit: str, binaryen: str) -> Record:
+    made_of = sum_of_sources(name), sum_of_way()
+    return Record(*made_of, kit, binaryen, sum_of(module.read_bytes()))
 
 
 def must_be_built(name: str) -> None:

@@ -5,7 +5,7 @@ import subprocess
 from pathlib import Path
 from typing import Optional
 
-from .tree import BUILT, PROGRAM, RELEASE, Tree
+from .tree import BUILT, KIT, PROGRAM, RELEASE, RT, Tree
 
 
 class Checked(Tree):
@@ -24,7 +24,7 @@ class Checked(Tree):
         return line
 
     def test_all_is_right(self) -> None:
-        self.assertEqual(self.counted("--verify"), "11 passed, 0 failed")
+        self.assertEqual(self.counted("--verify"), "12 passed, 0 failed")
         self.assertEqual(self.counted("--check"), "14 passed, 0 failed")
 
     def test_a_changed_byte_is_seen(self) -> None:
@@ -34,19 +34,46 @@ class Checked(Tree):
             (RELEASE, 1, 2),
             (RELEASE + ".sources", 1, 1),
             ("release/SHA256SUMS", 2, 2),
-            ("release/KIT", 2, 3),
+            ("release/KIT", 1, 1),
+            ("README.md", 1, 1),
             (BUILT, 0, 1),
         ]:
             with self.subTest(name):
                 self.change_a_byte(name)
-                for how, facts, wrong in ("--verify", 11, verified), ("--check", 14, checked):
+                for how, facts, wrong in ("--verify", 12, verified), ("--check", 14, checked):
                     said = f"{facts - wrong} passed, {wrong} failed"
                     self.assertEqual(self.counted(how), said)
                 self.change_a_byte(name)
 
+    def test_another_kit(self) -> None:
+        """The same bytes are right by any kit. Other bytes are neither right nor wrong."""
+        self.write("../kit/rt", RT.replace(KIT, "another line"), 0o755)
+        self.assertEqual(self.counted("--check"), "14 passed, 0 failed")
+        self.change_a_byte(BUILT)
+        self.assertEqual(self.counted("--check"), "13 passed, 0 failed")
+        said = f"pdp11: the release files are by {KIT}, and another line builds other bytes"
+        self.assertEqual(self.said.splitlines()[:-1], [said, "1 skipped"])
+        self.change_a_byte(RELEASE)  # a file that its sum isn't of
+        self.assertEqual(self.counted("--check"), "13 passed, 1 failed")
+        (self.tree / BUILT).unlink()
+        self.assertEqual(self.counted("--check"), "12 passed, 2 failed")
+
+    def test_files_by_another_kit(self) -> None:
+        self.write("../kit/rt", RT.replace(KIT, "another line"), 0o755)
+        self.change_a_byte(BUILT)
+        made = self.run_in("tools/release", "--make", kit=True)
+        self.assertIn("README.md is to name this kit: `another line`", made.stderr)
+        self.assertEqual(self.counted("--check"), "13 passed, 1 failed")
+        self.write("README.md", "Made with `another line`\n")
+        self.assertEqual(self.counted("--check"), "14 passed, 0 failed")
+        self.commit()
+        self.assertIsNotNone(self.archive("packed"), self.said)
+        self.write("../kit/rt", RT, 0o755)
+        self.assertEqual(self.counted("--check"), "14 passed, 0 failed")
+
     def test_a_file_of_no_program(self) -> None:
         self.write("release/more", "")
-        self.assertEqual(self.counted("--verify"), "11 passed, 1 failed")
+        self.assertEqual(self.counted("--verify"), "12 passed, 1 failed")
 
     def test_a_file_that_is_missing(self) -> None:
         (self.tree / RELEASE).unlink()
@@ -105,12 +132,12 @@ class Checked(Tree):
         )
         sources = self.run_in("tools/sources-sum", "pdp11").stdout.strip()
         sums = [hashlib.sha256(it).hexdigest() for it in (way, content.encode())]
-        lines = f"sources {sources}\nway {sums[0]}\nbinaryen any\nmodule {sums[1]}\n"
+        lines = f"sources {sources}\nway {sums[0]}\nkit any\nbinaryen any\nmodule {sums[1]}\n"
         self.write("release/pdp11.wasm.sources", lines)
 
     def test_an_archive_has_no_module_that_is_older(self) -> None:
         self.module("a module")
-        self.assertEqual(self.counted("--verify"), "13 passed, 0 failed")
+        self.assertEqual(self.counted("--verify"), "14 passed, 0 failed")
         self.commit()
         self.assertIsNotNone(self.archive("first"), self.said)
         for number, name in enumerate(("release/pdp11.wasm", "tools/webassembly/heap.ll")):

@@ -18,13 +18,14 @@ STORED_HELP = "rows/program/help.expected"
 RELEASE = "release/pdp11-linux-x86_64"
 BUILT = "crates/pdp11/out/pdp11"
 CRATES = "low:\npdp11: low\ndisassemble: low\nother:\n"
+KIT = "line of the kit"
 # What stands for the kit's rt: `lib` proves, and `run` builds the program of the current crate.
-RT = """\
+RT = f"""\
 #!/bin/sh
 case $1 in
-version) echo the kit; echo line of the kit ;;
+version) echo the kit; echo {KIT} ;;
 doc) echo /nowhere/kit/START-HERE.md ;;
-run) mkdir -p out && printf '%s' "$PROGRAM" >out/${PWD##*/} && chmod +x out/${PWD##*/} ;;
+run) mkdir -p out && printf '%s' "$PROGRAM" >out/${{PWD##*/}} && chmod +x out/${{PWD##*/}} ;;
 esac
 """
 PROGRAM = "#!/bin/sh\necho a program: $*\n"
@@ -48,6 +49,7 @@ class Tree(unittest.TestCase):
             root = "lib" if name in ("low", "other") else "main"
             self.write(f"crates/{name}/src/{root}.rt", f"// the crate {name}\n")
         self.write("crates/low/specs/Low.antt", "-- a definition\n")
+        self.write("README.md", f"Made with `{KIT}`\n")
         self.write("../kit/rt", RT, 0o755)
 
     def copy(self, name: str) -> None:

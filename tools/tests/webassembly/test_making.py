@@ -1,14 +1,16 @@
 """How the modules are made, and which of them are of these sources."""
+import io
 import shutil
 import subprocess
 import sys
 import tempfile
 import unittest
+from contextlib import redirect_stdout
 from pathlib import Path
-from typing import Any
+from typing import Any, Optional
 from unittest import mock
 
-from webassembly import files, kit
+from webassembly import files, kit, making
 from webassembly.retarget import TRIPLE, RetargetError, retargeted
 
 ROOT = Path(__file__).resolve().parents[3]
@@ -101,7 +103,8 @@ class OfSources(unittest.TestCase):
         changed.start()
         self.addCleanup(changed.stop)
         (self.release / "pdp11.wasm").write_bytes(b"a module")
-        self.record = files.new_record("pdp11", self.release / "pdp11.wasm", "wasm-opt version 0")
+        module = self.release / "pdp11.wasm"
+        self.record = files.new_record("pdp11", module, "a kit", "wasm-opt version 0")
         self.keep(self.record)
 
     def keep(self, record: files.Record) -> None:
@@ -129,6 +132,35 @@ class OfSources(unittest.TestCase):
             (self.release / "pdp11.wasm.sources").write_text(text)
             self.assertIsNone(files.record_of("pdp11"))
             self.assertFalse(files.is_current("pdp11"))
+
+    def counts(self, makers: Optional[making.Makers], made: bytes) -> tuple[int, int, int]:
+        """What is counted where these makers make these bytes again; without bytes they can't."""
+        counts = making.Counts()
+
+        def make(program: kit.Program, to: Path) -> None:
+            if not made:
+                raise kit.MakingError("the kit has changed:\nno module")
+            to.write_bytes(made)
+
+        with mock.patch.multiple(making, make=make, makers_here=lambda: makers), mock.patch.object(
+            files, "is_built", return_value=True
+        ), redirect_stdout(io.StringIO()) as said:
+            making.check_module(kit.Program("pdp11", [], [], True), counts)
+        self.said = said.getvalue()
+        return counts.passed, counts.failed, counts.skipped
+
+    def test_a_module_that_is_made_again(self) -> None:
+        ours = making.Makers("a kit", "wasm-opt version 0")
+        others = ours._replace(kit="another kit"), ours._replace(binaryen="wasm-opt version 1")
+        self.assertEqual(self.counts(None, b""), (1, 0, 1))
+        for makers in ours, *others:
+            self.assertEqual((self.counts(makers, b"a module"), self.said), ((2, 0, 0), ""))
+        for made in b"another one", b"":
+            self.assertEqual(self.counts(ours, made), (1, 1, 0))
+            for makers in others:
+                self.assertEqual(self.counts(makers, made), (1, 0, 1))
+                self.assertEqual(self.said.count("\n"), 1)
+                self.assertIn(f"made by {ours}; by {makers} it", self.said)
 
     def test_the_programs_are_those_of_crates(self) -> None:
         found = {it.name: it for it in files.programs()}
