@@ -6,8 +6,8 @@ import { notesOf } from "./lanes.js";
 import { Ended, Machine, Stopped } from "./machine.js";
 import { Differences, marked } from "./differences.js";
 import { pageOfPast, saveFile, savedName, sessionOfFiles, textOfPast } from "./files.js";
+import { Edits } from "./edits.js";
 import { delayed, element, make } from "./page.js";
-import { isEdit } from "./past.js";
 import { PictureMaker, nameOfWord } from "./picture.js";
 import { keepPlace } from "./place.js";
 import { LAST_TURN, isRefused, octal, readableText, tailOf, visibleName } from "./replies.js";
@@ -30,10 +30,11 @@ export class App {
     });
     this.timeline = new Timeline(element("timeline"), {
       onCursor: () => this.cursorMoved(), onView: () => this.viewChanged(),
-      onDrag: (event, turn) => this.preview(event, turn),
-      onDrop: (event, turn) => this.drop(event, turn),
+      onDrag: (event, turn) => this.edits.preview(event, turn),
+      onDrop: (event, turn) => this.edits.drop(event, turn),
       onOpen: event => this.openEvent(event),
     });
+    this.edits = new Edits(this);
     this.sweep = new Sweep(this);
     this.tokens = {};
     this.words = [];
@@ -87,6 +88,7 @@ export class App {
    * @param {Partial<import("./place.js").Place>} place where it is shown
    */
   async open(session, place) {
+    this.console?.end();
     for (const kind of Object.keys(this.tokens)) this.token(kind);
     this.run?.end();
     this.old?.end();
@@ -171,11 +173,11 @@ export class App {
   /** The past has changed: all that is shown is asked anew. */
   changed() {
     this.timeline.events = this.run.past.script();
-    this.timeline.wanted = this.isStory && !this.run.edits.length ? STORY.sweep.event : 0;
+    this.timeline.wanted = this.isStory && !this.run.changes.length ? STORY.sweep.event : 0;
     this.showWords();
     this.timeline.oldEvents = this.old?.past.script() ?? [];
     this.timeline.draw();
-    this.showEdits();
+    this.edits.show();
     this.sweep.pastChanged(this.run.past);
     this.drawPicture();
     this.showText();
@@ -247,29 +249,13 @@ export class App {
     element("text").replaceChildren(...marked(text, this.oldText ?? text));
     if (this.oldText === undefined) this.oldText = text;
     if (!this.isStory) return;
-    const { balance, verdict, isGood } = verdictOf(text, this.run.edits.length > 0);
+    const { balance, verdict, isGood } = verdictOf(text, this.run.changes.length > 0);
     element("balance").textContent = balance;
     element("verdict").textContent = verdict;
     element("outcome").className = isGood ? "good" : "bad";
   }
 
   // Edits
-
-  /** A line of the user: an edit, or a question. */
-  async do(line) {
-    if (isEdit(line)) await this.edit(line);
-    else await this.attempt(async () => this.say(`${line}: ${await this.run.askOne(line)}`));
-  }
-
-  async edit(line) {
-    await this.attempt(async () => {
-      await this.keepOld();
-      const reply = await this.run.edit(line);
-      this.say(`${line}: ${reply}`);
-      if (!isRefused(reply)) this.changed();
-      else this.showEdits();
-    });
-  }
 
   /** The past as the session was opened, on a machine of its own. */
   async keepOld() {
@@ -278,41 +264,6 @@ export class App {
     this.old = new Run(setup);
     this.timeline.ghost = this.timeline.picture;
     await this.old.load(this.begun);
-  }
-
-  /** While an event is dragged its turn is tried, if the machine is quick enough. */
-  preview(event, turn) {
-    this.tried ??= { line: `alter ${event.number} ${event.turn} ${event.text}`, text: event.text };
-    this.tried.wanted = `alter ${event.number} ${turn} ${event.text}`;
-    this.say(`${this.tried.wanted}`);
-    if (!this.tried.work) this.tried.work = this.attempt(() => this.tryTurns(this.tried));
-  }
-
-  async tryTurns(tried) {
-    const { run, end } = this;
-    while (tried.wanted && tried.wanted !== tried.now) {
-      tried.now = tried.wanted;
-      const [reply, text] = await run.ask([tried.now, `text ${end}`], Priority.EDIT);
-      if (!isRefused(reply)) run.take(tried.now, reply);
-      if (this.tried === tried) this.showReply(text);
-    }
-    tried.work = null;
-  }
-
-  /** Ends a drag: the event is put back, and then altered by one edit. */
-  async drop(event, turn) {
-    const { tried } = this;
-    this.tried = null;
-    if (tried) {
-      tried.wanted = null;
-      await tried.work;
-      await this.attempt(async () => {
-        const reply = await this.run.askOne(tried.line, Priority.EDIT);
-        if (!isRefused(reply)) this.run.take(tried.line, reply);
-      });
-    }
-    if (turn === null) this.changed();
-    else await this.edit(`alter ${event.number} ${turn} ${event.text}`);
   }
 
   openEvent(event) {
@@ -327,35 +278,13 @@ export class App {
     line.setSelectionRange(before.length, before.length + changed.length);
   }
 
-  async undo() {
-    await this.attempt(async () => {
-      await this.run.undo();
-      this.say("undone");
-      this.changed();
-    });
-  }
-
-  async redo() {
-    await this.attempt(async () => {
-      await this.run.redo();
-      this.changed();
-    });
-  }
-
-  showEdits() {
-    const { edits, undone } = this.run;
-    element("edits").replaceChildren(...edits.map(it => make("li", {}, make("code", {}, it.line))));
-    element("undo").disabled = !edits.length;
-    element("redo").disabled = !undone.length;
-  }
-
   // The old past and the new
 
   compare() {
     const { run, old, end } = this;
     this.timeline.part = null;
     const token = this.token("comparison");
-    if (!old || !run.edits.length) {
+    if (!old || !run.changes.length) {
       this.differences.showNone();
       return;
     }

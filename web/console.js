@@ -1,5 +1,5 @@
-// The console: what was printed up to a turn that moves on while the pane has the focus. Each key
-// that is struck is an event.
+// The console: once it is begun, the machine runs on from the cursor's turn while the pane has the
+// focus. It shows what is printed, and each key that is struck is an event.
 
 import { element } from "./page.js";
 import { bytesOf, devicesOf, isRefused, readableText, registersOf, tailOf } from "./replies.js";
@@ -29,76 +29,98 @@ export class Console {
     this.status = element("terminal-status");
     this.speed = element("speed");
     this.keys = [];
-    this.isRunning = false;
-    this.pane.addEventListener("focus", () => app.attempt(() => this.begin()));
-    this.pane.addEventListener("blur", () => { this.isRunning = false; });
+    /** What tells one time of running from the next; null if it doesn't run. */
+    this.running = null;
+    element("terminal-run").addEventListener("click", () => {
+      this.pane.focus();
+      this.begin();
+    });
+    this.pane.addEventListener("blur", () => this.end());
     this.pane.addEventListener("keydown", event => this.strike(event));
   }
 
+  /** A key goes to the machine if it runs; otherwise Enter begins. */
   strike(event) {
     const byte = byteOfKey(event);
-    if (byte === null) return;
+    if (byte === null || !this.running && event.key !== "Enter") return;
     event.preventDefault();
     event.stopPropagation();
-    this.keys.push(byte);
+    if (this.running) this.keys.push(byte);
+    else this.begin();
   }
 
-  /** Runs on from the cursor's turn until the pane loses the focus. */
-  async begin() {
-    const { app } = this;
-    if (this.isRunning) return;
-    this.isRunning = true;
+  begin() {
+    if (this.running) return;
+    const running = { turn: this.app.timeline.cursor, isInLine: false };
+    this.running = running;
     this.keys = [];
-    this.turn = app.timeline.cursor;
+    this.pane.classList.add("running");
+    this.app.edits.inTurn(() => this.runOn(running)).then(() => {
+      if (this.running === running) this.end();
+    });
+  }
+
+  /** Ends at once: what the machine is still asked isn't shown. */
+  end() {
+    const { running, app } = this;
+    if (!running) return;
+    this.running = null;
+    this.pane.classList.remove("running");
+    app.reach(running.turn);
+    app.timeline.setCursor(running.turn);
+    const left = this.keys.length;
+    if (left) app.say(`The last ${left} keys came too soon for the keyboard, and are left out.`);
+  }
+
+  /** Runs on until it is ended. */
+  async runOn(running) {
     this.step = TURNS_A_SECOND * TICK / 1000;
-    const reply = await this.ask(`text ${this.turn}`);
+    const reply = await this.ask(`text ${running.turn}`);
     this.bytes = tailOf(reply, MOST_BYTES).bytes;
     this.printed = Number(reply.slice(5, reply.indexOf(":")));
-    this.show("run");
+    this.show(running.turn, "run");
     let hasKeys = false;
-    while (this.isRunning) {
+    while (this.running === running) {
       const began = performance.now();
-      hasKeys = await this.strikeNext() || hasKeys;
-      await this.goOn();
+      hasKeys = await this.strikeNext(running) || hasKeys;
+      await this.goOn(running);
       const time = performance.now() - began;
       this.adapt(time);
       await new Promise(resolve => setTimeout(resolve, Math.max(0, TICK - time)));
     }
-    app.reach(this.turn);
-    app.timeline.setCursor(this.turn);
-    if (hasKeys) app.changed();
+    if (hasKeys) this.app.changed();
   }
 
   ask(line) {
     return this.app.run.askOne(line, Priority.EDIT);
   }
 
-  /** Strikes the next key, if the keyboard can take one. */
-  async strikeNext() {
+  /** Strikes the next key, if the keyboard can take one. One undo takes back a typed line. */
+  async strikeNext(running) {
     if (!this.keys.length) return false;
-    const devices = await this.ask(`devices ${this.turn}`);
+    const devices = await this.ask(`devices ${running.turn}`);
     if (isRefused(devices) || devicesOf(devices).keyWaits) return false;
-    await this.app.keepOld();
-    const line = `at ${this.turn} key ${this.keys.shift().toString(8)}`;
-    const reply = await this.app.run.edit(line);
-    this.app.say(`${line}: ${reply}`);
-    this.app.showEdits();
+    const byte = this.keys.shift();
+    await this.app.edits.make(`at ${running.turn} key ${byte.toString(8)}`, running.isInLine);
+    running.isInLine = byte !== KEYS.get("Enter");
+    this.app.edits.show();
     return true;
   }
 
-  async goOn() {
-    const turn = Math.min(1_000_000_000, this.turn + Math.round(this.step));
+  async goOn(running) {
+    const turn = Math.min(1_000_000_000, running.turn + Math.round(this.step));
     const [text, registers] = await this.app.run.ask(
       [`text ${turn} from ${this.printed}`, `regs ${turn}`], Priority.EDIT);
+    if (this.running !== running) return;
     if (isRefused(text)) {
-      this.isRunning = false;
+      this.end();
       return;
     }
-    this.turn = turn;
+    running.turn = turn;
     const more = bytesOf(text);
     this.printed += more.length;
     if (more.length) this.bytes = [...this.bytes, ...more].slice(-MOST_BYTES);
-    this.show(registersOf(registers).state, more.length > 0);
+    this.show(turn, registersOf(registers).state, more.length > 0);
   }
 
   /** At the machine's rate, or as many turns as are run in the time between two looks. */
@@ -108,8 +130,8 @@ export class Console {
     else this.step = Math.max(1_000, this.step / 2);
   }
 
-  show(state, isNew = true) {
-    this.status.textContent = `before turn ${this.turn}, ${state}`;
+  show(turn, state, isNew = true) {
+    this.status.textContent = `before turn ${turn}, ${state}`;
     if (!isNew) return;
     this.pane.textContent = readableText(this.bytes);
     this.pane.scrollTop = this.pane.scrollHeight;

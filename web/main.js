@@ -45,15 +45,15 @@ function bindTurns(app) {
 }
 
 function bindEdits(app) {
-  onForm("edit-form", "line", line => line && app.do(line));
+  onForm("edit-form", "line", line => line && app.edits.do(line));
   onForm("memory-form", "address", value => {
     if (!/^[0-7]{1,6}$/.test(value)) return;
     app.showAddress(parseInt(value, 8));
     app.goTo(app.timeline.cursor);
   });
   onForm("watch-form", "watch", value => app.watchNamed(value));
-  onClick("undo", () => app.undo());
-  onClick("redo", () => app.redo());
+  onClick("undo", () => app.edits.undo());
+  onClick("redo", () => app.edits.redo());
   onClick("stop", () => app.stop());
   onForm("sweep-form", "sweep-question", () => app.attempt(() => app.sweep.begin()));
   onClick("sweep-stop", () => app.sweep.end());

@@ -28,11 +28,13 @@ export function table(caption, heads, rows) {
 export const link = (text, title, onclick) =>
   make("button", { type: "button", class: "link", title, onclick }, text);
 
-/** Waits until calls have ceased for some time, and then does it once. */
+/** Waits until calls have ceased for some time, and then does it once, unless it is cancelled. */
 export function delayed(milliseconds, act) {
   let timer = 0;
-  return (...words) => {
+  const call = (...words) => {
     clearTimeout(timer);
     timer = setTimeout(() => act(...words), milliseconds);
   };
+  call.cancel = () => clearTimeout(timer);
+  return call;
 }

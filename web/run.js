@@ -9,12 +9,17 @@ const TURNS_AT_ONCE = 4_000_000;
 const [FEWEST_LINES, MOST_LINES] = [64, 512];
 const [QUICK, SLOW] = [25, 80];
 
+/** The number in the reply to an edit that makes an event. */
+const eventOf = reply => reply.startsWith("event ") ? reply.split(" ")[1] : undefined;
+
 /** Of several questions the one with the lowest number goes first. */
 export const Priority = { EDIT: 0, CURSOR: 1, PICTURE: 2, COMPARISON: 3 };
 
 /**
  * @typedef {{arguments: string[], files: Object<string, Uint8Array>}} Setup
- * @typedef {{line: string, back: string[] | null}} Edit an edit, and the lines that take it back
+ * @typedef {{line: string, back: string[] | null, event: string | undefined, before: number}} Edit
+ *   an edit, the lines that take it back, the number of the event that it made, and how many edits
+ *   were taken before it
  */
 export class Run {
   /** @param {Setup} setup */
@@ -25,9 +30,9 @@ export class Run {
     this.taken = [];
     this.jobs = [];
     this.past = new Past();
-    /** @type {Edit[]} */
-    this.edits = [];
-    /** @type {string[]} */
+    /** @type {Edit[][]} what the user did, each as its edits: one undo takes all of them back */
+    this.changes = [];
+    /** @type {Edit[][]} */
     this.undone = [];
     this.linesAtOnce = 64;
     this.isAtWork = false;
@@ -138,16 +143,25 @@ export class Run {
     this.past.apply(line, reply);
   }
 
-  /** An edit of the user, with how to undo it. Returns the reply. */
-  async edit(line, { isRedo = false } = {}) {
+  /** An edit of the user. One that joins is undone with the one before it. Returns the reply. */
+  async edit(line, joins = false) {
+    const { reply, edit } = await this.make(line);
+    if (!edit) return reply;
+    this.undone = [];
+    if (joins && this.changes.length) this.changes.at(-1).push(edit);
+    else this.changes.push([edit]);
+    return reply;
+  }
+
+  /** Makes an edit. Returns its reply, and the edit if it was taken. */
+  async make(line) {
+    const before = this.taken.length;
     const back = await this.inverse(line);
     const reply = await this.askOne(line, Priority.EDIT);
-    if (isRefused(reply)) return reply;
-    const isNew = wordsOfLine(line)[0] === "at";
+    if (isRefused(reply)) return { reply };
     this.take(line, reply);
-    if (!isRedo) this.undone = [];
-    this.edits.push({ line, back: isNew ? [`drop ${reply.split(" ")[1]}`] : back });
-    return reply;
+    const event = eventOf(reply);
+    return { reply, edit: { line, back: event ? [`drop ${event}`] : back, event, before } };
   }
 
   async inverse(line) {
@@ -158,39 +172,58 @@ export class Run {
     return isRefused(reply) ? null : [`disk ${where} ${reply.split(" ")[1]}`];
   }
 
-  /** Takes back the last edit. An edit that no line takes back needs the machine anew. */
+  /** Takes back what the user did last. If this is stopped, the rest of it stays done. */
   async undo() {
-    const edit = this.edits.pop();
-    if (!edit) return;
-    this.undone.push(edit.line);
+    const change = this.changes.at(-1);
+    if (!change) return;
+    const undone = [];
+    this.undone.push(undone);
+    while (change.length) {
+      await this.takeBack(change.at(-1));
+      undone.unshift(change.pop());
+    }
+    this.changes.pop();
+  }
+
+  /** An edit that no line takes back needs the machine anew, with the edits before it. */
+  async takeBack(edit) {
     if (!edit.back) {
-      this.taken.pop();
+      this.taken.length = edit.before;
       await this.startAgain();
       return;
     }
+    const [word, number] = wordsOfLine(edit.line);
     for (const line of edit.back) {
       const reply = await this.askOne(line, Priority.EDIT);
       this.take(line, reply);
-      this.renumber(edit.line, reply);
+      if (word === "drop" && eventOf(reply)) this.renumber(number, eventOf(reply));
     }
   }
 
   /** An event that comes back has a new number: edits to be undone or made again name that one. */
-  renumber(line, reply) {
-    const [word, number] = wordsOfLine(line);
-    if (word !== "drop" || !reply.startsWith("event ")) return;
-    const given = reply.split(" ")[1];
+  renumber(number, given) {
     const named = it => it.replace(/^(alter|drop) (\d+)/, (all, verb, old) =>
       old === number ? `${verb} ${given}` : all);
-    const namedEdit = it => ({ line: named(it.line), back: it.back?.map(named) ?? null });
-    this.undone = this.undone.map(named);
-    this.edits = this.edits.map(namedEdit);
+    for (const edit of [...this.changes, ...this.undone].flat()) {
+      edit.line = named(edit.line);
+      edit.back = edit.back?.map(named) ?? null;
+      if (edit.event === number) edit.event = given;
+    }
   }
 
+  /** Does again what was undone last. If this is stopped, the rest of it stays undone. */
   async redo() {
-    const line = this.undone.pop();
-    if (line === undefined) return;
-    await this.edit(line, { isRedo: true });
+    const undone = this.undone.at(-1);
+    if (!undone) return;
+    const change = [];
+    this.changes.push(change);
+    while (undone.length) {
+      const { edit } = await this.make(undone[0].line);
+      const { event } = undone.shift();
+      if (edit) change.push(edit);
+      if (edit?.event) this.renumber(event, edit.event);
+    }
+    this.undone.pop();
   }
 
   /** Ends what the machine is doing. It goes on with the same past. */

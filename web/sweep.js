@@ -145,7 +145,7 @@ export class Sweep {
   row({ from, to, outcome }) {
     const { number, text } = this.event;
     const colour = `outcome outcome-${outcome % SWEEP_COLOURS}`;
-    const put = () => this.app.edit(`alter ${number} ${from} ${text}`);
+    const put = () => this.app.edits.edit(`alter ${number} ${from} ${text}`);
     return [
       make("span", { class: colour }, letterOf(outcome)),
       link(`${from} to ${to}`, "Put the event into the first of these turns", put),

@@ -2,12 +2,18 @@
 
 import { LanesDrawing, View, lanesOf } from "./lanes.js";
 import { eventInWords, eventLabel } from "./past.js";
+import { delayed } from "./page.js";
 import { LAST_TURN } from "./replies.js";
 
 const [LEFT_WIDE, LEFT_NARROW, RIGHT] = [112, 74, 10];
 const MOST_MARKS = 300;
 const FEWEST_PIXELS = 3;
 const MARK_ROWS = 2;
+// A move by keys ends this long after the last key was let go, if Alt isn't let go before.
+const PAUSE = 500;
+
+/** How many turns an arrow key steps. */
+const stepOf = isShifted => isShifted ? 64 : 1;
 
 /** What the timeline tells the page. @typedef {{
  *   onCursor: (turn: number) => void, onView: () => void,
@@ -36,6 +42,9 @@ export class Timeline {
     this.pointers = new Map();
     this.frame = 0;
     this.dragged = null;
+    /** Where an event was put, until the machine has taken it: {number, turn}, or null. */
+    this.put = null;
+    this.endMoveLater = delayed(PAUSE, () => this.endMoveByKeys());
     this.listen();
     new ResizeObserver(() => this.resize()).observe(element);
   }
@@ -49,6 +58,8 @@ export class Timeline {
       element.addEventListener(name, event => this.onPointerUp(event));
     }
     element.addEventListener("keydown", event => this.onKey(event));
+    element.addEventListener("keyup", event => this.onKeyUp(event));
+    element.addEventListener("focusout", () => this.endMoveByKeys());
   }
 
   resize() {
@@ -82,12 +93,14 @@ export class Timeline {
   /** Puts the cursor at a turn, and moves the turns in sight if it would be outside. */
   setCursor(turn, { isTold = true } = {}) {
     this.cursor = Math.min(LAST_TURN, Math.max(0, Math.round(turn)));
-    const { view } = this;
-    if (this.cursor < view.first || this.cursor > view.end) {
-      this.show(this.cursor - view.span / 2, view.span);
-    }
+    this.bringIntoSight(this.cursor);
     this.placeCursor();
     if (isTold) this.listener.onCursor(this.cursor);
+  }
+
+  bringIntoSight(turn) {
+    const { view } = this;
+    if (turn < view.first || turn > view.end) this.show(turn - view.span / 2, view.span);
   }
 
   placeCursor() {
@@ -123,7 +136,7 @@ export class Timeline {
 
   placeMarks() {
     if (this.dragged) {
-      this.placeMark(this.dragged.button, this.dragged.turn);
+      for (const it of this.marks.children) this.place(it, Number(it.dataset.turn));
       return;
     }
     const { view } = this;
@@ -143,20 +156,30 @@ export class Timeline {
       if (event.number === this.wanted) button.classList.add("wanted");
       button.textContent = eventLabel(event);
       button.dataset.event = String(event.number);
-      button.setAttribute("aria-label",
-        `Event ${event.number}, ${eventInWords(event)}, turn ${event.turn}`);
-      button.title = `event ${event.number}: at ${event.turn} ${eventInWords(event)}`;
-      const x = this.view.x(event.turn);
+      const turn = this.turnOf(event), x = this.view.x(turn);
       const row = Math.max(0, ends.findIndex(it => x >= it));
       ends[row] = x + 9 + 8 * button.textContent.length;
       button.style.setProperty("--row", String(row));
-      this.placeMark(button, event.turn);
+      this.placeMark(button, event, turn);
       return button;
     });
   }
 
-  placeMark(button, turn) {
-    button.style.left = `${this.view.x(turn)}px`;
+  place(mark, turn) {
+    mark.dataset.turn = String(turn);
+    mark.style.left = `${this.view.x(turn)}px`;
+  }
+
+  placeMark(button, event, turn) {
+    const words = eventInWords(event);
+    this.place(button, turn);
+    button.setAttribute("aria-label", `Event ${event.number}, ${words}, turn ${turn}`);
+    button.title = `event ${event.number}: at ${turn} ${words}`;
+  }
+
+  /** The turn of an event, or where it was put last. */
+  turnOf(event) {
+    return this.put?.number === event.number ? this.put.turn : event.turn;
   }
 
   /** Where events were that aren't there now. */
@@ -170,7 +193,7 @@ export class Timeline {
       mark.className = "mark ghost";
       mark.textContent = eventLabel(event);
       mark.title = `was at ${event.turn} ${eventInWords(event)}`;
-      this.placeMark(mark, event.turn);
+      this.place(mark, event.turn);
       return mark;
     });
   }
@@ -199,20 +222,19 @@ export class Timeline {
     if (event.button) return;
     const button = event.target.closest?.("button.mark");
     const at = { x: this.xOf(event), first: this.view.first, moved: false };
+    this.endMoveByKeys();
     this.pointers.set(event.pointerId, at);
     this.element.setPointerCapture(event.pointerId);
     if (button) {
       button.focus();
-      const it = this.eventOf(button);
-      this.dragged = { event: it, button, from: it.turn, turn: it.turn, begin: at.x };
-      button.classList.add("dragged");
+      this.beginMove(button, { begin: at.x });
     } else this.slider.focus({ preventScroll: true });
     if (this.pointers.size === 2) this.beginPinch();
   }
 
   beginPinch() {
     const [one, other] = [...this.pointers.values()];
-    this.cancelDrag();
+    this.endMove(false);
     this.pinch = {
       apart: Math.max(20, Math.abs(one.x - other.x)), span: this.view.span,
       turn: this.view.turn((one.x + other.x) / 2),
@@ -245,12 +267,7 @@ export class Timeline {
   dragTo(x) {
     const { dragged, view } = this;
     const by = Math.round((x - dragged.begin) / view.width * view.span);
-    const turn = Math.min(LAST_TURN, Math.max(0, dragged.from + by));
-    if (turn === dragged.turn) return;
-    dragged.turn = turn;
-    this.placeMark(dragged.button, turn);
-    dragged.button.title = `turn ${turn}`;
-    this.listener.onDrag(dragged.event, turn);
+    this.moveTo(dragged.from + by);
   }
 
   onPointerUp(event) {
@@ -261,31 +278,57 @@ export class Timeline {
       if (!this.pointers.size) this.pinch = null;
       return;
     }
-    const { dragged } = this;
-    if (dragged) {
-      this.dragged = null;
-      dragged.button.classList.remove("dragged");
-      const isMoved = event.type === "pointerup" && dragged.turn !== dragged.from;
-      if (at.moved) this.listener.onDrop(dragged.event, isMoved ? dragged.turn : null);
-      else this.listener.onOpen(dragged.event);
+    if (this.dragged) {
+      const { dragged } = this;
+      this.endMove(event.type === "pointerup");
+      if (!at.moved) this.listener.onOpen(dragged.event);
     } else if (!at.moved && at.x >= this.view.left) {
       this.setCursor(this.view.turn(at.x));
     }
   }
 
-  cancelDrag() {
+  // A move of an event, by the pointer or by keys
+
+  beginMove(button, more) {
+    const event = this.eventOf(button), turn = this.turnOf(event);
+    this.dragged = { event, button, from: turn, turn, ...more };
+    button.classList.add("dragged");
+  }
+
+  moveTo(wanted) {
+    const { dragged } = this;
+    const turn = Math.min(LAST_TURN, Math.max(0, wanted));
+    if (turn === dragged.turn) return;
+    dragged.turn = turn;
+    dragged.isMoved = true;
+    this.placeMark(dragged.button, dragged.event, turn);
+    this.listener.onDrag(dragged.event, turn);
+  }
+
+  /** Ends a move: the event stays where it is now, or goes back. */
+  async endMove(stays = true) {
     const { dragged } = this;
     if (!dragged) return;
     this.dragged = null;
     dragged.button.classList.remove("dragged");
-    this.listener.onDrop(dragged.event, null);
+    if (!dragged.isMoved) return;
+    const { event, turn, from } = dragged;
+    const put = { number: event.number, turn: stays ? turn : from };
+    this.put = put;
+    await this.listener.onDrop(event, put.turn === from ? null : put.turn);
+    if (this.put === put) this.put = null;
+    this.draw();
+  }
+
+  endMoveByKeys() {
+    if (this.dragged?.isByKeys) this.endMove();
   }
 
   // Keys
 
   onKey(event) {
+    if (event.key === "Escape") return this.endMove(false);
     if (event.altKey || event.ctrlKey || event.metaKey) return this.onMarkKey(event);
-    if (event.key === "Escape") return this.cancelDrag();
     const button = event.target.closest?.("button.mark");
     if (button && (event.key === "Enter" || event.key === " ")) {
       event.preventDefault();
@@ -296,22 +339,28 @@ export class Timeline {
     return undefined;
   }
 
-  /** Alt with an arrow moves the event whose mark has the focus, by a pixel or, with shift, ten. */
+  /** Alt with an arrow moves the event whose mark has the focus by a turn, with shift by 64. */
   onMarkKey(event) {
     const button = event.target.closest?.("button.mark");
     const direction = { ArrowLeft: -1, ArrowRight: 1 }[event.key];
     if (!button || !direction || !event.altKey) return;
     event.preventDefault();
-    const pixels = event.shiftKey ? 10 : 1;
-    const by = Math.max(1, Math.round(pixels * this.view.span / this.view.width));
-    const it = this.eventOf(button);
-    const turn = Math.min(LAST_TURN, Math.max(0, it.turn + direction * by));
-    this.listener.onDrop(it, turn);
+    this.endMoveLater.cancel();
+    if (!this.dragged) this.beginMove(button, { isByKeys: true });
+    if (!this.dragged.isByKeys) return;
+    this.moveTo(this.dragged.turn + direction * stepOf(event.shiftKey));
+    this.bringIntoSight(this.dragged.turn);
+  }
+
+  /** A key that is held, or struck again soon, goes on with the same move. */
+  onKeyUp(event) {
+    if (event.key === "Alt") this.endMoveByKeys();
+    else this.endMoveLater();
   }
 
   /** What a key does to the cursor or the turns in sight. Returns whether it does anything. */
   act(key, isShifted = false) {
-    const step = isShifted ? 64 : 1;
+    const step = stepOf(isShifted);
     const screen = Math.max(1, Math.round(this.view.span));
     const cursor = {
       ArrowLeft: this.cursor - step, ArrowRight: this.cursor + step,

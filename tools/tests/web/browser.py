@@ -31,6 +31,7 @@ KEYS = {
     "Enter": 13,
     "Escape": 27,
     "Tab": 9,
+    "Alt": 18,
 }
 ALT, SHIFT = 1, 8
 
@@ -221,14 +222,18 @@ class Browser:
         touched = [{"x": x, "y": y, "id": number} for number, (x, y) in enumerate(points)]
         self.call("Input.dispatchTouchEvent", type=kind, touchPoints=touched)
 
-    def key(self, name: str, modifiers: int = 0) -> None:
-        """Strikes a key, by its name or its character."""
+    def key(
+        self, name: str, modifiers: int = 0, is_down: bool = True, is_up: bool = True
+    ) -> None:
+        """Strikes a key, by its name or its character; or only presses it, or lets it go."""
         code = KEYS.get(name, ord(name[0].upper()))
         words = {"key": name, "windowsVirtualKeyCode": code, "modifiers": modifiers}
         text = name if len(name) == 1 else "\r" if name == "Enter" else ""
         kind = "keyDown" if text else "rawKeyDown"
-        self.call("Input.dispatchKeyEvent", type=kind, text=text, **words)
-        self.call("Input.dispatchKeyEvent", type="keyUp", **words)
+        if is_down:
+            self.call("Input.dispatchKeyEvent", type=kind, text=text, **words)
+        if is_up:
+            self.call("Input.dispatchKeyEvent", type="keyUp", **words)
 
     def type(self, text: str) -> None:
         for character in text:

@@ -56,17 +56,35 @@ class TheLostDeposit(PageCase):
         self.assertEqual(self.edits(), [line])
 
     def test_keys_alone(self) -> None:
-        self.balance(LOST)
+        """Keys in quick succession are one move: each a turn, with shift 64, and one edit."""
         self.browser.value(f"document.querySelector('{KEY}').focus()")
-        for count in range(1, 12):
+        for _ in range(20):
+            self.browser.key("ArrowRight", ALT)
+        self.browser.wait("document.querySelectorAll('#edits li').length === 1")
+        self.browser.key("Alt", is_up=False)
+        for _ in range(4):
             self.browser.key("ArrowRight", ALT | SHIFT)
-            self.browser.wait(f"document.querySelectorAll('#edits li').length === {count}")
-            if self.browser.text("#balance") == SAFE:
-                break
         self.balance(SAFE)
-        self.assertEqual(
-            self.browser.value("document.activeElement.dataset.event"), "15", "the focus is lost"
+        self.browser.key("Alt", is_down=False)
+        self.browser.wait("document.querySelectorAll('#edits li').length === 2")
+        self.assertEqual(self.edits(), ["alter 15 126987 key 66", "alter 15 127243 key 66"])
+        self.browser.wait("document.activeElement.dataset.event === '15'")
+        self.browser.click("#undo")
+        self.browser.click("#undo")
+        self.browser.wait("document.querySelectorAll('#edits li').length === 0")
+        self.balance(LOST)
+
+    def test_a_move_right_after_a_move(self) -> None:
+        """The next move begins where the last one ended, though that edit is still under way."""
+        self.browser.value(
+            f"(() => {{ const it = document.querySelector('{KEY}'); it.focus();"
+            "const strike = (kind, key) => it.dispatchEvent(new KeyboardEvent(kind,"
+            "{key, altKey: true, bubbles: true}));"
+            "for (let count = 0; count < 3; count++) {"
+            "strike('keydown', 'ArrowRight'); strike('keyup', 'Alt'); } })()"
         )
+        self.browser.wait("document.querySelectorAll('#edits li').length === 3")
+        self.assertEqual(self.edits()[-1], "alter 15 126970 key 66")
 
     def test_the_old_past_stays_in_grey(self) -> None:
         self.browser.drag(KEY, 110)
@@ -101,18 +119,27 @@ class Lines(PageCase):
         said = self.type_line("dsk 238614 0 1")
         self.assertIn("dsk 000170", said)
 
-    def test_a_new_event_and_a_word_as_of_power_up_are_undone(self) -> None:
+    def test_all_edits_are_undone_and_made_again(self) -> None:
+        """Events that come back have other numbers. No line takes a tape back."""
+        count = "document.querySelectorAll('#edits li').length === {}"
         first = self.browser.text("#text")
-        for line in ("disk 0 200", "core 1000 0", "at 5 key 101", "drop 3", "delay disk 300"):
+        number = self.type_line("at 5 key 101").split()[-1]
+        lines = ["disk 0 200", "tape 101", "core 1000 0", f"alter {number} 6 key 102", "drop 3"]
+        for line in [*lines, "delay disk 300"]:
             self.type_line(line)
-        self.browser.wait("document.querySelectorAll('#edits li').length === 5")
+        self.browser.wait(count.format(7))
         self.browser.wait(f"document.querySelector('#text').innerText !== {first!r}")
-        for left in range(4, -1, -1):
+        asked = "regs 238614"
+        edited = self.type_line(asked)
+        for left in range(6, -1, -1):
             self.browser.click("#undo")
-            self.browser.wait(f"document.querySelectorAll('#edits li').length === {left}")
+            self.browser.wait(count.format(left))
         self.balance(LOST)
-        asked = "dsk 238614 0 1"
-        self.assertIn("000170", self.type_line(asked))
+        self.assertIn("000170", self.type_line("dsk 238614 0 1"))
+        for done in range(1, 8):
+            self.browser.click("#redo")
+            self.browser.wait(count.format(done))
+        self.assertEqual(self.type_line(asked), edited)
 
     def test_enter_on_an_event_opens_it(self) -> None:
         self.browser.value(f"document.querySelector('{KEY}').focus()")

@@ -14,23 +14,50 @@ class TheConsole(PageCase):
         self.give(path)
         self.wait_text("#session-name", "echo")
 
-    def test_what_is_typed_is_an_event_and_comes_back(self) -> None:
+    def begin(self) -> None:
+        """Enter in the pane runs the machine."""
         self.browser.value("document.querySelector('#terminal').focus()")
+        self.browser.key("Enter")
+        self.wait_text("#terminal-status", "before turn ")
+
+    def lines(self) -> list[str]:
+        found = self.browser.value(
+            "[...document.querySelectorAll('#edits code')].map(it => it.textContent)"
+        )
+        return list(found)
+
+    def test_a_typed_line_is_one_undo(self) -> None:
+        """Each key is an event, and comes back."""
+        self.begin()
         self.browser.type("hi")
-        self.wait_text("#terminal", "hi")
+        self.browser.key("Enter")
+        self.browser.type("a")
+        self.wait_text("#terminal", "hi\u00b7a")
         self.browser.key("Tab")
         self.browser.wait("document.activeElement.id !== 'terminal'")
-        self.browser.wait("document.querySelectorAll('#edits li').length === 2")
-        first, second = self.edits()
-        self.assertRegex(first, r"^at \d+ key 150$")
-        self.assertRegex(second, r"^at \d+ key 151$")
-        lines = [f"core {0o1000 + 2 * at:o} {word}" for at, word in enumerate(ECHO)]
-        turn = int(second.split()[1]) + 100
-        self.assertEqual(replies_of([*lines, first, second, f"text {turn}"])[-1], "text 2:hi")
+        self.browser.wait("document.querySelectorAll('#edits > li').length === 2")
+        lines = self.lines()
+        self.assertEqual([it.split()[-1] for it in lines], ["150", "151", "15", "141"])
+        echo = [f"core {0o1000 + 2 * at:o} {word}" for at, word in enumerate(ECHO)]
+        turn = int(lines[-1].split()[1]) + 100
+        self.assertEqual(replies_of([*echo, *lines, f"text {turn}"])[-1], "text 4:hi\\015a")
+        for left in (3, 0):
+            self.browser.click("#undo")
+            self.browser.wait(f"document.querySelectorAll('#edits code').length === {left}")
+        self.assertEqual(self.lines(), [])
+        self.browser.click("#redo")
+        self.browser.wait("document.querySelectorAll('#edits code').length === 3")
         self.wait_still()
 
-    def test_it_stops_without_the_focus(self) -> None:
-        self.browser.value("document.querySelector('#terminal').focus()")
+    def test_it_runs_by_a_button_or_enter_while_it_has_the_focus(self) -> None:
+        self.browser.value("document.querySelector('#speed').focus()")
+        before = self.turn()
+        self.browser.key("Tab")
+        self.assertEqual(self.browser.value("document.activeElement.id"), "terminal")
+        self.browser.type("a")
+        self.browser.value("new Promise(it => setTimeout(it, 200))")
+        self.assertEqual((self.turn(), self.lines()), (before, []), "Tab ran the machine")
+        self.browser.click("#terminal-run")
         self.wait_text("#terminal-status", "before turn ")
         self.browser.value("document.querySelector('#terminal').blur()")
         self.wait_still()
@@ -40,7 +67,7 @@ class TheConsole(PageCase):
         self.assertEqual(self.turn(), before)
 
     def test_keys_that_move_the_cursor_are_typed_here(self) -> None:
-        self.browser.value("document.querySelector('#terminal').focus()")
+        self.begin()
         self.browser.type("+0-")
         self.wait_text("#terminal", "+0-")
         self.browser.value("document.querySelector('#terminal').blur()")
