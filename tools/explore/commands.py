@@ -41,12 +41,15 @@ class Steps:
 
 @dataclass
 class Sitting:
-    """How somebody sits at the console: the turn where the last one was left, turns a second, and
-    whether bit 7 of what is printed is cleared."""
+    """How somebody sits at the console: the turn where the last one was left, turns a second,
+    whether bit 7 of what is printed is cleared, whether control bytes are shown as text, and
+    whether the terminal answers the program's queries."""
 
     turn: Optional[int] = None
     rate: int = 250_000
     is_7bit: bool = False
+    is_escaped: bool = False
+    has_answers: bool = False
 
 
 @dataclass

@@ -5,13 +5,14 @@ from collections import deque
 from typing import Iterator, Optional
 
 from .at_work import AtWork
-from .commands import Arguments, Explorer, command
+from .commands import Arguments, Explorer, Sitting, command
 from .errors import ExploreError
 from .language import MEANINGS
 from .machine import LAST_TURN, Machine, is_refused
 from .pace import Pace, Slice
 from .raw_terminal import RawTerminal
 from .replies import text_of
+from .visible import visible_bytes
 
 LEAVE = 0o5  # Ctrl-E
 TICKS = 60  # of the clock in a second
@@ -28,18 +29,18 @@ class Console:
     """Somebody sits at the machine. It runs at a rate, what it prints is shown, and each key is an
     event in the turn in which it is struck, or in a later one in which the keyboard can take it."""
 
-    def __init__(self, machine: Machine, turn: int, rate: int, is_7bit: bool):
-        self.machine, self.turn, self.rate, self.is_7bit = machine, turn, rate, is_7bit
+    def __init__(self, machine: Machine, turn: int, sitting: Sitting):
+        self.machine, self.turn, self.rate, self.sitting = machine, turn, sitting.rate, sitting
         text = machine.text(turn)
         self.printed, self.line = len(text), text[text.rfind(b"\n") + 1 :][-LONGEST_LINE:]
         self.last_bytes = b"\r\n"
         self.turns_of_keys = {it for it in machine.past.key_turns() if it >= turn}
         self.first_turn, self.begun, self.seconds = turn, 0.0, 0.0
-        self.pace, self.slice = Pace(rate, turn, 0.0), Slice(SLICE_SECONDS)
+        self.pace, self.slice = Pace(self.rate, turn, 0.0), Slice(SLICE_SECONDS)
         self.waiting: deque[int] = deque()
         self.events: list[int] = []
         self.struck_at, self.leave_at = -math.inf, math.inf
-        self.is_halted = False
+        self.is_halted, self.withheld = False, 0
 
     def sit(self, terminal: RawTerminal) -> None:
         """Runs the machine until somebody leaves, or up to its last turn. Keys that wait when
@@ -57,6 +58,7 @@ class Console:
                 wait = self.run_slice(terminal)
         finally:
             self.seconds = time.monotonic() - self.begun
+            self.withheld = terminal.sequences.withheld
 
     def goes_on(self) -> bool:
         if self.leave_at < math.inf and not self.waiting:
@@ -109,7 +111,8 @@ class Console:
     def show(self, terminal: RawTerminal, printed: bytes) -> None:
         if printed:
             self.last_bytes = (self.last_bytes + printed[-2:])[-2:]
-            terminal.write(printed.translate(SEVEN_BITS) if self.is_7bit else printed)
+            shown = printed.translate(SEVEN_BITS) if self.sitting.is_7bit else printed
+            terminal.show(visible_bytes(shown) if self.sitting.is_escaped else shown)
 
     def tell(self, terminal: RawTerminal, words: str) -> None:
         """Something that the machine didn't print, in a line of its own."""
@@ -175,6 +178,9 @@ class Console:
         last = ", the last one" if self.turn == LAST_TURN else ""
         turns = f"{self.turn - self.first_turn} turns in {self.seconds:.1f} s"
         yield f"turn {self.turn}{last}: {turns}; {self.events_in_words()}"
+        if self.withheld:
+            queries = f"{self.withheld} quer{'y' if self.withheld == 1 else 'ies'}"
+            yield f"{queries} of the program didn't reach the terminal: see help console"
 
     def events_in_words(self) -> str:
         made = self.events
@@ -199,9 +205,20 @@ def beginning_turn(explorer: Explorer, arguments: Arguments) -> int:
     return turn
 
 
+# How the console shows what is printed: the words for it, and what is said of each.
+HOW = {
+    "7bit": ("is_7bit", True, "bit 7 of what is printed is cleared"),
+    "8bit": ("is_7bit", False, "all bits are shown"),
+    "escaped": ("is_escaped", True, "control bytes are shown as in text, ESC as \\033"),
+    "raw": ("is_escaped", False, "control bytes go to the terminal"),
+    "answers": ("has_answers", True, "queries reach the terminal, and its answers are keys"),
+    "silent": ("has_answers", False, "queries don't reach the terminal, which answers nothing"),
+}
+
+
 @command(
-    "console [from N] [rate R]  or  console 7bit|8bit",
-    r"(?P<bits>[78])bit|{from}((^| )rate <rate:decimal>)?",
+    "console [from N] [rate R]  or  console 7bit|8bit|escaped|raw|answers|silent",
+    rf"(?P<how>{'|'.join(HOW)})|{{from}}((^| )rate <rate:decimal>)?",
     "the machine's console: each key is an event; Ctrl-E leaves",
 )
 def console(explorer: Explorer, arguments: Arguments) -> Iterator[str]:
@@ -210,22 +227,30 @@ def console(explorer: Explorer, arguments: Arguments) -> Iterator[str]:
     take it. Ctrl-E leaves; Ctrl-C goes to the machine. `undo` takes all these keys back. It begins
     at turn N; without `from` where the last console was left, or after the last event. It runs R
     turns a second, with 0 as fast as it can; without `rate` as the console before, at first 250000,
-    about as many as the real processor. After `console 7bit` bit 7 of what is printed is cleared,
-    as of parity; 8bit ends that. Only the terminal has it: text N shows all bits."""
+    about as many as the real processor. What the program has set at the terminal, such as colours,
+    another screen or a hidden cursor, is set back when the console is left.
+    After `console 7bit` bit 7 of what is printed is cleared, as of parity; 8bit ends that.
+    After `console escaped` control bytes are shown as in `text`, ESC as \\033, except BS, TAB, LF
+    and CR; raw ends that.
+    A query, such as ESC [6n, would have the terminal answer as if keys were struck. Queries that
+    explore knows don't reach it. After `console answers` they do, and each byte of an answer is a
+    key; silent ends that.
+    Only the terminal has all this: text N shows each byte."""
     sitting = explorer.sitting
-    if arguments.optional("bits"):
-        sitting.is_7bit = arguments.text("bits") == "7"
-        yield "bit 7 of what is printed is cleared" if sitting.is_7bit else "all bits are shown"
+    if arguments.optional("how"):
+        name, value, said = HOW[arguments.text("how")]
+        setattr(sitting, name, value)
+        yield said
         return
     if not explorer.is_terminal:
         raise ExploreError("lines don't come from a terminal here")
     sitting.rate = arguments.decimal("rate", sitting.rate)
     turn = beginning_turn(explorer, arguments)
-    seat = Console(explorer.machine, turn, sitting.rate, sitting.is_7bit)
+    seat = Console(explorer.machine, turn, sitting)
     yield from seat.heading()
     with AtWork.hidden():
         try:
-            with seat.machine.edits_together(), RawTerminal() as terminal:
+            with seat.machine.edits_together(), RawTerminal(sitting.has_answers) as terminal:
                 seat.sit(terminal)
         except ExploreError:
             yield from seat.ending()

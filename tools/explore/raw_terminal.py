@@ -10,9 +10,11 @@ from typing import Any, Iterator, Optional
 
 from .errors import ExploreError
 from .output import Unwritable
+from .sequences import Sequences
 
 ENDING = (signal.SIGTERM, signal.SIGHUP, signal.SIGQUIT)
 MOST_KEYS = 4096
+WRITING_SECONDS = 0.5
 
 
 def raw(settings: list[Any]) -> list[Any]:
@@ -31,12 +33,15 @@ def raw(settings: list[Any]) -> list[Any]:
 
 
 class RawTerminal:
-    """Standard input in raw mode. It is put back however that ends, and while the process is
-    suspended: a signal that ends the process waits for what is held, puts it back, and ends the
-    process then. A SIGINT is noted alone: Ctrl-C is a key here, so another process has sent it."""
+    """Standard input in raw mode, and what a program prints. Both are put back however that ends,
+    and while the process is suspended: a signal that ends the process waits for what is held, puts
+    the terminal back, and ends the process then. A SIGINT is noted alone: Ctrl-C is a key here, so
+    another process has sent it."""
 
-    def __init__(self) -> None:
+    def __init__(self, has_answers: bool = False) -> None:
         self.input, self.output = sys.stdin.fileno(), sys.stdout.fileno()
+        is_utf_8 = (sys.stdout.encoding or "").lower().replace("-", "") == "utf8"
+        self.sequences = Sequences(is_utf_8, has_answers)
         self.settings = self._settings()
         self.handlers: dict[signal.Signals, Any] = {}
         self.is_interrupted, self.is_held, self.ended_by = False, False, 0
@@ -73,8 +78,17 @@ class RawTerminal:
             termios.tcsetattr(self.input, termios.TCSANOW, raw(self.settings))
 
     def _put_back(self) -> None:
+        self._set_back()
         with suppress(termios.error):
             termios.tcsetattr(self.input, termios.TCSANOW, self.settings)
+
+    def _set_back(self) -> None:
+        """Writes what sets back what the program has set. A terminal that takes nothing now is
+        left: a signal that ends the process mustn't wait for it."""
+        data = self.sequences.set_back()
+        with suppress(OSError):
+            if data and select.select([], [self.output], [], WRITING_SECONDS)[1]:
+                os.write(self.output, data)
 
     # Signals
 
@@ -132,6 +146,10 @@ class RawTerminal:
         if not key:
             raise ExploreError("the terminal has ended")
         return key
+
+    def show(self, printed: bytes) -> None:
+        """Shows what a program prints."""
+        self.write(self.sequences.passed(printed))
 
     def write(self, data: bytes) -> None:
         """Writes all bytes as they are."""

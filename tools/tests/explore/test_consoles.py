@@ -197,7 +197,8 @@ class Sitting(AtConsole):
     def test_it_wants_a_terminal(self) -> None:
         lines = ("console", "console from x", "console rate", "console 7bit", "console 8bit")
         written = self.explore("".join(f"{it}\n" for it in (*lines, "screen")))
-        form = "console: the form is: console [from N] [rate R]  or  console 7bit|8bit"
+        form = "console: the form is: console [from N] [rate R]  or  console"
+        form += " 7bit|8bit|escaped|raw|answers|silent"
         self.assertEqual(
             written.splitlines(),
             ["console: lines don't come from a terminal here", form, form]
