@@ -10,6 +10,9 @@ import argparse
 import sys
 
 sys.dont_write_bytecode = True
+import python_needed
+
+python_needed.check()
 import sessions
 from tests import counted, under_test
 

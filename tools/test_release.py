@@ -6,6 +6,9 @@ import argparse
 import sys
 
 sys.dont_write_bytecode = True
+import python_needed
+
+python_needed.check()
 from tests import counted
 
 

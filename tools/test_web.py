@@ -12,6 +12,9 @@ import sys
 from pathlib import Path
 
 sys.dont_write_bytecode = True
+import python_needed
+
+python_needed.check()
 import sessions
 from tests import counted, under_test
 

@@ -10,6 +10,9 @@ import sys
 from pathlib import Path
 
 sys.dont_write_bytecode = True
+import python_needed
+
+python_needed.check()
 from tests import counted, under_test
 
 

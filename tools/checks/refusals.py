@@ -12,10 +12,12 @@ keeps. With --past-start these alone are refused, and no later one with any of t
 
 With a list of strides each session that has no stride of its own is run with each of them. The
 sessions of a folder `long` are left out: they make too many requests, or may run long if a line is
-refused. The last line is 'N passed, M failed', which counts runs in which a request was refused."""
+refused. The last line is 'N passed, M failed', which counts runs in which a request was refused.
+The status is 77 if there is no C compiler."""
 import contextlib
 import functools
 import os
+import shutil
 import subprocess
 import sys
 import tempfile
@@ -31,6 +33,8 @@ NONE = 1_000_000_000
 OF_OTHER_STARTS = 200
 MOST_PAST_START = 2_000
 LEFT_OUT = "long"
+COMPILER = os.environ.get("CC", "cc")
+SKIPPED = 77
 
 
 class Told(NamedTuple):
@@ -57,7 +61,7 @@ def build_library(folder: str) -> str:
     source = str(Path(__file__).resolve().parents[1] / "refuse_each.c")
     library = os.path.join(folder, "refuse_each.so")
     options = ["-O1", "-fPIC", "-shared", "-fno-builtin"]
-    subprocess.run([os.environ.get("CC", "cc"), *options, "-o", library, source], check=True)
+    subprocess.run([COMPILER, *options, "-o", library, source], check=True)
     return library
 
 
@@ -190,6 +194,9 @@ def main() -> int:
     asked = sessions.asked(__doc__ or "", "--past-start", "--searches")
     ending = ".search" if "--searches" in asked.flags else ".session"
     past_start = "--past-start" in asked.flags
+    if shutil.which(COMPILER) is None:
+        print(f"{COMPILER} isn't installed")
+        return SKIPPED
     passed = failed = 0
     with tempfile.TemporaryDirectory() as room, ThreadPoolExecutor(os.cpu_count()) as pool:
         library = build_library(room)

@@ -1,12 +1,14 @@
-"""What else is installed that the tests compare with: SIMH and a browser."""
+"""What else is installed that the tests use: ps, and to compare with SIMH and a browser."""
 import shutil
 import subprocess
+import unittest
 
 from .common import SECONDS
 
 CHROMIUM = next(
     filter(None, map(shutil.which, ("chromium", "chromium-browser", "google-chrome"))), None
 )
+BY_PS = unittest.skipUnless(shutil.which("ps"), "ps isn't installed")
 
 
 def is_simh(program: str) -> bool:

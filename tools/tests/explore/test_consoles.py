@@ -13,6 +13,7 @@ from unittest import mock
 from explore import pace
 
 from .common import BUILT, SECONDS
+from .installed import BY_PS
 from .terminal import AtTerminal
 
 LEAVE, NEW_LINE = b"\x05", b"\r\n"
@@ -466,6 +467,7 @@ class Breaks(AtConsole):
             time.sleep(0.01)
         self.assertEqual(termios.tcgetattr(self.ours), settings)
 
+    @BY_PS
     def test_the_program_ends(self) -> None:
         self.sit_and_type()
         children = ["ps", "-o", "pid=,args=", "--ppid", str(self.child.pid)]

@@ -5,6 +5,7 @@ import subprocess
 import time
 
 from .common import SECONDS
+from .installed import BY_PS
 from .terminal import AtTerminal
 
 GAPS = (0.0, 0.001, 0.003, 0.005, 0.007, 0.01, 0.03, 0.1)
@@ -77,6 +78,7 @@ class Interrupts(AtTerminal):
         found = subprocess.run(command, capture_output=True, text=True)
         return [it for it in found.stdout.splitlines() if "Z" not in it.split()[1]]
 
+    @BY_PS
     def test_no_program_is_left(self) -> None:
         """One has what is at work now, or what is at work next."""
         self.begin("examples/one-key-sooner.session")

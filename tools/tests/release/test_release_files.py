@@ -1,11 +1,15 @@
 """The release files that tools/release makes, checks and packs."""
 import hashlib
 import os
+import shutil
 import subprocess
+import unittest
 from pathlib import Path
 from typing import Optional
 
-from .tree import BUILT, KIT, PROGRAM, RELEASE, RT, Tree
+from .tree import BUILT, KIT, PROGRAM, RELEASE, RT, Tree, path_without
+
+BY_GIT = unittest.skipUnless(shutil.which("git"), "git isn't installed")
 
 
 class Checked(Tree):
@@ -58,6 +62,7 @@ class Checked(Tree):
         (self.tree / BUILT).unlink()
         self.assertEqual(self.counted("--check"), "12 passed, 2 failed")
 
+    @BY_GIT
     def test_files_by_another_kit(self) -> None:
         self.write("../kit/rt", RT.replace(KIT, "another line"), 0o755)
         self.change_a_byte(BUILT)
@@ -98,6 +103,7 @@ class Checked(Tree):
         ended = self.run_in("tools/release", "--archive", str(self.folder / folder))
         return Path(ended.stdout.strip()) if ended.returncode == 0 else None
 
+    @BY_GIT
     def test_an_archive_is_the_same_each_time(self) -> None:
         self.commit()
         first = self.archive("first")
@@ -113,6 +119,7 @@ class Checked(Tree):
         subprocess.run(["tar", "-xf", first, "-C", self.tree.parent], check=True)
         self.assertRuns()
 
+    @BY_GIT
     def test_an_archive_has_what_is_committed_and_released(self) -> None:
         self.commit()
         self.write("crates/low/src/more.rt", "")
@@ -121,6 +128,11 @@ class Checked(Tree):
         self.commit()
         self.assertIsNone(self.archive("second"))
         self.assertIn("release --make", self.said)
+
+    def test_no_archive_without_git(self) -> None:
+        self.path = path_without(self.folder, "rt", "git")
+        self.assertIsNone(self.archive("first"))
+        self.assertEqual(self.said, "release: an archive is made by git, which isn't on PATH\n")
 
     def module(self, content: str) -> None:
         """A module of pdp11 with this content, as made of these sources."""
@@ -135,6 +147,7 @@ class Checked(Tree):
         lines = f"sources {sources}\nway {sums[0]}\nkit any\nbinaryen any\nmodule {sums[1]}\n"
         self.write("release/pdp11.wasm.sources", lines)
 
+    @BY_GIT
     def test_an_archive_has_no_module_that_is_older(self) -> None:
         self.module("a module")
         self.assertEqual(self.counted("--verify"), "14 passed, 0 failed")

@@ -5,12 +5,14 @@ import subprocess
 import tempfile
 import unittest
 from pathlib import Path
+from typing import Union
 
 ROOT = Path(__file__).resolve().parents[3]
 SECONDS = 60
 TOOLS = [
     *("pdp11", "tools/start", "tools/program", "tools/build", "tools/sources-sum"),
     *("tools/release", ".ci/run", "tools/web", "tools/bundle.py", "tools/sessions.py"),
+    *("search", "explore", "tools/start-explore", "tools/python_needed.py", "tools/refuse-each"),
     *(str(it.relative_to(ROOT)) for it in sorted(ROOT.glob("tools/explore/*.py"))),
     *(str(it.relative_to(ROOT)) for it in sorted(ROOT.glob("tools/webassembly/*.*"))),
 ]
@@ -40,7 +42,7 @@ class Tree(unittest.TestCase):
         self.addCleanup(folder.cleanup)
         self.folder = Path(folder.name).resolve()
         self.tree = self.folder / "tree"
-        self.path = path_without_rt(self.folder)
+        self.path = path_without(self.folder, "rt")
         self.said = ""
         for name in [*TOOLS, STORED_HELP, "HANDLES"]:
             self.copy(name)
@@ -56,10 +58,10 @@ class Tree(unittest.TestCase):
         (self.tree / name).parent.mkdir(parents=True, exist_ok=True)
         shutil.copy(ROOT / name, self.tree / name)
 
-    def write(self, name: str, text: str, mode: int = 0o644) -> None:
+    def write(self, name: str, text: Union[str, bytes], mode: int = 0o644) -> None:
         path = self.tree / name
         path.parent.mkdir(parents=True, exist_ok=True)
-        path.write_text(text)
+        path.write_bytes(text.encode() if isinstance(text, str) else text)
         path.chmod(mode)
 
     def change_a_byte(self, name: str) -> None:
@@ -86,7 +88,7 @@ class Tree(unittest.TestCase):
         self.said = f"{ended.stdout}{ended.stderr}"
         return ended
 
-    def make_release(self, program: str = PROGRAM) -> None:
+    def make_release(self, program: Union[str, bytes] = PROGRAM) -> None:
         """The release files of this tree, as after rt ci."""
         for name in "pdp11", "disassemble":
             self.write(f"crates/{name}/out/{name}", program, 0o755)
@@ -107,17 +109,16 @@ class Tree(unittest.TestCase):
             self.assertIn(it, ended.stderr)
 
 
-def path_without_rt(folder: Path) -> list[Path]:
-    """The folders of PATH. One that has rt is replaced by one with links to its other commands."""
+def path_without(folder: Path, *names: str) -> list[Path]:
+    """The folders of PATH. One that has such a command is replaced by one with links to its others."""
     found = []
-    for number, name in enumerate(os.environ["PATH"].split(os.pathsep)):
-        place = Path(name)
-        if (place / "rt").exists():
-            links = folder / f"path-{number}"
-            links.mkdir()
-            for it in place.iterdir():
-                if it.name != "rt":
-                    (links / it.name).symlink_to(it)
-            place = links
+    for number, it in enumerate(map(Path, os.environ["PATH"].split(os.pathsep))):
+        place = it
+        if any((it / name).exists() for name in names):
+            place = folder / "-".join(["path", str(number), *names])
+            place.mkdir()
+            for command in it.iterdir():
+                if command.name not in names:
+                    (place / command.name).symlink_to(command)
         found.append(place)
     return found

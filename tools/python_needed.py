@@ -1,0 +1,25 @@
+"""Which Python the tools need. They ask before they read any other module, and any Python 3 can read
+this one."""
+import sys
+
+
+def lack() -> str:
+    """What this Python lacks, or an empty text."""
+    if sys.version_info < (3, 9):
+        return "this one is %d.%d" % sys.version_info[:2]
+    try:
+        for name in "dataclasses", "ntpath", "shutil", "termios":
+            __import__(name)
+    except ImportError:
+        return "this one has no module %s, as python3-minimal" % name
+    return ""
+
+
+def check() -> None:
+    """Ends with a sentence if this Python is older, or lacks modules."""
+    if lack():
+        sys.exit("This needs Debian's python3, 3.9 or later: %s." % lack())
+
+
+if __name__ == "__main__":
+    check()
