@@ -13,6 +13,7 @@ import { keepPlace } from "./place.js";
 import { LAST_TURN, isRefused, octal, readableText, tailOf, visibleName } from "./replies.js";
 import { Priority, Run } from "./run.js";
 import { lastTurnOf, symbolsOfSession } from "./session.js";
+import { Sight } from "./sight.js";
 import { Sweep } from "./sweep.js";
 import { STORY, STORY_SESSION, verdictOf } from "./story.js";
 import { Timeline } from "./timeline.js";
@@ -32,8 +33,9 @@ export class App {
       onCursor: () => this.cursorMoved(), onView: () => this.viewChanged(),
       onDrag: (event, turn) => this.edits.preview(event, turn),
       onDrop: (event, turn) => this.edits.drop(event, turn),
-      onOpen: event => this.openEvent(event),
+      onOpen: event => this.openEvent(event), onDrawn: () => this.sight.showLater(),
     });
+    this.sight = new Sight(element("sight"), this.timeline, turn => this.goTo(turn));
     this.edits = new Edits(this);
     this.sweep = new Sweep(this);
     this.tokens = {};
@@ -339,6 +341,7 @@ export class App {
     this.timeline.words = this.words.map(nameOfWord);
     element("words").replaceChildren(...this.words.map(word => make("button", {
       type: "button", title: "Draw this word no longer", onclick: () => this.watch(word),
+      "aria-label": `Draw ${nameOfWord(word)} no longer`,
     }, `${nameOfWord(word)} \u2715`)));
   }
 

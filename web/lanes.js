@@ -5,7 +5,7 @@ import { SWEEP_COLOURS, letterOf } from "./sweep.js";
 
 const FONT = "11px ui-monospace, Menlo, Consolas, monospace";
 const CHARACTER = 6.7;
-const HEIGHTS = { axis: 24, events: 46, counter: 54, row: 30, steps: 40, sweep: 24 };
+const HEIGHTS = { axis: 24, events: 62, counter: 54, row: 30, steps: 40, sweep: 24 };
 const COLOURS = ["ink", "faint", "grid", "counter", "cpu", "disk", "interrupt", "ghost",
   "accent", "ground"];
 

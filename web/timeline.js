@@ -16,7 +16,7 @@ const PAUSE = 500;
 const stepOf = isShifted => isShifted ? 64 : 1;
 
 /** What the timeline tells the page. @typedef {{
- *   onCursor: (turn: number) => void, onView: () => void,
+ *   onCursor: (turn: number) => void, onView: () => void, onDrawn: () => void,
  *   onDrag: (event: object, turn: number) => void,
  *   onDrop: (event: object, turn: number | null) => void, onOpen: (event: object) => void,
  * }} Listener */
@@ -130,6 +130,16 @@ export class Timeline {
     this.cursorLine.style.height = `${height}px`;
     this.placeMarks();
     this.placeCursor();
+    this.listener.onDrawn();
+  }
+
+  /** What is drawn, by those who show it otherwise. @returns {import("./sight.js").Drawn} */
+  drawn() {
+    const { view, picture, ghost, part } = this;
+    return {
+      first: view.first, end: view.end, events: this.events, gone: this.goneEvents(), picture,
+      ghost, part,
+    };
   }
 
   // Marks of events
@@ -182,13 +192,16 @@ export class Timeline {
     return this.put?.number === event.number ? this.put.turn : event.turn;
   }
 
-  /** Where events were that aren't there now. */
-  ghostMarks() {
+  /** The old past's events in sight that aren't there now. */
+  goneEvents() {
     const { view } = this;
     const now = new Set(this.events.map(it => `${it.turn} ${it.text}`));
-    const gone = this.oldEvents.filter(it => !now.has(`${it.turn} ${it.text}`)
+    return this.oldEvents.filter(it => !now.has(`${it.turn} ${it.text}`)
       && it.turn >= view.first && it.turn <= view.end);
-    return gone.slice(0, MOST_MARKS).map(event => {
+  }
+
+  ghostMarks() {
+    return this.goneEvents().slice(0, MOST_MARKS).map(event => {
       const mark = document.createElement("span");
       mark.className = "mark ghost";
       mark.textContent = eventLabel(event);

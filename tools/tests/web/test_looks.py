@@ -1,6 +1,7 @@
 """How the page looks: wide and narrow, light and dark, with names for those who don't see it."""
 import struct
 import zlib
+from typing import Any
 
 from tests import under_test
 
@@ -86,16 +87,52 @@ class Tour(PageCase):
 class Names(PageCase):
     ROLES = {"button", "textbox", "combobox", "slider", "link", "checkbox", "spinbutton"}
 
-    def test_each_control_has_a_name(self) -> None:
-        self.wait_still()
+    def controls(self) -> list[tuple[str, str, bool]]:
+        """Of each control its role, its name, and whether it is in a table."""
         nodes = self.browser.call("Accessibility.getFullAXTree")["nodes"]
-        controls = [it for it in nodes if it.get("role", {}).get("value") in self.ROLES]
-        self.assertGreater(len(controls), 20)
-        names = [it.get("name", {}).get("value", "") for it in controls]
-        self.assertIn("Event 15, key 66 '6', turn 126967", names)
+        by_number = {it["nodeId"]: it for it in nodes}
+
+        def role(node: dict[str, Any]) -> str:
+            return str(node.get("role", {}).get("value"))
+
+        def is_in_table(node: dict[str, Any]) -> bool:
+            parent = by_number.get(node.get("parentId", ""))
+            return parent is not None and (role(parent) == "table" or is_in_table(parent))
+
+        return [
+            (role(it), str(it.get("name", {}).get("value", "")), is_in_table(it))
+            for it in nodes
+            if role(it) in self.ROLES
+        ]
+
+    def test_each_control_has_a_name_of_its_own(self) -> None:
+        self.wait_still()
+        self.browser.value("document.querySelector('#turn').value = '1000000000'")
+        self.browser.value("document.querySelector('#turn-form').requestSubmit()")
+        self.browser.wait("!document.querySelector('#work').hidden")
+        controls = self.controls()
+        self.browser.click("#stop")
+        names = [it[1] for it in controls]
+        self.assertGreater(len(names), 20)
+        self.assertNotIn("", names)
         self.assertIn("Turn of the run", names)
-        unnamed = [it for it in controls if not it.get("name", {}).get("value")]
-        self.assertEqual(unnamed, [])
+        outside = [it[:2] for it in controls if not it[2]]
+        self.assertEqual([it for it in outside if outside.count(it) > 1], [])
+        self.assertEqual([it for it in names if "\u2715" in it or it == "Stop"], [])
+
+    def test_targets_are_large(self) -> None:
+        """24 pixels each way, as WCAG 2.5.8 has it."""
+        kinds = "button, input, select, summary, [role], [tabindex='0']"
+        for width in (400, 1280):
+            self.browser.size(width, 800)
+            self.wait_still()
+            small = self.browser.value(
+                f"[...document.querySelectorAll(\"{kinds}\")].filter(it => it.tabIndex >= 0)"
+                ".map(it => [it.outerHTML, it.getBoundingClientRect()])"
+                ".filter(([_, box]) => box.width && (box.width < 24 || box.height < 24))"
+                ".map(it => it[0])"
+            )
+            self.assertEqual(small, [])
 
     def test_events_are_told(self) -> None:
         label = self.browser.value(f"document.querySelector('{KEY}').ariaLabel")

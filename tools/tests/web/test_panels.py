@@ -64,3 +64,40 @@ class Panels(PageCase):
         self.wait_still()
         self.browser.click("#words button:last-child")
         self.browser.wait("!document.querySelector('#words').textContent.includes('core 001520')")
+
+    def test_what_is_in_sight_is_a_table_too(self) -> None:
+        first, end = 126_300, 128_900
+        self.wait_still()
+        self.browser.value("document.querySelector('#sight summary').focus()")
+        self.browser.key("Enter")
+        self.wait_text("#sight", "core 030000")
+        found = self.browser.value(
+            "[...document.querySelectorAll('#sight tbody tr')].map(it =>"
+            "[...it.cells].map(cell => cell.textContent))"
+        )
+
+        def rows(name: str) -> list[tuple[int, str]]:
+            return [(int(turn), what) for turn, lane, what in found if lane == name]
+
+        lines = [it.split(maxsplit=2) for it in ledger_lines() if it.startswith("at ")]
+        events = [(int(it[1]), it[2]) for it in lines if first <= int(it[1]) <= end]
+        shown = [(turn, what.split(": ")[1].split(" '")[0]) for turn, what in rows("event")]
+        self.assertEqual(shown, events)
+
+        trails = [
+            f"trail {min(it + 64, end)} {min(64, end - it)}" for it in range(first, end, 64)
+        ]
+        asked = [f"writes {first} {end} 30000", *trails]
+        said = "\n".join(replies_of([*ledger_lines()[:-2], *asked]))
+        writes = re.findall(r"^(\d+) (cpu|disk) ([0-7]{6})$", said, re.MULTILINE)
+        wanted = [(int(turn), f"{word}, written by {who}") for turn, who, word in writes]
+        self.assertEqual(rows("core 030000")[1:], wanted)
+        turns = re.findall(r"^(\d+) [0-7]{6} irq ([0-7]{3})$", said, re.MULTILINE)
+        interrupts = [(int(turn), vector) for turn, vector in turns]
+        self.assertEqual([(it[0], it[1][:3]) for it in rows("interrupt")], interrupts)
+        self.assertGreater(len(rows("disk")), 2)
+        for begin, what in rows("disk"):
+            ends = int(what.split()[-1])
+            asked = [f"devices {it}" for it in (begin, begin + 1, ends, ends + 1)]
+            states = [int(it.split("RKCS ")[1][:6], 8) >> 7 & 1 for it in self.replies(*asked)]
+            self.assertEqual(states, [1, 0, 0, 1], what)

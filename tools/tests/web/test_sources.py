@@ -13,7 +13,7 @@ UNSAFE = re.compile(
     r"|sessionStorage|document\.cookie|indexedDB|XMLHttpRequest|WebSocket|sendBeacon|https?://"
 )
 FUNCTION = re.compile(r"( *)(?:export )?(?:async )?(?:static )?(?:function )?(\w+)\(.*\{$")
-READ = ("ink", "faint", "counter", "cpu", "disk", "interrupt", "good", "bad", "accent")
+READ = ("ink", "faint", "counter", "cpu", "disk", "interrupt", "good", "bad", "accent", "ghost")
 CONTRAST = 4.5
 
 

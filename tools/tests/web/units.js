@@ -10,6 +10,7 @@ import {
   bytesOf, devicesOf, functionInWords, interruptsOf, keyName, lastOf, pageInWords, pagesOf,
   physicalOf, readableText, registersOf, statusInWords, tailOf, turnsOf, visibleName, writesOf,
 } from "/replies.js";
+import { boundedRows, rowsOf } from "/sight.js";
 import { kindOfFile, symbolNear, symbolsOf, withFile } from "/session.js";
 import { fourthBalance, verdictOf } from "/story.js";
 import { runsOf, spreadTurns } from "/sweep.js";
@@ -145,6 +146,20 @@ export function test_notes_say_what_is_sampled() {
   const whole = { ...picture, step: 1, listsAllTurns: true, disk: { isWhole: true } };
   Object.assign(whole, { text: { each: 1 }, words: [] });
   equal(notesOf(whole), ["Each turn in sight is looked at; nothing is sampled."]);
+}
+
+export function test_the_table_says_what_it_leaves_out() {
+  const interrupts = Array.from({ length: 150 }, (_, turn) => ({ turn, vector: 0o100 }));
+  const disk = { bars: [{ begin: null, end: null, title: "read" }], busy: [] };
+  const word = { name: "core 002000", isWhole: false, values: [5, 5, 6].map((it, turn) => (
+    { turn, word: it, writer: "" })) };
+  const picture = { first: 0, interrupts, disk, words: [word] };
+  const { shown, left } = boundedRows(rowsOf(
+    { first: 0, end: 200, events: [], gone: [], picture, ghost: null, part: null }));
+  equal([shown.length, left], [103, ["50 of interrupt"]]);
+  equal(shown.filter(it => it.lane !== "interrupt").map(it => it.what),
+    ["under way: read; goes on past what is in sight", "000005 at the left edge",
+      "000006 (a sample)"]);
 }
 
 export function test_differences_are_marked() {

@@ -1,0 +1,110 @@
+// What the timeline shows in sight, as a table: made of the picture that is drawn.
+
+import { delayed, link, make, table } from "./page.js";
+import { eventInWords } from "./past.js";
+import { octal, readableText, vectorName } from "./replies.js";
+
+const MOST_OF_A_LANE = 100;
+
+/**
+ * @typedef {{turn: number, lane: string, what: string}} Row
+ * @typedef {{first: number, end: number, events: object[], gone: object[], picture: object | null,
+ *   ghost: object | null, part: number | null}} Drawn
+ */
+
+/** All rows of what is drawn, by their turns. @param {Drawn} drawn @returns {Row[]} */
+export function rowsOf({ first, end, events, gone, picture, ghost, part }) {
+  const isInSight = it => it.turn >= first && it.turn <= end;
+  const rows = events.filter(isInSight).map(it => (
+    { turn: it.turn, lane: "event", what: `${it.number}: ${eventInWords(it)}` }));
+  rows.push(...gone.map(it => (
+    { turn: it.turn, lane: "event, old past", what: eventInWords(it) })));
+  if (part !== null) rows.push({ turn: part, lane: "pasts", what: "the registers first differ" });
+  const now = picture ? rowsOfPicture(picture) : [];
+  const keyOf = it => `${it.turn} ${it.lane} ${it.what}`;
+  const known = new Set(now.map(keyOf));
+  const old = ghost ? rowsOfPicture(ghost).filter(it => !known.has(keyOf(it))) : [];
+  rows.push(...now, ...old.map(it => ({ ...it, lane: `${it.lane}, old past` })));
+  return rows.filter(isInSight).sort((a, b) => a.turn - b.turn);
+}
+
+function rowsOfPicture({ first, interrupts, disk, words }) {
+  const rows = interrupts.map(({ turn, vector }) => (
+    { turn, lane: "interrupt", what: `${octal(vector, 3)} ${vectorName(vector)}` }));
+  for (const { begin, end, title } of disk.bars) {
+    const until = end === null ? "goes on past what is in sight" : `ends in turn ${end}`;
+    const under = begin === null ? "under way: " : "";
+    rows.push({ turn: begin ?? first, lane: "disk", what: `${under}${title}; ${until}` });
+  }
+  rows.push(...disk.busy.map(it => ({ turn: it.turn, lane: "disk", what: "busy (a sample)" })));
+  return [...rows, ...words.flatMap(rowsOfWord)];
+}
+
+/** The writes of a word, or the samples in which it is another than before. */
+function rowsOfWord({ name, values, isWhole }) {
+  const isShown = ({ word, writer }, at) => writer || word !== values[at - 1]?.word;
+  const how = (writer, at) => writer ? `, written by ${writer}`
+    : !at ? " at the left edge" : isWhole ? "" : " (a sample)";
+  return values.map(({ turn, word, writer }, at) => (
+    { turn, lane: name, what: octal(word) + how(writer, at) }))
+    .filter((_, at) => isShown(values[at], at));
+}
+
+/** At most so many rows of each lane, and how many of which are left out. */
+export function boundedRows(rows) {
+  const counts = new Map();
+  const shown = rows.filter(({ lane }) => {
+    counts.set(lane, (counts.get(lane) ?? 0) + 1);
+    return counts.get(lane) <= MOST_OF_A_LANE;
+  });
+  const left = [...counts].filter(([, count]) => count > MOST_OF_A_LANE)
+    .map(([lane, count]) => `${count - MOST_OF_A_LANE} of ${lane}`);
+  return { shown, left };
+}
+
+/** The lanes that have no rows, in words. */
+function othersOf({ looks, text }) {
+  const countersOf = mode => looks.filter(it => it.mode === mode && it.state === "run")
+    .map(it => it.pc).sort((a, b) => a - b);
+  const range = mode => {
+    const counters = countersOf(mode);
+    return counters.length ? `from ${octal(counters[0])} to ${octal(counters.at(-1))}` : "none";
+  };
+  const printed = readableText(text.bytes.map(it => it.byte)).trim();
+  return `PC in kernel mode: ${range("kernel")}. PC in user mode: ${range("user")}. Console: `
+    + `${printed ? printed : "nothing is printed"}.`;
+}
+
+export class Sight {
+  /** @param {import("./timeline.js").Timeline} timeline */
+  constructor(place, timeline, onTurn) {
+    Object.assign(this, { place, timeline, onTurn, said: "" });
+    this.body = place.querySelector("div");
+    place.addEventListener("toggle", () => this.show());
+    this.showLater = delayed(150, () => this.show());
+  }
+
+  /** Shows what is drawn now, if the table is unfolded. It is made anew only if it differs. */
+  show() {
+    const { place, timeline, onTurn } = this;
+    if (!place.open) return;
+    const { shown, left } = boundedRows(rowsOf(timeline.drawn()));
+    const said = this.sentences(left);
+    const all = JSON.stringify([said, shown]);
+    if (all === this.said) return;
+    this.said = all;
+    const rows = shown.map(({ turn, lane, what }) => [
+      link(String(turn), "Go to this turn", () => onTurn(turn)), lane, what]);
+    this.body.replaceChildren(make("p", {}, said),
+      table("What is in sight", ["turn", "lane", ""], rows));
+  }
+
+  sentences(left) {
+    const { picture, view } = this.timeline;
+    const isAll = picture?.isMade && picture.first <= view.first && picture.end >= view.end;
+    const found = picture ? [othersOf(picture)] : [];
+    if (!isAll) found.push("The machine is still asked for the rest.");
+    if (left.length) found.push(`Left out are ${left.join(", ")}: zoom in for them.`);
+    return found.join(" ");
+  }
+}
