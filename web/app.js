@@ -300,8 +300,10 @@ export class App {
 
   // Places
 
-  /** Goes to a turn, as a place to come back from. */
-  goTo(turn) {
+  /** Goes to a turn, and to an address in memory, as a place to come back from. */
+  goTo(turn, address = null) {
+    keepPlace(this.place(), false);
+    if (address !== null) this.showAddress(address);
     this.timeline.setCursor(turn, { isTold: false });
     element("turn").value = String(this.timeline.cursor);
     keepPlace(this.place(), true);
@@ -316,8 +318,9 @@ export class App {
   /** Goes to the place that the address names. */
   goToPlace({ turn, first, span, core }) {
     if (core !== undefined) this.showAddress(core);
-    if (span !== undefined) this.timeline.show(first ?? 0, span);
-    if (turn !== undefined) this.timeline.setCursor(turn, { isTold: false });
+    const keepsView = span !== undefined;
+    if (keepsView) this.timeline.show(first ?? 0, span);
+    if (turn !== undefined) this.timeline.setCursor(turn, { isTold: false, keepsView });
     element("turn").value = String(this.timeline.cursor);
     this.showCursor();
   }

@@ -47,9 +47,7 @@ function bindTurns(app) {
 function bindEdits(app) {
   onForm("edit-form", "line", line => line && app.edits.do(line));
   onForm("memory-form", "address", value => {
-    if (!/^[0-7]{1,6}$/.test(value)) return;
-    app.showAddress(parseInt(value, 8));
-    app.goTo(app.timeline.cursor);
+    if (/^[0-7]{1,6}$/.test(value)) app.goTo(app.timeline.cursor, parseInt(value, 8));
   });
   onForm("watch-form", "watch", value => app.watchNamed(value));
   onClick("undo", () => app.edits.undo());

@@ -4,23 +4,26 @@
  * @typedef {{turn: number, first: number, span: number, core: number}} Place
  */
 
+// What is in sight is kept to a thousandth of a turn, which is less than a pixel.
+const rounded = turns => Math.round(turns * 1000) / 1000;
+
 /** @param {Place} place */
 export function fragmentOf({ turn, first, span, core }) {
-  const turns = `#turn=${turn}&from=${Math.round(first)}&turns=${Math.round(span)}`;
+  const turns = `#turn=${turn}&from=${rounded(first)}&turns=${rounded(span)}`;
   return `${turns}&core=${core.toString(8)}`;
 }
 
 /** The place that a fragment names, as far as it does. @returns {Partial<Place>} */
 export function placeOf(fragment) {
   const words = new URLSearchParams(fragment.replace(/^#/, ""));
-  const number = (name, base) => {
+  const number = (name, form, valueOf = Number) => {
     const text = words.get(name) ?? "";
-    const isNumber = base === 8 ? /^[0-7]{1,6}$/.test(text) : /^\d{1,10}$/.test(text);
-    return isNumber ? parseInt(text, base) : undefined;
+    return form.test(text) ? valueOf(text) : undefined;
   };
+  const turns = /^\d{1,10}(\.\d{1,3})?$/;
   return {
-    turn: number("turn", 10), first: number("from", 10), span: number("turns", 10),
-    core: number("core", 8),
+    turn: number("turn", /^\d{1,10}$/), first: number("from", turns), span: number("turns", turns),
+    core: number("core", /^[0-7]{1,6}$/, it => parseInt(it, 8)),
   };
 }
 

@@ -90,10 +90,10 @@ export class Timeline {
     this.show(turn - (at - view.left) / view.width * span, span);
   }
 
-  /** Puts the cursor at a turn, and moves the turns in sight if it would be outside. */
-  setCursor(turn, { isTold = true } = {}) {
+  /** Puts the cursor at a turn, and brings it into sight unless the view is to stay. */
+  setCursor(turn, { isTold = true, keepsView = false } = {}) {
     this.cursor = Math.min(LAST_TURN, Math.max(0, Math.round(turn)));
-    this.bringIntoSight(this.cursor);
+    if (!keepsView) this.bringIntoSight(this.cursor);
     this.placeCursor();
     if (isTold) this.listener.onCursor(this.cursor);
   }

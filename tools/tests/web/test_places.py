@@ -84,6 +84,29 @@ class Fragments(PageCase):
         self.browser.wait("document.querySelector('#turn').value === '127163'")
         self.browser.value("history.forward()")
         self.browser.wait("document.querySelector('#turn').value === '127125'")
+        self.fill("#address", "40000")
+        self.browser.key("Enter")
+        self.wait_text("#memory", "040000")
+        self.browser.value("history.back()")
+        self.wait_text("#memory", "030000")
+
+    def test_view_and_cursor_come_back(self) -> None:
+        """Also if the cursor isn't in sight, and if the view was changed just before."""
+        link = "document.querySelector('#memory td:last-child .link')"
+        zoom = "document.querySelector('#turns').dispatchEvent("
+        zoom += "new KeyboardEvent('keydown', {key: '+', bubbles: true}))"
+        pause = "new Promise(it => setTimeout(it, 400))"
+        self.wait_text("#memory", "disk, turn 127125")
+        place = "#turn=127163&from=5000.25&turns=400.5&core=30000"
+        self.browser.value(f"location.hash = '{place}'")
+        self.wait_still()
+        self.browser.value(f"{zoom}; {link}.click()")
+        self.browser.wait("location.hash.startsWith('#turn=127125')")
+        self.browser.value("history.back()")
+        self.browser.wait("document.querySelector('#turn').value === '127163'")
+        self.browser.value(pause)
+        zoomed = "#turn=127163&from=5100.375&turns=200.25&core=30000"
+        self.assertEqual(self.browser.value("location.hash"), zoomed)
 
     def test_a_fragment_that_names_nothing(self) -> None:
         self.browser.value(

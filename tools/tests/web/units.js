@@ -124,7 +124,7 @@ export function test_files() {
 }
 
 export function test_places() {
-  const place = { turn: 5, first: 0, span: 40, core: 0o2000 };
+  const place = { turn: 5, first: 0.25, span: 40.125, core: 0o2000 };
   equal(placeOf(fragmentOf(place)), place);
   equal(placeOf("#turn=x&core=9"), {});
 }
