@@ -6,6 +6,7 @@ from contextlib import contextmanager
 from typing import ClassVar, Iterator, Optional
 
 from .crew import Progress
+from .visible import visible
 
 SECONDS_WITHOUT, SECONDS_BETWEEN = 0.7, 0.2
 
@@ -17,7 +18,7 @@ class AtWork:
     is_hidden: ClassVar[bool] = False
 
     def __init__(self, what: str):
-        self.what = what
+        self.what = visible(what)
         self.is_shown = sys.stderr.isatty()
         self.lock = threading.Lock()
         self.ended = threading.Event()

@@ -16,7 +16,7 @@ from .journal import OF_SESSION, Contents, Journal, counted, newest, state_folde
 from .language import explanation
 from .load import warnings_of
 from .machine import EDITS, Machine, Start, existing_program, is_refused
-from .options import Options, add_options, option_lines, options_of, words_of_options
+from .options import Options, Parser, add_options, option_lines, options_of, words_of_options
 from .output import Unwritable, complain, drop_output, fault_in_words, flush, prepare_streams, put
 from .prompt import Prompt, read_at_terminal, read_lines
 from .sweep import raw_lines
@@ -41,7 +41,7 @@ with `quit!`; the 30 newest are kept."""
 
 
 def arguments(words: list[str]) -> argparse.Namespace:
-    parser = argparse.ArgumentParser(
+    parser = Parser(
         prog="explore",
         description=DESCRIPTION,
         allow_abbrev=False,

@@ -4,9 +4,10 @@ import argparse
 import re
 import shlex
 from pathlib import Path
-from typing import Iterable, Iterator, Optional
+from typing import Iterable, Iterator, NoReturn, Optional
 
 from .errors import ExploreError
+from .visible import visible
 
 FILES = ["core", "disk", *(f"disk{it}" for it in range(1, 8)), "tape"]
 VALUES = {"units": "N", "start": "A", "stride": "N"}
@@ -16,6 +17,13 @@ LONGEST_PART = 190
 
 # A value by the name of its option.
 Options = dict[str, str]
+
+
+class Parser(argparse.ArgumentParser):
+    """A parser of arguments that shows a wrong one as text."""
+
+    def error(self, message: str) -> NoReturn:
+        super().error(visible(message))
 
 
 def add_options(parser: argparse.ArgumentParser) -> None:

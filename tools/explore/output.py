@@ -5,6 +5,8 @@ import os
 import sys
 import traceback
 
+from .visible import escaped_character, visible
+
 
 class Unwritable(Exception):
     """Standard output can't be written."""
@@ -13,7 +15,7 @@ class Unwritable(Exception):
 def put(line: str, is_flushed: bool = True) -> None:
     """Writes a line to standard output."""
     try:
-        print(line, flush=is_flushed)
+        print(visible(line), flush=is_flushed)
     except BrokenPipeError:
         raise
     except OSError as error:
@@ -32,22 +34,16 @@ def flush() -> None:
 def complain(text: str) -> None:
     """Writes a line to standard error, if anybody can read it."""
     try:
-        print(f"explore: {text}", file=sys.stderr, flush=True)
+        print(f"explore: {visible(text)}", file=sys.stderr, flush=True)
     except OSError:
         pass
 
 
 def as_typed(error: UnicodeError) -> tuple[str, int]:
-    """A byte that is no text is shown in octal, as `type` has it. A character that the encoding
-    lacks is shown as an escape."""
+    """A character that the encoding lacks is shown as an escape."""
     if not isinstance(error, UnicodeEncodeError):
         raise error
-    shown = [
-        f"\\{ord(it) - 0xDC00:03o}"
-        if 0xDC80 <= ord(it) <= 0xDCFF
-        else it.encode("ascii", "backslashreplace").decode()
-        for it in error.object[error.start : error.end]
-    ]
+    shown = [escaped_character(it) for it in error.object[error.start : error.end]]
     return "".join(shown), error.end
 
 

@@ -217,7 +217,7 @@ def shortened(line: str) -> str:
 
 def commands_of(text: str) -> Iterator[str]:
     """The lines of a command file. Comments and labels are empty lines."""
-    for line in text.splitlines():
+    for line in text.split("\n"):
         bare = line.strip()
         yield "" if bare[:1] in (";", "#", ":") else bare
 
@@ -229,7 +229,7 @@ def imported(path: Path, remarks: list[str]) -> Imported:
     if b"\0" in data:
         raise ExploreError(f"{path} is no text")
     found = Imported(path.absolute().parent)
-    for number, line in enumerate(commands_of(data.decode(errors="replace")), 1):
+    for number, line in enumerate(commands_of(data.decode(errors="surrogateescape")), 1):
         if not line:
             continue
         if whole_name(line.split()[0].lower()) in ("quit", "exit"):

@@ -9,7 +9,7 @@ from webassembly import files as modules
 
 from .errors import ExploreError
 from .files import OUTPUT, write_whole
-from .options import FILES, Options, add_options, options_of
+from .options import FILES, Options, Parser, add_options, options_of
 from .output import complain, put
 
 PAGE = modules.ROOT / "web" / "index.html"
@@ -74,7 +74,7 @@ def page_of(session: bundle.Session, programs: Path) -> str:
 
 
 def arguments(words: list[str]) -> argparse.Namespace:
-    parser = argparse.ArgumentParser(
+    parser = Parser(
         prog="explore web",
         description=DESCRIPTION,
         allow_abbrev=False,

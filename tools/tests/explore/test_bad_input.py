@@ -86,6 +86,29 @@ class BadInput(Case):
         self.assertEqual(self.error.count("refused 10 BadLine"), 2)
         self.assertEqual(self.error.count("refused 11 LineTooLong"), 1)
 
+    def test_control_bytes_of_files_and_programs_are_shown(self) -> None:
+        """ESC, OSC, a C1 control, a byte that is no text, and one that turns the writing around."""
+        junk = b"\x1b[31m\xc2\x9bm\xff\xe2\x80\xae"
+        text = "\\033[31m\\u009bm\\377\\u202e"
+        (self.folder / "bad.session").write_bytes(b"core \x1b]0;me\a" + junk + b" \r5\n")
+        (self.folder / "it.ini").write_bytes(b"set " + junk + b"\n")
+        (self.folder / "names").write_bytes(b"001000 T _a\x1b[31m\n")
+        ends = self.folder / "ends"
+        ends.write_text("#!/bin/sh\nprintf 'it is \\033[31m' >&2\n")
+        ends.chmod(0o755)
+        lines = "import it.ini\nsymbols names\nlist 1000 1 at 0\nsave \x1b[31m/x\n\x1b[31m\n"
+        written = self.explore(lines, "bad.session").splitlines()
+        said = f"core \\033]0;me\\007{text} \\0155: refused 10 BadLine "
+        self.assertIn(f"explore: bad.session:1: {said}", self.error)
+        self.assertIn(f"  line 1, set {text}: it has no meaning here", written)
+        self.assertTrue(written[4].endswith("  _a\\033[31m"), written)
+        self.assertTrue(written[5].startswith("save: \\033[31m/x can't be written: "), written)
+        self.assertIn("there is no line '\\033[31m'", written[7])
+        shown = "".join(written) + self.error.replace("\n", "")
+        self.assertNotRegex(shown, "[\0-\x1f\x7f-\x9f\u202e]")
+        self.fails("status 0: it is \\033[31m\n", "--program", str(ends))
+        self.fails("unrecognized arguments: b\\033[31m\n", "a", "b\x1b[31m", status=2)
+
     def test_an_output_that_nobody_reads(self) -> None:
         lines = "help\n" * 2000
         child = subprocess.Popen(
