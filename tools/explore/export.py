@@ -7,9 +7,10 @@ from typing import Iterator
 from .commands import Arguments, Explorer, command
 from .files import OUTPUT, write_whole
 from .machine import MOST_WORDS, Machine
+from .options import RK05_BYTES, UNIT_BYTES
 from .replies import Devices, Mode, Pages, Registers, words_of
 
-UNIT_BYTES, DRIVE_WORDS = 0o20000, 1_247_232
+DRIVE_WORDS = RK05_BYTES // 2
 MODEL_NAMES = {Mode.KERNEL: "KI", Mode.USER: "UI"}
 ENABLE, DONE = 0o100, 0o200
 

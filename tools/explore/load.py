@@ -8,14 +8,13 @@ from .aout import begins_as_aout, program_of
 from .commands import Arguments, Explorer, command
 from .errors import ExploreError
 from .kinds import TEXT, begins_as_tape, check_known, content, foreign_of, is_text
-from .listing import UNIT_BYTES
 from .machine import MOST_WORDS, Machine
-from .options import FILES, Options
+from .options import FILES, RK05_BYTES, UNIT_BYTES, Options
 from .replies import Mode
 from .restart import make, start_address
 from .symbol_files import Symbol, SymbolFile, symbol_file
 
-RK05_BYTES, LAST_WORD = 2_494_464, 0o177776
+LAST_WORD = 0o177776
 BOTH_MODES = [Mode.KERNEL, Mode.USER]
 OF_PROGRAM = "an a.out"
 

@@ -16,7 +16,8 @@ from .journal import OF_SESSION, Contents, Journal, counted, newest, state_folde
 from .language import explanation
 from .load import warnings_of
 from .machine import EDITS, Machine, Start, existing_program, is_refused
-from .options import Options, Parser, add_options, option_lines, options_of, words_of_options
+from .options import Options, Parser, add_options, check_options, option_lines, options_of
+from .options import words_of_options
 from .output import Unwritable, complain, drop_output, fault_in_words, flush, prepare_streams, put
 from .prompt import Prompt, read_at_terminal, read_lines
 from .sweep import raw_lines
@@ -162,6 +163,7 @@ def begun(found: argparse.Namespace) -> Explorer:
     options = options_of(found, taken_up or session)
     for warning in warnings_of(options):
         complain(warning)
+    check_options(options, found, taken_up or session)
     program = existing_program(found.program) if found.program else found_program("search")
     machine = Machine(Start(program, words_of_options(options), Path.cwd()))
     explorer = Explorer(machine, disassembler_of(found.disassembler))

@@ -1,16 +1,49 @@
 """The options of the program: those that are given, and those that stand in a session. There they
 are comment lines `#! OPTIONS`, which the program passes over."""
 import argparse
+import os
 import re
 import shlex
+import stat
+from dataclasses import dataclass
 from pathlib import Path
 from typing import Iterable, Iterator, NoReturn, Optional
 
 from .errors import ExploreError
 from .visible import visible
 
+UNIT_BYTES, MOST_UNITS = 0o20000, 31  # of core
+RK05_BYTES, TAPE_BYTES = 2_494_464, 1_048_576
 FILES = ["core", "disk", *(f"disk{it}" for it in range(1, 8)), "tape"]
-VALUES = {"units": "N", "start": "A", "stride": "N"}
+
+
+@dataclass(frozen=True)
+class Number:
+    """The range of an option that is a number: how it is told, and the numbers themselves."""
+
+    letter: str
+    told: str
+    digits: str
+    numbers: range
+
+    def fault(self, value: str) -> str:
+        """What is wrong with this value, if anything is."""
+        is_number = re.fullmatch(rf"[{self.digits}]{{1,10}}", value) is not None
+        is_right = is_number and int(value, 8 if self.digits == "0-7" else 10) in self.numbers
+        return "" if is_right else f"{self.letter} is {self.told}"
+
+
+NUMBERS = {
+    "units": Number(
+        "N", f"1 to {MOST_UNITS}, units of 4096 words of core", "0-9", range(1, MOST_UNITS + 1)
+    ),
+    "start": Number(
+        "A", "an address, octal and even, up to 177776", "0-7", range(0, 0o200000, 2)
+    ),
+    "stride": Number(
+        "N", "1 to 2000000000, turns between kept states", "0-9", range(1, 2_000_000_001)
+    ),
+}
 MARK = "#!"
 # A line of a session has 200 bytes at most, comments too.
 LONGEST_PART = 190
@@ -31,16 +64,54 @@ def add_options(parser: argparse.ArgumentParser) -> None:
     of_program = parser.add_argument_group("options of pdp11 (./pdp11 --help)")
     for name in FILES:
         of_program.add_argument(f"--{name}", metavar="FILE")
-    for name, value in VALUES.items():
-        of_program.add_argument(f"--{name}", metavar=value)
+    for name, number in NUMBERS.items():
+        of_program.add_argument(f"--{name}", metavar=number.letter)
 
 
 def options_of(found: argparse.Namespace, session: Optional[Path]) -> Options:
     """The options of the program: those of the session, and those that are given."""
-    named = [(name, getattr(found, name)) for name in (*FILES, *VALUES)]
+    named = [(name, getattr(found, name)) for name in (*FILES, *NUMBERS)]
     words = [word for name, value in named if value is not None for word in (f"--{name}", value)]
     given = options_of_words(words, "explore", Path.cwd())
     return {**(options_of_session(session) if session else {}), **given}
+
+
+def fault_of_file(name: str, path: Path, units: int) -> str:
+    """What is wrong with the file of an option, if anything is. Of a pipe nothing is known."""
+    try:
+        found = path.stat()
+    except (OSError, ValueError) as error:
+        return getattr(error, "strerror", None) or str(error)
+    if stat.S_ISDIR(found.st_mode):
+        return "it is a folder"
+    if not os.access(path, os.R_OK):
+        return "it can't be read"
+    size, is_tape = found.st_size, name == "tape"
+    most = TAPE_BYTES if is_tape else units * UNIT_BYTES if name == "core" else RK05_BYTES
+    if size > most:
+        holder = {"tape": "a tape", "core": f"core of --units {units}"}.get(name, "an RK05")
+        return f"it has {size} bytes, and {holder} has {most} at most"
+    is_odd = size % 2 and not is_tape
+    return f"it has {size} bytes, and each word of an image has two" if is_odd else ""
+
+
+def fault_of_option(name: str, options: Options) -> str:
+    """What is wrong with the value of this option, if anything is."""
+    if name in NUMBERS:
+        return NUMBERS[name].fault(options[name])
+    units = options.get("units", "")
+    return fault_of_file(
+        name, Path(options[name]), MOST_UNITS if NUMBERS["units"].fault(units) else int(units)
+    )
+
+
+def check_options(options: Options, found: argparse.Namespace, session: Optional[Path]) -> None:
+    """An error if the program would refuse an option, given or of the session."""
+    for name, value in options.items():
+        wrong = fault_of_option(name, options)
+        if wrong:
+            where = "" if getattr(found, name) is not None else f"{session}: "
+            raise ExploreError(f"{where}--{name} {value}: {wrong}")
 
 
 def words_of_options(options: Options) -> list[str]:
@@ -53,7 +124,7 @@ def options_of_words(words: Iterable[str], where: str, folder: Path) -> Options:
     found: Options = {}
     for option, value in zip(left[::2], [*left[1::2], None]):
         name = option[2:]
-        if not option.startswith("--") or name not in (*FILES, *VALUES):
+        if not option.startswith("--") or name not in (*FILES, *NUMBERS):
             raise ExploreError(f"{where}: '{option}' is no option of pdp11 with a value")
         if value is None or name in found:
             raise ExploreError(f"{where}: {option} {'twice' if value else 'without a value'}")

@@ -9,14 +9,15 @@ from typing import Callable, Iterator, Optional
 from .commands import Arguments, Explorer, command
 from .errors import ExploreError
 from .kinds import check_known, content
-from .load import RK05_BYTES, counted_patches, loaded, patches_of
+from .load import counted_patches, loaded, patches_of
+from .options import MOST_UNITS, fault_of_option
 from .restart import make
 
 MOST_BYTES = 1_048_576  # of a command file
-MOST_KILOBYTES, LEAST_KILOBYTES, UNIT_KILOBYTES, MOST_UNITS = 256, 8, 8, 31
+MOST_KILOBYTES, LEAST_KILOBYTES, UNIT_KILOBYTES = 256, 8, 8
 LARGEST_WORD = 0o177777
 BOOTSTRAP = 0o2000
-LONGEST_SHOWN, MOST_SHOWN = 60, 100  # characters of a line, and lines without a meaning
+LONGEST_SHOWN, MOST_SHOWN = 60, 100  # characters of a line, and lines that weren't taken
 # What a command may be cut to, and its whole name.
 LEAST_NAMES = {
     "at": "attach", "b": "boot", "d": "deposit", "det": "detach", "do": "do", "ec": "echo",
@@ -61,13 +62,16 @@ def octal_word(text: str) -> int:
 
 @dataclass
 class Imported:
-    """What the commands of a file come to: options, bytes of core, and the switches."""
+    """What the commands of a file come to: options, bytes of core, and the switches; and the lines
+    that were not taken, each with the reason."""
 
     folder: Path
     options: dict[str, str] = field(default_factory=dict)
     core: dict[int, int] = field(default_factory=dict)
     switches: Optional[int] = None
     taken: int = 0
+    without_meaning: list[str] = field(default_factory=list)
+    left_out: list[str] = field(default_factory=list)
 
     @property
     def has_eight_drives(self) -> bool:
@@ -92,12 +96,12 @@ class Imported:
         unit, name, drive = words[0].lower(), " ".join(words[1:]), drive_of(words)
         if drive is None and unit not in ("ptr", "ptr0"):
             raise Unusable(f"there is no {unit} here: disks are rk0 to rk7, the tape is ptr")
-        path = self.file(name)
-        data = content(path)
-        check_known(path, data)
-        if drive is not None and len(data) > RK05_BYTES:
-            raise ExploreError(f"{path} has {len(data)} bytes, more than an RK05, {RK05_BYTES}")
-        self.options["tape" if drive is None else option_of(drive)] = str(path)
+        path, option = self.file(name), "tape" if drive is None else option_of(drive)
+        check_known(path, content(path))
+        wrong = fault_of_option(option, {option: str(path)})
+        if wrong:
+            raise ExploreError(f"{path}: {wrong}")
+        self.options[option] = str(path)
 
     def set(self, words: list[str]) -> None:
         if not words or words[0].lower() != "cpu" or len(words) < 2:
@@ -222,8 +226,8 @@ def commands_of(text: str) -> Iterator[str]:
         yield "" if bare[:1] in (";", "#", ":") else bare
 
 
-def imported(path: Path, remarks: list[str]) -> Imported:
-    """What a command file comes to. Each command without a meaning is a remark."""
+def imported(path: Path) -> Imported:
+    """What a command file comes to."""
     data = content(path, MOST_BYTES)
     check_known(path, data)
     if b"\0" in data:
@@ -236,11 +240,20 @@ def imported(path: Path, remarks: list[str]) -> Imported:
             break
         try:
             found.take(line)
-        except Unusable as error:
-            remarks.append(f"line {number}, {shortened(line)}: {error}")
-        except ExploreError as error:
-            raise ExploreError(f"{path}: line {number}, {shortened(line)}: {error}") from None
+        except (Unusable, ExploreError) as error:
+            is_unusable = isinstance(error, Unusable)
+            into = found.without_meaning if is_unusable else found.left_out
+            into.append(f"line {number}, {shortened(line)}: {error}")
     return found
+
+
+def told(lines: list[str], what: str) -> Iterator[str]:
+    """How many lines weren't taken, and the first of them."""
+    if lines:
+        yield f"{len(lines)} {what}:"
+        yield from (f"  {it}" for it in lines[:MOST_SHOWN])
+    if len(lines) > MOST_SHOWN:
+        yield f"  and {len(lines) - MOST_SHOWN} more"
 
 
 @command("import FILE", r"(?P<file>.+)", "takes over what a command file of SIMH sets up")
@@ -249,11 +262,11 @@ def import_file(explorer: Explorer, arguments: Arguments) -> Iterator[str]:
     `attach` of rk0 to rk7 (option --disk, and in version 2 --disk1 to --disk7) and of ptr (--tape),
     `set cpu` with a size (--units), `deposit` of core, PC (--start) and SR (an event), `load`,
     `boot rk0` (the bootstrap at 2000), `go A`. The program is started again with these options and
-    all edits. Then it lists the commands that have no meaning here, and why. If a file is missing
-    or is none that can be attached, nothing is done. `undo` takes an import back."""
+    all edits. Then it lists the commands that have no meaning here, and at the end those that were
+    left out, since a file is missing or is none that can be attached or loaded. `undo` takes an
+    import back."""
     path, machine = Path(arguments.text("file")), explorer.machine
-    remarks: list[str] = []
-    found = imported(path, remarks)
+    found = imported(path)
 
     def edits() -> list[str]:
         version = found.has_eight_drives and machine.past.version == 1
@@ -266,8 +279,5 @@ def import_file(explorer: Explorer, arguments: Arguments) -> Iterator[str]:
     count = f"{found.taken} command{'' if found.taken == 1 else 's'}"
     yield f"{count} taken: {', '.join(filter(None, (options, patches)))}"
     yield from (it for it in made if not it.startswith("core "))
-    if remarks:
-        yield f"{len(remarks)} without a meaning here:"
-        yield from (f"  {it}" for it in remarks[:MOST_SHOWN])
-    if len(remarks) > MOST_SHOWN:
-        yield f"  and {len(remarks) - MOST_SHOWN} more"
+    yield from told(found.without_meaning, "without a meaning here")
+    yield from told(found.left_out, "left out")

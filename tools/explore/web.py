@@ -9,7 +9,7 @@ from webassembly import files as modules
 
 from .errors import ExploreError
 from .files import OUTPUT, write_whole
-from .options import FILES, Options, Parser, add_options, options_of
+from .options import FILES, Options, Parser, add_options, check_options, options_of
 from .output import complain, put
 
 PAGE = modules.ROOT / "web" / "index.html"
@@ -107,7 +107,9 @@ def show_page(words: list[str]) -> None:
     session = found.session
     if session and not session.is_file():
         raise ExploreError(f"{session}: no such file")
-    text = page_of(session_for_page(session, options_of(found, session)), found.programs)
+    options = options_of(found, session)
+    check_options(options, found, session)
+    text = page_of(session_for_page(session, options), found.programs)
     to = found.to or Path(f"{session.stem if session else 'nezdrab'}.html")
     if found.programs == modules.RELEASE and not all(map(modules.is_current, PROGRAMS)):
         complain("release/search.wasm or disassemble.wasm is older than the sources")

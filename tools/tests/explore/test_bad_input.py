@@ -30,15 +30,45 @@ class BadInput(Case):
     def test_no_program(self) -> None:
         self.fails("explore: missing: no such program", "--program", "missing")
 
-    def test_no_disk(self) -> None:
-        self.fails("search: input or output", "--disk", "missing.disk")
+    def test_files_of_options(self) -> None:
+        """Each is named with what is wrong, before the program would refuse it."""
+        files = {"odd": 3, "most": 2_494_464, "large": 2_494_466, "tape": 1_048_577, "unit": 8192}
+        for name, size in files.items():
+            (self.folder / name).write_bytes(bytes(size))
+        for option in ("core", "disk", *(f"disk{it}" for it in range(1, 8)), "tape"):
+            missing = self.folder / "missing"
+            said = f"explore: --{option} {missing}: No such file or directory\n"
+            self.fails(said, f"--{option}", "missing")
+        for option, name, said in (
+            ("--core", "odd", "it has 3 bytes, and each word of an image has two"),
+            ("--disk", "examples", "it is a folder"),
+            ("--disk7", "large", "it has 2494466 bytes, and an RK05 has 2494464 at most"),
+            ("--tape", "tape", "it has 1048577 bytes, and a tape has 1048576 at most"),
+            ("--core", "most", "it has 2494464 bytes, and core of --units 31 has 253952 at most"),
+        ):
+            self.fails(f"explore: {option} {self.folder / name}: {said}\n", option, name)
+        self.explore("", "--core", "unit", "--units", "1", "--disk", "most", "--tape", "odd")
+        (self.folder / "my.session").write_text("#! --disk gone --units 40\n")
+        said = f"explore: my.session: --disk {self.folder / 'gone'}: No such file"
+        self.fails(said, "my.session")
+        self.fails("my.session: --units 40: N is 1 to 31", "--disk", "unit", "my.session")
+        self.explore("", "--disk", "unit", "--units", "31", "my.session")
 
-    def test_an_odd_image(self) -> None:
-        (self.folder / "odd").write_bytes(b"123")
-        self.fails("refused 14 BadImage", "--core", "odd")
-
-    def test_a_start_that_is_out_of_range(self) -> None:
-        self.fails("refused 15 BadSetup", "--start", "201000")
+    def test_numbers_of_options(self) -> None:
+        """What explore refuses the program refuses, and nothing else."""
+        for option, told, right, wrong in (
+            ("--units", "N is 1 to 31, ", ("1", "31"), ("0", "32", "x", "1_0", "\u0661")),
+            ("--start", "A is an address, octal", ("0", "177776"), ("1001", "200000", "9", "")),
+            ("--stride", "N is 1 to 2000000000", ("1", "2000000000"), ("0", "2000000001", "-1")),
+        ):
+            for value in right:
+                self.pdp11("", f"{option}={value}")
+                self.explore("", f"{option}={value}")
+            for value in wrong:
+                command = [BUILT.program, f"{option}={value}"]
+                ended = subprocess.run(command, stdin=subprocess.DEVNULL, capture_output=True)
+                self.assertNotEqual(ended.returncode, 0)
+                self.fails(f"explore: {option} {value}: {told}", f"{option}={value}")
 
     def test_an_unknown_option(self) -> None:
         self.fails("unrecognized arguments: --what", "--what", status=2)

@@ -131,25 +131,28 @@ class Imports(Media):
         self.assertEqual(written[6:], ["taken back: import it.ini", "dsk 000000"])
 
     def test_a_file_that_is_missing(self) -> None:
-        commands = "d 1000 5\nattach rk0 nothing\n"
-        written = self.imports(commands, "patches\nregs 0\n")
+        """The rest is taken, and the end says what was left out."""
+        self.put("d1", words(7))
+        commands = "d 1000 5\nattach rk0 nothing\nfly\nload nowhere\nattach rk1 d1\nd 1002 6\n"
+        written = self.imports(commands, "mem 0 1000 2\ndsk 0 1 0 1\n")
+        self.assertTrue(written[0].startswith("3 commands taken: --disk1 "), written)
         self.assertEqual(
-            written[0], "import: it.ini: line 2, attach rk0 nothing: nothing: no such file"
+            written[2:],
+            ["1 without a meaning here:", "  line 3, fly: it has no meaning here", "2 left out:"]
+            + ["  line 2, attach rk0 nothing: nothing: no such file"]
+            + ["  line 4, load nowhere: nowhere: no such file"]
+            + ["mem 000005 000006", "dsk 000007"],
         )
-        self.assertEqual(written[1], "patches 0")
         self.assertIn("nothing: No such file", self.explore("import nothing\n"))
         self.assertIn(".: Is a directory", self.explore("import .\n"))
 
-    def test_an_image_that_the_program_refuses(self) -> None:
+    def test_images_that_cannot_be_attached(self) -> None:
         self.put("odd", b"123")
         self.put("large", bytes(2_494_466))
-        written = self.imports("d 1000 5\nd pc 2000\nattach rk0 odd\n", "patches\nregs 0\nundo\n")
-        self.assertIn("refused 14 BadImage", written[0])
-        self.assertEqual(written[1], "patches 0")
-        self.assertIn("PC 001000", written[2])
-        self.assertTrue(written[3].startswith("undo: no edit was made here"), written)
-        written = self.imports("attach rk0 large\n")
-        self.assertIn("has 2494466 bytes, more than an RK05, 2494464", written[0])
+        written = self.imports("d 1000 5\nattach rk0 odd\nattach rk0 large\n", "regs 0\n")
+        self.assertEqual(written[:2], ["1 command taken: 1 patch", "2 left out:"])
+        self.assertIn("odd: it has 3 bytes, and each word of an image has two", written[2])
+        self.assertIn("large: it has 2494466 bytes, and an RK05 has 2494464 at most", written[3])
 
     def test_a_tape_is_loaded(self) -> None:
         self.put("t.lda", tape((0o2000, words(0o12700, 7, 0)), start=0o2000))
@@ -158,8 +161,8 @@ class Imports(Media):
         self.assertIn("R0 000006", written[-1])
         self.put("t.lda", b"\1\0\7")
         said = self.imports("load t.lda\n", "patches\n")
-        self.assertIn("line 1, load t.lda: ", said[0])
-        self.assertIn("the tape ends in the block that begins at byte 0", said[0])
+        self.assertIn("line 1, load t.lda: ", said[2])
+        self.assertIn("the tape ends in the block that begins at byte 0", said[2])
 
     def test_where_it_begins(self) -> None:
         for command, start in (("go 2000", "2000"), ("run 3000", "3000"), ("d pc 4000", "4000")):
