@@ -164,11 +164,17 @@ def command_of(line: Line) -> bytes:
     return line.form.split()[0].encode()
 
 
+def pattern_of(line: Line) -> str:
+    """What fits such a line. A word in capitals stands for any word."""
+    return " ".join(r"\S+" if it.isupper() else it for it in line.form.split())
+
+
 QUESTIONS = {command_of(line) for line in LANGUAGE if line.kind == QUESTION}
 EDITS = {command_of(line) for line in LANGUAGE if line.kind == EDIT}
 # The reply begins with the command.
 COUNTED = {command_of(it) for it in LANGUAGE + SEARCHES if it.reply == COUNTED_LINES}
 REPLIES_TO_EDITS = re.compile(rb"ok|event .*|refused .*")
+SEARCH_LINE = re.compile("|".join(map(pattern_of, SEARCHES)).encode())
 # How the files of stored sessions end, each with the ending of a transcript of the same kind.
 TRANSCRIPTS = {".session": ".transcript", ".search": ".search-transcript"}
 
@@ -230,6 +236,13 @@ def sessions_of(folder: str, wanted: str = ".session") -> list[Session]:
             elif ending == TRANSCRIPTS[wanted]:
                 found.append(session_in_transcript(base, ending))
     return found
+
+
+def is_of_both(session: Session) -> bool:
+    """Whether the program search must end a session as pdp11 does: there is no line of a search,
+    which pdp11 refuses, and no help is asked for."""
+    searches = any(map(SEARCH_LINE.fullmatch, session.lines.splitlines()))
+    return not searches and not {"-h", "--help"} & set(session.args)
 
 
 def arguments_of(base: str) -> list[str]:

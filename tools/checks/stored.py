@@ -4,7 +4,7 @@ byte for byte. With a list of strides each session that has no stride of its own
 them, and must end the same.
 
 With --search the program is search: it must end as pdp11 does, with its own name on standard error.
-Sessions that ask for help are left out. With --searches it is given the sessions NAME.search and
+Sessions that ask for help, or have a line of a search, are left out. With --searches it is given the sessions NAME.search and
 NAME.search-transcript in place of the others. The last line is 'N passed, M failed'."""
 import sys
 
@@ -27,7 +27,7 @@ def main() -> int:
             print(f"{folder}: no session")
             failed += 1
         if "--search" in asked.flags:
-            found = [as_search(it) for it in found if not {"-h", "--help"} & set(it.args)]
+            found = [as_search(it) for it in found if sessions.is_of_both(it)]
         for session in (one for it in found for one in sessions.with_strides(it, asked.strides)):
             got = sessions.run(asked.program, session, session.lines)
             if got == session.expected:

@@ -36,7 +36,8 @@ def described(session: sessions.Session) -> dict[str, Any]:
 
     output, status, error = session.expected
     expected = {"output": text(output), "status": status, "error": text(error)}
-    return {**session._asdict(), "lines": text(session.lines), "expected": expected}
+    more = {"lines": text(session.lines), "expected": expected}
+    return {**session._asdict(), **more, "isOfBoth": sessions.is_of_both(session)}
 
 
 def write_sessions(folders: list[str], file: Path) -> None:

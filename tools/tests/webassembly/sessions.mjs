@@ -1,8 +1,8 @@
 // sessions.mjs PROGRAM FILE.wasm SESSIONS.json: every stored session of this file by the module of
 // the program pdp11 or search: output, exit status and standard error byte for byte. search must
-// end each as pdp11 does, with its own name on standard error, and the sessions NAME.search too; it
-// is given line by line, as in the page. disassemble gets its crate's stdin, whatever the sessions
-// are. The last line is 'N passed, M failed'.
+// end those of both programs as pdp11 does, with its own name on standard error, and the sessions
+// NAME.search too; it is given line by line, as in the page. disassemble gets its crate's stdin,
+// whatever the sessions are. The last line is 'N passed, M failed'.
 import fs from "node:fs";
 import { Counts, compiled, isSame, run, sessionsIn } from "./stored.mjs";
 
@@ -12,8 +12,6 @@ function asSearch({ expected, ...session }) {
   const error = expected.error.toString("latin1").replace("pdp11: ", "search: ");
   return { ...session, expected: { ...expected, error: Buffer.from(error, "latin1") } };
 }
-
-const asksForHelp = it => it.args.includes("--help") || it.args.includes("-h");
 
 function ofDisassemble() {
   const folder = new URL("../../../crates/disassemble/", import.meta.url);
@@ -27,7 +25,7 @@ function sessions() {
   const found = sessionsIn(stored, ".session");
   if (program === "pdp11") return found;
   const own = sessionsIn(stored, ".search");
-  return [...found.filter(it => !asksForHelp(it)).map(asSearch), ...own];
+  return [...found.filter(it => it.isOfBoth).map(asSearch), ...own];
 }
 
 const module = compiled(file);

@@ -151,7 +151,8 @@ class Machines(unittest.TestCase):
         self.assertEqual(self.edits(), [*LOOP, "at 2 key 101"])
 
     def test_the_stored_sessions(self) -> None:
-        found = [it for it in sessions.sessions_of(str(ROOT / "rows")) if not it.args]
+        stored = filter(sessions.is_of_both, sessions.sessions_of(str(ROOT / "rows")))
+        found = [it for it in stored if not it.args]
         self.assertGreater(len(found), 80)
         for it in found:
             lines = it.lines.decode("latin-1").removesuffix("\n").split("\n")
