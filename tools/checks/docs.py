@@ -1,7 +1,7 @@
 """check-docs PDP11 SEARCH DISASSEMBLER: replays the sessions that README.md and docs/ show on these
 built programs, and compares. It also checks the links and widths of these documents and of
-crates/DEFINITIONS.md, and how many lines docs/ has. It prints what is wrong. The last line is 'N
-passed, M failed'.
+crates/DEFINITIONS.md, how many lines docs/ has, and that README.md names the kit of release/KIT. It
+prints what is wrong. The last line is 'N passed, M failed'.
 
 Each block of a document is fenced, and its info string says what it is:
 
@@ -46,7 +46,7 @@ from pseudo_terminal import NotShown, PseudoTerminal
 
 ROOT = os.path.normpath(os.path.join(os.path.dirname(os.path.abspath(__file__)), "..", ".."))
 README, DOCS, DEFINITIONS = "README.md", "docs", "crates/DEFINITIONS.md"
-WIDEST_PROSE, WIDEST_CELL, MOST_LINES = 100, 120, 2460
+WIDEST_PROSE, WIDEST_CELL, MOST_LINES = 100, 120, 2500
 NOT_REPLAYED = {"text", "sh", "rust"}
 SESSION, SEARCH, COMMANDS, OUTPUT, TYPED = "session", "search", "commands", "output", "typed"
 EXPLORE, PROMPT = "explore", "explore> "
@@ -296,7 +296,7 @@ def failure_of_block(
     return None if block.info in NOT_REPLAYED else f"a block of the unknown kind '{block.info}'"
 
 
-# Links, widths and sizes
+# Links, widths, sizes, and the kit
 
 
 def anchors_of(document: Document) -> set[str]:
@@ -361,6 +361,13 @@ def failures_of_size(found: list[Document]) -> Iterator[str]:
         yield f"{DOCS}/ has {count} lines, more than {MOST_LINES}"
 
 
+def failure_of_kit(readme: Document) -> Optional[str]:
+    with open(os.path.join(ROOT, "release", "KIT"), encoding="utf-8") as file:
+        kit = file.read().strip()
+    is_named = any(f"`{kit}`" in line for line in readme.lines)
+    return None if is_named else f"{readme.name} doesn't name the kit of release/KIT, `{kit}`"
+
+
 def all_failures(programs: Programs, found: list[Document]) -> Iterator[Optional[str]]:
     """What is wrong by each check, or None. Of the widths of a document each is one failure."""
     anchors = {it.name: anchors_of(it) for it in found}
@@ -372,6 +379,7 @@ def all_failures(programs: Programs, found: list[Document]) -> Iterator[Optional
         yield from failures_of_links(document, anchors)
         yield from at_least_one(failures_of_widths(document))
     yield from at_least_one(failures_of_size(found))
+    yield failure_of_kit(found[0])
 
 
 def at_least_one(failures: Iterable[str]) -> list[Optional[str]]:

@@ -6,6 +6,9 @@ import subprocess
 import unittest
 from pathlib import Path
 from typing import Optional
+from unittest import mock
+
+from checks import docs
 
 from .tree import BUILT, KIT, PROGRAM, RELEASE, RT, Tree, path_without
 
@@ -38,8 +41,7 @@ class Checked(Tree):
             (RELEASE, 1, 2),
             (RELEASE + ".sources", 1, 1),
             ("release/SHA256SUMS", 2, 2),
-            ("release/KIT", 1, 1),
-            ("README.md", 1, 1),
+            ("release/KIT", 0, 0),
             (BUILT, 0, 1),
         ]:
             with self.subTest(name):
@@ -67,9 +69,11 @@ class Checked(Tree):
         self.write("../kit/rt", RT.replace(KIT, "another line"), 0o755)
         self.change_a_byte(BUILT)
         made = self.run_in("tools/release", "--make", kit=True)
-        self.assertIn("README.md is to name this kit: `another line`", made.stderr)
-        self.assertEqual(self.counted("--check"), "13 passed, 1 failed")
-        self.write("README.md", "Made with `another line`\n")
+        self.assertIn("README.md must name this kit: another line", made.stderr)
+        with mock.patch.object(docs, "ROOT", str(self.tree)):
+            self.assertIn("another line", docs.failure_of_kit(docs.read_document(docs.README)) or "")
+            self.write("README.md", "Made with `another line`.\n")
+            self.assertIsNone(docs.failure_of_kit(docs.read_document(docs.README)))
         self.assertEqual(self.counted("--check"), "14 passed, 0 failed")
         self.commit()
         self.assertIsNotNone(self.archive("packed"), self.said)

@@ -51,7 +51,7 @@ class Tree(unittest.TestCase):
             root = "lib" if name in ("low", "other") else "main"
             self.write(f"crates/{name}/src/{root}.rt", f"// the crate {name}\n")
         self.write("crates/low/specs/Low.antt", "-- a definition\n")
-        self.write("README.md", f"Made with `{KIT}`\n")
+        self.write("README.md", f"Made with `{KIT}`.\n")
         self.write("../kit/rt", RT, 0o755)
 
     def copy(self, name: str) -> None:
