@@ -10,19 +10,21 @@ import { Edits } from "./edits.js";
 import { delayed, element, make } from "./page.js";
 import { PictureMaker, nameOfWord } from "./picture.js";
 import { keepPlace } from "./place.js";
-import { LAST_TURN, isRefused, octal, readableText, tailOf, visibleName } from "./replies.js";
+import { LAST_TURN, octal, readableText, tailOf, visibleName } from "./replies.js";
 import { Priority, Run } from "./run.js";
 import { lastTurnOf, symbolsOfSession } from "./session.js";
 import { Sight } from "./sight.js";
 import { Sweep } from "./sweep.js";
 import { STORY, STORY_SESSION, verdictOf } from "./story.js";
 import { Timeline } from "./timeline.js";
+import { WorkBar } from "./work.js";
 
 const MOST_TEXT = 40_000;
 
 export class App {
   constructor() {
     this.works = 0;
+    this.workBar = new WorkBar();
     this.disassembler = new Machine({ program: "disassemble", arguments: [], files: {} });
     this.panels = new CursorPanels(this.disassembler, {
       onTurn: turn => this.goTo(turn),
@@ -96,14 +98,13 @@ export class App {
     this.old?.end();
     this.old = null;
     this.session = session;
-    const setup = { arguments: session.arguments, files: session.files };
-    this.run = new Run(setup, it => this.showWork(it));
+    this.run = this.newRun("run");
     const refused = await this.run.load(session.lines);
     this.begun = [...this.run.taken];
     this.refusedNote = refused.length ? `${refused.length} lines were refused, the first: `
       + `${visibleName(refused[0].line)}: ${refused[0].reply}` : "";
     this.say(this.refusedNote);
-    this.end = Math.min(LAST_TURN, lastTurnOf(session.lines) || 1_000);
+    this.end = Math.max(this.run.past.lastTurn(), lastTurnOf(session.lines)) || 1_000;
     this.symbols = symbolsOfSession(session);
     element("session-name").textContent = visibleName(session.name);
     this.isStory = session.name === STORY_SESSION;
@@ -121,9 +122,15 @@ export class App {
     this.goToPlace(place);
   }
 
+  /** A machine of the session that is open. */
+  newRun(name) {
+    const { arguments: words, files } = this.session;
+    return new Run({ arguments: words, files }, it => this.workBar.show(name, it));
+  }
+
   offerSweep() {
     const question = this.isStory ? `dsk ${this.end} 0 1` : `text ${this.end}`;
-    this.sweep.offer(this.run.past, question, this.isStory ? STORY.sweep : null);
+    this.sweep.offer(question, this.isStory ? STORY.sweep : null);
   }
 
   /** The run is shown at least up to this turn. */
@@ -174,13 +181,13 @@ export class App {
 
   /** The past has changed: all that is shown is asked anew. */
   changed() {
-    this.timeline.events = this.run.past.script();
+    this.timeline.past = this.run.past;
     this.timeline.wanted = this.isStory && !this.run.changes.length ? STORY.sweep.event : 0;
     this.showWords();
-    this.timeline.oldEvents = this.old?.past.script() ?? [];
+    this.timeline.oldPast = this.old?.past ?? this.run.past;
     this.timeline.draw();
     this.edits.show();
-    this.sweep.pastChanged(this.run.past);
+    this.sweep.pastChanged();
     this.drawPicture();
     this.showText();
     this.showCursor();
@@ -218,6 +225,7 @@ export class App {
     this.attempt(async () => {
       await new PictureMaker(run, wanted, token, it => this.showPicture(it, "picture")).make();
       if (!old) return;
+      await this.oldIsLoaded;
       await new PictureMaker(old, wanted, token, it => this.showPicture(it, "ghost")).make();
     });
   }
@@ -238,9 +246,8 @@ export class App {
   showText() {
     const { run, end } = this;
     const token = this.token("text");
-    this.attempt(async () => {
-      this.showReply(await run.askOne(`text ${end}`, Priority.CURSOR, token));
-    });
+    const priority = run.isNear(end) ? Priority.CURSOR : Priority.TEXT;
+    this.attempt(async () => this.showReply(await run.askOne(`text ${end}`, priority, token)));
   }
 
   showReply(reply) {
@@ -260,12 +267,12 @@ export class App {
   // Edits
 
   /** The past as the session was opened, on a machine of its own. */
-  async keepOld() {
+  keepOld() {
     if (this.old) return;
-    const setup = { arguments: this.session.arguments, files: this.session.files };
-    this.old = new Run(setup);
+    this.old = this.newRun("old");
     this.timeline.ghost = this.timeline.picture;
-    await this.old.load(this.begun);
+    this.oldIsLoaded = this.old.load(this.begun).then(() => this.timeline.draw());
+    this.attempt(() => this.oldIsLoaded);
   }
 
   openEvent(event) {
@@ -291,6 +298,7 @@ export class App {
       return;
     }
     this.attempt(async () => {
+      await this.oldIsLoaded;
       const comparison = new Comparison(run, old, token);
       this.timeline.part = await this.differences.show(comparison, end);
       this.timeline.draw();
@@ -358,26 +366,12 @@ export class App {
 
   // Work under way
 
-  showWork(work) {
-    clearTimeout(this.workTimer);
-    const place = element("work");
-    if (!work) {
-      place.hidden = true;
-      this.workBegan = 0;
-      return;
-    }
-    this.workBegan ||= performance.now();
-    if (performance.now() - this.workBegan < 300) return;
-    place.hidden = false;
-    element("bar").value = work.done / work.all;
-    element("work-text").textContent = `${work.done} of ${work.all} ${work.what}`;
-  }
-
   async stop() {
     await this.attempt(async () => {
       for (const kind of Object.keys(this.tokens)) this.token(kind);
       this.run.stop();
       this.old?.stop();
+      this.sweep.end();
       this.say("Stopped. The edits are kept.");
     });
   }

@@ -24,9 +24,8 @@ export class Comparison {
   /** The first turn of the script in which the pasts differ; 0 if patches or delays do. */
   firstEdited() {
     const [now, old] = [this.run.past, this.old.past];
-    const setup = past => past.lines().filter(it => !it.startsWith("at ")).join("\n");
-    if (setup(now) !== setup(old)) return 0;
-    const [events, olds] = [now, old].map(it => it.script());
+    if (!now.hasSetupOf(old)) return 0;
+    const [events, olds] = [now, old].map(it => it.script);
     const at = events.findIndex((it, place) => it.turn !== olds[place]?.turn
       || it.text !== olds[place]?.text);
     const turns = (at < 0 ? [olds[events.length]] : [events[at], olds[at]]).filter(Boolean);

@@ -1,9 +1,11 @@
 // What the user does to the past: edits, moves of events, undo and redo, one after the other.
 
-import { element, make } from "./page.js";
+import { element, itemsOf, make } from "./page.js";
 import { isEdit } from "./past.js";
 import { isRefused } from "./replies.js";
 import { Priority } from "./run.js";
+
+const MOST_REPLY = 20_000;
 
 export class Edits {
   /** @param {import("./app.js").App} app */
@@ -11,6 +13,7 @@ export class Edits {
     this.app = app;
     this.last = Promise.resolve();
     this.tried = null;
+    this.showItems = itemsOf(element("edits"), shownChange);
   }
 
   /** Does work after all that was begun before it, unless another session is open by then. */
@@ -25,7 +28,17 @@ export class Edits {
   do(line) {
     const { app } = this;
     if (isEdit(line)) return this.edit(line);
-    return app.attempt(async () => app.say(`${line}: ${await app.run.askOne(line)}`));
+    return app.attempt(() => this.askQuestion(line));
+  }
+
+  /** Shows the reply to a question. Another question gives up the one before it. */
+  async askQuestion(line) {
+    const { app } = this;
+    const reply = await app.run.askOne(line, Priority.QUESTION, app.token("question"));
+    const lines = reply.includes("\n") ? `\n${reply}` : reply;
+    const left = lines.length - MOST_REPLY;
+    const cut = left > 0 ? `\n.. ${left} characters more aren't shown` : "";
+    app.say(`${line}: ${lines.slice(0, MOST_REPLY)}${cut}`);
   }
 
   edit(line) {
@@ -40,7 +53,7 @@ export class Edits {
   /** Makes an edit. One that joins is undone with the one before it. Returns the reply. */
   async make(line, joins = false) {
     const { app } = this;
-    await app.keepOld();
+    app.keepOld();
     const reply = await app.run.edit(line, joins);
     app.say(`${line}: ${reply}`);
     return reply;
@@ -50,10 +63,13 @@ export class Edits {
 
   /** While an event is moved its turn is tried, if the machine is quick enough. */
   preview(event, turn) {
+    const { run, end } = this.app;
+    const line = `alter ${event.number} ${turn} ${event.text}`;
+    this.app.say(line);
+    if (!run.isNear(end, Math.min(event.turn, turn))) return;
     this.tried ??= { isAtWork: false, back: [] };
     const { tried } = this;
-    tried.wanted = `alter ${event.number} ${turn} ${event.text}`;
-    this.app.say(tried.wanted);
+    tried.wanted = line;
     if (tried.isAtWork) return;
     tried.isAtWork = true;
     this.inTurn(() => this.tryTurns(tried)).then(() => { tried.isAtWork = false; });
@@ -64,8 +80,7 @@ export class Edits {
     if (!tried.now) tried.back = run.past.inverse(tried.wanted) ?? [];
     while (this.tried === tried && tried.wanted !== tried.now) {
       tried.now = tried.wanted;
-      const [reply, text] = await run.ask([tried.now, `text ${end}`], Priority.EDIT);
-      if (!isRefused(reply)) run.take(tried.now, reply);
+      const [, text] = await run.ask([tried.now, `text ${end}`], Priority.EDIT);
       if (this.tried === tried) this.app.showReply(text);
     }
   }
@@ -75,10 +90,7 @@ export class Edits {
     const { tried, app } = this;
     this.tried = null;
     return this.inTurn(async () => {
-      for (const line of tried?.back ?? []) {
-        const reply = await app.run.askOne(line, Priority.EDIT);
-        if (!isRefused(reply)) app.run.take(line, reply);
-      }
+      await app.run.ask(tried?.back ?? [], Priority.EDIT);
       if (turn === null) app.changed();
       else await this.makeShown(`alter ${event.number} ${turn} ${event.text}`);
     });
@@ -103,17 +115,17 @@ export class Edits {
 
   show() {
     const { changes, undone } = this.app.run;
-    element("edits").replaceChildren(...changes.map(shownChange));
+    this.showItems(changes.map(it => it.map(edit => edit.line).join("\n")));
     element("undo").disabled = !changes.length;
     element("redo").disabled = !undone.length;
   }
 }
 
 /** What the user did at once: its line, or how many there are, with all of them folded. */
-function shownChange(edits) {
-  const codes = edits.map(it => make("code", {}, it.line));
-  if (codes.length === 1) return make("li", {}, ...codes);
-  const summary = `${edits.length} lines, from ${edits[0].line} on`;
-  const lines = codes.map(it => make("div", {}, it));
-  return make("li", {}, make("details", {}, make("summary", {}, summary), ...lines));
+function shownChange(text) {
+  const lines = text.split("\n");
+  if (lines.length === 1) return make("li", {}, make("code", {}, text));
+  const summary = make("summary", {}, `${lines.length} lines, from ${lines[0]} on`);
+  const shown = lines.map(it => make("div", {}, make("code", {}, it)));
+  return make("li", {}, make("details", {}, summary, ...shown));
 }

@@ -163,11 +163,12 @@ export class LanesDrawing {
   drawStems(lane, events) {
     const { pen, view } = this;
     pen.fillStyle = this.colours.faint;
+    let free = view.left;
     for (const event of events) {
       const x = view.x(event.turn);
-      if (x >= view.left && x <= view.left + view.width) {
-        pen.fillRect(x - 0.5, lane.top + lane.height - 8, 1, 8);
-      }
+      if (x < free) continue;
+      pen.fillRect(x - 0.5, lane.top + lane.height - 8, 1, 8);
+      free = x + 1;
     }
   }
 

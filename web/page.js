@@ -24,6 +24,29 @@ export function table(caption, heads, rows) {
     make("tbody", {}, ...body)));
 }
 
+/** A function that shows texts as a list's items, each as `makeItem` makes it; those that stay
+    aren't made again. */
+export function itemsOf(list, makeItem) {
+  let shown = [];
+  return texts => {
+    const changed = texts.findIndex((text, at) => text !== shown[at]);
+    const begin = changed < 0 ? texts.length : changed;
+    while (list.children.length > begin) list.lastElementChild.remove();
+    for (const text of texts.slice(begin)) list.append(makeItem(text));
+    shown = texts;
+  };
+}
+
+/** Makes these the element's children. A child that stays as it is isn't touched. */
+export function keepChildren(place, made) {
+  const { children } = place;
+  while (children.length > made.length) place.lastElementChild.remove();
+  for (const [at, it] of made.entries()) {
+    if (at >= children.length) place.append(it);
+    else if (!children[at].isEqualNode(it)) children[at].replaceWith(it);
+  }
+}
+
 /** A button that looks like a link. */
 export const link = (text, title, onclick) =>
   make("button", { type: "button", class: "link", title, onclick }, text);

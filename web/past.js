@@ -11,16 +11,6 @@ export const wordsOfLine = line => line.startsWith("#") ? [] : line.split(/[ \t]
 
 export const isEdit = line => EDITS.has(wordsOfLine(line)[0]);
 
-/** The largest turn that a line of a session names, or 0. */
-export function turnNamed(line) {
-  const words = wordsOfLine(line);
-  const turnAt = { alter: 2, first: 2, writes: 2, change: 2 }[words[0]] ?? 1;
-  const hasNone = ["core", "uncore", "disk", "tape", "delay", "version", "drop", "patches", "when"];
-  if (hasNone.includes(words[0])) return 0;
-  const turn = Number(words[turnAt]);
-  return Number.isFinite(turn) ? turn : 0;
-}
-
 /** An event with the name of its key, such as `key 66 '6'`. */
 export function eventInWords(event) {
   const [word, byte] = event.text.split(" ");
@@ -34,6 +24,21 @@ export function eventLabel(event) {
   return value === undefined ? word : `${word} ${value}`;
 }
 
+/** Where in a script the events begin that are at this turn with this place, or come later. */
+function placeIn(script, turn, place) {
+  let [low, high] = [0, script.length];
+  while (low < high) {
+    const middle = low + high >> 1, it = script[middle];
+    if (it.turn < turn || it.turn === turn && it.place < place) low = middle + 1;
+    else high = middle;
+  }
+  return low;
+}
+
+/** The events of a script in the turns from `first` to `last`. */
+export const eventsIn = (script, first, last) =>
+  script.slice(placeIn(script, first, 0), placeIn(script, last, Infinity));
+
 /** Version, patches, tape, delays and events. */
 export class Past {
   constructor() {
@@ -45,17 +50,9 @@ export class Past {
     this.delays = { ...DELAYS };
     /** @type {Map<number, {number: number, turn: number, text: string, place: number}>} */
     this.events = new Map();
+    /** all events, in the order in which they happen */
+    this.script = [];
     this.places = 0;
-  }
-
-  /** A past of its own with the same contents. */
-  copy() {
-    const made = new Past();
-    Object.assign(made, { version: this.version, tape: this.tape, places: this.places });
-    made.patches = new Map(this.patches);
-    made.delays = { ...this.delays };
-    for (const [number, event] of this.events) made.events.set(number, { ...event });
-    return made;
   }
 
   /** Takes an edit that the program has answered `ok` or `event E`. */
@@ -71,27 +68,38 @@ export class Past {
   }
 
   applyToScript(word, rest, reply) {
-    if (word === "drop") {
-      this.events.delete(Number(rest[0]));
+    if (word === "at") {
+      const [turn, text] = [Number(rest[0]), rest.slice(1).join(" ")];
+      const event = { number: Number(reply.split(" ")[1]), turn, text };
+      this.events.set(event.number, event);
+      this.putLast(event, turn);
       return;
     }
-    this.places += 1;
-    if (word === "at") {
-      const number = Number(reply.split(" ")[1]);
-      const [turn, text] = [Number(rest[0]), rest.slice(1).join(" ")];
-      this.events.set(number, { number, turn, text, place: this.places });
+    const event = this.events.get(Number(rest[0]));
+    if (word === "drop") {
+      this.takeOut(event);
+      this.events.delete(event.number);
     } else if (word === "alter") {
-      const event = this.events.get(Number(rest[0]));
-      if (event.turn !== Number(rest[1])) {
-        Object.assign(event, { turn: Number(rest[1]), place: this.places });
-      }
       event.text = rest.slice(2).join(" ");
+      if (event.turn === Number(rest[1])) return;
+      this.takeOut(event);
+      this.putLast(event, Number(rest[1]));
     }
   }
 
-  /** All events, in the order in which they happen. */
-  script() {
-    return [...this.events.values()].sort((a, b) => a.turn - b.turn || a.place - b.place);
+  takeOut({ turn, place }) {
+    this.script.splice(placeIn(this.script, turn, place), 1);
+  }
+
+  /** Puts an event behind all others of a turn. */
+  putLast(event, turn) {
+    Object.assign(event, { turn, place: ++this.places });
+    this.script.splice(placeIn(this.script, turn, event.place), 0, event);
+  }
+
+  /** The last turn with an event, or 0. */
+  lastTurn() {
+    return this.script.at(-1)?.turn ?? 0;
   }
 
   /** The lines that take back an edit, asked before the edit is made. */
@@ -122,10 +130,18 @@ export class Past {
     if (!event) return null;
     const back = word === "drop" ? `at ${event.turn} ${event.text}`
       : `alter ${number} ${event.turn} ${event.text}`;
-    const later = this.script().filter(it => it.turn === event.turn && it.place > event.place);
-    const away = it => `alter ${it.number} ${it.turn + 1} ${it.text}`;
+    const later = eventsIn(this.script, event.turn, event.turn)
+      .filter(it => it.place > event.place);
+    const away = it => `alter ${it.number} ${Math.abs(it.turn - 1)} ${it.text}`;
     const again = it => `alter ${it.number} ${it.turn} ${it.text}`;
     return [back, ...later.flatMap(it => [away(it), again(it)])];
+  }
+
+  /** Whether another past has the same version, patches, tape and delays. */
+  hasSetupOf(past) {
+    const rest = it => JSON.stringify([it.version, it.tape, it.delays]);
+    return rest(past) === rest(this) && past.patches.size === this.patches.size
+      && [...this.patches].every(([name, word]) => past.patches.get(name) === word);
   }
 
   /** A session that gives the same machine. Its events are numbered anew, in their order. */
@@ -141,7 +157,7 @@ export class Past {
       const at = kind === "disk" && this.version === 1 ? where.slice(1) : where;
       found.push([kind, ...at, word.toString(8)].join(" "));
     }
-    return [...found, ...this.script().map(it => `at ${it.turn} ${it.text}`)];
+    return [...found, ...this.script.map(it => `at ${it.turn} ${it.text}`)];
   }
 }
 

@@ -144,7 +144,7 @@ export class PictureMaker {
   async collectDisk() {
     const { looks } = this.picture;
     const delay = this.past.delays.disk;
-    const byEvent = this.past.script().some(it => it.text === "disk");
+    const byEvent = this.past.script.some(it => it.text === "disk");
     const isWhole = this.step === 1 || delay >= this.step && !byEvent;
     const busy = looks.filter(it => it.busy);
     if (!isWhole) {

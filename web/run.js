@@ -1,19 +1,24 @@
 // A machine with its past: questions in parts that can be stopped, edits with undo.
 
 import { Machine, Stopped } from "./machine.js";
-import { Past, isEdit, turnNamed, wordsOfLine } from "./past.js";
-import { isRefused } from "./replies.js";
+import { Past, isEdit, wordsOfLine } from "./past.js";
+import { byteAsked, earlyQuestion, searchOf, turnsAsked } from "./questions.js";
+import { LAST_TURN, isRefused } from "./replies.js";
 
-// So many turns are run by one question at most, in less than a tenth of a second.
-const TURNS_AT_ONCE = 4_000_000;
-const [FEWEST_LINES, MOST_LINES] = [64, 512];
+// A part is what is asked at once. It runs about so many turns: fewer if parts take long.
+const [FEWEST_TURNS, FIRST_TURNS, MOST_TURNS] = [100_000, 1_000_000, 4_000_000];
 const [QUICK, SLOW] = [25, 80];
+// What a line takes beside its turns, as turns.
+const TURNS_OF_A_LINE = 10_000;
+const MOST_LINES = 512;
+// Checkpoints are so many turns apart at first. Twice as many if there would be too many of them.
+const [FIRST_STRIDE, MOST_CHECKPOINTS] = [10_000, 256];
 
 /** The number in the reply to an edit that makes an event. */
 const eventOf = reply => reply.startsWith("event ") ? reply.split(" ")[1] : undefined;
 
 /** Of several questions the one with the lowest number goes first. */
-export const Priority = { EDIT: 0, CURSOR: 1, PICTURE: 2, COMPARISON: 3 };
+export const Priority = { EDIT: 0, CURSOR: 1, QUESTION: 2, PICTURE: 3, TEXT: 4, COMPARISON: 5 };
 
 /**
  * @typedef {{arguments: string[], files: Object<string, Uint8Array>}} Setup
@@ -34,28 +39,39 @@ export class Run {
     this.changes = [];
     /** @type {Edit[][]} */
     this.undone = [];
-    this.linesAtOnce = 64;
+    this.turnsAtOnce = FIRST_TURNS;
     this.isAtWork = false;
     this.start();
   }
 
   start() {
-    this.known = 0;
+    this.forget();
     const { arguments: words, files } = this.setup;
     this.machine = new Machine({ program: "search", arguments: words, files });
+  }
+
+  /** What the program keeps of a run, as far as the page knows: at its start, nothing. */
+  forget() {
+    Object.assign(this, { known: 0, at: 0, printed: 0, stride: FIRST_STRIDE });
   }
 
   /** The replies to lines, in their order. `token.isStopped` gives them up. */
   ask(lines, priority = Priority.CURSOR, token = null) {
     if (!lines.length) return Promise.resolve([]);
     return new Promise((resolve, reject) => {
-      this.jobs.push({ lines, priority, token, replies: [], resolve, reject });
+      this.jobs.push({ lines, priority, token, replies: [], search: null, resolve, reject });
       this.work();
     });
   }
 
   async askOne(line, priority, token) {
     return (await this.ask([line], priority, token))[0];
+  }
+
+  /** Why the program refuses a question, whatever its turn is, or null. */
+  async refusalOf(line) {
+    const reply = await this.askOne(earlyQuestion(line), Priority.QUESTION);
+    return isRefused(reply) ? reply : null;
   }
 
   async work() {
@@ -66,7 +82,10 @@ export class Run {
       try {
         if (job.token?.isStopped) throw new Stopped();
         await this.askPart(job);
+        this.endIfDone(job);
       } catch (error) {
+        // the machine was stopped and goes on: an edit is sent again
+        if (!this.machine.closed && this.isEditNext(job)) continue;
         this.remove(job);
         job.reject(error);
       }
@@ -75,71 +94,161 @@ export class Run {
     this.onProgress(null);
   }
 
-  remove(job) {
-    this.jobs = this.jobs.filter(it => it !== job);
-  }
-
-  /** Asks some of the job's lines, or goes on towards the turn that they are about. */
-  async askPart(job) {
-    const begin = job.replies.length;
-    const turns = job.lines.slice(begin, begin + this.linesAtOnce).map(turnNamed);
-    const limit = this.known + TURNS_AT_ONCE;
-    const end = turns.findIndex(it => it > limit);
-    if (end === 0) {
-      await this.goOn(limit, turns[0]);
-      return;
-    }
-    const lines = job.lines.slice(begin, begin + (end < 0 ? this.linesAtOnce : end));
-    const began = performance.now();
-    const replies = await this.send(lines);
-    this.adapt(performance.now() - began, lines.length);
-    this.known = Math.max(this.known, ...turns.slice(0, lines.length));
-    job.replies.push(...replies);
-    this.onProgress({ done: job.replies.length, all: job.lines.length, what: "questions" });
+  endIfDone(job) {
     if (job.replies.length < job.lines.length) return;
     this.remove(job);
     job.resolve(job.replies);
   }
 
-  async goOn(turn, wanted) {
-    this.onProgress({ done: this.known, all: wanted, what: "turns" });
-    const [reply] = await this.send([`regs ${turn}`]);
-    if (isRefused(reply)) throw new Error(reply);
-    this.known = turn;
+  isEditNext(job) {
+    return isEdit(job.lines[job.replies.length]);
+  }
+
+  remove(job) {
+    this.jobs = this.jobs.filter(it => it !== job);
+  }
+
+  // Parts
+
+  /** Asks some of the job's lines, or goes on towards the turns that the next one is about. */
+  async askPart(job) {
+    const line = job.lines[job.replies.length];
+    const [turn] = turnsAsked(line), byte = byteAsked(line);
+    const left = this.turnsToRun(this.at, turn) - this.turnsAtOnce;
+    if (left > 0) await this.goOn(job, line, turn - left);
+    else if (byte !== null && byte >= this.printed) await this.goOnToByte(job, byte);
+    else if (job.search ??= searchOf(line)) await this.searchOn(job);
+    else await this.askLines(job);
+  }
+
+  /** About how many turns the program runs from one to another, by its checkpoints. */
+  turnsToRun(at, turn) {
+    const known = Math.min(this.known, turn);
+    const checkpoint = known - known % this.stride;
+    return turn - (at <= known ? Math.max(at, checkpoint) : checkpoint);
+  }
+
+  /** Runs up to a turn, on the way to that of a line. The line may be refused at any turn: then it
+      is at once. */
+  async goOn(job, line, turn) {
+    const isTried = job.tried === job.replies.length;
+    job.tried = job.replies.length;
+    const done = turn - this.turnsAtOnce;
+    this.onProgress({ done, all: turnsAsked(line)[0], what: "turns" });
+    if (isTried) {
+      const [reply] = await this.timed([`regs ${turn}`], this.turnsAtOnce);
+      if (isRefused(reply)) throw new Error(reply);
+      return;
+    }
+    const [reply] = await this.send([earlyQuestion(line)]);
+    if (isRefused(reply)) job.replies.push(reply);
+  }
+
+  /** Runs on until the byte is printed that is asked about. */
+  async goOnToByte(job, byte) {
+    const turn = Math.min(LAST_TURN, this.known + this.turnsAtOnce);
+    this.onProgress({ done: this.known, all: LAST_TURN, what: "turns" });
+    const [reply] = await this.timed([`text ${turn} from ${byte}`], this.turnsAtOnce);
+    if (reply !== "text 0:" || turn === LAST_TURN) this.printed = byte + 1;
+  }
+
+  /** Searches some turns more. */
+  async searchOn(job) {
+    const { search } = job, { from, end } = search;
+    const to = Math.min(end, from + this.turnsAtOnce);
+    this.onProgress({ done: from, all: end, what: "turns" });
+    const [reply] = await this.timed([search.line(from, to)], to - from);
+    const whole = search.add(reply, to);
+    search.from = to;
+    if (whole === null) return;
+    job.search = null;
+    job.replies.push(whole);
+  }
+
+  async askLines(job) {
+    const { lines, cost } = this.nextLines(job);
+    this.onProgress({ done: job.replies.length, all: job.lines.length, what: "questions" });
+    job.replies.push(...await this.timed(lines, cost));
+  }
+
+  /** The job's next lines, edits or questions, as far as they take no longer than a part. */
+  nextLines({ lines, replies }) {
+    const begin = replies.length, areEdits = isEdit(lines[begin]);
+    let { at } = this, cost = 0, end = begin;
+    while (end < lines.length && end - begin < MOST_LINES && isEdit(lines[end]) === areEdits) {
+      const [turn] = turnsAsked(lines[end]);
+      const more = TURNS_OF_A_LINE + this.turnsToRun(at, turn);
+      if (end > begin && (cost + more > this.turnsAtOnce || !this.isPlain(lines[end]))) break;
+      cost += more;
+      at = turn;
+      end += 1;
+    }
+    return { lines: lines.slice(begin, end), cost };
+  }
+
+  isPlain(line) {
+    const byte = byteAsked(line);
+    return byte === null ? searchOf(line) === null : byte < this.printed;
+  }
+
+  /** Sends a part. The next one is shorter if it takes long, so that others don't wait. */
+  async timed(lines, cost) {
+    const began = performance.now();
+    const replies = await this.send(lines);
+    const time = performance.now() - began;
+    if (time > SLOW) this.turnsAtOnce = Math.max(FEWEST_TURNS, this.turnsAtOnce >> 1);
+    else if (time < QUICK && 2 * cost > this.turnsAtOnce) {
+      this.turnsAtOnce = Math.min(MOST_TURNS, this.turnsAtOnce << 1);
+    }
+    return replies;
   }
 
   /** The machine's replies, without the line feed at their ends. */
   async send(lines) {
-    return (await this.machine.ask(lines)).map(it => it.replace(/\n$/, ""));
+    const replies = (await this.machine.ask(lines)).map(it => it.replace(/\n$/, ""));
+    lines.forEach((line, at) => {
+      if (isRefused(replies[at])) return;
+      if (isEdit(line)) this.take(line, replies[at]);
+      else this.learn(line, replies[at]);
+    });
+    return replies;
   }
 
-  /** Fewer lines at once if they take long, so that others don't wait. */
-  adapt(time, count) {
-    if (time > SLOW) this.linesAtOnce = Math.max(FEWEST_LINES, this.linesAtOnce >> 1);
-    else if (time < QUICK && count === this.linesAtOnce) {
-      this.linesAtOnce = Math.min(MOST_LINES, this.linesAtOnce << 1);
-    }
+  /** What a question that was answered leaves known. */
+  learn(line, reply) {
+    const [begin, end] = turnsAsked(line);
+    if (end === 0) return;
+    const [, printed] = wordsOfLine(line).length === 2 ? /^text (\d+)/.exec(reply) ?? [] : [];
+    this.printed = Math.max(this.printed, Number(printed ?? 0));
+    // a search may have ended before its last turn
+    this.at = /^(first|change) \d|^writes 256/.test(reply) ? begin : end;
+    this.known = Math.max(this.known, this.at);
+    while (this.known >= MOST_CHECKPOINTS * this.stride) this.stride *= 2;
   }
+
+  /** Whether a question about a turn takes no time, also after an edit of an earlier one. */
+  isNear(turn, edited = turn) {
+    return turn - Math.min(this.known, edited) <= MOST_TURNS;
+  }
+
+  // Edits
 
   /** Takes up the lines of a session. Returns those that are refused, with their replies. */
   async load(lines) {
     const edits = lines.filter(isEdit);
     const replies = await this.ask(edits, Priority.EDIT);
-    const refused = [];
-    replies.forEach((reply, at) => {
-      if (isRefused(reply)) refused.push({ line: edits[at], reply });
-      else this.take(edits[at], reply);
-    });
-    return refused;
+    const found = edits.map((line, at) => ({ line, reply: replies[at] }));
+    return found.filter(it => isRefused(it.reply));
   }
 
+  /** An edit was taken: what is known of the turns that it may change no longer holds. */
   take(line, reply) {
     this.taken.push(line);
-    const [word, ...rest] = wordsOfLine(line);
-    const turns = { at: [rest[0]], alter: [rest[1]], drop: [] }[word];
-    const event = this.past.events.get(Number(rest[0]));
-    if (event && word !== "at") turns?.push(event.turn);
-    this.known = Math.min(this.known, ...(turns ?? [0]).map(Number));
+    const [word, number, turn] = wordsOfLine(line);
+    const event = this.past.events.get(Number(number));
+    const turns = { at: [number], alter: [turn, event?.turn], drop: [event?.turn] }[word] ?? [0];
+    this.known = Math.min(this.known, ...turns.map(Number));
+    this.printed = 0;
     this.past.apply(line, reply);
   }
 
@@ -159,7 +268,6 @@ export class Run {
     const back = await this.inverse(line);
     const reply = await this.askOne(line, Priority.EDIT);
     if (isRefused(reply)) return { reply };
-    this.take(line, reply);
     const event = eventOf(reply);
     return { reply, edit: { line, back: event ? [`drop ${event}`] : back, event, before } };
   }
@@ -195,7 +303,6 @@ export class Run {
     const [word, number] = wordsOfLine(edit.line);
     for (const line of edit.back) {
       const reply = await this.askOne(line, Priority.EDIT);
-      this.take(line, reply);
       if (word === "drop" && eventOf(reply)) this.renumber(number, eventOf(reply));
     }
   }
@@ -226,15 +333,15 @@ export class Run {
     this.undone.pop();
   }
 
-  /** Ends what the machine is doing. It goes on with the same past. */
+  /** Ends the questions that the machine is at. Edits go on: they run nothing. */
   stop() {
-    this.giveUp();
-    this.known = 0;
+    for (const job of this.jobs) {
+      if (this.isEditNext(job)) continue;
+      this.remove(job);
+      job.reject(new Stopped());
+    }
+    this.forget();
     this.machine.stop();
-  }
-
-  giveUp() {
-    for (const job of this.jobs.splice(0)) job.reject(new Stopped());
   }
 
   /** Makes the machine and its past anew of the edits that were taken. */
@@ -244,12 +351,11 @@ export class Run {
     const lines = this.taken;
     this.taken = [];
     this.past = new Past();
-    const replies = await this.ask(lines, Priority.EDIT);
-    replies.forEach((reply, at) => this.take(lines[at], reply));
+    await this.ask(lines, Priority.EDIT);
   }
 
   end() {
-    this.giveUp();
+    for (const job of this.jobs.splice(0)) job.reject(new Stopped());
     this.machine.close();
   }
 }

@@ -1,6 +1,7 @@
 // A session as the page holds it: options, files, lines and symbols; how it is read and stored.
 
-import { turnNamed, wordsOfLine } from "./past.js";
+import { wordsOfLine } from "./past.js";
+import { turnsAsked } from "./questions.js";
 
 const OPTIONS_WITH_FILES = /^--(core|tape|disk[1-7]?)$/;
 
@@ -17,8 +18,9 @@ export function sessionOf(name, text) {
 
 export const linesOf = text => text.split("\n").map(it => it.replace(/\r$/, ""));
 
-/** The last turn that the lines are about: an event's, or that of a question. */
-export const lastTurnOf = lines => Math.max(0, ...lines.map(turnNamed));
+/** The last turn that a question of the lines is about. */
+export const lastTurnOf = lines =>
+  lines.reduce((last, line) => Math.max(last, turnsAsked(line)[1]), 0);
 
 /** The symbols among the files of a session: those of each mode. */
 export function symbolsOfSession(session) {

@@ -17,15 +17,15 @@ export function rowsOf({ first, end, events, gone, picture, ghost, part }) {
   const isInSight = it => it.turn >= first && it.turn <= end;
   const rows = events.filter(isInSight).map(it => (
     { turn: it.turn, lane: "event", what: `${it.number}: ${eventInWords(it)}` }));
-  rows.push(...gone.map(it => (
-    { turn: it.turn, lane: "event, old past", what: eventInWords(it) })));
+  const lost = gone.map(it => (
+    { turn: it.turn, lane: "event, old past", what: eventInWords(it) }));
   if (part !== null) rows.push({ turn: part, lane: "pasts", what: "the registers first differ" });
   const now = picture ? rowsOfPicture(picture) : [];
   const keyOf = it => `${it.turn} ${it.lane} ${it.what}`;
   const known = new Set(now.map(keyOf));
   const old = ghost ? rowsOfPicture(ghost).filter(it => !known.has(keyOf(it))) : [];
-  rows.push(...now, ...old.map(it => ({ ...it, lane: `${it.lane}, old past` })));
-  return rows.filter(isInSight).sort((a, b) => a.turn - b.turn);
+  const olds = old.map(it => ({ ...it, lane: `${it.lane}, old past` }));
+  return [...rows, ...lost, ...now, ...olds].filter(isInSight).sort((a, b) => a.turn - b.turn);
 }
 
 function rowsOfPicture({ first, interrupts, disk, words }) {
@@ -36,8 +36,8 @@ function rowsOfPicture({ first, interrupts, disk, words }) {
     const under = begin === null ? "under way: " : "";
     rows.push({ turn: begin ?? first, lane: "disk", what: `${under}${title}; ${until}` });
   }
-  rows.push(...disk.busy.map(it => ({ turn: it.turn, lane: "disk", what: "busy (a sample)" })));
-  return [...rows, ...words.flatMap(rowsOfWord)];
+  const busy = disk.busy.map(it => ({ turn: it.turn, lane: "disk", what: "busy (a sample)" }));
+  return [...rows, ...busy, ...words.flatMap(rowsOfWord)];
 }
 
 /** The writes of a word, or the samples in which it is another than before. */

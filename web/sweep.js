@@ -2,12 +2,14 @@
 // outcomes get one letter and one colour.
 
 import { element, link, make, table } from "./page.js";
+import { eventInWords, isEdit, wordsOfLine } from "./past.js";
 import { isRefused } from "./replies.js";
-import { Priority, Run } from "./run.js";
+import { Priority } from "./run.js";
 
 const MOST_TURNS = 20_000;
 const TURNS_AT_ONCE = 32;
 const MOST_ROWS = 200;
+const TIME_BETWEEN = 250;
 const LETTERS = "ABCDEFGHIJKLMNOPQRSTUVWXYZ";
 export const SWEEP_COLOURS = 6;
 
@@ -42,17 +44,17 @@ export class Sweep {
   constructor(app) {
     this.app = app;
     this.run = null;
+    element("sweep-event").addEventListener("input", () => this.showChosen());
   }
 
   /** The form for a session: the event is one of its script. */
-  offer(past, question, around) {
+  offer(question, around) {
     this.clear();
-    this.pastChanged(past);
-    element("sweep-question").value = question;
-    if (!around) return;
-    element("sweep-event").value = String(around.event);
-    element("sweep-from").value = String(around.from);
-    element("sweep-to").value = String(around.to);
+    const { event = "", from = "", to = "" } = around ?? {};
+    for (const [name, value] of Object.entries({ event, from, to, question })) {
+      element(`sweep-${name}`).value = String(value);
+    }
+    this.showChosen();
   }
 
   clear() {
@@ -63,21 +65,27 @@ export class Sweep {
     this.say("");
   }
 
-  /** Offers the events that there are. Outcomes stay if only the event of the sweep changed. */
-  pastChanged(past) {
-    const chosen = element("sweep-event");
-    const number = chosen.value;
-    chosen.replaceChildren(...past.script().map(it =>
-      make("option", { value: it.number }, `${it.number}: ${it.text}`)));
-    if (past.events.has(Number(number))) chosen.value = number;
-    if (this.event && this.others(past) !== this.tried) this.clear();
+  /** The event that the form names, if there is one. */
+  chosen() {
+    const name = element("sweep-event").value.trim();
+    return /^\d+$/.test(name) ? this.app.run.past.events.get(Number(name)) : undefined;
   }
 
-  /** All of a past but the event that is tried. */
-  others(past) {
-    const others = past.script().filter(it => it.number !== this.event.number);
-    const setup = past.lines().filter(it => !it.startsWith("at "));
-    return JSON.stringify([others.map(it => [it.turn, it.text]), setup]);
+  showChosen() {
+    const event = this.chosen(), name = element("sweep-event").value.trim();
+    element("sweep-chosen").textContent = event ? `${eventInWords(event)} at ${event.turn}`
+      : name && "no event";
+  }
+
+  /** Outcomes stay if only the event of the sweep changed. */
+  pastChanged() {
+    this.showChosen();
+    if (!this.event) return;
+    const { past, taken } = this.app.run;
+    const moves = `alter ${this.event.number} `;
+    const isMoved = past === this.past && taken.slice(this.taken).every(it => it.startsWith(moves));
+    if (!isMoved) this.clear();
+    this.taken = taken.length;
   }
 
   end() {
@@ -85,24 +93,37 @@ export class Sweep {
     this.run = null;
   }
 
+  /** What is wrong in the form, or an empty text. */
+  complaint(event, turns, question) {
+    const [from, to] = turns.map(Number);
+    if (!event) return "No event has this number.";
+    if (!turns.every(it => /^\d{1,10}$/.test(it)) || to < from) {
+      return "Give two turns, the first one first.";
+    }
+    if (to - from >= MOST_TURNS) return `At most ${MOST_TURNS} turns at once.`;
+    const isQuestion = wordsOfLine(question).length && !isEdit(question);
+    return isQuestion ? "" : "Ask a question, such as regs 1000: a line that changes nothing.";
+  }
+
   /** Tries the event in each turn; what is known is shown as it comes. */
   async begin() {
     const { app } = this;
-    const event = app.run.past.events.get(Number(element("sweep-event").value));
-    const [from, to] = ["sweep-from", "sweep-to"].map(it => Number(element(it).value));
-    const question = element("sweep-question").value.trim();
-    const isRange = Number.isInteger(from) && Number.isInteger(to) && from >= 0 && to >= from;
-    if (!event || !isRange) return this.say("Choose an event, and two turns, the first one first.");
-    if (to - from >= MOST_TURNS) return this.say(`At most ${MOST_TURNS} turns at once.`);
+    const event = this.chosen();
+    const [from, to, question] = ["from", "to", "question"]
+      .map(it => element(`sweep-${it}`).value.trim());
+    const complaint = this.complaint(event, [from, to], question);
+    if (complaint) return this.say(complaint);
     this.end();
-    const run = new Run({ arguments: app.session.arguments, files: app.session.files });
+    const run = app.newRun("sweep");
     this.run = run;
-    Object.assign(this, { outcomes: new Map(), replies: [], event: { ...event } });
-    this.tried = this.others(app.run.past);
-    const turns = spreadTurns(from, to);
+    Object.assign(this, { outcomes: new Map(), replies: [], numbers: new Map(), shown: 0 });
+    Object.assign(this, { event: { ...event }, past: app.run.past, taken: app.run.taken.length });
+    const turns = spreadTurns(Number(from), Number(to));
     // at once: what the outcomes take of the page doesn't move the button later
     this.show(turns.length);
     await run.load(app.run.taken);
+    const refusal = await run.refusalOf(question);
+    if (refusal) this.refuse(question, refusal);
     for (let at = 0; at < turns.length && this.run === run; at += TURNS_AT_ONCE) {
       await this.tryTurns(run, turns.slice(at, at + TURNS_AT_ONCE), question);
       this.show(turns.length);
@@ -111,16 +132,21 @@ export class Sweep {
     return undefined;
   }
 
+  refuse(question, refusal) {
+    this.clear();
+    this.say(`${question}: ${refusal}`);
+    this.app.timeline.draw();
+  }
+
   async tryTurns(run, turns, question) {
-    const { event } = this;
+    const { event, replies, numbers } = this;
     const lines = turns.flatMap(it => [`alter ${event.number} ${it} ${event.text}`, question]);
-    const replies = await run.ask(lines, Priority.COMPARISON);
-    run.known = 0;
+    const found = await run.ask(lines, Priority.COMPARISON);
     turns.forEach((turn, at) => {
-      const [altered, reply] = replies.slice(2 * at, 2 * at + 2);
+      const [altered, reply] = found.slice(2 * at, 2 * at + 2);
       const outcome = isRefused(altered) ? altered : reply;
-      if (!this.replies.includes(outcome)) this.replies.push(outcome);
-      this.outcomes.set(turn, this.replies.indexOf(outcome));
+      if (!numbers.has(outcome)) numbers.set(outcome, replies.push(outcome) - 1);
+      this.outcomes.set(turn, numbers.get(outcome));
     });
   }
 
@@ -129,7 +155,9 @@ export class Sweep {
   }
 
   show(all) {
-    const known = this.outcomes.size;
+    const known = this.outcomes.size, now = performance.now();
+    if (known && known < all && now - this.shown < TIME_BETWEEN) return;
+    this.shown = now;
     const runs = runsOf(this.outcomes);
     const state = known === all ? "each was tried" : "tried so far; between them isn't known";
     this.say(`${known} of ${all} turns: ${state}. ${this.replies.length} outcomes.`);

@@ -1,8 +1,8 @@
 // The timeline: lanes over turns, a cursor, and marks of events that can be dragged.
 
 import { LanesDrawing, View, lanesOf } from "./lanes.js";
-import { eventInWords, eventLabel } from "./past.js";
-import { delayed } from "./page.js";
+import { Past, eventInWords, eventLabel, eventsIn } from "./past.js";
+import { delayed, keepChildren } from "./page.js";
 import { LAST_TURN } from "./replies.js";
 
 const [LEFT_WIDE, LEFT_NARROW, RIGHT] = [112, 74, 10];
@@ -34,7 +34,7 @@ export class Timeline {
     this.whole = 1000;
     this.cursor = 0;
     this.picture = this.ghost = this.part = null;
-    this.events = this.oldEvents = [];
+    this.past = this.oldPast = new Past();
     this.sweep = null;
     this.wanted = 0;
     this.symbols = {};
@@ -124,36 +124,40 @@ export class Timeline {
     if (!this.width) return;
     const { lanes, height } = lanesOf(this.words, this.sweep !== null);
     this.lanes = lanes;
-    const { view, width, picture, ghost, symbols, events, part, sweep } = this;
+    const { view, width, picture, ghost, symbols, part, sweep } = this;
+    const events = this.eventsInSight(this.past);
     this.drawing.draw(
       { view, lanes, height, width, picture, ghost, symbols, events, part, sweep });
     this.cursorLine.style.height = `${height}px`;
-    this.placeMarks();
+    this.placeMarks(events);
     this.placeCursor();
     this.listener.onDrawn();
+  }
+
+  eventsInSight({ script }) {
+    return eventsIn(script, this.view.first, this.view.end);
   }
 
   /** What is drawn, by those who show it otherwise. @returns {import("./sight.js").Drawn} */
   drawn() {
     const { view, picture, ghost, part } = this;
     return {
-      first: view.first, end: view.end, events: this.events, gone: this.goneEvents(), picture,
-      ghost, part,
+      first: view.first, end: view.end, events: this.eventsInSight(this.past),
+      gone: this.goneEvents(), picture, ghost, part,
     };
   }
 
   // Marks of events
 
-  placeMarks() {
+  placeMarks(seen) {
     if (this.dragged) {
       for (const it of this.marks.children) this.place(it, Number(it.dataset.turn));
       return;
     }
-    const { view } = this;
-    const seen = this.events.filter(it => it.turn >= view.first && it.turn <= view.end);
     this.isCut = seen.length > MOST_MARKS;
     const focused = document.activeElement?.dataset?.event;
-    this.marks.replaceChildren(...this.ghostMarks(), ...this.eventMarks(seen.slice(0, MOST_MARKS)));
+    const marks = this.eventMarks(seen.slice(0, MOST_MARKS));
+    keepChildren(this.marks, [...marks, ...this.ghostMarks()]);
     if (focused) this.marks.querySelector(`[data-event="${focused}"]`)?.focus();
   }
 
@@ -194,10 +198,11 @@ export class Timeline {
 
   /** The old past's events in sight that aren't there now. */
   goneEvents() {
-    const { view } = this;
-    const now = new Set(this.events.map(it => `${it.turn} ${it.text}`));
-    return this.oldEvents.filter(it => !now.has(`${it.turn} ${it.text}`)
-      && it.turn >= view.first && it.turn <= view.end);
+    const { past } = this;
+    const isLike = (it, other) => it?.turn === other.turn && it.text === other.text;
+    return this.eventsInSight(this.oldPast)
+      .filter(it => !isLike(past.events.get(it.number), it))
+      .filter(it => !eventsIn(past.script, it.turn, it.turn).some(now => isLike(now, it)));
   }
 
   ghostMarks() {
@@ -212,7 +217,7 @@ export class Timeline {
   }
 
   eventOf(button) {
-    return this.events.find(it => String(it.number) === button.dataset.event);
+    return this.past.events.get(Number(button.dataset.event));
   }
 
   // Pointer and wheel

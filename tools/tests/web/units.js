@@ -4,14 +4,16 @@ import { Comparison } from "/comparison.js";
 import { byteOfKey } from "/console.js";
 import { marked } from "/differences.js";
 import { View, notesOf, ticksOf } from "/lanes.js";
-import { Past, eventLabel, isEdit, turnNamed } from "/past.js";
+import { Past, eventLabel, eventsIn, isEdit } from "/past.js";
 import { fragmentOf, placeOf } from "/place.js";
+import { searchOf, turnsAsked } from "/questions.js";
 import {
   bytesOf, devicesOf, functionInWords, interruptsOf, keyName, lastOf, pageInWords, pagesOf,
   physicalOf, readableText, registersOf, statusInWords, tailOf, turnsOf, visibleName, writesOf,
 } from "/replies.js";
+import { Priority, Run } from "/run.js";
 import { boundedRows, rowsOf } from "/sight.js";
-import { kindOfFile, symbolNear, symbolsOf, withFile } from "/session.js";
+import { kindOfFile, lastTurnOf, symbolNear, symbolsOf, withFile } from "/session.js";
 import { fourthBalance, verdictOf } from "/story.js";
 import { runsOf, spreadTurns } from "/sweep.js";
 
@@ -75,8 +77,8 @@ export function test_text() {
 
 export function test_lines() {
   equal(["at 5 tick", "regs 4", "# at 5"].map(isEdit), [true, false, false]);
-  equal(["regs 7", "alter 3 9 tick", "first 0 40 at 1040", "core 1000 5", "when 9"].map(turnNamed),
-    [7, 9, 40, 0, 0]);
+  const lines = ["regs 7", "alter 3 9 tick", "first 2 40 at 1040", "regs 1000000001", "mem 5x 0 1"];
+  equal(lines.map(turnsAsked), [[7, 7], [0, 0], [2, 40], [0, 0], [0, 0]]);
 }
 
 /** A past of these edits; events are numbered from 1 on. */
@@ -91,7 +93,7 @@ export function test_past_is_saved() {
   const past = pastOf("delay disk 200", "disk 0 100", "core 1000 5", "at 9 key 66", "at 5 tick",
     "alter 1 3 key 67", "uncore 1000", "delay printer 1");
   equal(past.lines(), ["delay disk 200", "disk 0 100", "at 3 key 67", "at 5 tick"]);
-  equal(eventLabel(past.script()[0]), "7");
+  equal(eventLabel(past.script[0]), "7");
 }
 
 export function test_inverses() {
@@ -100,13 +102,12 @@ export function test_inverses() {
   equal(past.inverse("core 2000 7"), ["uncore 2000"]);
   equal(past.inverse("delay disk 3"), ["delay disk 200"]);
   equal(past.inverse("alter 1 8 key 66"),
-    ["alter 1 9 key 66", "alter 2 10 tick", "alter 2 9 tick"]);
+    ["alter 1 9 key 66", "alter 2 8 tick", "alter 2 9 tick"]);
   equal(past.inverse("drop 2"), ["at 9 tick"]);
-  const script = it => it.script().map(event => event.text);
-  const altered = past.copy();
-  altered.apply("alter 1 8 key 66", "ok");
-  for (const line of past.inverse("alter 1 8 key 66")) altered.apply(line, "ok");
-  equal(script(altered), script(past));
+  const script = () => past.script.map(event => event.text);
+  const [before, back] = [script(), past.inverse("alter 1 8 key 66")];
+  for (const line of ["alter 1 8 key 66", ...back]) past.apply(line, "ok");
+  equal(script(), before);
 }
 
 export function test_symbols() {
@@ -187,6 +188,124 @@ export async function test_where_two_pasts_part() {
   equal(comparison.firstEdited(), 20);
   equal(await comparison.part(9_000), { edited: 20, turn: 5_000, isExact: true });
   equal(await comparison.part(4_000), { edited: 20, turn: null, isExact: false });
+}
+
+/** A machine that notes what it is asked, and the turns that each message runs, with checkpoints as
+    the program has them. A word is written every 20,000 turns, and no PC is 2. */
+class NotingMachine {
+  constructor() {
+    Object.assign(this, { sent: [], runs: [], at: 0, known: 0, stride: 10_000, events: 0 });
+  }
+
+  get lines() {
+    return this.sent.flat();
+  }
+
+  async ask(lines) {
+    this.sent.push(lines);
+    this.runs.push(0);
+    return lines.map(it => `${this.reply(it)}\n`);
+  }
+
+  reply(line) {
+    const [word, first, second, third] = line.split(" ");
+    if (third === "x" || second === "1001") return "refused 3 OddAddress";
+    if (word === "at") return `event ${++this.events}`;
+    if (["alter", "drop"].includes(word)) return "ok";
+    if (Number(first) > 1_000_000_000) return "refused 7 TurnTooLarge";
+    const end = Number(["first", "writes"].includes(word) ? second : first);
+    this.runTo(end);
+    return word === "first" ? "first none" : word === "writes" ? this.writes(+first, end) : line;
+  }
+
+  runTo(turn) {
+    const known = Math.min(this.known, turn), checkpoint = known - known % this.stride;
+    const begin = this.at <= turn ? Math.max(this.at, checkpoint) : checkpoint;
+    this.runs.push(this.runs.pop() + turn - begin);
+    this.at = turn;
+    this.known = Math.max(this.known, turn);
+    while (this.known >= 256 * this.stride) this.stride *= 2;
+  }
+
+  writes(first, end) {
+    const lines = [];
+    for (let turn = Math.ceil(first / 20_000) * 20_000; turn < end; turn += 20_000) {
+      lines.push(`${turn} cpu 000001`);
+    }
+    return [`writes ${lines.length}`, ...lines].join("\n");
+  }
+}
+
+class NotingRun extends Run {
+  start() {
+    this.forget();
+    this.machine = new NotingMachine();
+  }
+}
+
+const FAR = "regs 1000000000";
+
+export async function test_an_edit_runs_nothing() {
+  const run = new NotingRun({});
+  const refused = await run.load(["at 99999999 tick x", "at 5 tick", "regs 7"]);
+  equal(refused, [{ line: "at 99999999 tick x", reply: "refused 3 OddAddress" }]);
+  const edits = ["at 400000000 tick", "alter 1 999999990 tick", "drop 2"];
+  for (const line of edits) await run.edit(line);
+  await run.undo();
+  equal(run.machine.lines, ["at 99999999 tick x", "at 5 tick", ...edits, "at 400000000 tick"]);
+}
+
+export async function test_a_long_question_is_asked_in_parts() {
+  const run = new NotingRun({});
+  const lines = Array.from({ length: 250 }, (_, at) => `at ${4_000_000 * (at + 1)} tick x`);
+  await run.load(lines);
+  equal(await run.ask([FAR]), [FAR]);
+  equal(run.machine.runs.every(it => it <= 4_000_000), true);
+  // looks that lie far apart, at turns that were run
+  const looks = Array.from({ length: 1_000 }, (_, at) => `regs ${1_000_000 * at}`);
+  await run.ask([...looks, ...looks.reverse()]);
+  equal(run.machine.runs.every(it => it <= 4_000_000), true);
+}
+
+export async function test_the_cursor_goes_before_a_long_question() {
+  const run = new NotingRun({});
+  const far = run.ask([FAR], Priority.QUESTION);
+  while (run.machine.lines.length < 20) await null;
+  equal(await run.ask(["regs 5"], Priority.CURSOR), ["regs 5"]);
+  equal(run.machine.lines.length < 25, true);
+  run.stop = () => run.jobs.forEach(it => { it.token = { isStopped: true }; });
+  run.stop();
+  equal(await far.catch(error => error.message), "the question was stopped");
+}
+
+export async function test_searches_in_parts() {
+  const run = new NotingRun({});
+  const asked = ["first 7 30000000 at 2", "writes 10 4000000 2000", "writes 10 90000000 2000",
+    "writes 1 5120001 2000", "writes 1 5120002 2000"];
+  const replies = await run.ask(asked);
+  equal(replies.map(it => it.split("\n")[0]),
+    ["first none", "writes 199", "writes 256 or more", "writes 256", "writes 256 or more"]);
+  equal(replies[2].split("\n").at(-1), "5120000 cpu 000001");
+  equal(run.machine.runs.every(it => it <= 4_000_000), true);
+}
+
+export async function test_what_is_refused_is_refused_at_once() {
+  const run = new NotingRun({});
+  const lines = ["regs 2000000000", "mem 1000000000 1001 1"];
+  equal(await run.ask(lines), ["refused 7 TurnTooLarge", "refused 3 OddAddress"]);
+  equal(run.machine.runs.every(it => it <= 64), true);
+  const refusals = [FAR, "when 5", "when x", "mem 5 1001 1"].map(it => run.refusalOf(it));
+  const odd = "refused 3 OddAddress";
+  equal(await Promise.all(refusals), [null, null, odd, odd]);
+}
+
+export async function test_a_script_keeps_its_order() {
+  const lines = Array.from({ length: 400 }, (_, at) => `at ${at * 7 % 50} key ${at.toString(8)}`);
+  const past = pastOf(...lines, "alter 9 3 tick", "alter 10 13 tick", "drop 5", "alter 7 42 tick");
+  const sorted = [...past.events.values()].sort((a, b) => a.turn - b.turn || a.place - b.place);
+  equal(past.script, sorted);
+  equal(eventsIn(past.script, 3, 4), sorted.filter(it => it.turn >= 3 && it.turn <= 4));
+  equal(lastTurnOf(["regs 7", ...new Array(300_000).fill("text 5"), "at 9 tick"]), 7);
 }
 
 export function test_sweeps_begin_far_apart() {

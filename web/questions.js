@@ -1,0 +1,70 @@
+// What a question needs of the machine: the turns that it is about, and how a search of many turns
+// is asked part by part.
+
+import { wordsOfLine } from "./past.js";
+import { LAST_TURN, isRefused, turnOf } from "./replies.js";
+
+const OF_A_TURN = new Set(
+  ["regs", "mem", "dsk", "text", "punched", "last", "trail", "devices", "pages"]);
+const OF_TURNS = new Set(["first", "writes", "change"]);
+const MOST_WRITES = 256;
+// In the first turns of a run a question is answered at once. A trail has at most so many turns.
+const EARLY = 64;
+
+/** A turn as the program takes it: it refuses any other at once. */
+const isTurn = word => /^\d{1,10}$/.test(word ?? "") && Number(word) <= LAST_TURN;
+
+/** The turns from one before which a question is to one; both are 0 if the program runs none. */
+export function turnsAsked(line) {
+  const [word, ...rest] = wordsOfLine(line);
+  const turns = rest.slice(0, OF_A_TURN.has(word) ? 1 : OF_TURNS.has(word) ? 2 : 0);
+  const [begin, end] = turns.every(isTurn) ? turns.map(Number) : [];
+  return end < begin ? [0, 0] : [begin ?? 0, end ?? begin ?? 0];
+}
+
+/** A question like this one about early turns. It is refused if this one is, whatever its turn. */
+export function earlyQuestion(line) {
+  const [word, ...rest] = wordsOfLine(line);
+  if (word === "when") return `text ${EARLY} from ${rest.join(" ")}`;
+  const turns = OF_TURNS.has(word) ? 2 : OF_A_TURN.has(word) ? 1 : 0;
+  const early = rest.slice(0, turns).map(it => isTurn(it) ? Math.min(EARLY, Number(it)) : it);
+  return [word, ...early, ...rest.slice(turns)].join(" ");
+}
+
+/** The byte of the console's text that `when` is about; null for any other line. */
+export function byteAsked(line) {
+  const [, byte] = /^[ \t]*when[ \t]+(\d{1,10})[ \t]*$/.exec(line) ?? [];
+  return byte === undefined ? null : Number(byte);
+}
+
+/**
+ * A search that is asked in parts, from its first turn on; null for any other line.
+ * `line(from, to)` asks about turns, `add(reply, to)` takes the reply. It returns that of the whole
+ * search, or null if the turns from `to` on are to be searched.
+ * @typedef {{from: number, end: number, line: (from: number, to: number) => string,
+ *   add: (reply: string, to: number) => string | null}} Search
+ * @returns {Search | null}
+ */
+export function searchOf(line) {
+  const [word, , , ...rest] = wordsOfLine(line);
+  const [from, to] = turnsAsked(line);
+  if (!OF_TURNS.has(word) || to === from) return null;
+  const part = (low, high) => [word, low, high, ...rest].join(" ");
+  const found = [];
+  const add = (reply, high) => {
+    if (isRefused(reply)) return reply;
+    if (word === "writes") return addWrites(found, reply, high, to);
+    return turnOf(reply) === null && high < to ? null : reply;
+  };
+  return { from, end: to, line: part, add };
+}
+
+/** Adds the writes of a part; returns the reply to the whole search if it is known. */
+function addWrites(found, reply, high, end) {
+  found.push(...reply.split("\n").slice(1));
+  const lines = found.slice(0, MOST_WRITES);
+  const isFull = lines.length === MOST_WRITES;
+  if (!isFull && high < end) return null;
+  const hasMore = isFull && Number(lines.at(-1).split(" ")[0]) + 1 < end;
+  return [`writes ${lines.length}${hasMore ? " or more" : ""}`, ...lines].join("\n");
+}
