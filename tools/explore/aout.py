@@ -8,6 +8,7 @@ from dataclasses import dataclass
 from typing import Iterator, Optional
 
 from .errors import ExploreError
+from .in_words import counted
 from .symbol_files import Symbol
 
 HEAD = struct.Struct("<8H")
@@ -61,7 +62,7 @@ class Program:
     @property
     def parts(self) -> str:
         data = f"{len(self.data)} of data at {self.data_address:o}"
-        return f"{len(self.text)} bytes of text at 0, {data}, {self.bss} of bss"
+        return f"{counted(len(self.text), 'byte')} of text at 0, {data}, {self.bss} of bss"
 
 
 def program_of(data: bytes) -> Program:

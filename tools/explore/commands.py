@@ -52,17 +52,28 @@ class Sitting:
     has_answers: bool = False
 
 
+@dataclass(frozen=True)
+class Shown:
+    """The registers that `show` showed last: before which turn, and of which past."""
+
+    turn: int
+    registers: Registers
+    start: Start
+    journal: list[str]
+
+
 @dataclass
 class Explorer:
-    """What the commands work on. The edits that were saved last are those of the session at
-    first."""
+    """What the commands work on. `turn` is the current turn: the one that a line found or showed
+    last, also if an edit changes what happens before it. The edits that were saved last are those
+    of the session at first."""
 
     machine: Machine
     disassembler: Disassembler
     symbols: Symbols = field(default_factory=Symbols)
     session: str = ""
-    shown: Optional[Registers] = None
-    shown_turn: int = 0
+    turn: int = 0
+    shown: Optional[Shown] = None
     is_terminal: bool = False
     steps: Steps = field(default_factory=Steps)
     saved: list[str] = field(default_factory=list)
@@ -111,7 +122,7 @@ class Command:
         return self.form.split()[0]
 
     def lines(self, explorer: Explorer, words: str) -> Iterator[str]:
-        match = self.pattern.fullmatch(words.strip())
+        match = self.pattern.fullmatch(words.strip(" \t"))
         if match is None:
             commas = comma_fault(words)
             raise ExploreError(f"{commas}; {self.form}" if commas else f"the form is: {self.form}")
@@ -133,8 +144,22 @@ COMMANDS: dict[str, Command] = {}
 
 
 def check_turn(turn: int) -> None:
+    """A question may be about the turns 0 to LAST_TURN, which is the end of the run."""
     if turn > LAST_TURN:
         raise ExploreError(f"turn {turn} is above {LAST_TURN}")
+
+
+END_OF_RUN = f"turn {LAST_TURN} is the end of the run: the last turn is {LAST_TURN - 1}"
+
+
+def turns_between(first: int, last: int) -> range:
+    """The turns of `from N to M`, each of which runs."""
+    check_turn(max(first, last))
+    if LAST_TURN in (first, last):
+        raise ExploreError(END_OF_RUN)
+    if last < first:
+        raise ExploreError(f"turn {last} comes before turn {first}")
+    return range(first, last + 1)
 
 
 def check_drive(machine: Machine) -> None:
@@ -146,24 +171,25 @@ def check_drive(machine: Machine) -> None:
 # The parts of patterns: a turn, a count and an event are decimal, a word is octal, and so is an
 # address, or it is a symbol.
 PARTS = {
-    "decimal": r"\d{1,10}",
+    "decimal": r"[0-9]{1,10}",
     "octal": r"[0-7]{1,10}",
     "address": ADDRESS,
-    "from": r"((^| )from (?P<first>\d{1,10}))?",
-    "to": r"((^| )to (?P<last>\d{1,10}))?",
+    "from": r"((^| )from (?P<first>[0-9]{1,10}))?",
+    "to": r"((^| )to (?P<last>[0-9]{1,10}))?",
 }
 
 
 def command(form: str, pattern: str, summary: str) -> Callable[[Run], Run]:
     """Adds the function to the table. Its docstring is the detail of `help`. In the pattern a
-    space stands for any space, and <turn:decimal> for a named part."""
+    space stands for spaces and tabs, and <turn:decimal> for a named part."""
 
     def part(found: "re.Match[str]") -> str:
         return f"(?P<{found[1]}>{PARTS[found[2]]})"
 
     addresses = frozenset(re.findall(r"<(\w+):address>", pattern))
     whole = re.sub(r"<(\w+):(\w+)>", part, pattern)
-    whole = whole.replace("{from}", PARTS["from"]).replace("{to}", PARTS["to"]).replace(" ", r"\s+")
+    whole = whole.replace("{from}", PARTS["from"]).replace("{to}", PARTS["to"])
+    whole = whole.replace(" ", r"[ \t]+")
 
     def register(run: Run) -> Run:
         detail = "\n".join(line.strip() for line in (run.__doc__ or "").strip().splitlines())
@@ -181,10 +207,8 @@ def turn_range(arguments: Arguments, first: int = 0, turns: int = SEARCHED_TURNS
     """The turns of `[from N] [to M]`: without `from` they begin at `first`, and without `to` they
     are this number of turns."""
     begin = arguments.decimal("first", first)
-    last = arguments.decimal("last", begin + turns - 1)
-    if last < begin:
-        raise ExploreError(f"turn {last} comes before turn {begin}")
-    return range(begin, min(last + 1, LAST_TURN))
+    end = min(begin + turns, LAST_TURN) - 1
+    return turns_between(begin, arguments.decimal("last", end))
 
 
 def searched_range(explorer: Explorer, arguments: Arguments) -> range:

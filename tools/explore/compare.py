@@ -1,15 +1,19 @@
 """Two pasts beside each other: `compare`."""
+import os.path
+import re
 from dataclasses import dataclass
 from typing import Iterator, Optional
 
 from .commands import Arguments, Explorer, command, turn_range
 from .crew import Progress
+from .in_words import span
 from .machine import Machine
 from .past import Past
 
 LOOKED_AT_SINGLY = 512
 LOOKS = 512
 COMPARED_TURNS = 100_000
+BYTES_BEFORE, BYTES_AFTER = 20, 40  # of a text, around the first byte that differs
 
 
 @dataclass(frozen=True)
@@ -29,10 +33,9 @@ ASPECTS = [
 
 @dataclass(frozen=True)
 class Parting:
-    """The turn in which two machines part, and whether no earlier turn was passed over."""
+    """Where two machines part: the turn in words, and the replies after it."""
 
-    turn: int
-    is_first: bool
+    where: str
     before: str
     after: str
 
@@ -61,20 +64,39 @@ def parting(one: Machine, other: Machine, aspect: Aspect, turns: range) -> Optio
             equal = look
         else:
             return None
-    is_first = equal is None or look - equal == 1
-    while equal is not None and look - equal > 1:
+    if equal is None:
+        return Parting(f"differ before turn {look} already", first, second)
+    when = "in" if look - equal == 1 else "at the latest in"
+    while look - equal > 1:
         middle = (equal + look) // 2
         first, second = pair(middle)
         equal, look = (middle, look) if first == second else (equal, middle)
-    before, after = pair(look)
-    return Parting(look - 1 if equal is not None else look, is_first, before, after)
+    return Parting(f"part {when} turn {look - 1}", *pair(look))
+
+
+def not_found(turns: range) -> str:
+    """That there is no difference, and how many turns were looked at."""
+    looked_at = len(looks_of(turns)) - 1  # the last look is after them
+    if looked_at == len(turns):
+        return f"no difference in {span(turns)}"
+    return f"no difference found in {span(turns)}, of which {looked_at} were looked at"
+
+
+def parts_of_texts(*replies: str) -> str:
+    """The replies of `text` around the first byte that differs."""
+    texts = [re.findall(r"\\[0-7]{3}|.", it.partition(":")[2]) for it in replies]
+    at = len(os.path.commonprefix(texts))
+    begin, end = max(0, at - BYTES_BEFORE), at + BYTES_AFTER
+    return " | ".join(
+        f"{'..' * (begin > 0)}{''.join(it[begin:end])}{'..' * (len(it) > end)}" for it in texts
+    )
 
 
 def differences(before: str, after: str) -> str:
-    """The fields that differ of two replies of names and words, or the two replies whole."""
+    """The fields that differ of two replies of names and words, or what differs of two texts."""
+    if before.startswith("text"):
+        return parts_of_texts(before, after)
     ours, theirs = before.split(), after.split()
-    if len(ours) != len(theirs) or before.startswith("text"):
-        return f"{before[-60:]} | {after[-60:]}"
     skipped = len(ours) % 2 if before.startswith("devices") else 0
     names: dict[str, str] = {}
     for at in range(skipped, len(ours) - 1, 2):
@@ -106,24 +128,24 @@ def compare(explorer: Explorer, arguments: Arguments) -> Iterator[str]:
     to M that leaves their registers, their devices or their texts different. Without `from` N is
     the first turn that the edit can change, without `to` M is N + 99999. The first 512 turns are
     looked at one by one; from then on a stride is looked at, and halved where the two differ. So
-    a later parting may have come and gone before, and the reply says 'at the latest'."""
+    a parting may have come and gone before: the reply says 'at the latest', or how many turns were
+    looked at."""
     machine = explorer.machine
     if not machine.journal:
         yield "no edit was made"
         return
     line = machine.journal[-1]
+    before = Past.of(machine.journal[:-1], machine.replies)
+    turns = turn_range(arguments, first_turn(line, before), COMPARED_TURNS)
     without = machine.twin(machine.journal[:-1])
     try:
-        turns = turn_range(arguments, first_turn(line, without.past), COMPARED_TURNS)
         yield f"without | with: {line}"
         for aspect in ASPECTS:
             found = parting(without, machine, aspect, turns)
             if found is None:
-                where = f"in the turns {turns.start} to {turns.stop - 1}"
-                yield f"{aspect.title}: no difference found {where}"
-                continue
-            when = "in" if found.is_first else "at the latest in"
-            what = differences(found.before, found.after)
-            yield f"{aspect.title} part {when} turn {found.turn}: {what}"
+                yield f"{aspect.title}: {not_found(turns)}"
+            else:
+                what = differences(found.before, found.after)
+                yield f"{aspect.title} {found.where}: {what}"
     finally:
         without.close()

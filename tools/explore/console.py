@@ -7,6 +7,7 @@ from typing import Iterator, Optional
 from .at_work import AtWork
 from .commands import Arguments, Explorer, Sitting, command
 from .errors import ExploreError
+from .in_words import counted
 from .language import MEANINGS
 from .machine import LAST_TURN, Machine, is_refused
 from .pace import Pace, Slice
@@ -159,24 +160,26 @@ class Console:
         """How the machine runs, and what lies ahead."""
         if self.rate:
             ticks = max(1, round(self.rate / TICKS))
-            pace = f"{self.rate} turns a second; delay clock {ticks} is {TICKS} ticks a second"
+            clock = f"delay clock {ticks} is {counted(round(self.rate / ticks), 'tick')} a second"
+            pace = f"{counted(self.rate, 'turn')} a second; {clock}"
         else:
             pace = "as fast as this computer can"
         yield f"from turn {self.turn} on, {pace}"
         ahead = [it.turn for it in self.machine.past.script() if it.turn >= self.turn]
         if ahead:
-            events = f"{len(ahead)} event{' lies' if len(ahead) == 1 else 's lie'} ahead"
+            events = f"{counted(len(ahead), 'event')} {'lies' if len(ahead) == 1 else 'lie'} ahead"
             happen = "it happens too" if len(ahead) == 1 else "they happen too"
             yield f"{events}, from turn {ahead[0]} on: {happen}, or drop from {self.turn} first"
         if self.turn >= WARNED_TURN:
-            yield f"{LAST_TURN - self.turn} turns are left up to the last one, {LAST_TURN}"
+            left = counted(LAST_TURN - self.turn, "turn")
+            yield f"the run has {left} left, up to turn {LAST_TURN}"
 
     def ending(self) -> Iterator[str]:
         """What has happened."""
         if not self.is_at_begin_of_line():
             yield ""
         last = ", the last one" if self.turn == LAST_TURN else ""
-        turns = f"{self.turn - self.first_turn} turns in {self.seconds:.1f} s"
+        turns = f"{counted(self.turn - self.first_turn, 'turn')} in {self.seconds:.1f} s"
         yield f"turn {self.turn}{last}: {turns}; {self.events_in_words()}"
         if self.withheld:
             queries = f"{self.withheld} quer{'y' if self.withheld == 1 else 'ies'}"
@@ -256,5 +259,5 @@ def console(explorer: Explorer, arguments: Arguments) -> Iterator[str]:
             yield from seat.ending()
             raise
         finally:
-            sitting.turn = seat.turn
+            sitting.turn = explorer.turn = seat.turn
         yield from seat.ending()

@@ -8,6 +8,7 @@ from typing import Iterator, Mapping, Optional, Sequence
 from .commands import Explorer, check_drive
 from .crew import Progress
 from .finder import parts_of
+from .in_words import counted
 from .listing import turns_in_words
 from .machine import Machine
 from .replies import SECTOR_WORDS, Devices, DiskFunction
@@ -106,7 +107,8 @@ def function_in_words(devices: Devices) -> str:
     core = f"core {devices.bus_address:06o}"
     sector = f"sector {devices.sector} of drive {devices.drive}"
     ends = (core, sector) if devices.function == DiskFunction.WRITE else (sector, core)
-    return f"a {devices.function.title} of {devices.word_count} words from {ends[0]} to {ends[1]}"
+    words = counted(devices.word_count, "word")
+    return f"a {devices.function.title} of {words} from {ends[0]} to {ends[1]}"
 
 
 def begin_in_words(begin: Optional[int], by: Mapping[int, str]) -> str:

@@ -4,6 +4,7 @@ from collections import Counter
 from dataclasses import dataclass, field
 from typing import Iterator, Mapping, Optional, Sequence
 
+from .in_words import counted
 from .picture import Byte, Column, Picture, Transfer, WordHistory
 from .replies import VECTORS, Mode, Turn
 
@@ -128,7 +129,7 @@ class Labels:
             self.canvas.text(self.left(label), y, label.text, label.kind)
         bottom = self.top + ROW * max((row + 1 for _, row in drawn), default=0) + 6
         if left_out:
-            told = f"{left_out} {what}s have no room" if left_out > 1 else f"1 {what} has no room"
+            told = f"{counted(left_out, what)} {'has' if left_out == 1 else 'have'} no room"
             self.canvas.text(self.canvas.left, bottom + 6, told, "faint")
             bottom += ROW
         self.canvas.bottom = max(self.canvas.bottom, bottom)
@@ -184,7 +185,7 @@ def draw_counter(canvas: Canvas, picture: Picture, symbols: Symbols) -> None:
     draw_bands(canvas, picture.columns, top + 1, PC_LANE - 2)
     least = min(it.least for it in picture.columns)
     scale = Scale(least, max(it.largest for it in picture.columns), top)
-    draw_axes(canvas, scale, symbols)
+    draw_axes(canvas, scale, symbols, has_modes=len({it.mode for it in picture.columns}) > 1)
     ends = [*(it.turn for it in picture.columns[1:]), canvas.turns.stop]
     if picture.block == 1:
         path = f"M{canvas.left} {scale.y(picture.columns[0].least):.1f}"
@@ -202,8 +203,9 @@ def draw_counter(canvas: Canvas, picture: Picture, symbols: Symbols) -> None:
     canvas.add(f'<path class="range" d="{"".join(parts)}"/>')
 
 
-def draw_axes(canvas: Canvas, scale: Scale, symbols: Symbols) -> None:
-    """The symbols of one mode at the left, those of the other one at the right; or addresses."""
+def draw_axes(canvas: Canvas, scale: Scale, symbols: Symbols, has_modes: bool) -> None:
+    """The symbols of one mode at the left, those of the other one at the right; or addresses. If
+    there are turns of several modes, the mode stands above its symbols."""
     modes = list(symbols)
     if not modes:
         middle = (scale.least + scale.largest) // 4 * 2
@@ -212,9 +214,9 @@ def draw_axes(canvas: Canvas, scale: Scale, symbols: Symbols) -> None:
         return
     for at, mode in enumerate(modes):
         draw_axis_of(canvas, scale, symbols[mode], is_left=at == 0)
-    if len(modes) > 1:
-        canvas.text(canvas.left - 4, scale.top + 10, modes[0].value, "faint", "end")
-        canvas.text(canvas.end + 4, scale.top + 10, modes[1].value, "faint")
+        if has_modes:
+            x, anchor = (canvas.end + 4, "start") if at else (canvas.left - 4, "end")
+            canvas.text(x, scale.top + 10, mode.value, "faint", anchor)
 
 
 def draw_axis_of(
@@ -222,12 +224,13 @@ def draw_axis_of(
 ) -> None:
     seen = scale.top + 6
     x = canvas.left - 4 if is_left else canvas.end + 4
-    room = (canvas.left - 10 if is_left else canvas.right - 6) / 7
+    room = int((canvas.left - 10 if is_left else canvas.right - 6) / 7)
     for counter, name in sorted(marks, reverse=True):
         y = scale.y(counter)
         if scale.least <= counter <= scale.largest and y - seen >= 12:
             seen = y
-            canvas.text(x, y + 4, name[: int(room)], "faint", "end" if is_left else "start")
+            text = name if len(name) <= room else f"{name[: room - 1]}…"
+            canvas.text(x, y + 4, text, "faint", "end" if is_left else "start")
             begin = canvas.left if is_left else canvas.end - 4
             canvas.add(f'<path class="grid" d="M{begin} {y:.1f}h4"/>')
 
@@ -307,7 +310,7 @@ def draw_text(canvas: Canvas, picture: Picture) -> None:
         labels.put(begin, label, "", len(label))
     labels.draw("byte")
     if picture.text.cut:
-        text = f"{picture.text.cut} further bytes aren't drawn"
+        text = f"{counted(picture.text.cut, 'further byte')} not drawn"
         canvas.text(canvas.left, canvas.bottom + 6, text, "faint")
         canvas.bottom += ROW
 
@@ -354,7 +357,8 @@ def draw_word(canvas: Canvas, history: WordHistory) -> None:
                 canvas.x(value.turn) - 1, level[value.word] - 1, 2, 2, "sample", title
             )
         labels.put(canvas.left, history.unknown, "faint")
-        labels.put(canvas.left, f"{len(history.values)} samples, {range_of(history)}", "faint")
+        samples = counted(len(history.values), "sample")
+        labels.put(canvas.left, f"{samples}, {range_of(history)}", "faint")
     else:
         draw_steps(canvas, history, level, labels)
     labels.draw()

@@ -3,14 +3,14 @@ from typing import Iterator
 
 from .commands import Arguments, Explorer, Step, command
 from .errors import ExploreError
+from .in_words import counted
 from .interrupts import INTERRUPTS
-from .journal import counted
 from .restart import begin_as
 
 
 def step_in_words(step: Step) -> str:
     count = len(step.edits)
-    return step.line if count < 2 else f"{step.line} ({counted(count)})"
+    return step.line if count < 2 else f"{step.line} ({counted(count, 'edit')})"
 
 
 @command("undo", r"", "takes back the edits of the last line that made any")
@@ -54,4 +54,4 @@ def drop_from(explorer: Explorer, arguments: Arguments) -> Iterator[str]:
     machine, turn = explorer.machine, arguments.decimal("turn")
     found = [it.number for it in machine.past.script() if it.turn >= turn]
     machine.edit_all([f"drop {it}" for it in found])
-    yield f"{len(found)} event{'' if len(found) == 1 else 's'} dropped"
+    yield f"{counted(len(found), 'event')} dropped"

@@ -12,6 +12,7 @@ import sessions
 
 from .errors import ExploreError
 from .files import is_locked_here
+from .in_words import counted
 from .options import MARK
 
 EDITS = {it.form.split()[0] for it in sessions.LANGUAGE if it.kind == sessions.EDIT}
@@ -268,10 +269,6 @@ def newest() -> Optional[Path]:
     return None
 
 
-def counted(count: int) -> str:
-    return f"{count} edit{'' if count == 1 else 's'}"
-
-
 def told() -> Iterator[str]:
     """That there is a journal, and how it is taken up."""
     path = newest()
@@ -279,5 +276,5 @@ def told() -> Iterator[str]:
         return
     found = Contents.of(path)
     when = time.strftime("%d %b %Y %H:%M", time.localtime(path.stat().st_mtime))
-    what = f"{counted(len(found.edits))} of {when} (session: {found.session})"
+    what = f"{counted(len(found.edits), 'edit')} of {when} (session: {found.session})"
     yield f"a journal has {what}: ./explore --resume takes them up"

@@ -3,12 +3,15 @@ import itertools
 from dataclasses import dataclass
 from typing import Iterator, Optional, Sequence
 
-from .commands import Arguments, Explorer, command
+from .commands import END_OF_RUN, Arguments, Explorer, Shown, command
+from .disassembly import Instruction
 from .errors import ExploreError
-from .machine import SHORT_SENT_AHEAD, Machine, is_refused
+from .machine import LAST_TURN, SHORT_SENT_AHEAD, Machine, is_refused
 from .replies import (
     INSTRUCTION,
     INTERRUPT,
+    IO_PAGE,
+    PHYSICAL,
     LastWrite,
     Mode,
     Pages,
@@ -19,6 +22,7 @@ from .replies import (
 )
 
 INSTRUCTION_WORDS, UNIT_BYTES, SEEN_AT_ONCE = 3, 0o20000, 4_096
+SHOWN_AT_ONCE, VIRTUAL = 16, 0o200000
 
 
 @dataclass(frozen=True)
@@ -57,7 +61,7 @@ class Fetch:
 
     @classmethod
     def of(cls, registers: Registers, pages: Pages, address: int, top: int) -> "Fetch":
-        places = [(address + 2 * at) % 0o200000 for at in range(INSTRUCTION_WORDS)]
+        places = [(address + 2 * at) % VIRTUAL for at in range(INSTRUCTION_WORDS)]
         found = [pages.physical(registers.mode, it) for it in places]
         core = itertools.takewhile(lambda it: it is not None and not it % 2 and it < top, found)
         return cls(registers, found[0], [it for it in core if it is not None])
@@ -123,19 +127,21 @@ def fetched_words(
     return [[values[turn, it] for it in words] for turn, words in places]
 
 
-def instruction_text(explorer: Explorer, address: int, words: list[int]) -> str:
-    if not words:
-        return "(can't be fetched)"
+def instruction_of(explorer: Explorer, address: int, words: list[int]) -> Instruction:
+    """The instruction with these words, one at least. If further words of it aren't there, of its
+    text the name alone is known."""
     padded = (words + [0] * INSTRUCTION_WORDS)[:INSTRUCTION_WORDS]
     found = explorer.disassembler.instruction(address, padded)
-    return found.text if found.words <= len(words) else f"{found.text} (can't be fetched whole)"
+    if found.words <= len(words):
+        return found
+    return Instruction(len(words), f"{found.text.split()[0]} .. (can't be fetched whole)")
 
 
 def act_text(explorer: Explorer, turn: Turn, fetch: Fetch, words: list[int]) -> str:
     if turn.act == INTERRUPT:
         return turn.interrupt()
     if turn.act == INSTRUCTION:
-        return instruction_text(explorer, turn.pc, words)
+        return instruction_of(explorer, turn.pc, words).text if words else "(can't be fetched)"
     idle = "halted" if fetch.registers.state == "halted" else "waits"
     return {"idle": idle, "trace": "trace trap", "stack": "stack trap"}[turn.act]
 
@@ -163,71 +169,137 @@ def turn_in_words(explorer: Explorer, turn: int) -> str:
     return turns_in_words(explorer, [turn])[0]
 
 
-@command("see N [C]", r"<turn:decimal>( <count:decimal>)?", "the C turns before turn N")
+@command("see [N [C]]", r"(<turn:decimal>( <count:decimal>)?)?", "the C turns before turn N")
 def see(explorer: Explorer, arguments: Arguments) -> Iterator[str]:
     """Shows the C turns before turn N, 16 if C isn't given: the turn, the mode, PC as the program
     has it, the address of core that it is at, the instruction or interrupt, and the symbol.
-    With mapping off both addresses are the same. C may be large: the turns are asked upwards, so
-    turns late in a run take little longer than early ones."""
-    end = arguments.decimal("turn")
-    count = min(end, arguments.decimal("count", 16))
+    With mapping off both addresses are the same. Without N it is the current turn. C may be large:
+    the turns are asked upwards, so turns late in a run take little longer than early ones."""
+    end = arguments.decimal("turn", explorer.turn)
+    count = min(end, arguments.decimal("count", SHOWN_AT_ONCE))
     if count == 0:
-        raise ExploreError(f"no turn comes before turn {end}, or C is 0")
+        raise ExploreError("C is 1 or more" if end else "no turn comes before turn 0")
     for first in range(end - count, end, SEEN_AT_ONCE):
         part = min(SEEN_AT_ONCE, end - first)
         turns = list(explorer.machine.turns(first, part))
         yield from [HEADING] if first == end - count else []
         yield from (it.line() for it in seen(explorer, turns))
+    explorer.turn = end
 
 
-COLUMNS = (("R0", "R3", "KSP"), ("R1", "R4", "USP"), ("R2", "R5", "PC"))
+REGISTER_ROWS = (("R0", "R3", "KSP"), ("R1", "R4", "USP"), ("R2", "R5", "PC"))
 
 
-@command("show N", r"<turn:decimal>", "the registers before turn N, and which have changed")
+@command("show [N]", r"(<turn:decimal>)?", "the registers before turn N, and what it does")
 def show(explorer: Explorer, arguments: Arguments) -> Iterator[str]:
-    """Shows the registers before turn N as a table. A `*` marks what is different from the last
-    registers that `show` showed."""
-    turn = arguments.decimal("turn")
-    now, before = explorer.machine.registers(turn), explorer.shown
+    """Shows the registers before turn N as a table, and what the machine does in turn N. Without N
+    it is the current turn. A `*` marks what is different from the last registers that `show`,
+    `step` or `back` showed."""
+    turn = arguments.decimal("turn", explorer.turn)
+    machine, before = explorer.machine, explorer.shown
+    now = Shown(turn, machine.registers(turn), machine.start, list(machine.journal))
+    words = now.registers.words
 
     def mark(name: str) -> str:
-        return "*" if before is not None and before.words[name] != now.words[name] else " "
+        return "*" if before is not None and before.registers.words[name] != words[name] else " "
 
-    since = f"   (* changed since turn {explorer.shown_turn})" if before is not None else ""
-    yield f"before turn {turn}: {now.state}{since}"
-    for row in COLUMNS:
-        yield "   ".join(f"{name:<3} {now.words[name]:06o}{mark(name)}" for name in row).rstrip()
-    yield f"PS  {now.ps:06o}{mark('PS')}  {now.status()}"
-    explorer.shown, explorer.shown_turn = now, turn
+    since = f"   (* {difference_in_words(before, now)})" if before is not None else ""
+    yield f"before turn {turn}: {now.registers.state}{since}"
+    for row in REGISTER_ROWS:
+        yield "   ".join(f"{name:<3} {words[name]:06o}{mark(name)}" for name in row).rstrip()
+    yield f"PS  {now.registers.ps:06o}{mark('PS')}  {now.registers.status()}"
+    yield END_OF_RUN if turn == LAST_TURN else f"turn {turn}: {turn_in_words(explorer, turn)}"
+    explorer.shown, explorer.turn = now, turn
+
+
+def difference_in_words(before: Shown, now: Shown) -> str:
+    """What a mark of `show` says."""
+    if (before.start, before.journal) == (now.start, now.journal):
+        return f"changed since turn {before.turn}"
+    return f"different from turn {before.turn} of the past before the edits"
+
+
+@dataclass(frozen=True)
+class Listed:
+    """The addresses of `list` before a turn: those of core, or those of a mode's programs."""
+
+    machine: Machine
+    turn: int
+    mode: Optional[Mode]
+    pages: Pages
+    top: int
+
+    @classmethod
+    def of(cls, machine: Machine, turn: int, mode: Optional[Mode]) -> "Listed":
+        return cls(machine, turn, mode, machine.pages(turn), machine.units() * UNIT_BYTES)
+
+    @property
+    def end(self) -> int:
+        return PHYSICAL if self.mode is None else VIRTUAL
+
+    def physical(self, address: int) -> Optional[int]:
+        """The physical address of this one, if it has one."""
+        return address if self.mode is None else self.pages.physical(self.mode, address % VIRTUAL)
+
+    def words(self, address: int) -> list[int]:
+        """The words of an instruction at the address, as far as they are in core."""
+        if address >= self.end:
+            return []
+        found = (self.physical(address + 2 * at) for at in range(INSTRUCTION_WORDS))
+        core = itertools.takewhile(lambda it: it is not None and it < self.top, found)
+        parts = parts_that_follow([it for it in core if it is not None])
+        return [word for it in parts for word in self.machine.words(self.turn, it[0], len(it))]
+
+    def nothing(self, address: int) -> str:
+        """Why there is no word at this address."""
+        if address >= self.end:
+            return f"the addresses end at {self.end - 1:o}"
+        place = self.physical(address)
+        if place is None:
+            return "no page is there that can be read"
+        is_core = place < PHYSICAL - (VIRTUAL - IO_PAGE)
+        return "no core is there" if is_core else "the I/O page is there, and no core"
+
+    def symbol(self, explorer: Explorer, address: int) -> str:
+        """The symbol of an address; of one of core, if kernel mode has this address at it."""
+        is_same = address < VIRTUAL and self.pages.physical(Mode.KERNEL, address) == address
+        if self.mode is None and not is_same:
+            return ""
+        return explorer.symbols.near(self.mode or Mode.KERNEL, address)
+
+    def lines(self, explorer: Explorer, address: int, count: int) -> Iterator[str]:
+        """This number of instructions from the address on, as far as there are any."""
+        for _ in range(count):
+            words = self.words(address)
+            if not words:
+                yield f"{min(address, self.end):06o}  {self.nothing(address)}"
+                return
+            found = instruction_of(explorer, address % VIRTUAL, words)
+            octal = " ".join(f"{it:06o}" for it in words[: found.words])
+            name = self.symbol(explorer, address)
+            yield f"{address:06o}  {octal:<20}  {found.text:<28}  {name}".rstrip()
+            address += 2 * found.words
 
 
 @command(
-    "list [kernel|user] A C at N",
-    r"((?P<mode>kernel|user) )?<address:address> <count:decimal> at <turn:decimal>",
+    "list  or  list [kernel|user] A C [at N]",
+    r"(((?P<mode>kernel|user) )?<address:address> <count:decimal>( at <turn:decimal>)?)?",
     "C instructions from address A on, before turn N",
 )
 def list_instructions(explorer: Explorer, arguments: Arguments) -> Iterator[str]:
     """Shows C instructions as they are in core before turn N, up to 256. A is an address of core,
     as in `mem`. With `kernel` or `user` before it A is an address as a program of that mode has
-    it, and goes through its pages."""
-    machine, turn = explorer.machine, arguments.decimal("turn")
-    address, count = arguments.octal("address"), arguments.decimal("count")
+    it, and goes through its pages. Without `at` N is the current turn. `list` alone shows the 16
+    instructions from its PC on, in its mode. A listing ends where there is no core."""
+    machine, turn = explorer.machine, arguments.decimal("turn", explorer.turn)
+    address, count = arguments.octal("address"), arguments.decimal("count", SHOWN_AT_ONCE)
     mode = Mode(arguments.text("mode")) if arguments.optional("mode") else None
+    if not arguments.optional("address"):
+        registers = machine.registers(turn)
+        address, mode = registers.pc, registers.mode
     if address % 2 or not 1 <= count <= 256:
-        raise ExploreError("A is odd" if address % 2 else "C is 1 to 256")
-    pages = machine.pages(turn)
-    top = machine.units() * UNIT_BYTES
-    for _ in range(count):
-        places = [(address + at) % (top if mode is None else 0o200000) for at in (0, 2, 4)]
-        found = [it if mode is None else pages.physical(mode, it) for it in places]
-        usable = [it for it in found if it is not None and it < top]
-        words = [machine.word(turn, it) for it in usable] if found[0] in usable else []
-        if not words:
-            yield f"{address:06o}  no core is there"
-            return
-        padded = (words + [0] * INSTRUCTION_WORDS)[:INSTRUCTION_WORDS]
-        shown = explorer.disassembler.instruction(address % 0o200000, padded)
-        octal = " ".join(f"{it:06o}" for it in padded[: shown.words])
-        name = explorer.symbols.near(mode or Mode.KERNEL, address % 0o200000)
-        yield f"{address:06o}  {octal:<20}  {shown.text:<28}  {name}".rstrip()
-        address += 2 * shown.words
+        raise ExploreError(f"{address:o} is odd" if address % 2 else "C is 1 to 256")
+    if not arguments.optional("turn"):
+        yield f"before turn {turn}" + (f", {mode.value} mode:" if mode else ":")
+    yield from Listed.of(machine, turn, mode).lines(explorer, address, count)
+    explorer.turn = turn

@@ -7,6 +7,7 @@ from .absolute_tape import tape_of
 from .aout import begins_as_aout, program_of
 from .commands import Arguments, Explorer, command
 from .errors import ExploreError
+from .in_words import counted
 from .kinds import TEXT, begins_as_tape, check_known, content, foreign_of, is_text
 from .machine import MOST_WORDS, Machine
 from .options import FILES, RK05_BYTES, UNIT_BYTES, Options
@@ -38,10 +39,10 @@ def loaded_tape(data: bytes, base: Optional[int]) -> Loaded:
             " load words FILE at A takes any file as words"
         )
     tape = tape_of(data)
-    blocks = f"{tape.blocks} block{'' if tape.blocks == 1 else 's'}"
+    blocks = counted(tape.blocks, "block")
     odd = f"its transfer address, {tape.transfer:o}, is odd, so the start stays"
     rest = len(data[tape.end :].strip(b"\0\377"))
-    more = f"{rest} bytes after its transfer address are left out" if rest else ""
+    more = f"without {counted(rest, 'byte')} after its transfer address" if rest else ""
     remark = "; ".join(filter(None, (odd if tape.start is None else "", more)))
     return Loaded(f"absolute-loader tape, {blocks}", tape.bytes, tape.start, remark=remark)
 
@@ -68,7 +69,7 @@ def loaded_words(data: bytes, base: Optional[int]) -> Loaded:
         )
     if len(data) % 2 or not data:
         raise ExploreError(f"words have two bytes each, and the file has {len(data)}")
-    return Loaded(f"{len(data) // 2} words", dict(enumerate(data, base)))
+    return Loaded(counted(len(data) // 2, "word"), dict(enumerate(data, base)))
 
 
 def loaded(path: Path, base: Optional[int], is_words: bool) -> Loaded:
@@ -127,7 +128,7 @@ def patches_of(machine: Machine, found: dict[int, int]) -> list[str]:
 
 def counted_patches(edits: Sequence[str]) -> str:
     count = sum(it.startswith("core ") for it in edits)
-    return f"{count} patch{'' if count == 1 else 'es'}"
+    return counted(count, "patch")
 
 
 def load_lines(explorer: Explorer, found: Loaded) -> Iterator[str]:
@@ -141,7 +142,7 @@ def load_lines(explorer: Explorer, found: Loaded) -> Iterator[str]:
         explorer.symbols.take(found.symbols, BOTH_MODES)
     ends = f"{min(found.bytes):o} to {max(found.bytes):o}" if found.bytes else "nothing"
     begun = f"start {start:o}{' (started again)' if machine.start != before else ''}"
-    names = f", {len(found.symbols)} symbols" if found.symbols else ""
+    names = f", {counted(len(found.symbols), 'symbol')}" if found.symbols else ""
     yield f"{found.title}: {ends} in core, {counted_patches(edits)}, {begun}{names}"
     yield from [found.remark] if found.remark else []
 

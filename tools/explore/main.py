@@ -11,8 +11,9 @@ import sessions
 from .commands import Explorer
 from .disassembly import Disassembler
 from .errors import ExploreError
+from .in_words import counted
 from .interrupts import INTERRUPTS
-from .journal import OF_SESSION, Contents, Journal, counted, newest, state_folder, told
+from .journal import OF_SESSION, Contents, Journal, newest, state_folder, told
 from .language import explanation
 from .load import warnings_of
 from .machine import EDITS, Machine, Start, existing_program, is_refused
@@ -145,13 +146,13 @@ def take_up(explorer: Explorer, path: Path, is_kept_on: bool) -> Iterator[str]:
     replies = machine.edit_all([*contents.of_session, *contents.edits])
     refused = [it for it in replies if is_refused(it)]
     if refused:
-        raise ExploreError(f"{path} has {counted(len(refused))} that can't be made: {refused[0]}")
+        raise ExploreError(f"{path} has {counted(len(refused), 'edit')} that can't be made: {refused[0]}")
     machine.file = journal
     steps.count = len(contents.of_session)
     explorer.saved = list(contents.of_session)
     for edit in contents.edits:
         steps.note(edit, machine.journal[: steps.count + 1])
-    yield f"{counted(len(contents.edits))} taken up (session: {contents.session})"
+    yield f"{counted(len(contents.edits), 'edit')} taken up (session: {contents.session})"
 
 
 def begun(found: argparse.Namespace) -> Explorer:

@@ -5,16 +5,21 @@ from pathlib import Path
 from typing import Iterator, Sequence
 
 from . import styles
-from .commands import Arguments, Explorer, check_turn, command
+from .commands import Arguments, Explorer, command, turns_between
+from .disk_words import DiskWord
 from .drawing import shown, svg
 from .errors import ExploreError
+from .files import OUTPUT
+from .in_words import counted, span
 from .language import comma_fault
+from .machine import Machine
 from .past import DELAYS
-from .picture import Byte, Picture, WordHistory, guessed_last, picture_of
+from .picture import DESCRIBED_WRITES, Byte, Picture, WordHistory, guessed_last, picture_of
 from .replies import VECTORS, Mode
 from .script import write_whole
 
 WIDE, NARROW = 960, 364
+NOT_DESCRIBED = f"Of more than {DESCRIBED_WRITES} writes the instructions aren't listed."
 
 
 def table(heads: Sequence[str], rows: Sequence[Sequence[str]]) -> str:
@@ -68,12 +73,13 @@ def changes_of(history: WordHistory) -> str:
     before, *changes = history.values
     rows = [(str(before.turn), f"{before.word:06o}", "", "before this turn")]
     rows += [(str(it.turn), f"{it.word:06o}", it.writer, it.how) for it in changes]
-    return section(history.name, table(("turn", "value", "writer", "by"), rows))
+    some = "" if any(it.how for it in changes) or not changes else f"<p>{NOT_DESCRIBED}</p>"
+    return section(history.name, table(("turn", "value", "writer", "by"), rows) + some)
 
 
 def samples_of(history: WordHistory) -> str:
     rows = [(str(it.turn), f"{it.word:06o}") for it in history.values]
-    head = f"<summary>{len(rows)} samples</summary>"
+    head = f"<summary>{counted(len(rows), 'sample')}</summary>"
     inside = f"<details>{head}{table(('before turn', 'value'), rows)}</details>"
     return section(f"{history.name}: {history.unknown}", inside)
 
@@ -87,7 +93,7 @@ def edits_of(explorer: Explorer, picture: Picture) -> str:
     patches = ""
     if lines:
         inside = html.escape("\n".join(lines))
-        head = f"<summary>{len(lines)} lines</summary>"
+        head = f"<summary>{counted(len(lines), 'line')}</summary>"
         patches = f"<details>{head}<pre>{inside}</pre></details>"
     return (
         events
@@ -104,7 +110,7 @@ def interrupts_of(picture: Picture) -> str:
         (f"{it or 0:03o}", VECTORS.get(it or 0, ""), str(count))
         for it, count in sorted(counts.items())
     ]
-    some = "" if picture.lists_all_turns else "<p>Of the turns that were listed alone.</p>"
+    some = "" if picture.lists_all_turns else "<p>Other turns of the picture aren't counted.</p>"
     return section(
         "Interrupts", table(("vector", "device", "how many"), rows) + some if rows else ""
     )
@@ -123,8 +129,7 @@ def symbols_of(explorer: Explorer, picture: Picture) -> dict[Mode, list[tuple[in
 
 
 def title_of(explorer: Explorer, picture: Picture) -> str:
-    turns = picture.turns
-    of_turns = f"turns {turns.start} to {turns.stop - 1}"
+    of_turns = span(picture.turns).removeprefix("the ")
     return f"{explorer.session}: {of_turns}" if explorer.session else of_turns.capitalize()
 
 
@@ -153,8 +158,8 @@ def drawing_alone(explorer: Explorer, picture: Picture) -> str:
 
 
 KEYS = {
-    "from": r"\d{1,10}",
-    "to": r"\d{1,10}",
+    "from": r"[0-9]{1,10}",
+    "to": r"[0-9]{1,10}",
     "words": r"[0-7]{1,6}",
     "disk": r"([0-7]:)?[0-7]{1,7}",
 }
@@ -173,10 +178,20 @@ def keyed(words: Sequence[str]) -> dict[str, list[str]]:
             raise ExploreError(f"{wrong}; the form is: {FORM}")
         else:
             found[key].append(word)
-    empty = next((it for it in KEYS if it in words and not found[it]), None)
-    if empty:
-        raise ExploreError(f"'{empty}' has no number; the form is: {FORM}")
+    for key in KEYS:
+        if key in words and not found[key]:
+            raise ExploreError(f"'{key}' has no number; the form is: {FORM}")
+        if key in ("from", "to") and len(found[key]) > 1:
+            raise ExploreError(f"'{key}' has one number; the form is: {FORM}")
     return found
+
+
+def check_words(machine: Machine, addresses: Sequence[int], words: Sequence[DiskWord]) -> None:
+    """An error if one of these isn't there: before turn 0, so before a long run."""
+    for address in addresses:
+        machine.word(0, address)
+    for word in words:
+        word.value(0)
 
 
 @command(FORM, r"(?P<file>\S+)(?P<rest>.*)", "a picture of the turns N to M, as one HTML file")
@@ -191,17 +206,16 @@ def page(explorer: Explorer, arguments: Arguments) -> Iterator[str]:
     machine, path = explorer.machine, Path(arguments.text("file"))
     rest = arguments.text("rest").split()
     found = keyed([it if it in KEYS else explorer.symbols.in_octal(it) for it in rest])
-    first = int((found["from"] or ["0"])[-1])
-    check_turn(first)
-    last = int(found["to"][-1]) if found["to"] else guessed_last(machine, first)
-    turns = range(first, last + 1)
-    check_turn(last)
-    if not turns:
-        raise ExploreError(f"turn {last} comes before turn {first}")
+    first = int(found["from"][0]) if found["from"] else 0
+    turns = turns_between(first, int(found["to"][0]) if found["to"] else first)
+    OUTPUT.target(path)
     addresses = [int(it, 8) for it in found["words"]]
     named = [it.rpartition(":") for it in found["disk"]]
-    drive_words = [(int(drive or "0", 8), int(index, 8)) for drive, _, index in named]
-    picture = picture_of(explorer, turns, addresses, drive_words)
+    words = [DiskWord(machine, int(drive or "0", 8), int(at, 8)) for drive, _, at in named]
+    check_words(machine, addresses, words)
+    if not found["to"]:
+        turns = range(first, guessed_last(machine, first) + 1)
+    picture = picture_of(explorer, turns, addresses, words)
     draw = drawing_alone if path.suffix == ".svg" else whole_page
     write_whole(path, draw(explorer, picture))
-    yield f"the turns {first} to {last} are in {path}"
+    yield f"{span(turns)} {'is' if len(turns) == 1 else 'are'} in {path}"

@@ -116,7 +116,6 @@ class Picture:
 
 def guessed_last(machine: Machine, first: int) -> int:
     """The last turn of a picture if nothing is said: soon after the halt, or after many turns."""
-    machine.registers(first)  # a turn that is too large is refused here, before a long run
     end = min(first + GUESSED_TURNS, LAST_TURN)
     if machine.registers(end).state != "halted":
         return end - 1
@@ -126,7 +125,7 @@ def guessed_last(machine: Machine, first: int) -> int:
         is_halted = machine.registers(middle).state == "halted"
         low, high = (low, middle) if is_halted else (middle, high)
     events = [it.turn for it in machine.past.script() if it.turn < end]
-    return max(high, first, *events) + MARGIN
+    return min(max(high, first, *events) + MARGIN, LAST_TURN - 1)
 
 
 def block_size(turns: range) -> int:
@@ -286,10 +285,9 @@ def how_written(
 
 
 def disk_history(
-    explorer: Explorer, drive: int, index: int, turns: range, disk: DiskLane
+    explorer: Explorer, word: DiskWord, turns: range, disk: DiskLane
 ) -> WordHistory:
     """The changes of a word of a drive, or samples if showing each takes too many questions."""
-    word = DiskWord(explorer.machine, drive, index)
     if not disk.is_whole and word.look_count(turns) > MOST_DISK_LOOKS:
         looks = list(turns[:: block_size(turns)])
         samples = [Value(turn, it) for turn, it in zip(looks, word.values(looks))]
@@ -310,13 +308,13 @@ def disk_history(
 
 
 def picture_of(
-    explorer: Explorer, turns: range, addresses: list[int], drive_words: list[tuple[int, int]]
+    explorer: Explorer, turns: range, addresses: Sequence[int], drive_words: Sequence[DiskWord]
 ) -> Picture:
     machine = explorer.machine
     columns, interrupts = columns_of(machine, turns)
     disk = disk_lane(machine, turns)
     words = [core_history(explorer, it, turns, disk) for it in addresses]
-    words += [disk_history(explorer, drive, index, turns, disk) for drive, index in drive_words]
+    words += [disk_history(explorer, it, turns, disk) for it in drive_words]
     return Picture(
         turns=turns,
         columns=columns,

@@ -16,8 +16,9 @@ from .at_work import AtWork
 from .commands import COMMANDS, Explorer
 from .errors import ExploreError
 from .files import OUTPUT
+from .in_words import counted
 from .interrupts import INTERRUPTS, typed_line
-from .journal import counted, state_folder
+from .journal import state_folder
 from .language import FORMS, SEARCHES, SUMMARIES, explanation, form_of, forms_of_searches
 from .machine import is_refused
 from .output import Unwritable, fault_in_words, put
@@ -35,9 +36,16 @@ SEARCH_HELP = (
 )
 # With `!` these overwrite a file that this run hasn't written.
 WRITING = {"save", "page", "export", "sweep", "core", "disk"}
+# The replies of these lines of the language begin with the turn that they have found.
+FINDING = ("last", "first", "change", "when")
 NUMBERS = (
     "A, X, I, D, W and B are octal, N, M, T, C, K and E decimal. A and X may be a symbol, with "
     "octal numbers after + and -. A question about turn N is about the machine before it."
+)
+CURRENT_TURN = (
+    "The current turn is the one that a line found (until, next, where, first, last, change, when) "
+    "or a command showed (show, step, back, see, list) last, or where the console was left. Without "
+    "a turn show, step, back, see and list begin there."
 )
 
 
@@ -105,7 +113,7 @@ class Prompt:
             machine.file.remove()
         elif machine.file.place:
             how = "--resume" if machine.file.is_own else f"--resume {machine.file.place}"
-            self.show([f"the past isn't saved: ./explore {how} takes up {counted(count)}"])
+            self.show([f"the past isn't saved: ./explore {how} takes up {counted(count, 'edit')}"])
 
     # Completion
 
@@ -134,6 +142,9 @@ class Prompt:
         reply = machine.ask(line)
         why = explanation(line, reply, machine.past) if is_refused(reply) else ""
         self.show([reply, f"  {why}"] if why else [reply])
+        found = re.match(rf"({'|'.join(FINDING)}) ([0-9]+)", reply)
+        if found:
+            self.explorer.turn = int(found[2])
 
     def help_lines(self, word: str) -> list[str]:
         past = self.explorer.machine.past
@@ -163,7 +174,7 @@ class Prompt:
         lines += [f"  {form_of(word, past):<16}  {text}" for word, text in SUMMARIES.items()]
         lines += ["", "lines of searches (docs/LANGUAGE.md):"]
         lines += [f"  {it.form}" for it in sessions.SEARCHES]
-        return [*lines, "", NUMBERS]
+        return [*lines, "", NUMBERS, "", CURRENT_TURN]
 
 
 def is_own(word: str, rest: str) -> bool:

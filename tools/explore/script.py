@@ -6,6 +6,7 @@ from typing import Iterator, Optional
 from .commands import Arguments, Explorer, check_turn, command
 from .errors import ExploreError
 from .files import write_whole as write_whole
+from .in_words import counted
 from .language import comma_fault
 from .machine import LAST_TURN, Machine, is_refused
 from .options import option_lines, options_of_words
@@ -19,7 +20,7 @@ def events(explorer: Explorer, arguments: Arguments) -> Iterator[str]:
     """Lists the events in the order in which they happen, each with its number, its turn, and for
     a key its character."""
     script = explorer.machine.past.script()
-    yield f"{len(script)} event{'' if len(script) == 1 else 's'}"
+    yield counted(len(script), "event")
     for event in script:
         yield f"event {event.number:>5}  at {event.turn:>10}  {event.explained()}"
 
@@ -41,7 +42,7 @@ def save(explorer: Explorer, arguments: Arguments) -> Iterator[str]:
     write_whole(path, "".join(f"{it}\n" for it in lines))
     if path.is_file():
         explorer.saved = list(explorer.machine.journal)
-    yield f"{len(lines)} lines in {path}"
+    yield f"{counted(len(lines), 'line')} in {path}"
 
 
 def bytes_of(text: str) -> bytes:

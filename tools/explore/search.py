@@ -5,7 +5,9 @@ from .commands import Arguments, Explorer, command, searched_range
 from .disk_words import DiskWord, change_lines, functions_in_words, last_change
 from .errors import ExploreError
 from .finder import mode_is, register_with
+from .in_words import span
 from .listing import turn_in_words
+from .machine import LAST_TURN
 from .replies import LastWrite, Mode
 from .script import typed_bytes
 
@@ -20,7 +22,9 @@ def word_of(arguments: Arguments, name: str) -> int:
 
 
 def not_found(turns: range, line: str, what: str = "not") -> str:
-    return f"{what} in the turns {turns.start} to {turns.stop - 1}; on: {line} from {turns.stop}"
+    """That it isn't in these turns, and how a search of the turns after them is typed."""
+    on = "the run ends there" if turns.stop == LAST_TURN else f"on: {line} from {turns.stop}"
+    return f"{what} in {span(turns)}; {on}"
 
 
 def turn_of(explorer: Explorer, arguments: Arguments, turns: range) -> Optional[int]:
@@ -42,7 +46,7 @@ UNTIL = ("PC X", "vector V", "mode user|kernel", "R = W", "text STRING")
 @command(
     "  or  ".join(f"until {it} [from N] [to M]" for it in UNTIL),
     r"(?P<what>(PC|pc) <address:address>|vector <vector:octal>|mode (?P<mode>user|kernel)"
-    r"|(?P<register>[Rr][0-5]|[KUku][Ss][Pp]|[Pp][Ss])\s*=\s*<word:octal>"
+    r"|(?P<register>[Rr][0-5]|[KUku][Ss][Pp]|[Pp][Ss])( )?=( )?<word:octal>"
     r"|text (?P<text>.+?)){from}{to}",
     "the first turn that runs the instruction at X, or has what is named",
 )
@@ -52,7 +56,8 @@ def until(explorer: Explorer, arguments: Arguments) -> Iterator[str]:
     which R, one of R0 to R5, KSP, USP and PS, is W; or that prints the last byte of STRING, which
     is written as in `type`. Without `from` N is 0. Without `to` M is a million turns past the
     greatest turn that was asked so far. It is exact. A mode and a register are looked for by `regs`
-    of each turn, which takes longest."""
+    of each turn, which takes longest. The turn is then the current turn: `show`, `step`, `see` and
+    `list` go on there."""
     turns, what = searched_range(explorer, arguments), arguments.text("what")
     if arguments.optional("text"):
         yield until_text(explorer, arguments.text("text"), turns)
@@ -61,7 +66,9 @@ def until(explorer: Explorer, arguments: Arguments) -> Iterator[str]:
     if found is None:
         yield not_found(turns, f"until {what}")
     else:
-        yield f"turn {found}: {turn_in_words(explorer, found)}"
+        text = turn_in_words(explorer, found)
+        explorer.turn = found
+        yield f"turn {found}: {text}"
 
 
 def until_text(explorer: Explorer, text: str, turns: range) -> str:
@@ -71,15 +78,23 @@ def until_text(explorer: Explorer, text: str, turns: range) -> str:
     found = explorer.finder.end_of_text(turns, string)
     if found is None:
         return not_found(turns, f"until text {text}")
-    turn, length = found
-    return f"turn {turn}: byte {length} of the text is printed, the last of {text}"
+    explorer.turn, length = found
+    return f"turn {explorer.turn}: byte {length} of the text is printed, the last of {text}"
 
 
 def write_in_words(explorer: Explorer, write: LastWrite) -> str:
-    """A write in one line: the turn, who wrote, the word, and the instruction or the function."""
-    return (
-        f"turn {write.turn}: {write.writer} {write.word:06o}, by {writer_in_words(explorer, write)}"
-    )
+    """A write in one line: the turn, which is the current one then, who wrote, the word, and the
+    instruction or the function."""
+    by = writer_in_words(explorer, write)
+    explorer.turn = write.turn
+    return f"turn {write.turn}: {write.writer} {write.word:06o}, by {by}"
+
+
+def change_found(explorer: Explorer, word: DiskWord, turn: int) -> Iterator[str]:
+    """A change of a word of a drive. Its turn is the current one then."""
+    lines = list(change_lines(explorer, word, turn))
+    explorer.turn = turn
+    yield from lines
 
 
 def writer_in_words(explorer: Explorer, write: LastWrite) -> str:
@@ -122,12 +137,12 @@ def next_on_disk(explorer: Explorer, word: DiskWord, turns: range) -> Iterator[s
     if found is None:
         yield not_found(turns, f"next {word.in_a_line}", "no change")
     else:
-        yield from change_lines(explorer, word, found)
+        yield from change_found(explorer, word, found)
 
 
 @command(
     "first core A = W [from N] [to M]  or  first disk [D] I = W [from N] [to M]",
-    rf"(core <address:address>|(?P<kind>disk) {WORD_OF_DISK}<index:octal>)\s*=\s*<value:octal>"
+    rf"(core <address:address>|(?P<kind>disk) {WORD_OF_DISK}<index:octal>)( )?=( )?<value:octal>"
     r"{from}{to}",
     "the first turn that makes a word W",
 )
@@ -146,7 +161,7 @@ def first(explorer: Explorer, arguments: Arguments) -> Iterator[str]:
         return
     found = explorer.finder.first_write_of(turns, address, value)
     if found is None:
-        yield f"not in the turns {turns.start} to {turns.stop - 1}"
+        yield f"not in {span(turns)}"
     else:
         yield write_in_words(explorer, found)
 
@@ -159,9 +174,9 @@ def first_on_disk(
         return
     found = next((it for it in word.changes(turns) if word.value(it + 1) == value), None)
     if found is None:
-        yield f"not in the turns {turns.start} to {turns.stop - 1}"
+        yield f"not in {span(turns)}"
     else:
-        yield from change_lines(explorer, word, found)
+        yield from change_found(explorer, word, found)
 
 
 @command(
@@ -179,4 +194,4 @@ def where(explorer: Explorer, arguments: Arguments) -> Iterator[str]:
     if found is None:
         yield f"{word.name} has been {word.value(turn):06o} since power-up"
     else:
-        yield from change_lines(explorer, word, found)
+        yield from change_found(explorer, word, found)

@@ -8,6 +8,7 @@ from typing import Callable, Iterator, Optional
 
 from .commands import Arguments, Explorer, command
 from .errors import ExploreError
+from .in_words import counted
 from .kinds import check_known, content
 from .load import counted_patches, loaded, patches_of
 from .options import MOST_UNITS, fault_of_option
@@ -276,7 +277,7 @@ def import_file(explorer: Explorer, arguments: Arguments) -> Iterator[str]:
     made = make(explorer, found.options, edits)
     options = " ".join(f"--{name} {shlex.quote(it)}" for name, it in found.options.items())
     patches = counted_patches(made)
-    count = f"{found.taken} command{'' if found.taken == 1 else 's'}"
+    count = counted(found.taken, "command")
     yield f"{count} taken: {', '.join(filter(None, (options, patches)))}"
     yield from (it for it in made if not it.startswith("core "))
     yield from told(found.without_meaning, "without a meaning here")

@@ -10,20 +10,20 @@ def shown(explorer: Explorer, turn: int) -> Iterator[str]:
     return COMMANDS["show"].lines(explorer, str(turn))
 
 
-@command("step [K]", r"<count:decimal>?", "shows the turn after the last one that was shown")
+@command("step [K]", r"<count:decimal>?", "shows the turn after the current one, or the K-th")
 def step(explorer: Explorer, arguments: Arguments) -> Iterator[str]:
-    """Shows the registers K turns after those that the last `show`, `step` or `back` has shown, or
-    one turn. Before the first of them it is turn 0 that was shown."""
-    return shown(explorer, explorer.shown_turn + arguments.decimal("count", 1))
+    """Shows the turn K turns after the current one, or one turn, as `show` does. The current turn
+    is the one that a line found or showed last, at first turn 0."""
+    return shown(explorer, explorer.turn + arguments.decimal("count", 1))
 
 
-@command("back [K]", r"<count:decimal>?", "shows the turn before the last one that was shown")
+@command("back [K]", r"<count:decimal>?", "shows the turn before the current one, or the K-th")
 def back(explorer: Explorer, arguments: Arguments) -> Iterator[str]:
-    """Shows the registers K turns before those that the last `show`, `step` or `back` has shown, or
-    one turn."""
-    turn = explorer.shown_turn - arguments.decimal("count", 1)
+    """Shows the turn K turns before the current one, or one turn, as `show` does. The current turn
+    is the one that a line found or showed last, at first turn 0."""
+    turn = explorer.turn - arguments.decimal("count", 1)
     if turn < 0:
-        raise ExploreError(f"that is before turn 0: the last turn shown is {explorer.shown_turn}")
+        raise ExploreError(f"that is before turn 0: the current turn is {explorer.turn}")
     return shown(explorer, turn)
 
 

@@ -8,22 +8,24 @@ from dataclasses import dataclass, field
 from pathlib import Path
 from typing import Container, Iterator, Optional, Sequence
 
-from sessions import has_reply
+import sessions
 
 from .asked import turns_of_question
 from .commands import Arguments, Explorer, check_turn, command
 from .crew import Progress, each_of, processors
 from .errors import ExploreError
-from .files import is_locked_here, write_whole
+from .files import OUTPUT, is_locked_here, write_whole
+from .in_words import counted
 from .interrupts import INTERRUPTS, typed_line
-from .language import comma_fault, explanation
+from .language import SEARCHES, comma_fault, explanation
 from .machine import EDITS, Machine, is_refused
 from .script import session_lines
 
 SWEEP = re.compile(
-    r"(?P<event>\d+|[a-z].*?) from (?P<first>\d{1,10}) to (?P<last>\d{1,10})"
-    r"( step (?P<step>\d{1,10}))? ?: ?(?P<question>.+)"
+    r"(?P<event>[0-9]+|[a-z].*?) from (?P<first>[0-9]{1,10}) to (?P<last>[0-9]{1,10})"
+    r"( step (?P<step>[0-9]{1,10}))? ?: ?(?P<question>.+)"
 )
+QUESTIONS = SEARCHES | {it.decode() for it in sessions.QUESTIONS}
 JOBS = 64
 LEAST_STRIDE, KEPT_STATES = 64, 250  # the program keeps 256, and then doubles the stride
 
@@ -47,17 +49,18 @@ class Sweep:
             raise ExploreError(f"{commas}; {form}" if commas else form)
         for turn in (match["first"], match["last"]):
             check_turn(int(turn))
-        turns = range(int(match["first"]), int(match["last"]) + 1, int(match["step"] or 1) or 1)
+        step = int(match["step"] or 1)
+        if not step:
+            raise ExploreError("K of step is 1 or more")
+        turns = range(int(match["first"]), int(match["last"]) + 1, step)
         number = int(match["event"]) if match["event"].isdigit() else None
         if number is not None and number not in machine.past.events:
             raise ExploreError(f"no event has the number {number}; events lists them")
         event = match["event"] if number is None else machine.past.events[number].text
         question = match["question"]
         if not turns:
-            raise ExploreError("there is no turn from N to M")
-        is_comment = not has_reply(question.encode(errors="surrogateescape"))
-        if is_comment or question.split()[0] in EDITS:
-            raise ExploreError(f"{'a comment' if is_comment else 'an edit'} is no question")
+            raise ExploreError(f"turn {match['last']} comes before turn {match['first']}")
+        check_question(question)
         return cls(event, number, turns, question, max(machine.past.events, default=0))
 
     def check(self, machine: Machine) -> None:
@@ -105,6 +108,17 @@ class Sweep:
         return f"# sweep {self.event}{moved}: {self.question}, past {digest}"
 
 
+def check_question(question: str) -> None:
+    """An error if a line is none of the language that asks."""
+    word = question.split()[0]
+    if not sessions.has_reply(question.encode(errors="surrogateescape")):
+        raise ExploreError("a comment is no question")
+    if word in EDITS:
+        raise ExploreError("an edit is no question")
+    if word not in QUESTIONS:
+        raise ExploreError(f"'{word}' is no question; these are: {', '.join(sorted(QUESTIONS))}")
+
+
 @dataclass
 class Results:
     """Replies by turn, in lines `TURN REPLY` of a file after a heading."""
@@ -134,31 +148,33 @@ class Results:
                     raise ExploreError(
                         f"{path}:{number}: of another sweep, or of another past: {line}"
                     )
-            elif turn.isdigit() and reply:
+            elif re.fullmatch("[0-9]+", turn) and reply:
                 self.add(int(turn), reply)
             else:
                 raise ExploreError(f"{path}:{number}: no line of a sweep")
 
     def lines(self, step: int) -> Iterator[str]:
-        """Runs of turns with equal replies."""
+        """Runs of turns with equal replies, each `step` turns after the one before."""
         runs: list[tuple[int, int, str]] = []
         for turn, reply in sorted(self.replies.items()):
             if runs and runs[-1][2] == reply and turn - runs[-1][1] == step:
                 runs[-1] = (runs[-1][0], turn, reply)
             else:
                 runs.append((turn, turn, reply))
+        by = f" step {step}" if step > 1 else ""
         for begin, end, reply in runs:
-            where = f"turn {begin}" if begin == end else f"turns {begin} to {end}"
+            where = f"turn {begin}" if begin == end else f"turns {begin} to {end}{by}"
             yield f"{where}: {reply}"
-        several = "" if len(runs) == 1 else "s"
-        yield f"{len(self.replies)} turns, {len(runs)} run{several} of equal replies"
+        yield f"{counted(len(self.replies), 'turn')}, {counted(len(runs), 'run')} of equal replies"
 
 
 class ResultFile:
-    """The file of `-o`: results are added to it, and no other sweep writes to it meanwhile."""
+    """The file of `-o`: results are added to it, and no other sweep writes to it meanwhile. If
+    there are none, no new file is left."""
 
     def __init__(self, results: Results, path: Path):
         self.path, self.heading = path, results.heading
+        self.is_new = not os.path.lexists(path)
         try:
             self.handle = os.open(path, os.O_RDWR | os.O_APPEND | os.O_CREAT, 0o666)
         except OSError as error:
@@ -193,6 +209,8 @@ class ResultFile:
             raise ExploreError(f"{self.path} can't be written: {error.strerror}") from error
 
     def close(self) -> None:
+        if self.is_new and not os.fstat(self.handle).st_size:
+            self.path.unlink(missing_ok=True)
         os.close(self.handle)
 
 
@@ -243,6 +261,7 @@ def sweep_lines(
 def job_lines(explorer: Explorer, sweep: Sweep, path: Path) -> Iterator[str]:
     """Writes the commands that do the sweep in parts, and the session that they read."""
     machine = explorer.machine
+    OUTPUT.target(path)  # if it can't be written the session isn't either
     session = path.with_name(f"{path.name}.session").resolve()
     write_whole(session, "".join(f"{it}\n" for it in session_lines(machine)))
     event = sweep.event
@@ -256,12 +275,15 @@ def job_lines(explorer: Explorer, sweep: Sweep, path: Path) -> Iterator[str]:
         text = f"{event} from {part[0]} to {part[-1]} step {part.step}: {sweep.question}"
         lines.append(f"./explore --sweep {shlex.quote(text)} {shlex.quote(str(session))}")
     write_whole(path, "".join(f"{it}\n" for it in lines))
-    yield f"{len(lines)} commands in {path}, which read {path}.session"
-    yield f"run them in this folder: parallel < {path} > {path}.out"
+    read = "reads" if len(lines) == 1 else "read"
+    yield f"{counted(len(lines), 'command')} in {path}, which {read} {path}.session"
+    yield f"in this folder: parallel < {path} > {path}.out"
     yield f"then: sweep --gather {path}.out"
 
 
 def gathered(paths: Sequence[str]) -> Iterator[str]:
+    if not paths:
+        raise ExploreError("the form is: sweep --gather FILE ..")
     results = Results("")
     for path in paths:
         results.read(Path(path))
@@ -272,7 +294,7 @@ def gathered(paths: Sequence[str]) -> Iterator[str]:
     yield from results.lines(step)
     missing = sum(it // step - 1 for it in steps)
     if missing:
-        yield f"{missing} turns between the first and the last are missing"
+        yield f"missing between the first and the last: {counted(missing, 'turn')}"
 
 
 OPTIONS = re.compile(r"(-j|-o|--jobs)\s+(\S+)\s+|(-y)()\s+")
@@ -308,7 +330,7 @@ def sweep_command(explorer: Explorer, arguments: Arguments) -> Iterator[str]:
     folders, and --gather FILE .. reads what they have written."""
     words = arguments.text("words").strip()
     options: dict[str, str] = {}
-    if words.startswith("--gather"):
+    if words.split()[0] == "--gather":
         yield from gathered(words.split()[1:])
         return
     match = OPTIONS.match(words)
@@ -317,7 +339,7 @@ def sweep_command(explorer: Explorer, arguments: Arguments) -> Iterator[str]:
         words = words[match.end() :]
         match = OPTIONS.match(words)
     hands = options.get("-j", str(processors()))
-    if not hands.isdecimal() or not 1 <= int(hands) <= 256:
+    if not re.fullmatch("[0-9]+", hands) or not 1 <= int(hands) <= 256:
         raise ExploreError("N of -j is 1 to 256")
     head, colon, question = words.partition(":")
     question = explorer.symbols.line_in_octal(question, explorer.machine.past)

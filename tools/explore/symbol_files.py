@@ -4,6 +4,8 @@ import re
 from dataclasses import dataclass, replace
 from typing import Callable, Iterator, Optional, Sequence
 
+from .in_words import counted
+
 LARGEST = 0o177777
 NAME = r"[A-Za-z_.$~%?@][^\s=:;,()\[\]<>]*"
 NAME_OF_DEC = r"[A-Za-z$.][A-Za-z0-9$._]*"
@@ -33,11 +35,9 @@ class SymbolFile:
 
     def line(self) -> str:
         """How many there are, in words."""
-        count = len(self.symbols)
         of_kind = f" of {self.kind}" if self.kind else ""
-        lines = f", {self.skipped} line{'' if self.skipped == 1 else 's'} skipped"
-        skipped = lines if self.skipped else ""
-        return f"{count} symbol{'' if count == 1 else 's'}{of_kind}{skipped}"
+        skipped = f", {counted(self.skipped, 'line')} skipped" if self.skipped else ""
+        return f"{counted(len(self.symbols), 'symbol')}{of_kind}{skipped}"
 
 
 # Lists: a line is a symbol, or it is none.

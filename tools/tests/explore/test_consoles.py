@@ -359,7 +359,7 @@ class Pace(AtConsole):
         self.sit()
         self.wait_for(b"[turn 900000000; the last one is turn 1000000000]\r\n")
         self.assertIn("no event was made", self.leave())
-        self.assertIn("10 turns are left up to the last one", self.sit("console from 999999990"))
+        self.assertIn("the run has 10 turns left, up to turn 1000000000", self.sit("console from 999999990"))
         self.wait_for(b"turn 1000000000, the last one: 10 turns in ")
         why = "console: turn 1000000000 is the last one: no turn comes after it"
         self.assertEqual(self.reply("console from 1000000000"), why)

@@ -67,7 +67,7 @@ class Tapes(Media):
         self.assertEqual(remark, "its transfer address, 1, is odd, so the start stays")
         self.assertIn("PC 001000", asked)
         rest = tape((0o2000, words(7))) + b"more"
-        self.assertIn("4 bytes after its transfer address are left out", self.loads(rest, "")[1])
+        self.assertIn("without 4 bytes after its transfer address", self.loads(rest, "")[1])
 
     def test_bytes_at_odd_addresses(self) -> None:
         """The other byte of a word stays, of an image or of a patch. A later block wins."""

@@ -2,9 +2,14 @@
 import subprocess
 import sys
 
+from explore.compare import parts_of_texts
+from explore.machine import LAST_TURN
+from explore.search import not_found
+
 from .common import SECONDS, Case
 
 ABOVE = "is above 1000000000"
+LAST = "the turns 5 to 999999999"
 
 
 class Messages(Case):
@@ -37,6 +42,24 @@ class Messages(Case):
             turn = line.split(":")[0].split()[-1]
             self.refuses(f"core 0 1\n{line}", f"{line.split()[0]}: turn {turn} {ABOVE}\n")
 
+    def test_turns_that_never_run(self) -> None:
+        """Each is refused at once: a run up to the end takes a while."""
+        end = "turn 1000000000 is the end of the run: the last turn is 999999999\n"
+        for line in (
+            "until PC 5 from 1000000000",
+            "next 1000 to 1000000000",
+            "first disk 5 = 5 from 1000000000",
+            "compare from 1000000000",
+            "page it.html from 0 to 1000000000",
+            "page it.html from 1000000000",
+        ):
+            self.refuses(f"core 0 1\n{line}", f"{line.split()[0]}: {end}")
+        self.assertEqual(not_found(range(5, LAST_TURN), "it"), f"not in {LAST}; the run ends there")
+
+    def test_digits_of_other_scripts(self) -> None:
+        for line in ("show \u0663", "page it.html to \u0663", "sweep -j \u0661 tick from 1 to 2: regs 5"):
+            self.assertRegex(self.explore(f"{line}\n"), "^(show|page|sweep): .*(form is|is 1 to 256)")
+
     def test_a_key_that_comes_after_the_last_turn(self) -> None:
         # TSTB @#177560; BPL .-4; MOVB @#177562,R0; BR: each key is taken
         words = ("105737", "177560", "100375", "113700", "177562", "772")
@@ -60,7 +83,7 @@ class Messages(Case):
 
     def test_numbers_with_commas(self) -> None:
         self.refuses("regs 1,000", "N, a turn, or a count of turns: 1,000 is written 1000, without")
-        message = "see: 1,000,000 is written 1000000, without commas; see N [C]"
+        message = "see: 1,000,000 is written 1000000, without commas; see [N [C]]"
         self.refuses("see 1,000,000", message)
         for line in (
             "page it.html from 1,000",
@@ -122,6 +145,12 @@ class Messages(Case):
         self.assertEqual(turns, [1, 2, 0, 2])
         self.assertIn("back: that is before turn 0", written)
         self.assertEqual(written.count("each turn is there already: show N"), 2)
+
+    def test_texts_that_part(self) -> None:
+        """What is left out of a text is marked, and no byte is cut in two."""
+        same, ours, theirs = "\\015" * 30, "a" * 50, "b"
+        found = parts_of_texts(f"text 80:{same}{ours}", f"text 31:{same}{theirs}")
+        self.assertEqual(found, f"..{same[:80]}{ours[:40]}.. | ..{same[:80]}{theirs}")
 
     def test_words_that_end(self) -> None:
         for word in ("quit", "q", "exit"):

@@ -1,6 +1,11 @@
 """What a page says of a run: nothing that isn't so, and a label for each mark."""
 import html
 import re
+from unittest import mock
+
+from explore.machine import LAST_TURN
+from explore.page import FORM
+from explore.picture import guessed_last
 
 from .common import ROOT, Case
 
@@ -55,12 +60,14 @@ class Pages(Case):
         for drawing in self.page(f"{LOOP}page it.html to 800 words 2000\n"):
             self.assertEqual(drawing.count("<circle"), 400)
             self.assertNotIn('class="hatch"', drawing)
+        self.assertIn("Of more than 60 writes the instructions aren't listed.", self.written)
         self.page(f"{LOOP}page it.html to 801 words 2000\n")
         self.assertNotIn("<circle", self.written)
+        self.assertNotIn("the instructions aren't listed", self.written)
 
     def test_console_text_that_is_cut_says_so(self) -> None:
         for drawing in self.page(f"{PRINTING}page it.html to 9999\n"):
-            cut = [it for it in self.texts(drawing) if "further bytes aren't drawn" in it]
+            cut = [it for it in self.texts(drawing) if "further bytes not drawn" in it]
             self.assertEqual(len(cut), 1)
         self.assertRegex(self.written, r"Console: the first 2000 of \d+ bytes")
 
@@ -127,6 +134,16 @@ class Pages(Case):
             self.assertGreater(places["DIGIT"], 300)
             self.assertLess(places["kernel"], places["user"])
 
+    def test_names_on_an_axis(self) -> None:
+        """A mode without symbols isn't that of the symbols; a name that is cut says so."""
+        (self.folder / "long.sym").write_text("A_NAME_THAT_IS_LONGER_THAN_THE_AXIS=1160\nSHORT=1306\n")
+        lines = "symbols long.sym kernel\npage it.html from 20 to 60\n"
+        wide, narrow = self.page(lines, "examples/ledger/ledger.session")
+        for drawing, name in ((wide, "A_NAME_THA…"), (narrow, "A_NAME_T…")):
+            places = self.places(drawing)
+            self.assertLess({name, "SHORT", "kernel"}, set(places))
+            self.assertLess(places["kernel"], 100)
+
     def test_the_title_names_the_session(self) -> None:
         self.page("page it.html to 40\n", "examples/who-wrote-this-word.session")
         self.assertIn("<h1>who-wrote-this-word.session: turns 0 to 40</h1>", self.written)
@@ -147,6 +164,32 @@ class Pages(Case):
         drawing = self.page(f"{LOOP}page it.html to 800 words 2000\n")[1]
         labels = [it for it in self.texts(drawing) if it.endswith(" cpu")]
         self.assertIn(f"{400 - len(labels)} labels have no room", self.texts(drawing))
+
+
+class Asked(Case):
+    """What can't be drawn is refused before the machine runs."""
+
+    def test_before_the_work(self) -> None:
+        (self.folder / "old.html").write_text("old")
+        written = self.explore(
+            "page old.html from 5 words 1\npage new.html from 5 words 1\n"
+            "page new.html from 5 disk 4604000\npage new.html from 5 6\n"
+        )
+        self.assertEqual(
+            written.splitlines(),
+            [
+                "page: old.html is there already; page! overwrites it",
+                "page: mem 0 1 1: refused 3 OddAddress",
+                "page: dsk 0 4604000 1: refused 4 OutsideDisk",
+                f"page: 'from' has one number; the form is: {FORM}",
+            ],
+        )
+
+    def test_a_last_turn_that_is_guessed(self) -> None:
+        machine = mock.Mock()
+        machine.registers.return_value.state = "halted"
+        machine.past.script.return_value = []
+        self.assertEqual(guessed_last(machine, LAST_TURN - 2), LAST_TURN - 1)
 
 
 class Stored(Case):

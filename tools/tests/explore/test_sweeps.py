@@ -84,6 +84,15 @@ class Sweeps(AtTerminal):
         self.assertEqual(written[4], "2 turns, 1 run of equal replies")
         self.assertEqual(len(self.results()), 3)
 
+    def test_what_is_refused_leaves_no_file(self) -> None:
+        (self.folder / "mine").write_text("old")
+        before = sorted(self.folder.iterdir())
+        lines = "-o kept kex from 1 to 2: regs 5\n", "--jobs mine tick from 1 to 2: regs 5\n"
+        written = self.explore("".join(f"sweep {it}" for it in lines)).splitlines()
+        self.assertIn("refused 10 BadLine", written[0])
+        self.assertEqual(written[1:], ["sweep: mine is there already; sweep! overwrites it"])
+        self.assertEqual(sorted(self.folder.iterdir()), before)
+
     def test_the_first_of_two_faults_is_told(self) -> None:
         """Task 0 fails only after task 1 has."""
         second_failed = threading.Event()

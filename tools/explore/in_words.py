@@ -1,0 +1,14 @@
+"""Counts and ranges of turns, as messages have them."""
+
+
+def counted(count: int, what: str) -> str:
+    """A count with its noun: `1 turn`, `2 turns`, `2 patches`."""
+    if count == 1:
+        return f"1 {what}"
+    return f"{count} {what}{'es' if what.endswith('ch') else 's'}"
+
+
+def span(turns: range) -> str:
+    """The turns of a range that has one at least: `turn 5`, or `the turns 5 to 9`."""
+    first, last = turns[0], turns[-1]
+    return f"turn {first}" if first == last else f"the turns {first} to {last}"
