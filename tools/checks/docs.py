@@ -230,7 +230,7 @@ def type_block(terminal: PseudoTerminal, block: Block) -> None:
         elif line and is_console:
             terminal.type_one_by_one(bytes(typed_bytes(line)))
         elif line:
-            terminal.wait_for(PROMPT.encode())
+            terminal.wait_for(b"explore..> ")  # the current turn may be in it
             terminal.type(f"{line}\n".encode())
             terminal.wait_for(f"{line}\r\n".encode())
             is_console = line.split()[0] == CONSOLE

@@ -44,8 +44,8 @@ NUMBERS = (
 )
 CURRENT_TURN = (
     "The current turn is the one that a line found (until, next, where, first, last, change, when) "
-    "or a command showed (show, step, back, see, list) last, or where the console was left. Without "
-    "a turn show, step, back, see and list begin there."
+    "or showed (show, step, back, see, list, screen) last, or where you left the console. The lines "
+    "that show begin there if they name no turn. Other lines, edits too, leave it as it is."
 )
 
 
@@ -223,6 +223,11 @@ def write_history(path: Optional[Path]) -> None:
         pass
 
 
+def prompt_at(turn: int) -> str:
+    """The prompt at a terminal, with the current turn if it isn't turn 0."""
+    return f"explore {turn}> " if turn else PROMPT
+
+
 def read_at_terminal(prompt: Prompt) -> None:
     """The loop at a terminal: line editing and history; Ctrl-C at the prompt drops the line."""
     folder = state_folder()
@@ -236,7 +241,7 @@ def read_at_terminal(prompt: Prompt) -> None:
     while not is_last:
         try:
             with INTERRUPTS.allowed():
-                line = typed_line(PROMPT)
+                line = typed_line(prompt_at(prompt.explorer.turn))
         except EOFError:
             put("")
             prompt.end()

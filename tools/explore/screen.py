@@ -3,7 +3,6 @@ from dataclasses import dataclass, field
 from typing import Iterator
 
 from .commands import Arguments, Explorer, command
-from .errors import ExploreError
 
 BACKSPACE, TAB, LINE_FEED, RETURN, ESCAPE, DELETE = 0o10, 0o11, 0o12, 0o15, 0o33, 0o177
 TAB_WIDTH = 8
@@ -51,18 +50,19 @@ class Screen:
 )
 def screen(explorer: Explorer, arguments: Arguments) -> Iterator[str]:
     """Shows what was printed before turn N with its line ends; with LAST the last LAST lines.
-    Without N it is the turn at which the last console was left. CR, LF, BS and TAB move as on a
-    terminal, so what is printed over a character takes its place. Other control bytes are shown:
+    Without N it is the current turn, as after a console the one where it was left. CR, LF, BS and
+    TAB move as on a terminal, so what is printed over a character takes its place. Other control bytes are shown:
     ^[ is ESC, ^G Ctrl-G, ^? DEL, and \\377 the byte 377. An escape sequence is shown too, and has
     no effect. `text N` shows each byte."""
-    left = explorer.sitting.turn
-    if left is None and not arguments.optional("turn"):
-        raise ExploreError("no console was left here: screen N shows the text before turn N")
+    turn = arguments.decimal("turn", explorer.turn)
     shown = Screen()
-    for byte in explorer.machine.text(arguments.decimal("turn", left or 0)):
+    for byte in explorer.machine.text(turn):
         shown.take(byte)
+    explorer.turn = turn
     lines = ["".join(it).rstrip() for it in shown.lines]
     if not lines[-1]:
         lines.pop()
+    if not lines:
+        yield f"nothing is printed before turn {turn}"
     last = arguments.decimal("count", len(lines))
     yield from lines[max(0, len(lines) - last) :]

@@ -12,15 +12,15 @@ def shown(explorer: Explorer, turn: int) -> Iterator[str]:
 
 @command("step [K]", r"<count:decimal>?", "shows the turn after the current one, or the K-th")
 def step(explorer: Explorer, arguments: Arguments) -> Iterator[str]:
-    """Shows the turn K turns after the current one, or one turn, as `show` does. The current turn
-    is the one that a line found or showed last, at first turn 0."""
+    """Shows what `show` shows, K turns after the current turn, or one turn. That turn is then the
+    current one. `help` says at its end what else sets the current turn; at first it is turn 0."""
     return shown(explorer, explorer.turn + arguments.decimal("count", 1))
 
 
 @command("back [K]", r"<count:decimal>?", "shows the turn before the current one, or the K-th")
 def back(explorer: Explorer, arguments: Arguments) -> Iterator[str]:
-    """Shows the turn K turns before the current one, or one turn, as `show` does. The current turn
-    is the one that a line found or showed last, at first turn 0."""
+    """Shows what `show` shows, K turns before the current turn, or one turn. That turn is then the
+    current one. `help` says at its end what else sets the current turn; at first it is turn 0."""
     turn = explorer.turn - arguments.decimal("count", 1)
     if turn < 0:
         raise ExploreError(f"that is before turn 0: the current turn is {explorer.turn}")

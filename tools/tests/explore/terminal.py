@@ -1,6 +1,7 @@
 """explore at a pseudo terminal, which the tests type at."""
 import os
 import pty
+import re
 import select
 import signal
 import subprocess
@@ -8,6 +9,9 @@ import time
 from typing import Callable, Optional
 
 from .common import SECONDS, Case
+
+
+PROMPT = re.compile(rb"explore ([0-9]+)> ")
 
 
 class AtTerminal(Case):
@@ -18,6 +22,7 @@ class AtTerminal(Case):
     def setUp(self) -> None:
         super().setUp()
         self.seen = b""
+        self.turn = 0
 
     def begin(self, *words: str) -> None:
         ours, theirs = pty.openpty()
@@ -46,9 +51,15 @@ class AtTerminal(Case):
         while text not in self.seen:
             self.assertLess(time.monotonic(), limit, f"{text!r} doesn't come after {self.seen!r}")
             if select.select([self.ours], [], [], 0.2)[0]:
-                self.seen += os.read(self.ours, 65536)
+                self.read()
         before, _, self.seen = self.seen.partition(text)
         return before
+
+    def read(self) -> None:
+        """Reads what is shown. The turn in a prompt is left out, and kept in `turn`."""
+        self.seen += os.read(self.ours, 65536)
+        self.turn = int([self.turn, *PROMPT.findall(self.seen)][-1])
+        self.seen = PROMPT.sub(b"explore> ", self.seen)
 
     def type(self, text: str) -> None:
         """Types at the next prompt. What is typed before it is echoed twice."""
@@ -66,5 +77,5 @@ class AtTerminal(Case):
     def settle(self) -> None:
         """Lets signals that were sent have their effect, up to the prompt that is there then."""
         while select.select([self.ours], [], [], 0.3)[0]:
-            self.seen += os.read(self.ours, 65536)
+            self.read()
         self.seen = b"explore> "

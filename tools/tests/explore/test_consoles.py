@@ -108,7 +108,7 @@ class AtConsole(AtTerminal):
         with suppress(OSError):  # once nobody has the terminal
             while time.monotonic() < limit:
                 if select.select([self.ours], [], [], 0.05)[0]:
-                    self.seen += os.read(self.ours, 65536)
+                    self.read()
         self.assertEqual(self.child.wait(SECONDS), status)
         self.assertEqual(termios.tcgetattr(self.ours), self.settings)
 
@@ -167,7 +167,10 @@ class Sitting(AtConsole):
         self.press(b"C")
         self.wait_for(b"C")
         self.leave()
+        left = int(self.reply("show").split()[2][:-1])
+        self.assertGreater(left, int(turn[1]))
         self.assertIn("taken back: console", self.reply("undo"))
+        self.assertEqual(self.turn, left)  # in the prompt
         self.assertIn("text 2:AB", self.reply(f"text {turn[1]}"))
         self.quit()
 
@@ -197,14 +200,13 @@ class Sitting(AtConsole):
 
     def test_it_wants_a_terminal(self) -> None:
         lines = ("console", "console from x", "console rate", "console 7bit", "console 8bit")
-        written = self.explore("".join(f"{it}\n" for it in (*lines, "screen")))
+        written = self.explore("".join(f"{it}\n" for it in lines))
         form = "console: the form is: console [from N] [rate R]  or  console"
         form += " 7bit|8bit|escaped|raw|answers|silent"
         self.assertEqual(
             written.splitlines(),
             ["console: lines don't come from a terminal here", form, form]
-            + ["bit 7 of what is printed is cleared", "all bits are shown"]
-            + ["screen: no console was left here: screen N shows the text before turn N"],
+            + ["bit 7 of what is printed is cleared", "all bits are shown"],
         )
 
 
