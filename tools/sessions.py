@@ -11,7 +11,7 @@ import os
 import re
 import subprocess
 from dataclasses import dataclass
-from typing import Any, Iterable, NamedTuple, Union
+from typing import Any, AnyStr, Iterable, NamedTuple, Union
 
 SECONDS = 60
 LONGEST_LINE = 200
@@ -44,7 +44,8 @@ class Step(NamedTuple):
 
 class Line(NamedTuple):
     """A line of the language: its form and what it does, as --help shows them, what kind it is, and
-    how many lines its reply has. tools/check-help compares the table with --help."""
+    how its reply begins if the line is taken. If that is its first word and the count C, C lines
+    follow. tools/check-help compares the table with --help."""
 
     form: str
     kind: str
@@ -53,81 +54,75 @@ class Line(NamedTuple):
 
 
 EDIT, QUESTION, LIST, SEARCH = "edit", "question", "list", "search"
-ONE_LINE, COUNTED_LINES = "one line", "a line with a count, and as many lines"
 LANGUAGE = [
-    Line("core A W", EDIT, ONE_LINE, "the core word at address A is W as of power-up"),
-    Line("uncore A", EDIT, ONE_LINE, "take that back"),
-    Line("disk I W", EDIT, ONE_LINE, "word I of the drive is W as of power-up"),
-    Line("patches", LIST, COUNTED_LINES, "list these words"),
-    Line("tape B B ..", EDIT, ONE_LINE, "these bytes are the tape in the reader as of power-up"),
+    Line("core A W", EDIT, "ok", "the core word at address A is W as of power-up"),
+    Line("uncore A", EDIT, "ok", "take that back"),
+    Line("disk I W", EDIT, "ok", "word I of the drive is W as of power-up"),
+    Line("patches", LIST, "patches C", "list these words"),
+    Line("tape B B ..", EDIT, "ok", "these bytes are the tape in the reader as of power-up"),
     Line(
         "delay L N",
         EDIT,
-        ONE_LINE,
+        "ok",
         "an operation of L takes N turns, the clock ticks each N turns (0: by events alone); "
         "L is printer, reader, punch, disk or clock",
     ),
-    Line("at T EVENT", EDIT, ONE_LINE, "put an event at turn T"),
-    Line("alter E T EVENT", EDIT, ONE_LINE, "give event E this turn and this event"),
-    Line("drop E", EDIT, ONE_LINE, "take event E out"),
-    Line("regs N", QUESTION, ONE_LINE, "the registers before turn N"),
-    Line("mem N A C", QUESTION, ONE_LINE, "C words of core from address A on, before turn N"),
-    Line("dsk N I C", QUESTION, ONE_LINE, "C words of the drive from word I on, before turn N"),
-    Line("text N", QUESTION, ONE_LINE, "what was printed on the console before turn N"),
-    Line("punched N", QUESTION, ONE_LINE, "what was punched before turn N"),
+    Line("at T EVENT", EDIT, "event E", "put an event at turn T"),
+    Line("alter E T EVENT", EDIT, "ok", "give event E this turn and this event"),
+    Line("drop E", EDIT, "ok", "take event E out"),
+    Line("regs N", QUESTION, "R0 w", "the registers before turn N"),
+    Line("mem N A C", QUESTION, "mem w", "C words of core from address A on, before turn N"),
+    Line("dsk N I C", QUESTION, "dsk w", "C words of the drive from word I on, before turn N"),
+    Line("text N", QUESTION, "text C:", "what was printed on the console before turn N"),
+    Line("punched N", QUESTION, "punched C:", "what was punched before turn N"),
     Line(
         "last N A",
         QUESTION,
-        ONE_LINE,
+        "last T",
         "who last wrote the core word at A before turn N, and when",
     ),
-    Line("devices N", QUESTION, ONE_LINE, "the registers of the devices before turn N"),
-    Line("pages N", QUESTION, ONE_LINE, "the registers of memory management before turn N"),
-    Line(
-        "trail N C",
-        QUESTION,
-        COUNTED_LINES,
-        "the last C turns before turn N: PC and act of each",
-    ),
+    Line("devices N", QUESTION, "devices TKS", "the registers of the devices before turn N"),
+    Line("pages N", QUESTION, "pages SR0", "the registers of memory management before turn N"),
+    Line("trail N C", QUESTION, "trail C", "the last C turns before turn N: PC and act of each"),
     Line(
         "version 2",
         EDIT,
-        ONE_LINE,
+        "ok",
         "eight drives from here on, and these lines in place of those of the one drive",
     ),
-    Line("disk D I W", EDIT, ONE_LINE, "word I of drive D is W as of power-up"),
-    Line("dsk N D I C", QUESTION, ONE_LINE, "C words of drive D from word I on, before turn N"),
+    Line("disk D I W", EDIT, "ok", "word I of drive D is W as of power-up"),
+    Line("dsk N D I C", QUESTION, "dsk w", "C words of drive D from word I on, before turn N"),
 ]
 # The further lines of the program search.
 SEARCHES = [
-    Line("first N M at A", SEARCH, ONE_LINE, "the first turn that runs the instruction at A"),
+    Line("first N M at A", SEARCH, "first T", "the first turn that runs the instruction at A"),
     Line(
         "first N M at A MODE",
         SEARCH,
-        ONE_LINE,
+        "first T",
         "the same in one mode of the processor, kernel or user",
     ),
     Line(
         "first N M vector V",
         SEARCH,
-        ONE_LINE,
+        "first T",
         "the first turn that serves an interrupt through V",
     ),
     Line(
         "writes N M A",
         SEARCH,
-        COUNTED_LINES,
+        "writes C",
         "the writes to the core word at A: turn, who wrote and the word; after 256 it ends, "
         "with 'or more' if turns are left",
     ),
-    Line("change N M I", SEARCH, ONE_LINE, "the first turn that changes word I of the drive"),
-    Line("change N M D I", SEARCH, ONE_LINE, "the same of drive D, in version 2"),
-    Line("text N from F", SEARCH, ONE_LINE, "what was printed before turn N, from byte F on"),
-    Line("punched N from F", SEARCH, ONE_LINE, "what was punched before turn N, from byte F on"),
+    Line("change N M I", SEARCH, "change T", "the first turn that changes word I of the drive"),
+    Line("change N M D I", SEARCH, "change T", "the same of drive D, in version 2"),
+    Line("text N from F", SEARCH, "text C:", "what was printed before turn N, from byte F on"),
+    Line("punched N from F", SEARCH, "punched C:", "what was punched before turn N, from byte F on"),
     Line(
         "when F",
         SEARCH,
-        ONE_LINE,
+        "when T",
         "the turn in which byte F was printed; the run goes on to that turn, or to turn "
         "1000000000",
     ),
@@ -171,9 +166,11 @@ def pattern_of(line: Line) -> str:
 
 QUESTIONS = {command_of(line) for line in LANGUAGE if line.kind == QUESTION}
 EDITS = {command_of(line) for line in LANGUAGE if line.kind == EDIT}
-# The reply begins with the command.
-COUNTED = {command_of(it) for it in LANGUAGE + SEARCHES if it.reply == COUNTED_LINES}
-REPLIES_TO_EDITS = re.compile(rb"ok|event .*|refused .*")
+# The first word of the reply, if the line is taken, by the first word of the line.
+BEGINNINGS = {command_of(it): it.reply.split()[0].encode() for it in LANGUAGE + SEARCHES}
+REFUSED = b"refused"
+# The reply begins with the command and the count of the lines that follow.
+COUNTED = {command_of(it) for it in LANGUAGE + SEARCHES if it.reply.endswith(" C")}
 SEARCH_LINE = re.compile("|".join(map(pattern_of, SEARCHES)).encode())
 # How the files of stored sessions end, each with the ending of a transcript of the same kind.
 TRANSCRIPTS = {".session": ".transcript", ".search": ".search-transcript"}
@@ -271,8 +268,8 @@ def steps_of(lines: list[bytes]) -> list[Step]:
     while left:
         line, reply = left.pop(0), []
         if has_reply(line):
-            is_edit = line.split()[:1] and line.split()[0] in EDITS
-            if is_edit and not (left and REPLIES_TO_EDITS.fullmatch(left[0])):
+            is_edit = first_word(line) in EDITS
+            if is_edit and not (left and is_reply(line, left[0])):
                 reply = [b"ok"]
             elif left:
                 count = 1 + further_lines(left[0])
@@ -281,9 +278,26 @@ def steps_of(lines: list[bytes]) -> list[Step]:
     return steps
 
 
+def words_of(line: AnyStr) -> list[AnyStr]:
+    """The words of a line: spaces and tabs separate them, and each other byte is part of one."""
+    if isinstance(line, bytes):
+        return [it for it in line.replace(b"\t", b" ").split(b" ") if it]
+    return [it for it in line.replace("\t", " ").split(" ") if it]
+
+
+def first_word(line: AnyStr) -> AnyStr:
+    """The first word of a line; empty if it has none."""
+    return next(iter(words_of(line)), line[:0])
+
+
+def is_reply(line: bytes, reply: bytes) -> bool:
+    """Whether this may be the reply to the line, by the first word of each."""
+    return reply.partition(b" ")[0] in (REFUSED, BEGINNINGS.get(first_word(line)))
+
+
 def further_lines(first: bytes) -> int:
     """How many lines of a reply follow its first one."""
-    command, *rest = first.split() or [b""]
+    command, *rest = first.split(maxsplit=2) or [b""]
     return int(rest[0]) if command in COUNTED and rest and rest[0].isdigit() else 0
 
 
@@ -311,9 +325,13 @@ def lines_of(text: bytes) -> list[bytes]:
     return re.findall(rb"[^\n]*\n|[^\n]+", text)
 
 
+def without_end(line: bytes) -> bytes:
+    """The line without its LF and a CR directly before that."""
+    return line[:-1].removesuffix(b"\r") if line.endswith(b"\n") else line
+
+
 def has_reply(line: bytes) -> bool:
-    if line.endswith(b"\n"):
-        line = line[:-1].removesuffix(b"\r")
+    line = without_end(line)
     return len(line) > LONGEST_LINE or (not line.startswith(b"#") and line.strip(b" \t") != b"")
 
 

@@ -6,6 +6,8 @@ from typing import Iterable, Optional
 
 import sessions
 
+from .language import is_decimal
+
 SEARCHES = [it for it in sessions.SEARCHES if it.form.split()[1] == "N"]  # not `when F`
 QUESTIONS = sessions.QUESTIONS | {sessions.command_of(it) for it in SEARCHES}
 NAMES = frozenset(it.decode() for it in QUESTIONS)
@@ -15,11 +17,11 @@ MOST_DIGITS = 10
 def turns_of_question(line: str) -> Optional[tuple[int, int]]:
     """The turns that the machine must be at before and after its reply, or None for another line.
     A trail begins at the first turn that it lists. Where a search ends its reply tells."""
-    words = line.split(None, 3)
-    if len(words) < 2 or words[0] not in NAMES or not words[1].isdigit():
+    words = sessions.words_of(line)
+    if len(words) < 2 or words[0] not in NAMES or not is_decimal(words[1]):
         return None
     turn = int(words[1][:MOST_DIGITS])
-    if words[0] == "trail" and len(words) == 3 and words[2].isdigit():
+    if words[0] == "trail" and len(words) == 3 and is_decimal(words[2]):
         return max(0, turn - int(words[2][:MOST_DIGITS])), turn
     return turn, turn
 

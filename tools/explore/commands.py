@@ -168,6 +168,9 @@ def check_drive(machine: Machine) -> None:
         raise ExploreError("version 1 has one drive, which isn't named; see version 2")
 
 
+# What separates words. It begins at one place alone: otherwise a long run of blanks takes the square
+# of its length.
+BLANKS = r"(?<![ \t])[ \t]+"
 # The parts of patterns: a turn, a count and an event are decimal, a word is octal, and so is an
 # address, or it is a symbol.
 PARTS = {
@@ -189,11 +192,11 @@ def command(form: str, pattern: str, summary: str) -> Callable[[Run], Run]:
     addresses = frozenset(re.findall(r"<(\w+):address>", pattern))
     whole = re.sub(r"<(\w+):(\w+)>", part, pattern)
     whole = whole.replace("{from}", PARTS["from"]).replace("{to}", PARTS["to"])
-    whole = whole.replace(" ", r"[ \t]+")
+    whole = whole.replace(" ", BLANKS)
 
     def register(run: Run) -> Run:
         detail = "\n".join(line.strip() for line in (run.__doc__ or "").strip().splitlines())
-        made = Command(form, re.compile(whole), summary, detail, run, addresses)
+        made = Command(form, re.compile(whole, re.ASCII), summary, detail, run, addresses)
         COMMANDS[made.name] = made
         return run
 

@@ -4,6 +4,8 @@ import re
 from dataclasses import dataclass
 from typing import Iterator, Optional
 
+from sessions import words_of
+
 from .commands import Arguments, Explorer, command, turn_range
 from .crew import Progress
 from .in_words import span
@@ -109,7 +111,7 @@ def differences(before: str, after: str) -> str:
 
 def first_turn(line: str, before: Past) -> int:
     """The first turn that the edit can change: the event's turn, old or new, otherwise 0."""
-    words = line.split()
+    words = words_of(line)
     if words[0] == "at":
         return int(words[1])
     if words[0] in ("alter", "drop"):

@@ -8,14 +8,12 @@ from dataclasses import dataclass, field, replace
 from pathlib import Path
 from typing import Iterator, Optional, Sequence
 
-import sessions
-
 from .errors import ExploreError
 from .files import is_locked_here
 from .in_words import counted
+from .language import is_edit
 from .options import MARK
 
-EDITS = {it.form.split()[0] for it in sessions.LANGUAGE if it.kind == sessions.EDIT}
 ENDING = ".journal"
 MOST_KEPT = 30
 SECONDS_BETWEEN_SYNCS = 0.05
@@ -51,7 +49,7 @@ class Contents:
                 found.ends.append(at)
             elif text.startswith(OF_SESSION):
                 session = text[len(OF_SESSION) :]
-            elif text.split()[:1] and text.split()[0] in EDITS:
+            elif is_edit(text):
                 (found.edits if found.ends else found.of_session).append(text)
                 if found.ends:
                     found.ends.append(at)

@@ -4,8 +4,11 @@ from dataclasses import dataclass
 from typing import Optional
 
 import sessions
+from sessions import words_of
 
 from .past import LINE_DEVICES, Past
+from .program import CONTROL
+from .visible import visible
 
 OCTAL, DECIMAL = frozenset("01234567"), frozenset("0123456789")
 LONGEST_LINE, MOST_DIGITS = sessions.LONGEST_LINE, 10
@@ -13,7 +16,7 @@ LONGEST_LINE, MOST_DIGITS = sessions.LONGEST_LINE, 10
 
 def comma_fault(words: str) -> str:
     """What is wrong with the first number that is written with commas, if there is one."""
-    match = re.search(r"(?<!\S)\d{1,3}(,\d{3})+(?![^\s:])", words)
+    match = re.search(r"(?<!\S)[0-9]{1,3}(,[0-9]{3})+(?![^\s:])", words)
     return f"{match[0]} is written {match[0].replace(',', '')}, without commas" if match else ""
 
 
@@ -69,7 +72,16 @@ FORMS_OF_EIGHT_DRIVES = {
 }
 SUMMARIES = {word_of(it): it.summary for it in sessions.LANGUAGE[: SINCE_VERSION_2 + 1]}
 SEARCHES = frozenset(word_of(it) for it in sessions.SEARCHES)
+EDITS = frozenset(it.decode() for it in sessions.EDITS)
 EVENTS, MEANINGS = sessions.EVENTS, sessions.REFUSALS
+
+
+def is_edit(line: str) -> bool:
+    return sessions.first_word(line) in EDITS
+
+
+def is_decimal(word: str) -> bool:
+    return word != "" and DECIMAL.issuperset(word)
 
 
 def form_of(word: str, past: Past) -> str:
@@ -121,10 +133,12 @@ def forms_of_searches(word: str) -> list[str]:
 
 def explanation(line: str, reply: str, past: Past) -> str:
     """Why this line got this refusal."""
-    number = reply.split()[1]
+    number, control = reply.split()[1], CONTROL.search(line)
     if number != "10":
         return MEANINGS.get(number, "")
-    word, *words = line.split()
+    if control:
+        return f"the line has a control character, {visible(control[0])}"
+    word, *words = words_of(line)
     if word in SEARCHES and (word not in FORMS or len(words) > 1):
         return f"the forms are: {'; '.join(forms_of_searches(word))}"
     if word not in FORMS:

@@ -1,72 +1,35 @@
-"""The program pdp11 as a child process, and the machine that it runs."""
+"""The machine that the program runs, with its edits."""
 import copy
 import os
 from contextlib import contextmanager
 from dataclasses import dataclass, field, replace
-from io import BufferedReader
 from pathlib import Path
-from typing import Iterator, Optional, Sequence, cast
-
-import sessions
+from typing import Iterator, Optional, Sequence
 
 from .asked import Asked
-from .children import Child, ProgramEnded
+from .children import ProgramEnded
 from .errors import ExploreError
 from .interrupts import INTERRUPTS
 from .journal import Journal
+from .language import is_edit
 from .past import Past
+from .program import Program
 from .replies import Devices, LastWrite, Pages, Registers, Turn, text_of, turns_of, words_of
 
 LAST_TURN = 1_000_000_000
 MOST_TURNS_OF_A_TRAIL = 64
 MOST_WORDS = 256
-# How many lines are sent before their replies are read. They have room in a pipe, so the program
-# never waits for explore while explore waits for the program.
-SENT_AHEAD, SHORT_SENT_AHEAD = 16, 100
-ROOM_OF_A_PIPE, WORD_BYTES = 50_000, 16
-EDITS = {sessions.command_of(it).decode() for it in sessions.LANGUAGE if it.kind == sessions.EDIT}
-COUNTED = {it.decode() for it in sessions.COUNTED}
+# How many lines are sent before their replies are looked at: those with long replies, and others.
+SENT_AHEAD, SHORT_SENT_AHEAD = 16, 1000
+BLOCK_BYTES, WORD_BYTES = 50_000, 16
 
 
 class Refused(ExploreError):
     """A question or an edit of explore's own was refused."""
 
 
-class Program(Child):
-    """A running pdp11."""
-
-    def reply(self) -> str:
-        """The next reply, with all its lines, without the last LF."""
-        lines = [self.line()]
-        words = lines[0].split()
-        if len(words) > 1 and words[0] in COUNTED and words[1].isdigit():
-            lines += [self.line() for _ in range(int(words[1]))]
-        return "\n".join(lines)
-
-    def ask_all(self, lines: Sequence[str], ahead: int) -> Iterator[str]:
-        """The replies to these lines, each of which has one."""
-        for at in range(0, len(lines), ahead):
-            part = lines[at : at + ahead]
-            self.send(part)
-            yield from [self.reply() for _ in part]
-
-    def block(self, lines: Sequence[str], reply_lines: int) -> bytes:
-        """The replies to these lines as they come, unread. Each has `reply_lines` lines, or is a
-        refusal of one line."""
-        self.send(lines)
-        data = bytearray()
-        ends, wanted, may_be_refused = 0, len(lines) * reply_lines, False
-        while ends < wanted:
-            part = cast(BufferedReader, self.written).read1(ROOM_OF_A_PIPE)
-            if not part:
-                raise self.ended()
-            data += part
-            ends += part.count(b"\n")
-            may_be_refused = may_be_refused or b"f" in part
-            if may_be_refused and reply_lines > 1:
-                refusals = data.count(b"refused ")
-                wanted = len(lines) * reply_lines - refusals * (reply_lines - 1)
-        return bytes(data)
+def in_parts(lines: Sequence[str], size: int) -> Iterator[Sequence[str]]:
+    return (lines[at : at + size] for at in range(0, len(lines), size))
 
 
 @dataclass(frozen=True)
@@ -134,7 +97,9 @@ class Machine:
         try:
             with INTERRUPTS.held():
                 program = Program(self.start.command(), self.start.folder)
-            _, *replies = program.ask_all(["regs 0", *self.journal], SHORT_SENT_AHEAD)
+            program.replies(["regs 0"])
+            parts = in_parts(self.journal, SHORT_SENT_AHEAD)
+            replies = (reply for part in parts for reply in program.replies(part))
             for line, before, now in zip(self.journal, self.replies, replies):
                 if before != now:
                     raise ExploreError(f"{line}: was answered {before}, and now {now}")
@@ -176,8 +141,7 @@ class Machine:
 
     def ask(self, line: str) -> str:
         """The reply to a line that has one. An edit that was taken is kept."""
-        is_edit = line.split()[0] in EDITS
-        (reply,) = self.edit_all([line]) if is_edit else self.ask_all([line])
+        (reply,) = self.edit_all([line]) if is_edit(line) else self.ask_all([line])
         return reply
 
     def edit_all(self, lines: Sequence[str]) -> list[str]:
@@ -215,23 +179,18 @@ class Machine:
     def ask_all(self, lines: Sequence[str], ahead: int = SENT_AHEAD) -> Iterator[str]:
         """The replies to lines, one by one. Edits among them aren't kept."""
         with self._started_again():
-            for at in range(0, len(lines), ahead):
-                part = lines[at : at + ahead]
-                replies = list(self.program.ask_all(part, ahead))
+            for part in in_parts(lines, ahead):
+                replies = self.program.replies(part)
                 self.asked.note(it for it, reply in zip(part, replies) if not is_refused(reply))
                 yield from replies
 
-    def blocks(
-        self, lines: Sequence[str], reply_bytes: int, reply_lines: int = 1
-    ) -> Iterator[bytes]:
-        """The replies to many questions as bytes, some at a time: for searches, which look for few
-        of them. No reply has more than `reply_bytes` bytes, and each has `reply_lines`
-        lines. None may be refused."""
-        ahead = max(1, ROOM_OF_A_PIPE // reply_bytes)
+    def blocks(self, lines: Sequence[str], reply_bytes: int) -> Iterator[bytes]:
+        """The replies to many questions of one kind as bytes, some at a time: for searches, which
+        look for few of them. A reply is one line of some `reply_bytes` bytes. None may be
+        refused."""
         with self._started_again():
-            for at in range(0, len(lines), ahead):
-                part = lines[at : at + ahead]
-                block = self.program.block(part, reply_lines)
+            for part in in_parts(lines, max(1, BLOCK_BYTES // reply_bytes)):
+                block = self.program.block(part)
                 refusal = block.find(b"refused ")
                 if refusal >= 0:
                     reply = block[refusal:].splitlines()[0].decode("ascii")
@@ -253,10 +212,14 @@ class Machine:
 
     def read(self, line: str) -> str:
         """The reply to a question, which mustn't be refused."""
-        reply = self.ask(line)
-        if is_refused(reply):
-            raise Refused(f"{line}: {reply}")
-        return reply
+        return next(self.read_all([line]))
+
+    def read_all(self, lines: Sequence[str], ahead: int = SENT_AHEAD) -> Iterator[str]:
+        """The replies to questions, none of which may be refused."""
+        for line, reply in zip(lines, self.ask_all(lines, ahead)):
+            if is_refused(reply):
+                raise Refused(f"{line}: {reply}")
+            yield reply
 
     # Questions
 
@@ -333,10 +296,8 @@ class Machine:
 
     def text_lengths(self, turns: Sequence[int]) -> Iterator[int]:
         """How many bytes were printed before each of these turns."""
-        for turn, reply in zip(turns, self.ask_all([f"text {it}" for it in turns])):
-            if is_refused(reply):
-                raise Refused(f"text {turn}: {reply}")
-            yield int(reply.split(":")[0].split()[1])
+        for reply in self.read_all([f"text {it}" for it in turns]):
+            yield int(reply.partition(":")[0].split()[1])
 
     def turn(self, turn: int) -> Turn:
         """What the machine does in this turn."""
@@ -350,9 +311,7 @@ class Machine:
 
     def turns(self, first: int, count: int) -> Iterator[Turn]:
         """These turns, by as many trails as it takes. A reply of a trail has some 1,300 bytes."""
-        for reply in self.ask_all(self.trail_lines(first, count)):
-            if is_refused(reply):
-                raise Refused(f"turns {first} to {first + count - 1}: {reply}")
+        for reply in self.read_all(self.trail_lines(first, count)):
             yield from turns_of(reply)
 
     def units(self) -> int:

@@ -16,13 +16,15 @@ from .interrupts import INTERRUPTS
 from .journal import OF_SESSION, Contents, Journal, newest, state_folder, told
 from .language import explanation
 from .load import warnings_of
-from .machine import EDITS, Machine, Start, existing_program, is_refused
+from .machine import Machine, Start, existing_program, in_parts, is_refused, is_taken
 from .options import Options, Parser, add_options, check_options, option_lines, options_of
 from .options import words_of_options
-from .output import Unwritable, complain, drop_output, fault_in_words, flush, prepare_streams, put
+from .output import Unwritable, complain, fault_in_words, leave_streams, prepare_streams, put
+from .past import Past
 from .prompt import Prompt, read_at_terminal, read_lines
 from .sweep import raw_lines
 
+LINES_AT_ONCE, LONGEST_SHOWN = 10_000, 200
 ROOT = Path(__file__).resolve().parents[2]
 DESCRIPTION = """\
 A prompt over the session language of Nezdrab's PDP-11 (docs/LANGUAGE.md). Its lines go through,
@@ -96,21 +98,35 @@ def disassembler_of(given: Optional[str]) -> Disassembler:
         return Disassembler(None)
 
 
-def read_session(machine: Machine, path: Path) -> None:
-    """Makes the edits of a session. Its questions have no effect, and aren't asked."""
+def session_lines(path: Path) -> list[tuple[int, str]]:
+    """The lines of a session that get a reply, with their numbers. Its questions have no effect,
+    and are left out."""
     try:
-        lines = path.read_bytes().split(b"\n")
+        lines = sessions.lines_of(path.read_bytes())
     except OSError as error:
         raise ExploreError(f"{path}: {error.strerror}") from error
-    asked = {it.decode() for it in sessions.QUESTIONS} | {"patches"}
-    for number, line in enumerate(lines, 1):
-        text = line.removesuffix(b"\r").decode(errors="surrogateescape")
-        if not sessions.has_reply(line) or text.split()[:1] and text.split()[0] in asked:
-            continue
-        reply = machine.ask(text)
-        if is_refused(reply):
-            why = explanation(text, reply, machine.past) if text.split()[0] in EDITS else ""
-            complain(f"{path}:{number}: {text}: {reply} {why}".rstrip())
+    table = [*sessions.LANGUAGE, *sessions.SEARCHES]
+    asked = {sessions.command_of(it) for it in table if it.kind != sessions.EDIT}
+    bare = ((number, sessions.without_end(it)) for number, it in enumerate(lines, 1))
+    return [
+        (number, line.decode(errors="surrogateescape"))
+        for number, line in bare
+        if sessions.has_reply(line) and sessions.first_word(line) not in asked
+    ]
+
+
+def read_session(machine: Machine, path: Path) -> None:
+    """Makes the edits of a session."""
+    past = Past()
+    lines = session_lines(path)
+    parts = in_parts([line for _, line in lines], LINES_AT_ONCE)
+    replies = (reply for part in parts for reply in machine.edit_all(part))
+    for (number, line), reply in zip(lines, replies):
+        if is_taken(reply):
+            past.apply(line, reply)
+        else:
+            why = explanation(line, reply, past)
+            complain(f"{path}:{number}: {line[:LONGEST_SHOWN]}: {reply} {why}".rstrip())
 
 
 def resumed(found: argparse.Namespace) -> Path:
@@ -197,7 +213,6 @@ def explore(found: argparse.Namespace) -> None:
             read_at_terminal(prompt)
         else:
             read_lines(prompt)
-        flush()
     except (ExploreError, BrokenPipeError, Unwritable):
         raise
     except Exception as error:
@@ -207,9 +222,8 @@ def explore(found: argparse.Namespace) -> None:
         explorer.disassembler.close()
 
 
-def main() -> int:
-    INTERRUPTS.install()
-    prepare_streams()
+def status() -> int:
+    """Does what the arguments say, and returns the exit status."""
     try:
         if sys.argv[1:2] == ["web"]:
             from .web import show_page  # what a prompt doesn't need, and takes a while to read
@@ -223,11 +237,9 @@ def main() -> int:
         complain(str(error))
         return 1
     except BrokenPipeError:
-        drop_output()
         complain("the output can't be written")
         return 3
     except Unwritable as error:
-        drop_output()
         complain(f"the output can't be written: {error}")
         return 1
     except KeyboardInterrupt:
@@ -236,3 +248,12 @@ def main() -> int:
     except Exception as error:
         complain(fault_in_words(error))
         return 1
+
+
+def main() -> int:
+    INTERRUPTS.install()
+    prepare_streams()
+    try:
+        return status()
+    finally:
+        leave_streams()

@@ -7,9 +7,10 @@ import shlex
 import stat
 from dataclasses import dataclass
 from pathlib import Path
-from typing import Iterable, Iterator, NoReturn, Optional
+from typing import Any, Iterable, Iterator, NoReturn, Optional
 
 from .errors import ExploreError
+from .output import put
 from .visible import visible
 
 UNIT_BYTES, MOST_UNITS = 0o20000, 31  # of core
@@ -53,7 +54,11 @@ Options = dict[str, str]
 
 
 class Parser(argparse.ArgumentParser):
-    """A parser of arguments that shows a wrong one as text."""
+    """A parser whose help is an error of explore if it can't be written, and which shows a wrong
+    argument as text."""
+
+    def print_help(self, file: Any = None) -> None:
+        put(self.format_help().rstrip("\n"))
 
     def error(self, message: str) -> NoReturn:
         super().error(visible(message))

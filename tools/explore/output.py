@@ -1,40 +1,71 @@
-"""Standard output and standard error."""
+"""Standard output and standard error. Each write is explore's own: what can't be written is known
+here, and nothing is left for the interpreter to write at its end."""
 import codecs
 import io
 import os
+import select
 import sys
 import traceback
 
 from .visible import escaped_character, visible
+
+MOST_WAITING = 65_536  # characters
 
 
 class Unwritable(Exception):
     """Standard output can't be written."""
 
 
+class Lines:
+    """The lines that wait to be written to standard output."""
+
+    def __init__(self) -> None:
+        self.waiting: list[str] = []
+        self.size = 0
+
+    def add(self, line: str) -> None:
+        self.waiting.append(f"{visible(line)}\n")
+        self.size += len(line)
+
+    def flush(self) -> None:
+        """Writes them all. If they can't be written they are lost."""
+        data = "".join(self.waiting).encode(sys.stdout.encoding, "as_typed")
+        self.waiting, self.size = [], 0
+        try:
+            write_all(sys.stdout.fileno(), data)
+        except BrokenPipeError:
+            raise
+        except OSError as error:
+            raise Unwritable(error.strerror) from error
+
+
+LINES = Lines()
+
+
+def write_all(handle: int, data: bytes) -> None:
+    while data:
+        try:
+            data = data[os.write(handle, data) :]
+        except BlockingIOError:
+            select.select([], [handle], [])
+
+
 def put(line: str, is_flushed: bool = True) -> None:
-    """Writes a line to standard output."""
-    try:
-        print(visible(line), flush=is_flushed)
-    except BrokenPipeError:
-        raise
-    except OSError as error:
-        raise Unwritable(error.strerror) from error
+    """Writes a line to standard output, with those that wait; or has it wait too."""
+    LINES.add(line)
+    if is_flushed or LINES.size > MOST_WAITING:
+        LINES.flush()
 
 
 def flush() -> None:
-    try:
-        sys.stdout.flush()
-    except BrokenPipeError:
-        raise
-    except OSError as error:
-        raise Unwritable(error.strerror) from error
+    LINES.flush()
 
 
 def complain(text: str) -> None:
     """Writes a line to standard error, if anybody can read it."""
     try:
-        print(f"explore: {visible(text)}", file=sys.stderr, flush=True)
+        data = f"explore: {visible(text)}\n".encode(sys.stderr.encoding, "as_typed")
+        write_all(sys.stderr.fileno(), data)
     except OSError:
         pass
 
@@ -59,9 +90,14 @@ def prepare_streams() -> None:
             stream.reconfigure(errors=errors)
 
 
-def drop_output() -> None:
-    """What is left of standard output goes nowhere."""
-    os.dup2(os.open(os.devnull, os.O_WRONLY), sys.stdout.fileno())
+def leave_streams() -> None:
+    """What others have left in the streams is written, or goes nowhere if it can't be: otherwise
+    the interpreter fails at its end, with a status of its own."""
+    for stream in (sys.stdout, sys.stderr):
+        try:
+            stream.flush()
+        except OSError:
+            os.dup2(os.open(os.devnull, os.O_WRONLY), stream.fileno())
 
 
 def fault_in_words(error: BaseException) -> str:

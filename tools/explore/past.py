@@ -2,8 +2,11 @@
 from dataclasses import dataclass, field
 from typing import Iterable, Iterator, Optional, Union
 
+from sessions import words_of
+
 DELAYS = {"printer": 1, "reader": 4, "punch": 4, "disk": 10, "clock": 0}
 LINE_DEVICES = frozenset(DELAYS)
+MOST_EVENTS = 65_536  # of a script
 
 
 @dataclass
@@ -54,7 +57,7 @@ class Past:
 
     def apply(self, line: str, reply: str) -> None:
         """Takes an edit that the program has answered `ok` or `event E`."""
-        word, *rest = line.split()
+        word, *rest = words_of(line)
         if word == "core":
             self.patches["core", int(rest[0], 8)] = int(rest[1], 8)
         elif word == "uncore":

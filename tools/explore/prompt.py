@@ -4,7 +4,7 @@ import re
 import readline
 import sys
 from pathlib import Path
-from typing import Iterable, Optional
+from typing import Iterable, Optional, Sequence
 
 import sessions
 
@@ -19,11 +19,12 @@ from .files import OUTPUT
 from .in_words import counted
 from .interrupts import INTERRUPTS, typed_line
 from .journal import state_folder
-from .language import FORMS, SEARCHES, SUMMARIES, explanation, form_of, forms_of_searches
+from .language import FORMS, SEARCHES, SUMMARIES
+from .language import explanation, form_of, forms_of_searches, is_decimal
 from .machine import is_refused
-from .output import Unwritable, fault_in_words, put
+from .output import Unwritable, fault_in_words, flush, put
 
-PROMPT = "explore> "
+PROMPT, BLANKS = "explore> ", " \t"
 INTRODUCTION = "lines of the session language, and help, console, see, until ..; quit ends"
 OWN_HELP = {
     "help": ("help [WORD]", "what there is, or what the command WORD does"),
@@ -57,6 +58,7 @@ class Prompt:
         self.told_fault = ""
         self.explorer = explorer
         self.echo = echo
+        self.is_stopped = False
         self.at_work = AtWork("")
 
     def show(self, lines: Iterable[str]) -> None:
@@ -66,19 +68,21 @@ class Prompt:
 
     def onecmd(self, line: str) -> bool:
         """Does one line, and tells whether it was the last one."""
-        if not line.strip() or line.startswith("#"):
+        bare = line.strip(BLANKS)
+        if not bare or line.startswith("#"):
             return False
-        word, *others = line.strip().split(maxsplit=1)
-        name = word.rstrip("!")
+        word = sessions.first_word(bare)
+        rest, name = bare[len(word) :].lstrip(BLANKS), word.rstrip("!")
         try:
             if name in ENDS:
                 self.end(is_dropped=word != name)
                 return True
             with AtWork(name) as self.at_work, INTERRUPTS.allowed():
-                self.do(word, "".join(others), line)
+                self.do(word, rest, line)
         except (BrokenPipeError, Unwritable):
             raise
         except KeyboardInterrupt:
+            self.is_stopped = True
             self.show([f"\n{name}: stopped; the edits are all there"])
             INTERRUPTS.forget()
         except (ExploreError, OSError) as error:
@@ -86,7 +90,19 @@ class Prompt:
         except Exception as error:
             self.show([f"{name}: {self.fault(error)}"])
         self.note(line)
+        flush()
         return False
+
+    def pasted(self, lines: Sequence[str]) -> bool:
+        """Does lines that came in one piece, as a terminal gives a paste. Each is shown again before
+        its replies. After Ctrl-C and after `quit` the others aren't done. Tells whether one was the
+        last."""
+        is_last = self.is_stopped = False
+        for line in lines:
+            if not is_last and not self.is_stopped and line.strip(BLANKS):
+                put(f"{prompt_at(self.explorer.turn)}{line}")
+                is_last = self.onecmd(line)
+        return is_last
 
     def fault(self, error: Exception) -> str:
         """A fault of explore, and where the edits are."""
@@ -129,7 +145,7 @@ class Prompt:
 
     def do(self, word: str, rest: str, line: str) -> None:
         if word in ("help", "?"):
-            self.show(self.help_lines(rest.strip()))
+            self.show(self.help_lines(rest))
         elif is_own(word, rest):
             OUTPUT.command, OUTPUT.overwrites = word.rstrip("!"), word[-1] == "!"
             self.show(COMMANDS[OUTPUT.command].lines(self.explorer, rest))
@@ -179,10 +195,10 @@ class Prompt:
 
 def is_own(word: str, rest: str) -> bool:
     """Whether a line is a command of explore. A line of the language may begin with its word."""
-    if word in SEARCHES and rest[:1].isdigit():
+    if word in SEARCHES and is_decimal(rest[:1]):
         return False
     if word in FORMS:
-        writes = word in WRITING and re.search(r"\sat\s+\S+$", rest.rstrip())
+        writes = word in WRITING and re.search(r"[ \t]at[ \t]+[^ \t]+$", rest)
         return word in COMMANDS and (rest.startswith("from") or bool(writes))
     return word in COMMANDS or word[-1] == "!" and word[:-1] in WRITING
 
@@ -241,7 +257,8 @@ def read_at_terminal(prompt: Prompt) -> None:
     while not is_last:
         try:
             with INTERRUPTS.allowed():
-                line = typed_line(prompt_at(prompt.explorer.turn))
+                typed = typed_line(prompt_at(prompt.explorer.turn))
+                lines = typed.replace("\r\n", "\n").split("\n")
         except EOFError:
             put("")
             prompt.end()
@@ -249,7 +266,7 @@ def read_at_terminal(prompt: Prompt) -> None:
         except KeyboardInterrupt:
             put("^C")
         else:
-            is_last = prompt.onecmd(line)
+            is_last = prompt.pasted(lines) if len(lines) > 1 else prompt.onecmd(lines[0])
     write_history(path)
 
 
@@ -259,7 +276,7 @@ def read_lines(prompt: Prompt) -> None:
     while not is_last:
         with INTERRUPTS.allowed():
             line = sys.stdin.buffer.readline()
-        text = line.decode(errors="surrogateescape").rstrip("\n").removesuffix("\r")
-        if prompt.echo and text.strip():
+        text = sessions.without_end(line).decode(errors="surrogateescape")
+        if prompt.echo and text.strip(BLANKS):
             put(text if text.startswith("#") else f"{PROMPT}{text}")
         is_last = not line or prompt.onecmd(text)

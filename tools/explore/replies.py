@@ -1,4 +1,5 @@
 """The replies of the session language as types with names."""
+import codecs
 from dataclasses import dataclass
 from enum import Enum
 from typing import Optional
@@ -244,8 +245,5 @@ def turns_of(reply: str) -> list[Turn]:
 
 
 def text_of(reply: str) -> bytes:
-    """The bytes of a reply of `text` or `punched`."""
-    shown = reply.rstrip("\n").partition(":")[2]
-    parts = shown.split("\\")
-    tail = b"".join(bytes([int(it[:3], 8)]) + it[3:].encode() for it in parts[1:])
-    return parts[0].encode() + tail
+    """The bytes of a reply of `text` or `punched`: a backslash and three octal digits are one."""
+    return codecs.decode(reply.partition(":")[2], "unicode_escape").encode("latin-1")

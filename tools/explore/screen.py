@@ -1,46 +1,55 @@
 """The console's text as a terminal shows it: `screen`."""
-from dataclasses import dataclass, field
+import re
 from typing import Iterator
 
 from .commands import Arguments, Explorer, command
 
-BACKSPACE, TAB, LINE_FEED, RETURN, ESCAPE, DELETE = 0o10, 0o11, 0o12, 0o15, 0o33, 0o177
-TAB_WIDTH = 8
+BACKSPACE, TAB, RETURN = b"\b", b"\t", b"\r"
+MOVES = re.compile(rb"([\b\t\r])")
+TAB_WIDTH, DELETE = 8, 0o177
 
 
-def visible(byte: int) -> str:
+def in_characters(byte: int) -> str:
     """A byte in characters that can be printed: `^[` is ESC, `^A` Ctrl-A, `\\377` the byte 377."""
     if byte < 0o40 or byte == DELETE:
         return f"^{chr(byte ^ 0o100)}"
     return chr(byte) if byte < DELETE else f"\\{byte:03o}"
 
 
-@dataclass
-class Screen:
-    """Lines of a terminal, and where the next character goes."""
+SHOWN = [in_characters(it).encode() for it in range(0o400)]
+UNSHOWN = re.compile(rb"[^\x20-\x7e]")
 
-    lines: list[list[str]] = field(default_factory=lambda: [[]])
-    column: int = 0
 
-    def take(self, byte: int) -> None:
-        """CR, LF, BS and TAB move; another byte is shown where it stands."""
-        if byte == LINE_FEED:
-            self.lines.append([])
-        elif byte == RETURN:
-            self.column = 0
-        elif byte == BACKSPACE:
-            self.column = max(0, self.column - 1)
-        elif byte == TAB:
-            self.column += TAB_WIDTH - self.column % TAB_WIDTH
-        else:
-            for character in visible(byte):
-                self.put(character)
+def shown(run: bytes) -> bytes:
+    return b"".join(map(SHOWN.__getitem__, run)) if UNSHOWN.search(run) else run
 
-    def put(self, character: str) -> None:
-        line = self.lines[-1]
-        line.extend(" " * (self.column - len(line)))
-        line[self.column : self.column + 1] = [character]
-        self.column += 1
+
+def line_of(printed: bytes, column: int) -> tuple[bytes, int]:
+    """A line of the terminal, from the bytes up to its LF and the column where they begin; and the
+    column where they end. CR, BS and TAB move; another byte is shown where it stands."""
+    line = bytearray()
+    for part in MOVES.split(printed):
+        if part == RETURN:
+            column = 0
+        elif part == BACKSPACE:
+            column = max(0, column - 1)
+        elif part == TAB:
+            column += TAB_WIDTH - column % TAB_WIDTH
+        elif part:
+            run = shown(part)
+            line.extend(b" " * (column - len(line)))
+            line[column : column + len(run)] = run
+            column += len(run)
+    return bytes(line), column
+
+
+def lines_of(text: bytes) -> list[str]:
+    """The lines of a terminal that has been given this text, without blanks at their ends."""
+    lines, column = [], 0
+    for printed in text.split(b"\n"):
+        line, column = line_of(printed, column)
+        lines.append(line.decode().rstrip(" "))
+    return lines if lines[-1] else lines[:-1]
 
 
 @command(
@@ -51,17 +60,12 @@ class Screen:
 def screen(explorer: Explorer, arguments: Arguments) -> Iterator[str]:
     """Shows what was printed before turn N with its line ends; with LAST the last LAST lines.
     Without N it is the current turn, as after a console the one where it was left. CR, LF, BS and
-    TAB move as on a terminal, so what is printed over a character takes its place. Other control bytes are shown:
-    ^[ is ESC, ^G Ctrl-G, ^? DEL, and \\377 the byte 377. An escape sequence is shown too, and has
-    no effect. `text N` shows each byte."""
+    TAB move as on a terminal, so what is printed over a character takes its place. Other control
+    bytes are shown: ^[ is ESC, ^G Ctrl-G, ^? DEL, and \\377 the byte 377. An escape sequence is
+    shown too, and has no effect. `text N` shows each byte."""
     turn = arguments.decimal("turn", explorer.turn)
-    shown = Screen()
-    for byte in explorer.machine.text(turn):
-        shown.take(byte)
+    lines = lines_of(explorer.machine.text(turn))
     explorer.turn = turn
-    lines = ["".join(it).rstrip() for it in shown.lines]
-    if not lines[-1]:
-        lines.pop()
     if not lines:
         yield f"nothing is printed before turn {turn}"
     last = arguments.decimal("count", len(lines))

@@ -1,7 +1,8 @@
 """Events and the past: `events`, `save`, `type`."""
 import re
+from bisect import bisect_left
 from pathlib import Path
-from typing import Iterator, Optional
+from typing import Iterator, Sequence
 
 from .commands import Arguments, Explorer, check_turn, command
 from .errors import ExploreError
@@ -10,7 +11,10 @@ from .in_words import counted
 from .language import comma_fault
 from .machine import LAST_TURN, Machine, is_refused
 from .options import option_lines, options_of_words
+from .past import MOST_EVENTS
+from .replies import Devices
 
+FIRST_STEPS, LOOKS = 64, 16
 ESCAPES = {"r": 0o15, "n": 0o12, "t": 0o11, "e": 0o33, "\\": 0o134, '"': 0o42}
 WAITED_TURNS = 10_000_000
 
@@ -79,32 +83,63 @@ def typed_bytes(text: str) -> list[int]:
     return found
 
 
-def first_free(machine: Machine, first: int) -> int:
-    """The first turn from `first` on before which no key waits and which has no key yet."""
-    limit = min(first + WAITED_TURNS, LAST_TURN)
-    begin = first
-    for bound in [*sorted({it for it in machine.past.key_turns() if first <= it < limit}), limit]:
-        found = first_free_between(machine, begin, bound)
-        if found is not None:
-            return found
-        begin = bound + 1
-    raise ExploreError(f"the key before turn {first} isn't taken within {WAITED_TURNS} turns")
+class Keyboard:
+    """Finds turns in which the keyboard takes a key. Between two keys it goes once at most from
+    waiting to free, so looks that lie ever closer together find the turn."""
+
+    def __init__(self, machine: Machine):
+        self.machine = machine
+        self.turns_of_keys = sorted(set(machine.past.key_turns()))
+        self.usual = 1  # how many turns the last key waited
+
+    def first_free(self, first: int) -> int:
+        """The first turn from `first` on before which no key waits and which has no key yet."""
+        limit = min(first + WAITED_TURNS, LAST_TURN)
+        at = bisect_left(self.turns_of_keys, first)
+        begin = first
+        for bound in [*self.turns_of_keys[at : bisect_left(self.turns_of_keys, limit)], limit]:
+            free = self.first_free_between(begin, bound)
+            if free < bound:
+                self.usual = free - first + 1
+                return free
+            begin = bound + 1
+        raise ExploreError(f"the key before turn {first} isn't taken within {WAITED_TURNS} turns")
+
+    def first_free_between(self, first: int, bound: int) -> int:
+        """The same, of turns that have no key, or `bound`."""
+        waiting, free = self.looked_at(first - 1, bound, self.first_looks(first, bound))
+        step = FIRST_STEPS
+        while free == bound and waiting + 1 < bound:
+            waiting, free = self.looked_at(waiting, bound, [min(waiting + step, bound - 1)])
+            step *= 2
+        while free - waiting > 1:
+            step = -(-(free - waiting) // LOOKS)
+            looks = range(waiting + step, free, step)
+            waiting, free = self.looked_at(waiting, free, looks)
+        return free
+
+    def first_looks(self, first: int, bound: int) -> list[int]:
+        """The turns to look at first: where the last key was taken, and in steps that double."""
+        usual = first - 1 + self.usual
+        looks = {usual - 1, usual, *(first - 1 + 2**it for it in range(FIRST_STEPS.bit_length()))}
+        return sorted(it for it in looks if first <= it < bound)
+
+    def looked_at(self, waiting: int, free: int, looks: Sequence[int]) -> tuple[int, int]:
+        """Narrows the turns between the last one that waits and the first that is free."""
+        for look, reply in zip(looks, self.machine.read_all([f"devices {it}" for it in looks])):
+            if not Devices.of(reply).key_waits:
+                return waiting, look
+            waiting = look
+        return waiting, free
 
 
-def first_free_between(machine: Machine, first: int, bound: int) -> Optional[int]:
-    """The same, of turns that have no key. Then the keyboard goes once at most from waiting to
-    free, so halving finds the turn."""
-    waiting, step = first - 1, 1
-    while waiting + step < bound and machine.devices(waiting + step).key_waits:
-        waiting, step = waiting + step, 2 * step
-    free = min(waiting + step, bound)
-    while free - waiting > 1:
-        middle = (waiting + free) // 2
-        if machine.devices(middle).key_waits:
-            waiting = middle
-        else:
-            free = middle
-    return free if free < bound else None
+def check_room(machine: Machine, keys: Sequence[int]) -> None:
+    room = MOST_EVENTS - len(machine.past.events)
+    if len(keys) > room:
+        raise ExploreError(
+            f"the script holds {MOST_EVENTS} events, and has room for {room} more; keys to type:"
+            f" {len(keys)}"
+        )
 
 
 @command(
@@ -116,21 +151,23 @@ def type_text(explorer: Explorer, arguments: Arguments) -> Iterator[str]:
     r"""Adds a key for each byte of TEXT, each at the first turn at which no earlier key waits (bit
     7 of TKS is clear), and at least N turns after the one before. Without `from` it begins after
     the last event of the script. Enter is \r; there are \n \t \e \\ \" too, and \015 for a
-    byte in octal. A TEXT with spaces at its end, or with ` from ` in it, stands in "quotes".
-    """
+    byte in octal. A TEXT with spaces at its end, or with ` from ` in it, stands in "quotes". If
+    the script hasn't room for all of them, none is typed."""
     machine = explorer.machine
     every, keys = arguments.decimal("every", 1), typed_bytes(arguments.text("text"))
-    after_events = max((it.turn + 1 for it in machine.past.script()), default=0)
+    check_room(machine, keys)
+    after_events = max((it.turn + 1 for it in machine.past.events.values()), default=0)
     turn = arguments.decimal("first", after_events)
-    typed = 0
+    keyboard, typed = Keyboard(machine), 0
     try:
-        for byte in keys:
-            check_turn(turn)
-            turn = first_free(machine, turn)
-            reply = machine.ask(f"at {turn} key {byte:o}")
-            if is_refused(reply):
-                raise ExploreError(reply)
-            yield f"{reply} at {turn} key {byte:o}"
-            typed, turn = typed + 1, turn + max(1, every)
+        with machine.edits_together():
+            for byte in keys:
+                check_turn(turn)
+                turn = keyboard.first_free(turn)
+                reply = machine.ask(f"at {turn} key {byte:o}")
+                if is_refused(reply):
+                    raise ExploreError(reply)
+                yield f"{reply} at {turn} key {byte:o}"
+                typed, turn = typed + 1, turn + max(1, every)
     except ExploreError as error:
         raise ExploreError(f"{error}; {typed} of {len(keys)} keys are typed") from error

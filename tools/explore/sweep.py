@@ -9,6 +9,7 @@ from pathlib import Path
 from typing import Container, Iterator, Optional, Sequence
 
 import sessions
+from sessions import words_of
 
 from .asked import turns_of_question
 from .commands import Arguments, Explorer, check_turn, command
@@ -17,8 +18,8 @@ from .errors import ExploreError
 from .files import OUTPUT, is_locked_here, write_whole
 from .in_words import counted
 from .interrupts import INTERRUPTS, typed_line
-from .language import SEARCHES, comma_fault, explanation
-from .machine import EDITS, Machine, is_refused
+from .language import SEARCHES, comma_fault, explanation, is_decimal, is_edit
+from .machine import Machine, is_refused
 from .script import session_lines
 
 SWEEP = re.compile(
@@ -42,7 +43,7 @@ class Sweep:
 
     @classmethod
     def of(cls, machine: Machine, text: str) -> "Sweep":
-        match = SWEEP.fullmatch(" ".join(text.split()))
+        match = SWEEP.fullmatch(" ".join(words_of(text)))
         if match is None:
             form = "the form is: sweep EVENT|E from N to M [step K]: QUESTION"
             commas = comma_fault(text)
@@ -53,7 +54,7 @@ class Sweep:
         if not step:
             raise ExploreError("K of step is 1 or more")
         turns = range(int(match["first"]), int(match["last"]) + 1, step)
-        number = int(match["event"]) if match["event"].isdigit() else None
+        number = int(match["event"]) if is_decimal(match["event"]) else None
         if number is not None and number not in machine.past.events:
             raise ExploreError(f"no event has the number {number}; events lists them")
         event = match["event"] if number is None else machine.past.events[number].text
@@ -110,10 +111,10 @@ class Sweep:
 
 def check_question(question: str) -> None:
     """An error if a line is none of the language that asks."""
-    word = question.split()[0]
+    word = sessions.first_word(question)
     if not sessions.has_reply(question.encode(errors="surrogateescape")):
         raise ExploreError("a comment is no question")
-    if word in EDITS:
+    if is_edit(question):
         raise ExploreError("an edit is no question")
     if word not in QUESTIONS:
         raise ExploreError(f"'{word}' is no question; these are: {', '.join(sorted(QUESTIONS))}")
@@ -148,7 +149,7 @@ class Results:
                     raise ExploreError(
                         f"{path}:{number}: of another sweep, or of another past: {line}"
                     )
-            elif re.fullmatch("[0-9]+", turn) and reply:
+            elif is_decimal(turn) and reply:
                 self.add(int(turn), reply)
             else:
                 raise ExploreError(f"{path}:{number}: no line of a sweep")
@@ -339,7 +340,7 @@ def sweep_command(explorer: Explorer, arguments: Arguments) -> Iterator[str]:
         words = words[match.end() :]
         match = OPTIONS.match(words)
     hands = options.get("-j", str(processors()))
-    if not re.fullmatch("[0-9]+", hands) or not 1 <= int(hands) <= 256:
+    if not is_decimal(hands) or not 1 <= int(hands) <= 256:
         raise ExploreError("N of -j is 1 to 256")
     head, colon, question = words.partition(":")
     question = explorer.symbols.line_in_octal(question, explorer.machine.past)

@@ -5,6 +5,7 @@ from dataclasses import dataclass, field
 from typing import Iterable, Optional, Sequence
 
 import sessions
+from sessions import words_of
 
 from .errors import ExploreError
 from .language import FORMS, form_of
@@ -94,7 +95,7 @@ class Symbols:
     def line_in_octal(self, line: str, past: Past) -> str:
         """A line of the language or of searches, with numbers for symbols where it has addresses of
         core."""
-        words = line.split()
+        words = words_of(line)
         for form in forms_of(words[0], past) if words else []:
             if len(form) == len(words) and all(it.isupper() or it in words for it in form[1:]):
                 found = [

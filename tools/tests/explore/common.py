@@ -44,7 +44,9 @@ class Case(unittest.TestCase):
         return [str(ROOT / "explore"), *built, *words]
 
     def environment(self) -> dict[str, str]:
-        return {**os.environ, "XDG_STATE_HOME": str(self.folder / "state"), "TERM": "dumb"}
+        """That of the tests, in which explore's Python has its own buffers, as it usually has."""
+        mine = {"XDG_STATE_HOME": str(self.folder / "state"), "TERM": "dumb"}
+        return {**{it: os.environ[it] for it in os.environ if it != "PYTHONUNBUFFERED"}, **mine}
 
     def explore(self, lines: str, *words: str, status: Optional[int] = 0) -> str:
         """What explore writes for these lines of a pipe."""

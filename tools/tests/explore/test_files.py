@@ -6,11 +6,12 @@ import threading
 import unittest
 from pathlib import Path
 
-from .common import SECONDS, Case
+from .common import ROOT, SECONDS, Case
 from .installed import SIMH
 
 COMMANDS = ("save{} {}", "page{} {} to 3", "export{} {} at 3")
 FULL = "No space left on device"
+EXPLORE = str(ROOT / "explore")
 
 
 class Files(Case):
@@ -120,10 +121,18 @@ class Files(Case):
         self.assertEqual({"examples", "mine.session"}, set(os.listdir(self.folder)) - {"state"})
 
     def test_standard_output_on_a_full_disk(self) -> None:
-        for lines in ("regs 0\n", "help\n" * 100, "core 9\n", "see x\n", "events\n"):
+        for words, lines in (
+            ((), "regs 0\n"),
+            ((), "help\n" * 100),
+            ((), "core 9\n"),
+            ((), "see x\n"),
+            ((), "events\n"),
+            (("--help",), ""),
+            (("web", "--help"), ""),
+        ):
             with open("/dev/full", "w") as full:
                 ended = subprocess.run(
-                    self.command(),
+                    self.command(*words) if words != ("web", "--help") else [EXPLORE, *words],
                     input=lines,
                     cwd=self.folder,
                     env=self.environment(),
@@ -136,6 +145,17 @@ class Files(Case):
                 (ended.returncode, ended.stderr),
                 (1, f"explore: the output can't be written: {FULL}\n"),
             )
+
+    def test_standard_error_on_a_full_disk(self) -> None:
+        with open("/dev/full", "w") as full:
+            ended = subprocess.run(
+                self.command("missing.session"),
+                env=self.environment(),
+                stdin=subprocess.DEVNULL,
+                stderr=full,
+                timeout=SECONDS,
+            )
+        self.assertEqual(ended.returncode, 1)
 
 
 @unittest.skipUnless(SIMH, "SIMH's pdp11 isn't installed")
