@@ -135,8 +135,3 @@ class Many(Case):
             written = self.explore(f"at 5 tick\ntype {text}\nevents\n").splitlines()
             self.assertTrue(written[1].startswith(f"type: {full}"), written[1])
             self.assertEqual(written[2], "1 event")
-
-    def test_a_long_line_of_the_language(self) -> None:
-        written = self.explore(f"mem 0 0{' ' * 1_000_000}1\nregs 0\n").splitlines()
-        self.assertEqual(written[0], "refused 11 LineTooLong")
-        self.assertIn("PC 001000", written[2])
