@@ -43,9 +43,10 @@ LINES = Lines()
 
 
 def write_all(handle: int, data: bytes) -> None:
-    while data:
+    left = memoryview(data)
+    while left:
         try:
-            data = data[os.write(handle, data) :]
+            left = left[os.write(handle, left) :]
         except BlockingIOError:
             select.select([], [handle], [])
 

@@ -133,7 +133,7 @@ class BadInput(Case):
         self.assertIn(f"  line 1, set {text}: it has no meaning here", written)
         self.assertTrue(written[4].endswith("  _a\\033[31m"), written)
         self.assertTrue(written[5].startswith("save: \\033[31m/x can't be written: "), written)
-        self.assertIn("there is no line '\\033[31m'", written[7])
+        self.assertEqual("  the line has a control character, \\033", written[7])
         shown = "".join(written) + self.error.replace("\n", "")
         self.assertNotRegex(shown, "[\0-\x1f\x7f-\x9f\u202e]")
         self.fails("status 0: it is \\033[31m\n", "--program", str(ends))
