@@ -196,7 +196,7 @@ def command(form: str, pattern: str, summary: str) -> Callable[[Run], Run]:
 
     def register(run: Run) -> Run:
         detail = "\n".join(line.strip() for line in (run.__doc__ or "").strip().splitlines())
-        made = Command(form, re.compile(whole, re.ASCII), summary, detail, run, addresses)
+        made = Command(form, re.compile(whole), summary, detail, run, addresses)
         COMMANDS[made.name] = made
         return run
 

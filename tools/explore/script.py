@@ -144,7 +144,7 @@ def check_room(machine: Machine, keys: Sequence[int]) -> None:
 
 @command(
     "type TEXT [from TURN] [every N]",
-    r"(?P<text>.+?)( from (?P<first>\d{1,10}))?( every (?P<every>\d{1,10}))?",
+    r"(?P<text>.+?)( from (?P<first>[0-9]{1,10}))?( every (?P<every>[0-9]{1,10}))?",
     "an event for each key of TEXT",
 )
 def type_text(explorer: Explorer, arguments: Arguments) -> Iterator[str]:
