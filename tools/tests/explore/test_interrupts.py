@@ -88,7 +88,9 @@ class Interrupts(AtTerminal):
             time.sleep(0.01 * number)
             self.interrupt()
             self.settle()
-        time.sleep(0.2)
+        limit = time.monotonic() + SECONDS
+        while len(self.children()) > 2 and time.monotonic() < limit:
+            time.sleep(0.1)
         self.assertLessEqual(len(self.children()), 2)  # the machine's and the disassembler
         self.end()
 

@@ -56,7 +56,7 @@ class Lacking(Tree):
             for script in "pdp11", "search", ".ci/run":
                 ended = self.run_in(*shell, script)
                 self.assertEqual((ended.returncode, ended.stdout), (6, ""), self.said)
-                self.assertRegex(ended.stderr, "^[^\n]*bash[^\n]*\n$")
+                self.assertRegex(ended.stderr, "^[^\n]*run it with bash[^\n]*\n$")
 
     def test_the_gate_names_what_it_lacks(self) -> None:
         self.path = path_without(self.folder, "rt", "git", "ps", "cc")
