@@ -4,6 +4,8 @@ import subprocess
 import sys
 from pathlib import Path
 
+from explore.options import NUMBERS, fault_of_option
+
 from .common import BUILT, ROOT, SECONDS, Case
 
 
@@ -35,40 +37,44 @@ class BadInput(Case):
         files = {"odd": 3, "most": 2_494_464, "large": 2_494_466, "tape": 1_048_577, "unit": 8192}
         for name, size in files.items():
             (self.folder / name).write_bytes(bytes(size))
-        for option in ("core", "disk", *(f"disk{it}" for it in range(1, 8)), "tape"):
-            missing = self.folder / "missing"
-            said = f"explore: --{option} {missing}: No such file or directory\n"
-            self.fails(said, f"--{option}", "missing")
+        drives = ("disk", *(f"disk{it}" for it in range(1, 8)))
+        for option in ("core", *drives, "tape"):
+            missing = str(self.folder / "missing")
+            said = "No such file or directory"
+            self.assertEqual(fault_of_option(option, {option: missing}), said)
         for option, name, said in (
-            ("--core", "odd", "it has 3 bytes, and each word of an image has two"),
-            ("--disk", "examples", "it is a folder"),
-            ("--disk7", "large", "it has 2494466 bytes, and an RK05 has 2494464 at most"),
-            ("--tape", "tape", "it has 1048577 bytes, and a tape has 1048576 at most"),
-            ("--core", "most", "it has 2494464 bytes, and core of --units 31 has 253952 at most"),
+            ("disk7", "large", "it has 2494466 bytes, and an RK05 has 2494464 at most"),
+            ("tape", "tape", "it has 1048577 bytes, and a tape has 1048576 at most"),
+            ("core", "odd", "it has 3 bytes, and each word of an image has two"),
+            ("core", "most", "it has 2494464 bytes, and core of --units 31 has 253952 at most"),
         ):
-            self.fails(f"explore: {option} {self.folder / name}: {said}\n", option, name)
+            self.assertEqual(fault_of_option(option, {option: str(self.folder / name)}), said)
+        examples = self.folder / "examples"
+        self.fails(f"explore: --disk {examples}: it is a folder\n", "--disk=examples")
         self.explore("", "--core", "unit", "--units", "1", "--disk", "most", "--tape", "odd")
+
+    def test_options_of_a_session(self) -> None:
         (self.folder / "my.session").write_text("#! --disk gone --units 40\n")
-        said = f"explore: my.session: --disk {self.folder / 'gone'}: No such file"
+        said = f"explore: my.session: --disk {self.folder / 'gone'}: No such file or directory\n"
         self.fails(said, "my.session")
-        self.fails("my.session: --units 40: N is 1 to 31", "--disk", "unit", "my.session")
-        self.explore("", "--disk", "unit", "--units", "31", "my.session")
+        (self.folder / "disk").write_bytes(b"\7\0")
+        said = "explore: my.session: --units 40: N is 1 to 31, units of 4096 words of core\n"
+        self.fails(said, "--disk", "disk", "my.session")
+        self.explore("", "--disk", "disk", "--units", "31", "my.session")
 
     def test_numbers_of_options(self) -> None:
         """What explore refuses the program refuses, and nothing else."""
-        for option, told, right, wrong in (
-            ("--units", "N is 1 to 31, ", ("1", "31"), ("0", "32", "x", "1_0", "\u0661")),
-            ("--start", "A is an address, octal", ("0", "177776"), ("1001", "200000", "9", "")),
-            ("--stride", "N is 1 to 2000000000", ("1", "2000000000"), ("0", "2000000001", "-1")),
+        for name, values in (
+            ("units", ("1", "31", "0", "32", "x", "1_0", "+1", "\u0661")),
+            ("start", ("0", "177776", "1001", "200000", "9", "00000001000")),
+            ("stride", ("1", "2000000000", "0", "2000000001", "-1", "")),
         ):
-            for value in right:
-                self.pdp11("", f"{option}={value}")
-                self.explore("", f"{option}={value}")
-            for value in wrong:
-                command = [BUILT.program, f"{option}={value}"]
+            for value in values:
+                command = [BUILT.program, f"--{name}={value}"]
                 ended = subprocess.run(command, stdin=subprocess.DEVNULL, capture_output=True)
-                self.assertNotEqual(ended.returncode, 0)
-                self.fails(f"explore: {option} {value}: {told}", f"{option}={value}")
+                fault = NUMBERS[name].fault(value)
+                self.assertEqual(bool(fault), bool(ended.returncode), (command, fault))
+        self.fails("explore: --start 1001: A is an address, octal and even, up", "--start", "1001")
 
     def test_an_unknown_option(self) -> None:
         self.fails("unrecognized arguments: --what", "--what", status=2)
