@@ -1,4 +1,5 @@
 """The table of explore's own commands. Each module adds its commands to it."""
+import itertools
 import re
 from dataclasses import dataclass, field
 from typing import Callable, Iterator, Optional
@@ -8,8 +9,11 @@ from .errors import ExploreError
 from .finder import Finder
 from .language import comma_fault
 from .machine import LAST_TURN, Machine, Start
+from .quotes import RULE, WORD, file_of, quote_fault, text_of
 from .replies import Mode, Registers
 from .symbols import ADDRESS, Symbols
+
+MOST_WORDS = 20  # that are looked at for missing quotes
 
 
 @dataclass(frozen=True)
@@ -116,6 +120,8 @@ class Command:
     detail: str
     run: Run
     addresses: frozenset[str] = frozenset()
+    files: frozenset[str] = frozenset()
+    texts: frozenset[str] = frozenset()
 
     @property
     def name(self) -> str:
@@ -124,8 +130,7 @@ class Command:
     def lines(self, explorer: Explorer, words: str) -> Iterator[str]:
         match = self.pattern.fullmatch(words.strip(" \t"))
         if match is None:
-            commas = comma_fault(words)
-            raise ExploreError(f"{commas}; {self.form}" if commas else f"the form is: {self.form}")
+            raise ExploreError(self.fault(words))
         parts = match.groupdict()
         for name in ("first", "last", "turn"):
             check_turn(int(parts.get(name) or 0))
@@ -137,7 +142,27 @@ class Command:
         for name in self.addresses.intersection(it for it, text in parts.items() if text):
             number = explorer.symbols.number(parts[name], Mode(mode) if mode else None)
             parts[name] = f"{number:o}"
+        for names, inside in ((self.files, file_of), (self.texts, text_of)):
+            parts.update((it, inside(parts[it])) for it in names if parts[it] is not None)
         return self.run(explorer, Arguments(parts))
+
+    def fault(self, words: str) -> str:
+        """Why these words haven't the form."""
+        has_quotes = bool(self.files | self.texts)
+        if has_quotes and quote_fault(words):
+            return quote_fault(words)
+        if comma_fault(words):
+            return f"{comma_fault(words)}; {self.form}"
+        rule = f"; {RULE}" if has_quotes and self.lacks_quotes(words.split()) else ""
+        return f"the form is: {self.form}{rule}"
+
+    def lacks_quotes(self, words: list[str]) -> bool:
+        """Whether these words have the form if some of them, side by side, are one in quotes."""
+        if len(words) > MOST_WORDS:
+            return True
+        spans = itertools.combinations(range(len(words) + 1), 2)
+        as_one = (" ".join([*words[:begin], "''", *words[end:]]) for begin, end in spans)
+        return any(map(self.pattern.fullmatch, as_one))
 
 
 COMMANDS: dict[str, Command] = {}
@@ -172,11 +197,13 @@ def check_drive(machine: Machine) -> None:
 # of its length.
 BLANKS = r"(?<![ \t])[ \t]+"
 # The parts of patterns: a turn, a count and an event are decimal, a word is octal, and so is an
-# address, or it is a symbol.
+# address, or it is a symbol. A file and a text may stand in quotes.
 PARTS = {
     "decimal": r"[0-9]{1,10}",
     "octal": r"[0-7]{1,10}",
     "address": ADDRESS,
+    "file": WORD,
+    "text": WORD,
     "from": r"((^| )from (?P<first>[0-9]{1,10}))?",
     "to": r"((^| )to (?P<last>[0-9]{1,10}))?",
 }
@@ -189,14 +216,17 @@ def command(form: str, pattern: str, summary: str) -> Callable[[Run], Run]:
     def part(found: "re.Match[str]") -> str:
         return f"(?P<{found[1]}>{PARTS[found[2]]})"
 
-    addresses = frozenset(re.findall(r"<(\w+):address>", pattern))
+    kinds = {
+        kind: frozenset(re.findall(rf"<(\w+):{kind}>", pattern))
+        for kind in ("address", "file", "text")
+    }
     whole = re.sub(r"<(\w+):(\w+)>", part, pattern)
     whole = whole.replace("{from}", PARTS["from"]).replace("{to}", PARTS["to"])
     whole = whole.replace(" ", BLANKS)
 
     def register(run: Run) -> Run:
         detail = "\n".join(line.strip() for line in (run.__doc__ or "").strip().splitlines())
-        made = Command(form, re.compile(whole), summary, detail, run, addresses)
+        made = Command(form, re.compile(whole), summary, detail, run, *kinds.values())
         COMMANDS[made.name] = made
         return run
 

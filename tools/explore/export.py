@@ -104,7 +104,7 @@ def attach_lines(drive: int, image: Path) -> Iterator[str]:
     yield f"echo drive {drive} is a copy, new at each start: {copy}"
 
 
-@command("export FILE at N", r"(?P<file>.+) at <turn:decimal>", "the state before turn N, for SIMH")
+@command("export FILE at N", r"<file:file> at <turn:decimal>", "the state before turn N, for SIMH")
 def export(explorer: Explorer, arguments: Arguments) -> Iterator[str]:
     """Writes the machine before turn N as a command file of SIMH's PDP-11, `pdp11 FILE`, and each
     drive as an image beside it, FILE.rk0 and so on (FILE without its ending). The command file

@@ -13,7 +13,7 @@ def written(path: Path, data: bytes, what: str) -> Iterator[str]:
     yield f"{what} in {path}: {len(data)} bytes"
 
 
-@command("core FILE at N", r"(?P<file>.+) at <turn:decimal>", "core before turn N, as an image")
+@command("core FILE at N", r"<file:file> at <turn:decimal>", "core before turn N, as an image")
 def core(explorer: Explorer, arguments: Arguments) -> Iterator[str]:
     """Writes core before turn N as an image, which `--core FILE` reads: words from address 0 on,
     the low byte first. A file that was there before is overwritten by core! FILE alone."""
@@ -25,7 +25,7 @@ def core(explorer: Explorer, arguments: Arguments) -> Iterator[str]:
 
 @command(
     "disk [D] FILE at N",
-    r"((?P<drive>[0-7]) )?(?P<file>.+) at <turn:decimal>",
+    r"((?P<drive>[0-7]) )?<file:file> at <turn:decimal>",
     "a drive before turn N, as an image",
 )
 def disk(explorer: Explorer, arguments: Arguments) -> Iterator[str]:

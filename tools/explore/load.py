@@ -149,7 +149,7 @@ def load_lines(explorer: Explorer, found: Loaded) -> Iterator[str]:
 
 @command(
     "load [words] FILE [at A]",
-    r"((?P<kind>words) )?(?P<file>.+?)( at <address:address>)?",
+    r"((?P<kind>words) )?<file:file>( at <address:address>)?",
     "loads a paper tape, an a.out, or words, as patches of core",
 )
 def load(explorer: Explorer, arguments: Arguments) -> Iterator[str]:
@@ -230,7 +230,7 @@ def names_of(path: Path) -> SymbolFile:
 
 @command(
     "symbols FILE [at A] [kernel|user]",
-    r"(?P<file>.+?)( at <address:octal>)?( (?P<mode>kernel|user))?",
+    r"<file:file>( at <address:octal>)?( (?P<mode>kernel|user))?",
     "names of addresses: a list, a listing, a map, an a.out",
 )
 def read_symbols(explorer: Explorer, arguments: Arguments) -> Iterator[str]:

@@ -194,7 +194,7 @@ def check_words(machine: Machine, addresses: Sequence[int], words: Sequence[Disk
         word.value(0)
 
 
-@command(FORM, r"(?P<file>\S+)(?P<rest>.*)", "a picture of the turns N to M, as one HTML file")
+@command(FORM, r"<file:file>(?P<rest>( .*)?)", "a picture of the turns N to M, as one HTML file")
 def page(explorer: Explorer, arguments: Arguments) -> Iterator[str]:
     """Draws the turns N to M: PC with mode and priority behind it, what the disk does, interrupts,
     the console's text, the words that are named as steps with who wrote them, and the events. A

@@ -23,6 +23,7 @@ from .language import FORMS, SEARCHES, SUMMARIES
 from .language import explanation, form_of, forms_of_searches, is_decimal
 from .machine import is_refused
 from .output import Unwritable, fault_in_words, flush, put
+from .quotes import RULE, begun_word, in_quotes, is_plain
 
 PROMPT, BLANKS = "explore> ", " \t"
 INTRODUCTION = "lines of the session language, and help, console, see, until ..; quit ends"
@@ -138,7 +139,7 @@ class Prompt:
         if number == 0:
             before = readline.get_line_buffer()[: readline.get_begidx()]
             is_word = before.strip() in ("", "help", "?")
-            self.completions = words_from(text) if is_word else paths_from(text)
+            self.completions = words_from(text) if is_word else typed_paths(before, text)
         return self.completions[number] if number < len(self.completions) else None
 
     # What a line does
@@ -190,7 +191,7 @@ class Prompt:
         lines += [f"  {form_of(word, past):<16}  {text}" for word, text in SUMMARIES.items()]
         lines += ["", "lines of searches (docs/LANGUAGE.md):"]
         lines += [f"  {it.form}" for it in sessions.SEARCHES]
-        return [*lines, "", NUMBERS, "", CURRENT_TURN]
+        return [*lines, "", NUMBERS, f"{RULE[0].upper()}{RULE[1:]}.", "", CURRENT_TURN]
 
 
 def is_own(word: str, rest: str) -> bool:
@@ -207,6 +208,17 @@ def words_from(text: str) -> list[str]:
     """The commands and lines that begin so. After the only one comes a space."""
     found = [it for it in {*COMMANDS, *OWN_HELP, *FORMS, *SEARCHES} if it.startswith(text)]
     return sorted(found) if len(found) > 1 else [f"{it} " for it in found]
+
+
+def typed_paths(before: str, text: str) -> list[str]:
+    """The paths that a word may go on to, after what is before it, as they are typed."""
+    begun = begun_word(before)
+    typed = begun + text
+    quote = typed[:1] if typed[:1] in ("'", '"') else ""
+    paths = paths_from(typed[len(quote) :])
+    if not quote and not all(map(is_plain, paths)):
+        quote = "'" if any('"' in it or "\\" in it for it in paths) else '"'
+    return [in_quotes(it, quote)[len(begun) :] for it in paths]
 
 
 def paths_from(text: str) -> list[str]:

@@ -8,7 +8,6 @@ from .commands import Arguments, Explorer, check_turn, command
 from .errors import ExploreError
 from .files import write_whole as write_whole
 from .in_words import counted
-from .language import comma_fault
 from .machine import LAST_TURN, Machine, is_refused
 from .options import option_lines, options_of_words
 from .past import MOST_EVENTS
@@ -35,7 +34,7 @@ def session_lines(machine: Machine) -> list[str]:
     return [*option_lines(options), *machine.past.lines()]
 
 
-@command("save FILE", r"(?P<file>.+)", "the past, as a session that gives the same machine")
+@command("save FILE", "<file:file>", "the past, as a session that gives the same machine")
 def save(explorer: Explorer, arguments: Arguments) -> Iterator[str]:
     """Writes version, tape, delays, patches and events as lines of a session. Events are numbered
     anew, in the order in which they happen. The options, such as `--disk`, are in its first line,
@@ -63,11 +62,6 @@ def bytes_of(text: str) -> bytes:
 
 def typed_bytes(text: str) -> list[int]:
     """The bytes of a TEXT: `\\r`, `\\n`, `\\t`, `\\e`, and three octal digits, as in replies."""
-    if len(text) > 1 and text[0] == text[-1] == '"':
-        text = text[1:-1]
-    elif re.search(r" (from|every)( |$)", text):
-        wrong = comma_fault(text) or "a turn is missing"
-        raise ExploreError(f"{wrong}; a TEXT with ' from ' or ' every ' stands in quotes")
     found: list[int] = []
     for octal, escape, plain in re.findall(r"\\([0-3][0-7]{2})|\\(.?)|([^\\]+)", text):
         if octal:
@@ -144,15 +138,14 @@ def check_room(machine: Machine, keys: Sequence[int]) -> None:
 
 @command(
     "type TEXT [from TURN] [every N]",
-    r"(?P<text>.+?)( from (?P<first>[0-9]{1,10}))?( every (?P<every>[0-9]{1,10}))?",
+    r"<text:text>( from (?P<first>[0-9]{1,10}))?( every (?P<every>[0-9]{1,10}))?",
     "an event for each key of TEXT",
 )
 def type_text(explorer: Explorer, arguments: Arguments) -> Iterator[str]:
     r"""Adds a key for each byte of TEXT, each at the first turn at which no earlier key waits (bit
     7 of TKS is clear), and at least N turns after the one before. Without `from` it begins after
     the last event of the script. Enter is \r; there are \n \t \e \\ \" too, and \015 for a
-    byte in octal. A TEXT with spaces at its end, or with ` from ` in it, stands in "quotes". If
-    the script hasn't room for all of them, none is typed."""
+    byte in octal. If the script hasn't room for all of them, none is typed."""
     machine = explorer.machine
     every, keys = arguments.decimal("every", 1), typed_bytes(arguments.text("text"))
     check_room(machine, keys)

@@ -47,7 +47,7 @@ UNTIL = ("PC X", "vector V", "mode user|kernel", "R = W", "text STRING")
     "  or  ".join(f"until {it} [from N] [to M]" for it in UNTIL),
     r"(?P<what>(PC|pc) <address:address>|vector <vector:octal>|mode (?P<mode>user|kernel)"
     r"|(?P<register>[Rr][0-5]|[KUku][Ss][Pp]|[Pp][Ss])( )?=( )?<word:octal>"
-    r"|text (?P<text>.+?)){from}{to}",
+    r"|text <text:text>){from}{to}",
     "the first turn that runs the instruction at X, or has what is named",
 )
 def until(explorer: Explorer, arguments: Arguments) -> Iterator[str]:
@@ -59,8 +59,8 @@ def until(explorer: Explorer, arguments: Arguments) -> Iterator[str]:
     of each turn, which takes longest. The turn is then the current turn: `show`, `step`, `see` and
     `list` go on there."""
     turns, what = searched_range(explorer, arguments), arguments.text("what")
-    if arguments.optional("text"):
-        yield until_text(explorer, arguments.text("text"), turns)
+    if arguments.optional("text") is not None:
+        yield until_text(explorer, arguments.text("text"), what, turns)
         return
     found = turn_of(explorer, arguments, turns)
     if found is None:
@@ -71,13 +71,13 @@ def until(explorer: Explorer, arguments: Arguments) -> Iterator[str]:
         yield f"turn {found}: {text}"
 
 
-def until_text(explorer: Explorer, text: str, turns: range) -> str:
+def until_text(explorer: Explorer, text: str, what: str, turns: range) -> str:
     string = bytes(typed_bytes(text))
     if not string:
         raise ExploreError("STRING has no byte")
     found = explorer.finder.end_of_text(turns, string)
     if found is None:
-        return not_found(turns, f"until text {text}")
+        return not_found(turns, f"until {what}")
     explorer.turn, length = found
     return f"turn {explorer.turn}: byte {length} of the text is printed, the last of {text}"
 

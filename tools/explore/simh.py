@@ -257,7 +257,7 @@ def told(lines: list[str], what: str) -> Iterator[str]:
         yield f"  and {len(lines) - MOST_SHOWN} more"
 
 
-@command("import FILE", r"(?P<file>.+)", "takes over what a command file of SIMH sets up")
+@command("import FILE", "<file:file>", "takes over what a command file of SIMH sets up")
 def import_file(explorer: Explorer, arguments: Arguments) -> Iterator[str]:
     """Reads the commands of a command file of SIMH, and does what they mean here as of power-up:
     `attach` of rk0 to rk7 (option --disk, and in version 2 --disk1 to --disk7) and of ptr (--tape),

@@ -20,6 +20,7 @@ from .in_words import counted
 from .interrupts import INTERRUPTS, typed_line
 from .language import SEARCHES, comma_fault, explanation, is_decimal, is_edit
 from .machine import Machine, is_refused
+from .quotes import WORD, file_of, files_of, quote_fault
 from .script import session_lines
 
 SWEEP = re.compile(
@@ -276,10 +277,11 @@ def job_lines(explorer: Explorer, sweep: Sweep, path: Path) -> Iterator[str]:
         text = f"{event} from {part[0]} to {part[-1]} step {part.step}: {sweep.question}"
         lines.append(f"./explore --sweep {shlex.quote(text)} {shlex.quote(str(session))}")
     write_whole(path, "".join(f"{it}\n" for it in lines))
+    results = shlex.quote(f"{path}.out")
     read = "reads" if len(lines) == 1 else "read"
     yield f"{counted(len(lines), 'command')} in {path}, which {read} {path}.session"
-    yield f"in this folder: parallel < {path} > {path}.out"
-    yield f"then: sweep --gather {path}.out"
+    yield f"in this folder: parallel < {shlex.quote(str(path))} > {results}"
+    yield f"then: sweep --gather {results}"
 
 
 def gathered(paths: Sequence[str]) -> Iterator[str]:
@@ -298,7 +300,7 @@ def gathered(paths: Sequence[str]) -> Iterator[str]:
         yield f"missing between the first and the last: {counted(missing, 'turn')}"
 
 
-OPTIONS = re.compile(r"(-j|-o|--jobs)\s+(\S+)\s+|(-y)()\s+")
+OPTIONS = re.compile(rf"(-j|-o|--jobs)[ \t]+({WORD})[ \t]+|(-y)()[ \t]+")
 MOST_TURNS_UNASKED = 100_000
 
 
@@ -331,8 +333,11 @@ def sweep_command(explorer: Explorer, arguments: Arguments) -> Iterator[str]:
     folders, and --gather FILE .. reads what they have written."""
     words = arguments.text("words").strip()
     options: dict[str, str] = {}
+    wrong = quote_fault(words)
+    if wrong:
+        raise ExploreError(wrong)
     if words.split()[0] == "--gather":
-        yield from gathered(words.split()[1:])
+        yield from gathered(files_of(words)[1:])
         return
     match = OPTIONS.match(words)
     while match:
@@ -349,9 +354,9 @@ def sweep_command(explorer: Explorer, arguments: Arguments) -> Iterator[str]:
         ask_first(explorer, sweep.turns)
     if "--jobs" in options:
         sweep.check(explorer.machine)
-        yield from job_lines(explorer, sweep, Path(options["--jobs"]))
+        yield from job_lines(explorer, sweep, Path(file_of(options["--jobs"])))
     else:
-        path = Path(options["-o"]) if "-o" in options else None
+        path = Path(file_of(options["-o"])) if "-o" in options else None
         yield from sweep_lines(explorer, sweep, int(hands), path)
 
 

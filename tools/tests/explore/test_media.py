@@ -263,7 +263,37 @@ class Words(Media):
         written = self.loads(words(4, 9, 3), "patches\n", "--core", "core", how=" at 0")
         self.assertEqual(written[1:], ["patches 1", "core 000002 000011"])
 
-    def test_a_file_with_spaces_and_at(self) -> None:
+    def test_files_with_spaces(self) -> None:
+        """One rule for each FILE and each TEXT."""
         self.put("a file at 5 words", words(7))
-        written = self.explore("load a file at 5 words at 2000\nmem 0 2000 1\n")
-        self.assertTrue(written.endswith("mem 000007\n"), written)
+        self.put("it's.ini", b"d 3000 5\n")
+        self.put("names", b"HERE 1000\n")
+        lines = "load 'a file at 5 words' at 2000\nmem 0 2000 1\nimport \"it's.ini\"\n"
+        lines += "save \"a b.ses\"\ncore \"a c\" at 0\nexport 'e f' at 0\npage \"p q.svg\" to 1\n"
+        lines += "sweep -o 's t' tick from 1 to 1: regs 2\nsweep --gather 's t'\nsave a\\ d\n"
+        lines += "sweep --jobs 'j k' tick from 1 to 1: regs 2\nsymbols na\"me\"s\n"
+        written = self.explore(lines)
+        self.assertIn("mem 000007\n", written)
+        made = {it.name for it in self.folder.iterdir()}
+        names = {"a b.ses", "a c", "e f", "e f.rk0", "p q.svg", "s t", "a d", "j k", "j k.session"}
+        self.assertLessEqual(names, made)
+        self.assertIn("parallel < 'j k' > 'j k.out'\nthen: sweep --gather 'j k.out'\n", written)
+        self.assertTrue(written.endswith("1 symbol\n"), written)
+
+    def test_quotes_that_are_wrong(self) -> None:
+        rule = "; a FILE or a TEXT with spaces stands in quotes, 'single' or \"double\""
+        for line, said in (
+            ('save "a b', 'the quote " isn\'t closed'),
+            ("type it's", "the quote ' isn't closed"),
+            ("sweep -o 'a tick from 1 to 3: regs 4", "the quote ' isn't closed"),
+            ("type a\\", "nothing follows the \\ at the end"),
+            ("save a b", f"the form is: save FILE{rule}"),
+            ("load ''", "a FILE has no name"),
+            ("export a b at 5", f"the form is: export FILE at N{rule}"),
+            ("type a b", f"the form is: type TEXT [from TURN] [every N]{rule}"),
+            ("until text a b to 3", rule),
+        ):
+            (written,) = self.explore(f"{line}\n").splitlines()
+            self.assertTrue(written.startswith(f"{line.split()[0]}: "), written)
+            self.assertTrue(written.endswith(said), written)
+        self.assertNotIn(rule, self.explore("until PC 8\n"))

@@ -28,6 +28,15 @@ class Terminal(AtTerminal):
         self.wait_for(b" symbols\r\n")
         self.end()
 
+    def test_a_path_with_a_space_is_completed_in_quotes(self) -> None:
+        (self.folder / "my folder").mkdir()
+        (self.folder / "my folder" / "two words").write_text("HERE 1000\n")
+        self.begin()
+        self.type("symbols my\tt\t\n")
+        self.wait_for(b'"my folder/two words"')
+        self.wait_for(b"1 symbol\r\n")
+        self.end()
+
     def test_after_a_word_that_is_completed_comes_a_space(self) -> None:
         self.begin("examples/first-run.session")
         self.type("see\t2\n")
