@@ -172,6 +172,7 @@ REFUSED = b"refused"
 # The reply begins with the command and the count of the lines that follow.
 COUNTED = {command_of(it) for it in LANGUAGE + SEARCHES if it.reply.endswith(" C")}
 SEARCH_LINE = re.compile("|".join(map(pattern_of, SEARCHES)).encode())
+WORD, WORD_OF_BYTES = re.compile("[^ \t]+"), re.compile(rb"[^ \t]+")
 # How the files of stored sessions end, each with the ending of a transcript of the same kind.
 TRANSCRIPTS = {".session": ".transcript", ".search": ".search-transcript"}
 
@@ -238,7 +239,7 @@ def sessions_of(folder: str, wanted: str = ".session") -> list[Session]:
 def is_of_both(session: Session) -> bool:
     """Whether the program search must end a session as pdp11 does: there is no line of a search,
     which pdp11 refuses, and no help is asked for."""
-    searches = any(map(SEARCH_LINE.fullmatch, session.lines.splitlines()))
+    searches = any(SEARCH_LINE.fullmatch(without_end(it)) for it in lines_of(session.lines))
     return not searches and not {"-h", "--help"} & set(session.args)
 
 
@@ -281,13 +282,14 @@ def steps_of(lines: list[bytes]) -> list[Step]:
 def words_of(line: AnyStr) -> list[AnyStr]:
     """The words of a line: spaces and tabs separate them, and each other byte is part of one."""
     if isinstance(line, bytes):
-        return [it for it in line.replace(b"\t", b" ").split(b" ") if it]
-    return [it for it in line.replace("\t", " ").split(" ") if it]
+        return WORD_OF_BYTES.findall(line)
+    return WORD.findall(line)
 
 
 def first_word(line: AnyStr) -> AnyStr:
     """The first word of a line; empty if it has none."""
-    return next(iter(words_of(line)), line[:0])
+    found = (WORD_OF_BYTES if isinstance(line, bytes) else WORD).search(line)
+    return found[0] if found else line[:0]
 
 
 def is_reply(line: bytes, reply: bytes) -> bool:

@@ -145,7 +145,8 @@ class Machine:
         return reply
 
     def edit_all(self, lines: Sequence[str]) -> list[str]:
-        """The replies to edits. All that were taken are kept, or none if the program ends."""
+        """The replies to edits, and to questions between them. All edits that were taken are kept,
+        or none if the program ends."""
         self.begin()  # here, where Ctrl-C can stop it
         with INTERRUPTS.held():
             replies = list(self.ask_all(lines, SHORT_SENT_AHEAD))

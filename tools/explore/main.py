@@ -16,7 +16,7 @@ from .interrupts import INTERRUPTS
 from .journal import OF_SESSION, Contents, Journal, newest, state_folder, told
 from .language import explanation
 from .load import warnings_of
-from .machine import Machine, Start, existing_program, in_parts, is_refused, is_taken
+from .machine import Machine, Start, existing_program, in_parts, is_refused
 from .options import Options, Parser, add_options, check_options, option_lines, options_of
 from .options import words_of_options
 from .output import Unwritable, complain, fault_in_words, leave_streams, prepare_streams, put
@@ -117,16 +117,16 @@ def session_lines(path: Path) -> list[tuple[int, str]]:
 
 def read_session(machine: Machine, path: Path) -> None:
     """Makes the edits of a session."""
-    past = Past()
+    past = Past()  # of which the forms of lines need the version alone
     lines = session_lines(path)
     parts = in_parts([line for _, line in lines], LINES_AT_ONCE)
     replies = (reply for part in parts for reply in machine.edit_all(part))
     for (number, line), reply in zip(lines, replies):
-        if is_taken(reply):
-            past.apply(line, reply)
-        else:
+        if is_refused(reply):
             why = explanation(line, reply, past)
             complain(f"{path}:{number}: {line[:LONGEST_SHOWN]}: {reply} {why}".rstrip())
+        elif sessions.first_word(line) == "version":
+            past.apply(line, reply)
 
 
 def resumed(found: argparse.Namespace) -> Path:

@@ -8,11 +8,12 @@ from .commands import Arguments, Explorer, check_turn, command
 from .errors import ExploreError
 from .files import write_whole as write_whole
 from .in_words import counted
-from .machine import LAST_TURN, Machine, is_refused
+from .machine import LAST_TURN, Machine, in_parts, is_refused
 from .options import option_lines, options_of_words
 from .past import MOST_EVENTS
 from .replies import Devices
 
+EVENTS_AT_ONCE = 1000
 FIRST_STEPS, LOOKS = 64, 16
 ESCAPES = {"r": 0o15, "n": 0o12, "t": 0o11, "e": 0o33, "\\": 0o134, '"': 0o42}
 WAITED_TURNS = 10_000_000
@@ -24,8 +25,8 @@ def events(explorer: Explorer, arguments: Arguments) -> Iterator[str]:
     a key its character."""
     script = explorer.machine.past.script()
     yield counted(len(script), "event")
-    for event in script:
-        yield f"event {event.number:>5}  at {event.turn:>10}  {event.explained()}"
+    lines = [f"event {it.number:>5}  at {it.turn:>10}  {it.explained()}" for it in script]
+    yield from map("\n".join, in_parts(lines, EVENTS_AT_ONCE))
 
 
 def session_lines(machine: Machine) -> list[str]:
@@ -85,13 +86,29 @@ class Keyboard:
         self.machine = machine
         self.turns_of_keys = sorted(set(machine.past.key_turns()))
         self.usual = 1  # how many turns the last key waited
+        self.waits: dict[int, bool] = {}  # whether a key waits before a turn, since the last key
+
+    def strike(self, turn: int, byte: int, then: int) -> str:
+        """Makes an event of a key, and looks at once where one from turn `then` on may go."""
+        looks = self.first_looks(then, self.bound(then))
+        lines = [f"at {turn} key {byte:o}", *map("devices {}".format, looks)]
+        reply, *found = self.machine.edit_all(lines)
+        if is_refused(reply):
+            raise ExploreError(reply)
+        self.waits = dict(zip(looks, map(key_waits, found)))
+        return reply
+
+    def bound(self, first: int) -> int:
+        """The next turn from `first` on that has a key, no further than it is looked for."""
+        at = bisect_left(self.turns_of_keys, first)
+        keys = self.turns_of_keys[at : at + 1]
+        return min([*keys, first + WAITED_TURNS, LAST_TURN])
 
     def first_free(self, first: int) -> int:
         """The first turn from `first` on before which no key waits and which has no key yet."""
-        limit = min(first + WAITED_TURNS, LAST_TURN)
-        at = bisect_left(self.turns_of_keys, first)
-        begin = first
-        for bound in [*self.turns_of_keys[at : bisect_left(self.turns_of_keys, limit)], limit]:
+        begin, limit = first, min(first + WAITED_TURNS, LAST_TURN)
+        while begin < limit:
+            bound = min(self.bound(begin), limit)
             free = self.first_free_between(begin, bound)
             if free < bound:
                 self.usual = free - first + 1
@@ -108,8 +125,7 @@ class Keyboard:
             step *= 2
         while free - waiting > 1:
             step = -(-(free - waiting) // LOOKS)
-            looks = range(waiting + step, free, step)
-            waiting, free = self.looked_at(waiting, free, looks)
+            waiting, free = self.looked_at(waiting, free, range(waiting + step, free, step))
         return free
 
     def first_looks(self, first: int, bound: int) -> list[int]:
@@ -120,11 +136,18 @@ class Keyboard:
 
     def looked_at(self, waiting: int, free: int, looks: Sequence[int]) -> tuple[int, int]:
         """Narrows the turns between the last one that waits and the first that is free."""
-        for look, reply in zip(looks, self.machine.read_all([f"devices {it}" for it in looks])):
-            if not Devices.of(reply).key_waits:
+        unknown = [it for it in looks if it not in self.waits]
+        replies = self.machine.read_all([f"devices {it}" for it in unknown])
+        self.waits.update(zip(unknown, map(key_waits, replies)))
+        for look in looks:
+            if not self.waits[look]:
                 return waiting, look
             waiting = look
         return waiting, free
+
+
+def key_waits(devices: str) -> bool:
+    return Devices.of(devices).key_waits
 
 
 def check_room(machine: Machine, keys: Sequence[int]) -> None:
@@ -157,10 +180,9 @@ def type_text(explorer: Explorer, arguments: Arguments) -> Iterator[str]:
             for byte in keys:
                 check_turn(turn)
                 turn = keyboard.first_free(turn)
-                reply = machine.ask(f"at {turn} key {byte:o}")
-                if is_refused(reply):
-                    raise ExploreError(reply)
+                then = turn + max(1, every)
+                reply = keyboard.strike(turn, byte, then)
                 yield f"{reply} at {turn} key {byte:o}"
-                typed, turn = typed + 1, turn + max(1, every)
+                typed, turn = typed + 1, then
     except ExploreError as error:
         raise ExploreError(f"{error}; {typed} of {len(keys)} keys are typed") from error

@@ -8,6 +8,7 @@ from explore.commands import COMMANDS, Explorer
 from explore.disassembly import Disassembler
 from explore.machine import Machine, Start
 from explore.main import read_session
+from explore.program import Program
 from explore.sweep import Sweep
 
 from .common import BUILT, ROOT, Case
@@ -96,6 +97,42 @@ class Depth(Case):
         for first, turn in zip([0, *(it + 1 for it in changes)], changes):
             found = self.done(explorer, f"next disk 0 from {first}", 12)[0]
             self.assertTrue(found.startswith(f"turn {turn}: disk 0000000 goes from "), found)
+
+    def exchanges(self) -> "mock._patch[mock.Mock]":
+        """Counts how often explore waits for the program."""
+        return mock.patch.object(
+            Program, "exchange", autospec=True, side_effect=Program.exchange
+        )
+
+    def test_a_session_is_sent_ahead(self) -> None:
+        machine = self.explorer().machine
+        path = Path(self.folder / "my.session")
+        lines = [f"at {it} tick" for it in range(30_000)]
+        path.write_text("".join(f"{it}\n" for it in (*lines, "at 5 x", "version 2", "disk 9 5 5")))
+        with self.exchanges() as exchange, mock.patch("explore.main.complain") as complain:
+            read_session(machine, path)
+            self.assertLess(exchange.call_count, 50)
+        said = [it.args[0].split(" BadLine ")[1] for it in complain.call_args_list]
+        self.assertTrue(said[0].startswith("at T event: there is no event 'x'"), said)
+        self.assertTrue(said[1].startswith("disk D I W: D, a drive, is octal, and '9'"), said)
+        self.assertEqual(len(machine.past.events), 30_000)
+
+    def test_keys_are_typed_where_they_are_free(self) -> None:
+        """Those of a program that waits for a while after each key. The program is asked twice a
+        key at most, but for the first ones."""
+        program = ("12700", "400", "77001", "105737", "177560", "100375", "113701", "177562", "767")
+        core = [f"core {0o1000 + 2 * at:o} {word}" for at, word in enumerate(program)]
+        explorer = self.explorer("", core)
+        explorer.machine.edit_all(["at 600 key 1", "at 2000 key 3"])
+        with self.exchanges() as exchange:
+            self.done(explorer, f"type {'a' * 100} from 5", 10_000)
+            self.assertLess(exchange.call_count, 2 * 100 + 20)
+        turns = explorer.machine.past.key_turns()
+        waits = [explorer.machine.devices(it).key_waits for it in range(turns[-1] + 1)]
+        typed = [it for it in turns if it not in (600, 2000)]
+        for before, turn in zip(typed, typed[1:]):
+            free = next(it for it in range(before + 1, turn + 1) if not waits[it])
+            self.assertEqual(turn, free if free not in (600, 2000) else turn)
 
     def test_a_sweep_runs_no_program_but_those_that_work(self) -> None:
         explorer = self.explorer()
