@@ -5,11 +5,11 @@ bytes, a type and a value each. 2.11BSD has symbols of eight bytes, with names i
 them. A long of the PDP-11 has its high word first."""
 import struct
 from dataclasses import dataclass
-from typing import Iterator, Optional
+from typing import Iterator
 
 from .errors import ExploreError
 from .in_words import counted
-from .symbol_files import Symbol
+from .symbol_files import NAME_OF_FILE, Symbol
 
 HEAD = struct.Struct("<8H")
 ENTRY, ENTRY_OF_211 = struct.Struct("<8sHH"), struct.Struct("<HHBBH")
@@ -26,6 +26,7 @@ REFUSED = {
 AS_WORDS = "if it is no a.out: load words FILE at A"
 MAGIC = {PLAIN, SHARED, *REFUSED}
 TYPE, ABSOLUTE, TEXT, DATA, BSS = 0o37, 1, 2, 3, 4
+MOST_ODD = 5  # names that are none, and are shown
 
 
 def begins_as_aout(data: bytes) -> bool:
@@ -42,6 +43,17 @@ class Program:
     bss: int
     entry: int
     symbols: list[Symbol]
+    odd_names: list[str]  # of symbols that are left out
+
+    @property
+    def odd_in_words(self) -> str:
+        """That symbols are left out, if there are any."""
+        if not self.odd_names:
+            return ""
+        names = ", ".join(f"'{it}'" for it in self.odd_names[:MOST_ODD])
+        more = f" and {len(self.odd_names) - MOST_ODD} more" if self.odd_names[MOST_ODD:] else ""
+        symbols = counted(len(self.odd_names), "symbol")
+        return f"without {symbols}, whose name is none: {names}{more}"
 
     @property
     def data_address(self) -> int:
@@ -80,30 +92,36 @@ def program_of(data: bytes) -> Program:
         sizes = f"the file has {len(data)} bytes, and by its head at least {end}"
         raise ExploreError(f"{sizes}; {AS_WORDS}")
     at = HEAD.size + text
-    found = symbols_of(data[start_of_symbols:end], data[end:])
-    return Program(magic, data[HEAD.size : at], data[at : at + words], bss, entry, found)
+    found, odd = symbols_of(data[start_of_symbols:end], data[end:])
+    return Program(magic, data[HEAD.size : at], data[at : at + words], bss, entry, found, odd)
 
 
-def symbols_of(table: bytes, rest: bytes) -> list[Symbol]:
-    """The symbols that have an address, or a constant."""
+def symbols_of(table: bytes, rest: bytes) -> tuple[list[Symbol], list[str]]:
+    """The symbols that have an address, or a constant, and the names that are none. The name of a
+    file, which a linker puts at the begin of its text, is no label."""
     is_old = not rest.strip(b"\0")  # a file may be filled up with zeros
-    entries = entries_of(table) if is_old else entries_of_211(table, rest)
-    return [
-        Symbol(name, value, kind == ABSOLUTE, kind != ABSOLUTE)
-        for name, kind, value in entries
-        if kind in (ABSOLUTE, TEXT, DATA, BSS)
-    ]
+    found: list[Symbol] = []
+    odd: list[str] = []
+    for name, whole, value in entries_of(table) if is_old else entries_of_211(table, rest):
+        kind, text = whole & TYPE, name.decode(errors="surrogateescape")
+        if kind not in (ABSOLUTE, TEXT, DATA, BSS):
+            continue
+        if not name or any(not 0o40 < it < 0o177 for it in name):
+            odd.append(text)
+        elif whole != TEXT or not NAME_OF_FILE.fullmatch(text):
+            found.append(Symbol(text, value, kind == ABSOLUTE, kind != ABSOLUTE))
+    return found, odd
 
 
-def entries_of(table: bytes) -> Iterator[tuple[str, int, int]]:
+def entries_of(table: bytes) -> Iterator[tuple[bytes, int, int]]:
     """Name, type and value of the symbols of V6, V7 and the earlier 2BSD."""
     if len(table) % ENTRY.size:
         raise ExploreError(f"the symbol table has {len(table)} bytes, not {ENTRY.size} a symbol")
     for padded, kind, value in ENTRY.iter_unpack(table):
-        yield name_of(padded.rstrip(b"\0")), kind & TYPE, value
+        yield padded.rstrip(b"\0"), kind, value
 
 
-def entries_of_211(table: bytes, rest: bytes) -> Iterator[tuple[str, int, int]]:
+def entries_of_211(table: bytes, rest: bytes) -> Iterator[tuple[bytes, int, int]]:
     """The same of 2.11BSD. What follows the table are its names, after their length."""
     high, low = struct.unpack("<HH", rest[:4].ljust(4, b"\0"))
     length = high << 16 | low
@@ -112,17 +130,10 @@ def entries_of_211(table: bytes, rest: bytes) -> Iterator[tuple[str, int, int]]:
     if len(table) % ENTRY_OF_211.size:
         raise ExploreError(f"the symbol table has {len(table)} bytes, not {ENTRY_OF_211.size} each")
     for high, low, kind, _, value in ENTRY_OF_211.iter_unpack(table):
-        yield name_of(string_at(rest[:length], high << 16 | low)), kind & TYPE, value
+        yield string_at(rest[:length], high << 16 | low), kind, value
 
 
 def string_at(names: bytes, at: int) -> bytes:
-    end: Optional[int] = names.find(b"\0", at) if 4 <= at < len(names) else -1
-    if end == -1:
-        raise ExploreError(f"a symbol has its name at byte {at} of the names, where none ends")
-    return names[at:end]
-
-
-def name_of(name: bytes) -> str:
-    if not name or any(not 0o40 < it < 0o177 for it in name):
-        raise ExploreError(f"the symbol table has a name that is none: {name!r}")
-    return name.decode("ascii")
+    """The name that begins at this byte, or nothing if none does."""
+    end = names.find(b"\0", at) if 4 <= at < len(names) else -1
+    return names[at:end] if end >= 0 else b""

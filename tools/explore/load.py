@@ -53,7 +53,8 @@ def loaded_program(data: bytes, base: Optional[int]) -> Loaded:
     entry = at + program.entry
     start = None if entry % 2 or entry > LAST_WORD else entry
     why = "odd" if entry % 2 else f"above {LAST_WORD:o}"
-    remark = f"its entry, {entry:o}, is {why}, so the start stays" if start is None else ""
+    stays = f"its entry, {entry:o}, is {why}, so the start stays" if start is None else ""
+    remark = "; ".join(filter(None, (stays, program.odd_in_words)))
     symbols = [it.moved(at) for it in program.symbols]
     title = f"a.out {program.magic:04o}, {program.parts}"
     return Loaded(title, placed, start, symbols, remark)
@@ -131,6 +132,12 @@ def counted_patches(edits: Sequence[str]) -> str:
     return counted(count, "patch")
 
 
+def check_even(address: int) -> None:
+    """An error if words can't be moved to this address."""
+    if address % 2:
+        raise ExploreError(f"A is odd: {address:o}")
+
+
 def load_lines(explorer: Explorer, found: Loaded) -> Iterator[str]:
     """Loads it, and says what it was."""
     machine = explorer.machine
@@ -164,8 +171,7 @@ def load(explorer: Explorer, arguments: Arguments) -> Iterator[str]:
     takes a load back."""
     path = Path(arguments.text("file"))
     base = arguments.octal("address") if arguments.optional("address") else None
-    if base is not None and base % 2:
-        raise ExploreError(f"A is odd: {base:o}")
+    check_even(base or 0)
     found = loaded(path, base, arguments.optional("kind") is not None)
     try:
         yield from load_lines(explorer, found)
@@ -213,7 +219,8 @@ def names_of(path: Path) -> SymbolFile:
     check_known(path, data)
     if begins_as_aout(data):
         try:
-            found = SymbolFile(OF_PROGRAM, program_of(data).symbols, 0)
+            program = program_of(data)
+            found = SymbolFile(OF_PROGRAM, program.symbols, 0, program.odd_in_words)
         except ExploreError as error:
             raise ExploreError(f"{path}: {error}") from None
     else:
@@ -237,17 +244,19 @@ def read_symbols(explorer: Explorer, arguments: Arguments) -> Iterator[str]:
     """Takes names for the last column of `see` and `list`, for pages, and for use in the place of
     an address: `until PC TICK`, `next BALANCE+2`. There it is its number, also if the address is
     a physical one. A file is a list with lines NAME OCTAL, OCTAL NAME, NAME=OCTAL or those of nm
-    (with `nm -t o`, or nm of an old Unix, octal; with eight digits, hexadecimal), a listing of
-    MACRO-11, a map of the linker of RT-11 or of RSX-11's Task Builder, or an a.out. In lists what
-    follows a # or ; is a comment. Lines without a symbol are counted. Constants, as a listing marks
-    them by `=`, are numbers, and no names of places. A symbol that is relocatable (R in a listing,
-    text and data of an a.out) counts from A, or from 0. With `kernel` or `user` the names are those
-    of that mode alone."""
-    only = arguments.optional("mode")
+    (with `nm -t o`, or nm of an old Unix, octal; with eight digits or of `nm -P`, hexadecimal), a
+    listing of MACRO-11, a map of the linker of RT-11 or of RSX-11's Task Builder, or an a.out. In
+    lists what follows a # or ; is a comment. Lines without a symbol, or with the name of a file,
+    are counted. Constants, as a listing marks them by `=`, are numbers, and no names of places. A
+    symbol that is relocatable (R in a listing, text and data of an a.out) counts from A, or from 0.
+    With `kernel` or `user` the names are those of that mode alone."""
+    only, base = arguments.optional("mode"), arguments.octal("address")
+    check_even(base)
     found = names_of(Path(arguments.text("file")))
-    symbols = [it.moved(arguments.octal("address")) for it in found.symbols]
+    symbols = [it.moved(base) for it in found.symbols]
     explorer.symbols.take(symbols, [Mode(only)] if only else BOTH_MODES)
     yield found.line()
+    yield from [found.remark] if found.remark else []
     relocatable = sum(it.is_relocatable for it in symbols)
     if relocatable and not arguments.optional("address"):
         yield f"{relocatable} are relocatable, and count from 0; symbols FILE at A moves them to A"

@@ -27,11 +27,13 @@ class Symbol:
 
 @dataclass(frozen=True)
 class SymbolFile:
-    """The symbols of a file, what it is, and how many of its lines have no symbol."""
+    """The symbols of a file, what it is, how many of its lines have no symbol, and what else there
+    is to say."""
 
     kind: str
     symbols: list[Symbol]
     skipped: int
+    remark: str = ""
 
     def line(self) -> str:
         """How many there are, in words."""
@@ -45,21 +47,36 @@ class SymbolFile:
 NAME_OCTAL = re.compile(rf"(?P<name>{NAME})\s+(?P<value>[0-7]{{1,6}})")
 OCTAL_NAME = re.compile(rf"(?P<value>[0-7]{{1,6}})\s+(?P<name>{NAME})")
 ASSIGNED = re.compile(rf"(?P<name>{NAME})\s*==?:?\s*(?P<value>[0-7]{{1,6}})")
-OF_NM = re.compile(r"(?P<value>[0-9a-fA-F]+)\s*[A-Za-z?]\s+(?P<name>\S+)")
-UNDEFINED_OF_NM = re.compile(r"[Uu]\s+\S+")
+OF_NM = re.compile(r"(?P<value>[0-9a-fA-F]+)\s*(?P<kind>[A-Za-z?])\s+(?P<name>\S+)")
+OF_NM_P = re.compile(
+    r"(?P<name>\S+)\s+(?P<kind>[A-Za-z?])\s+(?P<value>[0-9a-fA-F]+)(\s+[0-9a-fA-F]+)?"
+)
+UNDEFINED_OF_NM = re.compile(r"[Uu]\s+\S+|\S+\s+[Uu]")
+# Linkers put the name of each file at the begin of its text, as a local symbol.
+NAME_OF_FILE = re.compile(r".*/.*|.+\.[oa]")
+KIND_OF_FILE, LOCAL_TEXT = "Ff", "t"
 
 
 def symbol_of(line: str) -> Optional[Symbol]:
-    """The symbol of a line of a list."""
+    """The symbol of a line of a list. The name of a file is no label."""
     for form in (NAME_OCTAL, OCTAL_NAME, ASSIGNED):
         found = form.fullmatch(line)
         if found:
-            return Symbol(found["name"], int(found["value"], 8))
+            return None if "/" in found["name"] else Symbol(found["name"], int(found["value"], 8))
     found = OF_NM.fullmatch(line)
+    # six digits of an old Unix's nm and eleven of nm -t o are octal, eight of nm hexadecimal, and
+    # so are those of nm -P
+    is_hexadecimal = found is not None and len(found["value"]) in (4, 8, 16)
     if found is None:
+        found = OF_NM_P.fullmatch(line)
+        is_hexadecimal = found is not None and len(found["value"]) != 11
+    return symbol_of_nm(found, 16 if is_hexadecimal else 8) if found else None
+
+
+def symbol_of_nm(found: "re.Match[str]", base: int) -> Optional[Symbol]:
+    names_file = found["kind"] == LOCAL_TEXT and NAME_OF_FILE.fullmatch(found["name"])
+    if found["kind"] in KIND_OF_FILE or names_file:
         return None
-    # six digits of an old Unix's nm and eleven of nm -t o are octal, eight of nm hexadecimal
-    base = 16 if len(found["value"]) in (4, 8, 16) else 8
     try:
         return Symbol(found["name"], int(found["value"], base))
     except ValueError:

@@ -197,6 +197,25 @@ class Programs(Media):
         found = [it for it in written if it.startswith("mem")]
         self.assertEqual(found, ["mem 000002", "mem 000004"])
 
+    def test_names_that_are_none(self) -> None:
+        """The others are there, and the name of a file is no label."""
+        table = symbol("_start", 0o42, 0) + symbol("a\x1bb", 2, 0) + symbol("", 0o43, 2)
+        table += symbol("scr/l.o", 2, 0) + symbol("l.o", 2, 0) + symbol("x.o", 0o42, 2)
+        table += b"".join(symbol(f"a b{it}", 2, 2) for it in range(5))
+        data = program(text=words(0o777, 2, 3, 4), symbols=table)
+        names = "'a\\033b', '', 'a b0', 'a b1', 'a b2' and 2 more"
+        said = f"without 7 symbols, whose name is none: {names}"
+        written = self.loads(data, "list 0 2 at 0\nsymbols it\n")
+        self.assertTrue(written[0].endswith(", 2 symbols"), written)
+        self.assertEqual((written[1], written[5]), (said, said))
+        self.assertTrue(written[2].endswith("  _start"), written)
+        self.assertTrue(written[3].endswith("  x.o"), written)
+        strings = b"_a\0"
+        table = struct.pack("<HHBBH", 0, 4, 0o42, 0, 2) + struct.pack("<HHBBH", 0, 17, 0o43, 0, 4)
+        data = program(text=words(1, 2), symbols=table, names=words(0, 7) + strings)
+        written = self.loads(data, "mem 0 _a 1\n")
+        self.assertEqual(written[1:], ["without 1 symbol, whose name is none: ''", "mem 000002"])
+
     def test_names_of_211(self) -> None:
         strings = b"_a_long_name\0_b\0"
         table = struct.pack("<HHBBH", 0, 4, 0o42, 0, 2) + struct.pack("<HHBBH", 0, 17, 0o43, 0, 4)
@@ -215,7 +234,6 @@ class Programs(Media):
         odd = words(0o407, 1, 0, 0, 0, 0, 0, 1) + b"1"
         self.refuses(odd, "its head has an odd number of bytes for a part; if it is no a.out: load")
         self.refuses(words(0o407, 0, 0, 0, 5, 0, 0, 1) + b"12345", "the symbol table has 5 bytes")
-        self.refuses(program(symbols=bytes(12)), "the symbol table has a name that is none")
 
     def test_an_entry_that_is_no_start(self) -> None:
         written = self.loads(program(text=words(7)), "mem 0 200000 1\nregs 0\n", how=" at 200000")

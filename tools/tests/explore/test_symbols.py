@@ -119,6 +119,14 @@ BUFFER = 2000
 001012t ~i
 00000210 D _data
          U _printf
+_start T 00000020
+l.start t 24 6
+_edata B 00000001014
+_exit U
+00000000 t scratch/l.o
+00000000 t l.o
+l.o t 00000000
+00000020 F crt0
 
 7 8
 nothing here at all
@@ -177,10 +185,10 @@ class Formats(Media):
         found = symbol_file(LIST)
         values = {
             "START": 0o1000, "LOOP": 0o1004, "TKS": 0o177560, "BUFFER": 0o2000, "_main": 0o1010,
-            "~i": 0o1012, "_data": 0x210,
+            "~i": 0o1012, "_data": 0x210, "_start": 0x20, "l.start": 0x24, "_edata": 0o1014,
         }  # fmt: skip
-        self.assertEqual((self.values(found), found.skipped), (values, 3))
-        self.assertEqual(found.line(), "7 symbols, 3 lines skipped")
+        self.assertEqual((self.values(found), found.skipped), (values, 7))
+        self.assertEqual(found.line(), "10 symbols, 7 lines skipped")
 
     def test_words_of_a_map_in_a_listing(self) -> None:
         places = self.values(symbol_file(LISTING))
@@ -245,7 +253,7 @@ class Named(Media):
                 "8 symbols of a MACRO-11 listing, 14 lines skipped",
                 "7 symbols of a map of RT-11's linker, 7 lines skipped",
                 "4 symbols of a map of the Task Builder, 21 lines skipped",
-                "7 symbols, 3 lines skipped",
+                "10 symbols, 7 lines skipped",
             ],
         )
         self.assertIn("4 are relocatable, and count from 0; symbols FILE at A moves", written[1])
@@ -268,6 +276,11 @@ class Named(Media):
         self.assertEqual(written[:2], [said, "mem 000000"])
         self.assertTrue(written[2].startswith("004012 "))
         self.assertTrue(written[2].endswith("MSG"))
+
+    def test_no_symbol_is_moved_by_an_odd_number(self) -> None:
+        self.put("lst", LISTING.encode())
+        written = self.explore("symbols lst at 4001\nuntil PC START to 9\n")
+        self.assertTrue(written.startswith("symbols: A is odd: 4001\nuntil: there is no"), written)
 
     def test_constants_name_no_place(self) -> None:
         self.put("lst", LISTING.encode())
