@@ -5,18 +5,23 @@ import { CursorPanels } from "./cursor.js";
 import { notesOf } from "./lanes.js";
 import { Ended, Machine, Stopped } from "./machine.js";
 import { Differences, marked } from "./differences.js";
-import { pageOfPast, saveFile, savedName, sessionOfFiles, textOfPast } from "./files.js";
 import { Edits } from "./edits.js";
+import {
+  filesTogether, pageOfPast, saveFile, savedName, sessionOfFiles, textOfPast,
+} from "./files.js";
+import { FileError } from "./options.js";
 import { delayed, element, make } from "./page.js";
-import { PictureMaker, nameOfWord } from "./picture.js";
+import { PictureMaker } from "./picture.js";
 import { keepPlace } from "./place.js";
 import { LAST_TURN, octal, readableText, tailOf, visibleName } from "./replies.js";
 import { Priority, Run } from "./run.js";
 import { lastTurnOf, symbolsOfSession } from "./session.js";
 import { Sight } from "./sight.js";
 import { Sweep } from "./sweep.js";
-import { STORY, STORY_SESSION, verdictOf } from "./story.js";
+import { showRefused } from "./refused.js";
+import { STORY, isStory, verdictOf } from "./story.js";
 import { Timeline } from "./timeline.js";
+import { Watched } from "./watched.js";
 import { WorkBar } from "./work.js";
 
 const MOST_TEXT = 40_000;
@@ -29,7 +34,7 @@ export class App {
     this.panels = new CursorPanels(this.disassembler, {
       onTurn: turn => this.goTo(turn),
       onChange: (address, word) => this.writeLine(`core ${address.toString(8)} `, octal(word)),
-      onWatch: address => this.watch({ kind: "core", drive: 0, at: address }),
+      onWatch: address => this.watched.turn({ kind: "core", drive: 0, at: address }),
     });
     this.timeline = new Timeline(element("timeline"), {
       onCursor: () => this.cursorMoved(), onView: () => this.viewChanged(),
@@ -41,7 +46,8 @@ export class App {
     this.edits = new Edits(this);
     this.sweep = new Sweep(this);
     this.tokens = {};
-    this.words = [];
+    this.watched = new Watched(this);
+    this.waiting = { files: [], missing: [] };
     this.differences = new Differences(element("difference"), turn => this.goTo(turn));
     this.drawLater = delayed(60, () => {
       this.countWork(-1);
@@ -71,8 +77,9 @@ export class App {
   }
 
   fail(error) {
-    this.say(`This failed: ${error.message}`);
+    if (error instanceof FileError) return this.say(error.message);
     if (!(error instanceof Ended)) console.error(error);
+    return this.say(`This failed: ${error.message}`);
   }
 
   /** The page says whether work is under way. */
@@ -92,26 +99,26 @@ export class App {
    * @param {Partial<import("./place.js").Place>} place where it is shown
    */
   async open(session, place) {
+    const { run, refused } = await this.loaded(session);
     this.console?.end();
     for (const kind of Object.keys(this.tokens)) this.token(kind);
     this.run?.end();
     this.old?.end();
     this.old = null;
     this.session = session;
-    this.run = this.newRun("run");
-    const refused = await this.run.load(session.lines);
-    this.begun = [...this.run.taken];
-    this.refusedNote = refused.length ? `${refused.length} lines were refused, the first: `
-      + `${visibleName(refused[0].line)}: ${refused[0].reply}` : "";
-    this.say(this.refusedNote);
-    this.end = Math.max(this.run.past.lastTurn(), lastTurnOf(session.lines)) || 1_000;
+    this.run = run;
+    this.begun = [...run.taken];
+    this.say(showRefused(element("refused"), refused, session.lines));
+    const isRefusedLine = new Set(refused.map(it => it.number));
+    const taken = session.lines.filter((_, at) => !isRefusedLine.has(at + 1));
+    this.end = Math.max(run.past.lastTurn(), lastTurnOf(taken)) || 1_000;
     this.symbols = symbolsOfSession(session);
     element("session-name").textContent = visibleName(session.name);
-    this.isStory = session.name === STORY_SESSION;
+    this.isStory = isStory(session, run.past);
     element("story").hidden = !this.isStory;
     this.timeline.symbols = this.symbols;
     this.timeline.whole = this.end;
-    this.words = this.isStory ? storyWords() : [];
+    this.watched.words = this.isStory ? STORY.words : [];
     this.timeline.ghost = null;
     this.oldText = undefined;
     if (this.isStory) this.timeline.show(STORY.first, STORY.span);
@@ -122,10 +129,24 @@ export class App {
     this.goToPlace(place);
   }
 
-  /** A machine of the session that is open. */
-  newRun(name) {
-    const { arguments: words, files } = this.session;
+  /** A machine of a session. */
+  newRun(name, { arguments: words, files } = this.session) {
     return new Run({ arguments: words, files }, it => this.workBar.show(name, it));
+  }
+
+  /** A run with the session's lines, and those that were refused. What is open stays so far. */
+  async loaded(session) {
+    this.opening?.end();
+    const run = this.newRun("run", session);
+    this.opening = run;
+    try {
+      return { run, refused: await run.load(session.lines) };
+    } catch (error) {
+      run.end();
+      throw error;
+    } finally {
+      if (this.opening === run) this.opening = null;
+    }
   }
 
   offerSweep() {
@@ -139,33 +160,36 @@ export class App {
     this.timeline.whole = this.end;
   }
 
-  /** Opens files: a session begins anew; images and symbols are added to what is open. */
-  async openFiles(files) {
+  /**
+   * Opens files: a session begins anew; images and symbols are added to what is open. A session
+   * that names files which aren't here waits for them.
+   */
+  async openFiles(given) {
     await this.attempt(async () => {
-      const { session, notes } = await sessionOfFiles(this.session, this.run.past.lines(), files);
-      history.replaceState(null, "", "#");
-      await this.openOrReturn(session);
-      const names = files.map(it => visibleName(it.name)).join(", ");
-      this.say([`Opened: ${names}.`, ...notes, this.refusedNote].filter(Boolean).join(" "));
-    });
-  }
-
-  /** Opens a session. If its program can't begin, what was open before is opened again. */
-  async openOrReturn(session) {
-    const before = { ...this.session, lines: this.run.past.lines() }, place = this.place();
-    try {
+      const files = filesTogether(this.waiting, given);
+      this.waiting = { files: [], missing: [] };
+      const { session, notes, missing } =
+        await sessionOfFiles(this.session, this.run.past.lines(), files);
+      if (missing.length) {
+        this.waiting = { files, missing };
+        const names = missing.map(visibleName).join(", ");
+        this.say(`${visibleName(session.name)} isn't open yet: its options name ${names}. `
+          + "Open what is missing too.");
+        return;
+      }
       await this.open(session, {});
-    } catch (error) {
-      await this.open(before, place);
-      throw error;
-    }
+      history.replaceState(null, "", "#");
+      const names = files.map(it => visibleName(it.name)).join(", ");
+      const refused = element("reply").textContent;
+      this.say([`Opened: ${names}.`, ...notes, refused].filter(Boolean).join(" "));
+    });
   }
 
   saveSession() {
     const { session, run, end } = this;
     saveFile(savedName(session, ".session"), textOfPast(session, run.past, end), "text/plain");
     const files = Object.keys(session.files).map(visibleName).join(", ");
-    this.say(files ? `Saved. It is asked with its files: ${files}` : "Saved.");
+    this.say(files ? `Saved. It is opened with its files: ${files}` : "Saved.");
   }
 
   async savePage() {
@@ -181,13 +205,15 @@ export class App {
 
   /** The past has changed: all that is shown is asked anew. */
   changed() {
+    this.timeline.picture = null;
     this.timeline.past = this.run.past;
     this.timeline.wanted = this.isStory && !this.run.changes.length ? STORY.sweep.event : 0;
-    this.showWords();
+    this.watched.show();
     this.timeline.oldPast = this.old?.past ?? this.run.past;
     this.timeline.draw();
     this.edits.show();
     this.sweep.pastChanged();
+    this.console?.pastChanged();
     this.drawPicture();
     this.showText();
     this.showCursor();
@@ -220,8 +246,11 @@ export class App {
     const { view } = timeline;
     const first = Math.max(0, Math.floor(view.first));
     const end = Math.min(LAST_TURN, Math.max(first + 1, Math.ceil(view.end)));
-    const wanted = { first, end, columns: Math.max(64, Math.round(view.width)), words: this.words };
+    const { words } = this.watched, columns = Math.max(64, Math.round(view.width));
+    const wanted = { first, end, columns, words };
     const token = this.token("picture");
+    this.isAsked = true;
+    this.showNotes();
     this.attempt(async () => {
       await new PictureMaker(run, wanted, token, it => this.showPicture(it, "picture")).make();
       if (!old) return;
@@ -230,15 +259,21 @@ export class App {
     });
   }
 
-  /** Shows a picture. The one before, if there is one, stays until this one is made. */
+  /** Shows a picture. One of other turns, if there is one, stays until this one is made. */
   showPicture(picture, place) {
-    if (place === "picture") {
-      element("notes").textContent = picture.isMade ? notesOf(picture).join(" ")
-        : "The machine is asked for what is in sight ..";
-    }
-    if (!picture.isMade && this.timeline[place]) return;
-    this.timeline[place] = picture;
-    this.timeline.draw();
+    const { timeline } = this;
+    if (picture.isMade || !timeline[place]?.isMade) timeline[place] = picture;
+    timeline.draw();
+    if (place !== "picture") return;
+    this.isAsked = !picture.isMade;
+    this.showNotes();
+  }
+
+  /** What of the picture is sampled, and what isn't known. */
+  showNotes(unknown = "The machine is asked: what is hatched isn't known yet.") {
+    const { picture } = this.timeline;
+    const notes = [...this.isAsked ? [unknown] : [], ...picture?.isMade ? notesOf(picture) : []];
+    element("notes").textContent = notes.join(" ");
   }
 
   // The console's text
@@ -300,9 +335,14 @@ export class App {
     this.attempt(async () => {
       await this.oldIsLoaded;
       const comparison = new Comparison(run, old, token);
-      this.timeline.part = await this.differences.show(comparison, end);
-      this.timeline.draw();
-      await this.differences.showWords(comparison, end);
+      try {
+        this.timeline.part = await this.differences.show(comparison, end);
+        this.timeline.draw();
+        await this.differences.showWords(comparison, end);
+      } catch (error) {
+        if (!(error instanceof Stopped)) this.differences.showStopped();
+        throw error;
+      }
     });
   }
 
@@ -338,46 +378,28 @@ export class App {
     element("address").value = this.panels.address.toString(8);
   }
 
-  /** Draws a word of core or of a drive; if it is drawn already, no longer. */
-  watch(word) {
-    const others = this.words.filter(it => nameOfWord(it) !== nameOfWord(word));
-    this.words = others.length < this.words.length ? others : [...this.words, word];
-    this.showWords();
-    this.drawPicture();
-    this.timeline.draw();
-  }
-
-  /** The words that are drawn, each with a button that takes it away. */
-  showWords() {
-    this.timeline.words = this.words.map(nameOfWord);
-    element("words").replaceChildren(...this.words.map(word => make("button", {
-      type: "button", title: "Draw this word no longer", onclick: () => this.watch(word),
-      "aria-label": `Draw ${nameOfWord(word)} no longer`,
-    }, `${nameOfWord(word)} \u2715`)));
-  }
-
-  /** A word by its name, such as `2000`, `core 2000`, `disk 0` or `disk 1 0`. */
-  watchNamed(name) {
-    const found = /^(?:(core|disk) +)?(?:([0-7]) +)?([0-7]{1,7})$/.exec(name);
-    if (!found) return this.say(`No word is named so: ${name}`);
-    const [, kind = "core", drive = "0", at] = found;
-    return this.watch({ kind, drive: Number(drive), at: parseInt(at, 8) });
-  }
-
   // Work under way
 
   async stop() {
     await this.attempt(async () => {
+      this.opening?.end();
       for (const kind of Object.keys(this.tokens)) this.token(kind);
-      this.run.stop();
+      this.run?.stop();
       this.old?.stop();
       this.sweep.end();
       this.say("Stopped. The edits are kept.");
+      this.showStopped();
     });
   }
-}
 
-const storyWords = () => [
-  { kind: "core", drive: 0, at: 0o30000 }, { kind: "core", drive: 0, at: 0o40000 },
-  { kind: "disk", drive: 0, at: 0 },
-];
+  /** The cursor goes back to the turn that is shown. What wasn't asked is said. */
+  showStopped() {
+    this.differences.showStopped();
+    this.showNotes("Stopped: what is hatched wasn't asked.");
+    if (this.panels.turn === null) return;
+    this.timeline.setCursor(this.panels.turn, { isTold: false });
+    element("turn").value = String(this.timeline.cursor);
+    this.panels.want(this.run, this.timeline.cursor);
+    this.keepPlaceLater();
+  }
+}

@@ -1,86 +1,118 @@
 // How two pasts differ: the first turn in which they part, text, core and disk.
 
+import { coreBytes } from "./options.js";
 import { Priority } from "./run.js";
-import { WORDS_AT_ONCE, wordsOf } from "./replies.js";
+import { WORDS_AT_ONCE, mustBeTaken, wordsOf } from "./replies.js";
 
-const SINGLE_TURNS = 65_536;
+// So many turns are compared one by one: after the first edit, and then after each further one.
+const [SINGLE_TURNS, TURNS_AFTER_AN_EDIT, MOST_SINGLE_TURNS] = [65_536, 4_096, 262_144];
+const MOST_SAMPLES = 2_048;
 const TURNS_OF_A_PART = 1_024;
 const MOST_SHOWN = 64;
-const CORE_WORDS = 0o760000 / 2;
 const SECTOR_WORDS = 256;
 const PARTS_AT_ONCE = 64;
 
+/**
+ * Turns that are compared: `first` and so many `count`, each `step` turns.
+ * @typedef {{first: number, count: number, step: number}} Stretch
+ */
+
+/**
+ * How far two pasts were compared. `turn` is the first compared turn before which the registers
+ * differ, or null; `edited` the first that the edits can change, or null. Each turn up to `single`
+ * was compared, and so many `later` ones.
+ * @typedef {{edited: number | null, turn: number | null, single: number, later: number}} Part
+ */
 export class Comparison {
   /** @param {import("./run.js").Run} run @param {import("./run.js").Run} old */
   constructor(run, old, token) {
     Object.assign(this, { run, old, token });
   }
 
-  async both(lines) {
-    const asked = [this.run, this.old].map(it => it.ask(lines, Priority.COMPARISON, this.token));
+  /** The replies of both; the lines may depend on the past. */
+  async both(linesOf) {
+    const asked = [this.run, this.old].map(it =>
+      it.ask(linesOf(it.past), Priority.COMPARISON, this.token));
     return Promise.all(asked);
   }
 
-  /** The first turn of the script in which the pasts differ; 0 if patches or delays do. */
-  firstEdited() {
+  /** The turns that the edits differ in, upwards; 0 if patches or delays do. */
+  editedTurns() {
     const [now, old] = [this.run.past, this.old.past];
-    if (!now.hasSetupOf(old)) return 0;
-    const [events, olds] = [now, old].map(it => it.script);
-    const at = events.findIndex((it, place) => it.turn !== olds[place]?.turn
-      || it.text !== olds[place]?.text);
-    const turns = (at < 0 ? [olds[events.length]] : [events[at], olds[at]]).filter(Boolean);
-    return turns.length ? Math.min(...turns.map(it => it.turn)) : null;
-  }
-
-  /** The first turn before which the registers differ, and whether each turn was compared. */
-  async part(end) {
-    const first = this.firstEdited();
-    if (first === null) return { edited: null, turn: null, isExact: true };
-    const limit = Math.min(end, first + SINGLE_TURNS);
-    for (let turn = first; turn <= limit; turn += TURNS_OF_A_PART) {
-      const count = Math.min(TURNS_OF_A_PART, limit + 1 - turn);
-      const lines = Array.from({ length: count }, (_, at) => `regs ${turn + at}`);
-      const [now, old] = await this.both(lines);
-      const at = now.findIndex((it, place) => it !== old[place]);
-      if (at >= 0) return { edited: first, turn: turn + at, isExact: true };
-    }
-    return { edited: first, turn: await this.partByHalving(limit, end), isExact: false };
-  }
-
-  /** A turn before which the registers differ, and before the look before it they don't. */
-  async partByHalving(low, end) {
-    const differ = async turn => {
-      const [[now], [old]] = await this.both([`regs ${turn}`]);
-      return now !== old;
+    const turns = new Set(now.hasSetupOf(old) ? [] : [0]);
+    const texts = past => {
+      const found = new Map();
+      for (const { turn, text } of past.script) {
+        found.set(turn, `${found.get(turn) ?? ""}${text}\n`);
+      }
+      return found;
     };
-    if (low >= end || !await differ(end)) return null;
-    let high = end;
+    const [events, olds] = [now, old].map(texts);
+    for (const turn of [...events.keys(), ...olds.keys()]) {
+      if (events.get(turn) !== olds.get(turn)) turns.add(turn);
+    }
+    return [...turns].sort((a, b) => a - b);
+  }
+
+  /** The first compared turn before which the registers differ. @returns {Part} */
+  async part(end) {
+    const edited = this.editedTurns();
+    let before = edited[0] ?? null;
+    const found = { edited: before, turn: null, single: before ?? end, later: 0 };
+    for (const { first, count, step } of stretchesOf(edited, end)) {
+      const turn = await this.firstOf({ first, count, step });
+      const compared = turn === null ? count : (turn - first) / step + 1;
+      if (step === 1 && !found.later) found.single = first + compared - 1;
+      else found.later += compared;
+      if (turn !== null) {
+        const low = turn === first ? before : turn - step;
+        return { ...found, turn: await this.halved(low, turn) };
+      }
+      before = first + (count - 1) * step;
+    }
+    return found;
+  }
+
+  /** The first turn of a stretch before which the registers differ, or null. */
+  async firstOf({ first, count, step }) {
+    for (let at = 0; at < count; at += TURNS_OF_A_PART) {
+      const length = Math.min(TURNS_OF_A_PART, count - at);
+      const lines = Array.from({ length }, (_, it) => `regs ${first + (at + it) * step}`);
+      const [now, old] = await this.both(() => lines);
+      const found = now.findIndex((it, place) => differ(it, old[place]));
+      if (found >= 0) return first + (at + found) * step;
+    }
+    return null;
+  }
+
+  /** A turn before which the registers differ, and before the turn before it they don't. */
+  async halved(low, high) {
     while (high - low > 1) {
       const middle = low + high >> 1;
-      if (await differ(middle)) high = middle;
+      const [[now], [old]] = await this.both(() => [`regs ${middle}`]);
+      if (differ(now, old)) high = middle;
       else low = middle;
     }
     return high;
   }
 
   /** Words that differ before a turn, the first of them, and how many there are. */
-  async words(turn, question, count, onPart = () => {}) {
+  async words(question, count) {
     const found = { shown: [], count: 0 };
     for (let first = 0; first < count; first += PARTS_AT_ONCE * WORDS_AT_ONCE) {
-      const lines = [];
+      const begins = [];
       for (let at = 0; at < PARTS_AT_ONCE && first + at * WORDS_AT_ONCE < count; at++) {
-        const begin = first + at * WORDS_AT_ONCE;
-        lines.push(question(turn, begin, Math.min(WORDS_AT_ONCE, count - begin)));
+        begins.push(first + at * WORDS_AT_ONCE);
       }
-      const [now, old] = await this.both(lines);
-      now.forEach((reply, at) => this.add(found, first + at * WORDS_AT_ONCE, reply, old[at]));
-      onPart(Math.min(1, (first + lines.length * WORDS_AT_ONCE) / count));
+      const [now, old] = await this.both(past =>
+        begins.map(it => question(past, it, Math.min(WORDS_AT_ONCE, count - it))));
+      now.forEach((reply, at) => this.add(found, begins[at], reply, old[at]));
     }
     return found;
   }
 
   add(found, first, reply, oldReply) {
-    if (reply === oldReply) return;
+    if (!differ(reply, oldReply)) return;
     const olds = wordsOf(oldReply);
     wordsOf(reply).forEach((word, at) => {
       if (word === olds[at]) return;
@@ -91,14 +123,61 @@ export class Comparison {
     });
   }
 
-  core(turn, words = CORE_WORDS, onPart = undefined) {
-    const question = (at, begin, count) => `mem ${at} ${(2 * begin).toString(8)} ${count}`;
-    return this.words(turn, question, words, onPart);
+  core(turn) {
+    const words = coreBytes(this.run.setup.arguments) / 2;
+    return this.words((_, begin, count) =>
+      `mem ${turn} ${(2 * begin).toString(8)} ${count}`, words);
   }
 
-  disk(turn, drive, sectors, onPart = undefined) {
-    const name = this.run.past.version === 2 ? `${drive} ` : "";
-    const question = (at, begin, count) => `dsk ${at} ${name}${begin.toString(8)} ${count}`;
-    return this.words(turn, question, sectors * SECTOR_WORDS, onPart);
+  get versionsDiffer() {
+    return this.run.past.version !== this.old.past.version;
   }
+
+  /** The drives that both pasts have. */
+  get drives() {
+    const isOne = this.versionsDiffer || this.run.past.version === 1;
+    return isOne ? [0] : [0, 1, 2, 3, 4, 5, 6, 7];
+  }
+
+  disk(turn, drive, sectors) {
+    const name = past => past.version === 2 ? `${drive} ` : "";
+    return this.words((past, begin, count) =>
+      `dsk ${turn} ${name(past)}${begin.toString(8)} ${count}`, sectors * SECTOR_WORDS);
+  }
+}
+
+/** Whether two replies differ. Neither may be a refusal. */
+function differ(reply, old) {
+  return mustBeTaken(reply) !== mustBeTaken(old);
+}
+
+/** What is compared of the turns up to `end`: the turns after each edit one by one, as far as they
+    are few, and samples between. @returns {Stretch[]} */
+export function stretchesOf(edited, end) {
+  const singles = [];
+  let left = MOST_SINGLE_TURNS;
+  for (const [at, turn] of edited.entries()) {
+    const last = singles.at(-1);
+    const first = Math.max(turn, last ? last.first + last.count : 0);
+    const wanted = at ? TURNS_AFTER_AN_EDIT : SINGLE_TURNS;
+    const count = Math.min(end + 1 - first, left, turn + wanted - first);
+    if (count <= 0) continue;
+    if (last && first === last.first + last.count) last.count += count;
+    else singles.push({ first, count, step: 1 });
+    left -= count;
+  }
+  return withSamples(singles, end, left);
+}
+
+/** The stretches with what lies between them and up to `end`: turn by turn if enough are left. */
+function withSamples(singles, end, left) {
+  const gaps = singles.map(({ first, count }, at) =>
+    ({ first: first + count, end: singles[at + 1]?.first ?? end + 1 }));
+  const all = gaps.reduce((sum, it) => sum + it.end - it.first, 0);
+  const step = all <= left ? 1 : Math.ceil(all / MOST_SAMPLES);
+  return singles.flatMap((single, at) => {
+    const { first, end: last } = gaps[at];
+    const count = Math.ceil((last - first) / step);
+    return count ? [single, { first: last - 1 - (count - 1) * step, count, step }] : [single];
+  });
 }

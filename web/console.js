@@ -2,7 +2,9 @@
 // focus. It shows what is printed, and each key that is struck is an event.
 
 import { element } from "./page.js";
-import { bytesOf, devicesOf, isRefused, readableText, registersOf, tailOf } from "./replies.js";
+import {
+  LAST_TURN, bytesOf, devicesOf, lengthOf, readableText, registersOf, tailOf,
+} from "./replies.js";
 import { Priority } from "./run.js";
 
 // About what a PDP-11/40 does in a second.
@@ -31,6 +33,7 @@ export class Console {
     this.keys = [];
     /** What tells one time of running from the next; null if it doesn't run. */
     this.running = null;
+    this.isOf = { run: null, pasts: 0 };   // the past whose text is shown
     element("terminal-run").addEventListener("click", () => {
       this.pane.focus();
       this.begin();
@@ -72,12 +75,24 @@ export class Console {
     if (left) app.say(`The last ${left} keys came too soon for the keyboard, and are left out.`);
   }
 
+  keepPast() {
+    const { run } = this.app;
+    this.isOf = { run, pasts: run.pasts };
+  }
+
+  /** A text of another past isn't shown any longer. */
+  pastChanged() {
+    const { run } = this.app, { isOf } = this;
+    if (this.running || isOf.run === run && isOf.pasts === run.pasts) return;
+    for (const it of [this.pane, this.status]) it.textContent = "";
+  }
+
   /** Runs on until it is ended. */
   async runOn(running) {
     this.step = TURNS_A_SECOND * TICK / 1000;
     const reply = await this.ask(`text ${running.turn}`);
     this.bytes = tailOf(reply, MOST_BYTES).bytes;
-    this.printed = Number(reply.slice(5, reply.indexOf(":")));
+    this.printed = lengthOf(reply);
     this.show(running.turn, "run");
     let hasKeys = false;
     while (this.running === running) {
@@ -98,21 +113,21 @@ export class Console {
   /** Strikes the next key, if the keyboard can take one. One undo takes back a typed line. */
   async strikeNext(running) {
     if (!this.keys.length) return false;
-    const devices = await this.ask(`devices ${running.turn}`);
-    if (isRefused(devices) || devicesOf(devices).keyWaits) return false;
+    if (devicesOf(await this.ask(`devices ${running.turn}`)).keyWaits) return false;
     const byte = this.keys.shift();
     await this.app.edits.make(`at ${running.turn} key ${byte.toString(8)}`, running.isInLine);
     running.isInLine = byte !== KEYS.get("Enter");
     this.app.edits.show();
+    this.keepPast();
     return true;
   }
 
   async goOn(running) {
-    const turn = Math.min(1_000_000_000, running.turn + Math.round(this.step));
+    const turn = Math.min(LAST_TURN, running.turn + Math.round(this.step));
     const [text, registers] = await this.app.run.ask(
       [`text ${turn} from ${this.printed}`, `regs ${turn}`], Priority.EDIT);
     if (this.running !== running) return;
-    if (isRefused(text)) {
+    if (turn === running.turn) {
       this.end();
       return;
     }
@@ -131,7 +146,9 @@ export class Console {
   }
 
   show(turn, state, isNew = true) {
-    this.status.textContent = `before turn ${turn}, ${state}`;
+    const cut = this.printed > this.bytes.length ? `, the last ${this.bytes.length} bytes` : "";
+    this.status.textContent = `before turn ${turn}, ${state}${cut}`;
+    this.keepPast();
     if (!isNew) return;
     this.pane.textContent = readableText(this.bytes);
     this.pane.scrollTop = this.pane.scrollHeight;

@@ -2,15 +2,17 @@
 
 import { Priority } from "./run.js";
 import { element, link, make, table } from "./page.js";
+import { coreBytes } from "./options.js";
 import { symbolNear as nearest } from "./session.js";
 import {
-  devicesOf, functionInWords, isRefused, lastOf, octal, pageInWords, pagesOf, physicalOf,
+  devicesOf, functionInWords, lastOf, octal, pageInWords, pagesOf, physicalOf,
   registersOf, shownByte, statusInWords, turnsOf, vectorName, visibleName,
   wordsOf,
 } from "./replies.js";
 
 const [TURNS_BEFORE, INSTRUCTIONS, WORDS_BEFORE_SP, WORDS_OF_MEMORY] = [6, 8, 8, 16];
 const WORDS_OF_INSTRUCTIONS = 3 * INSTRUCTIONS;
+const PANELS = ["registers", "devices", "pages", "instructions", "stack", "memory"];
 const REGISTER_NAMES = ["R0", "R1", "R2", "R3", "R4", "R5", "KSP", "USP", "PC", "PS"];
 
 export class CursorPanels {
@@ -20,26 +22,55 @@ export class CursorPanels {
     this.disassembler = disassembler;
     this.listener = listener;
     this.address = 0o2000;
+    this.wanted = null;
+    this.shown = new Map();   // by panel, the state of the machine that it shows
+  }
+
+  /** The turn that the panels show, or null. */
+  get turn() {
+    return this.shown.get("registers")?.turn ?? null;
+  }
+
+  /** Each panel says of which turn it is, and if that isn't the one that is asked for. */
+  mark() {
+    for (const name of PANELS) markTurn(element(`${name}-turn`), this.shown.get(name), this.wanted);
+  }
+
+  /** The state that is asked for, which no panel may show yet. */
+  want(run, turn) {
+    this.wanted = stateOf(run, turn);
+    this.mark();
+    return this.wanted;
+  }
+
+  isShown(name, state) {
+    this.shown.set(name, state);
+    this.mark();
   }
 
   /** Shows the machine before a turn. */
   async show(run, turn, symbols, token) {
+    const state = this.want(run, turn);
     const ask = lines => run.ask(lines, Priority.CURSOR, token);
     const before = Math.max(0, turn - 1), count = Math.min(TURNS_BEFORE, turn);
     const lines = [`regs ${before}`, `regs ${turn}`, `pages ${turn}`, `devices ${turn}`];
     if (count) lines.push(`trail ${turn} ${count}`);
     const [old, now, pages, devices, trail] = await ask(lines);
-    if (isRefused(now)) return;
-    this.turn = turn;
+    const core = coreBytes(run.setup.arguments);
+    const machine = { turn, core, registers: registersOf(now), pages: pagesOf(pages) };
     this.symbols = symbols;
-    const machine = { registers: registersOf(now), pages: pagesOf(pages) };
     this.showRegisters(registersOf(old), machine.registers);
     this.showDevices(devicesOf(devices));
     this.showPages(machine);
-    await Promise.all([
-      this.showInstructions(ask, machine, trail ? turnsOf(trail) : []),
-      this.showStack(ask, machine), this.showMemory(ask),
-    ]);
+    for (const name of ["registers", "devices", "pages"]) this.isShown(name, state);
+    const later = {
+      instructions: this.showInstructions(ask, machine, trail ? turnsOf(trail) : []),
+      stack: this.showStack(ask, machine), memory: this.showMemory(ask, machine),
+    };
+    await Promise.all(Object.entries(later).map(async ([name, work]) => {
+      await work;
+      this.isShown(name, state);
+    }));
   }
 
   showRegisters(old, now) {
@@ -67,7 +98,7 @@ export class CursorPanels {
   showPages({ pages }) {
     if (!(pages.sr0 & 1)) {
       element("pages").replaceChildren(make("p", {},
-        "Mapping is off: addresses up to 157777 are those of core, the others the I/O page."));
+        "Mapping is off: addresses up to 157777 are physical ones, the others the I/O page."));
       return;
     }
     const rows = ["kernel", "user"].flatMap(mode => Array.from({ length: 8 }, (_, page) => page)
@@ -79,7 +110,7 @@ export class CursorPanels {
   // Instructions
 
   async showInstructions(ask, machine, trail) {
-    const past = await this.pastInstructions(ask, trail);
+    const past = await this.pastInstructions(ask, machine, trail);
     const next = await this.nextInstructions(ask, machine);
     const row = (it, turn) => [turn, it.mode, octal(it.pc), it.text, it.symbol];
     const goTo = turn => link(String(turn), "Go to this turn", () => this.listener.onTurn(turn));
@@ -92,21 +123,22 @@ export class CursorPanels {
   }
 
   /** The words at a virtual address, as far as they are core. */
-  static places(pages, mode, address, count) {
+  static places({ core, pages }, mode, address, count) {
     const found = [];
     for (let at = 0; at < count; at++) {
       const place = physicalOf(pages, mode, address + 2 * at & 0o177777);
-      if (place === null || place % 2 || place >= 0o760000) break;
+      if (place === null || place % 2 || place >= core) break;
       found.push(place);
     }
     return found;
   }
 
-  async pastInstructions(ask, trail) {
+  async pastInstructions(ask, { core }, trail) {
     const replies = await ask(trail.flatMap(it => [`regs ${it.turn}`, `pages ${it.turn}`]));
     const turns = trail.map((it, at) => {
       const { mode } = registersOf(replies[2 * at]);
-      const places = CursorPanels.places(pagesOf(replies[2 * at + 1]), mode, it.pc, 3);
+      const pages = pagesOf(replies[2 * at + 1]);
+      const places = CursorPanels.places({ core, pages }, mode, it.pc, 3);
       return { ...it, mode, places };
     });
     const fetched = turns.filter(it => it.places.length && it.act === "instr");
@@ -121,11 +153,11 @@ export class CursorPanels {
     }));
   }
 
-  async nextInstructions(ask, { registers, pages }) {
-    const { mode, pc } = registers;
-    const places = CursorPanels.places(pages, mode, pc, WORDS_OF_INSTRUCTIONS);
+  async nextInstructions(ask, machine) {
+    const { turn, registers: { mode, pc } } = machine;
+    const places = CursorPanels.places(machine, mode, pc, WORDS_OF_INSTRUCTIONS);
     if (!places.length) return [{ mode, pc, text: "can't be fetched", symbol: "" }];
-    const replies = await ask(places.map(it => `mem ${this.turn} ${it.toString(8)} 1`));
+    const replies = await ask(places.map(it => `mem ${turn} ${it.toString(8)} 1`));
     const words = replies.map(it => wordsOf(it)[0]);
     const texts = await this.texts(words.map((_, at) => (
       { pc: pc + 2 * at & 0o177777, words: words.slice(at, at + 3) })));
@@ -153,11 +185,12 @@ export class CursorPanels {
 
   // Words
 
-  async showStack(ask, { registers, pages }) {
+  async showStack(ask, machine) {
+    const { turn, registers } = machine;
     const name = registers.mode === "kernel" ? "KSP" : "USP";
     const sp = registers.words[name];
-    const places = CursorPanels.places(pages, registers.mode, sp, WORDS_BEFORE_SP);
-    const rows = await this.wordRows(ask, places);
+    const places = CursorPanels.places(machine, registers.mode, sp, WORDS_BEFORE_SP);
+    const rows = await this.wordRows(ask, turn, places);
     rows.forEach((row, at) => row.unshift((at ? "" : `${name} `) + octal(sp + 2 * at & 0o177777)));
     const heads = ["stack", "core", "word", "text", "last written"];
     element("stack").replaceChildren(rows.length
@@ -165,23 +198,24 @@ export class CursorPanels {
       : make("p", {}, `${name} ${octal(sp)} is no word of core.`));
   }
 
-  async showMemory(ask) {
-    const places = Array.from({ length: WORDS_OF_MEMORY }, (_, at) => this.address + 2 * at)
-      .filter(it => it < 0o760000);
-    const rows = await this.wordRows(ask, places);
-    element("memory").replaceChildren(
-      table("Words of core", ["core", "word", "text", "last written"], rows));
+  async showMemory(ask, { turn, core }) {
+    const { address } = this;
+    const places = Array.from({ length: WORDS_OF_MEMORY }, (_, at) => address + 2 * at)
+      .filter(it => it < core);
+    const rows = await this.wordRows(ask, turn, places);
+    element("memory").replaceChildren(rows.length
+      ? table("Words of core", ["core", "word", "text", "last written"], rows)
+      : make("p", {}, `${octal(address)} is no word of core.`));
   }
 
   /** Each word with who wrote it last: a click goes to that turn. */
-  async wordRows(ask, places) {
+  async wordRows(ask, turn, places) {
     const replies = await ask(places.flatMap(it => [
-      `mem ${this.turn} ${it.toString(8)} 1`, `last ${this.turn} ${it.toString(8)}`]));
+      `mem ${turn} ${it.toString(8)} 1`, `last ${turn} ${it.toString(8)}`]));
     return places.map((place, at) => this.wordRow(place, replies[2 * at], replies[2 * at + 1]));
   }
 
   wordRow(place, value, written) {
-    if (isRefused(value)) return [octal(place), "none", "", ""];
     const [word] = wordsOf(value);
     const last = lastOf(written);
     const { onWatch, onTurn, onChange } = this.listener;
@@ -192,6 +226,22 @@ export class CursorPanels {
     const write = () => onChange(place, word);
     const change = link(octal(word), "Change this word as of power-up", write);
     return [watch, change, text, last ? goTo(last) : "never"];
+  }
+}
+
+/** The machine before a turn, as the edits that a run has taken make it. */
+export const stateOf = (run, turn) => ({ run, turn, pasts: run.pasts });
+
+/** Says of which turn a panel is: `wanted` is the state that is asked for, `shown` what it has. */
+export function markTurn(place, shown, wanted) {
+  const isNow = shown?.run === wanted?.run && shown?.pasts === wanted?.pasts;
+  const isStale = !isNow || shown?.turn !== wanted?.turn;
+  place.classList.toggle("stale", isStale);
+  if (!shown) place.textContent = "not known yet";
+  else if (shown.run !== wanted.run) place.textContent = "still of the session before";
+  else {
+    const past = isNow ? "" : ", from before the last edit";
+    place.textContent = `${isStale ? "still " : ""}before turn ${shown.turn}${past}`;
   }
 }
 

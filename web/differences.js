@@ -16,33 +16,55 @@ export class Differences {
       make("p", { class: "faint" }, "Once you make an edit, this says what it changed."));
   }
 
-  /** Shows the first turn in which the pasts part; returns it, or null. */
-  async show(comparison, end) {
-    this.place.replaceChildren(make("p", { class: "faint" }, "Comparing .."));
-    const part = await comparison.part(end);
-    this.place.replaceChildren(this.partLine(part, end));
-    return part.turn;
+  /** What was being compared isn't known. */
+  showStopped() {
+    this.place.querySelector(".at-work")?.replaceWith(
+      make("p", { class: "faint" }, "Stopped: what isn't here wasn't compared."));
   }
 
-  partLine({ turn, isExact }, end) {
-    if (turn === null) return make("p", {}, `The registers don't differ before turn ${end}.`);
+  /** Shows the first turn in which the pasts part; returns it for the timeline, or null. */
+  async show(comparison, end) {
+    this.place.replaceChildren(atWork());
+    const part = await comparison.part(end);
+    this.place.replaceChildren(this.partLine(part, end), atWork());
+    return part.turn === null ? null : { turn: part.turn, isExact: !part.later };
+  }
+
+  partLine({ edited, turn, single, later }, end) {
+    const compared = `compared before each of the turns ${edited} to ${single}`
+      + `, and before ${later} of those from there to ${turn ?? end}`;
+    if (turn === null && !later) {
+      return make("p", {}, `The registers don't differ before any turn up to ${end}.`);
+    }
+    if (turn === null) {
+      return make("p", {}, "No difference of the registers was found: "
+        + `they were ${compared}. Between those it isn't known.`);
+    }
     const go = link(`turn ${turn}`, "Go there", () => this.onTurn(turn));
-    const how = isExact ? "" : " (found by halving: they may have differed for a while before)";
-    return make("p", {}, "The registers first differ before ", go, how, ".");
+    if (!later) return make("p", {}, "The registers first differ before ", go, ".");
+    return make("p", {}, "The registers differ before ", go,
+      `. They were ${compared}: between those they may have differed before.`);
   }
 
   /** Shows the words of core and of the disk that differ. */
   async showWords(comparison, end) {
-    const core = await comparison.core(end);
-    this.place.append(words("Core", core, end, it => octal(2 * it)));
-    const drives = comparison.run.past.version === 2 ? [0, 1, 2, 3, 4, 5, 6, 7] : [0];
-    for (const drive of drives) {
+    const add = it => this.place.lastElementChild.before(it);
+    add(words("Core", await comparison.core(end), end, it => octal(2 * it)));
+    const sectors = `${COMPARED_SECTORS} sectors`, same = [];
+    for (const drive of comparison.drives) {
       const disk = await comparison.disk(end, drive, COMPARED_SECTORS);
-      const name = `Drive ${drive}, its first ${COMPARED_SECTORS} sectors`;
-      if (disk.count || !drive) this.place.append(words(name, disk, end, it => octal(it, 7)));
+      const name = `Drive ${drive}, its first ${sectors}`;
+      if (disk.count || !drive) add(words(name, disk, end, it => octal(it, 7)));
+      else same.push(drive);
     }
+    const none = `Drives ${same.join(", ")}: no word of the first ${sectors} differs.`;
+    if (same.length) add(make("p", {}, none));
+    if (comparison.versionsDiffer) add(make("p", {}, "One of the pasts has drive 0 alone."));
+    this.place.lastElementChild.remove();
   }
 }
+
+const atWork = () => make("p", { class: "faint at-work" }, "Comparing ..");
 
 function words(name, found, end, placeOf) {
   const count = found.count === 1 ? "1 word differs" : `${found.count} words differ`;

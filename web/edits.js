@@ -2,7 +2,7 @@
 
 import { element, itemsOf, make } from "./page.js";
 import { isEdit } from "./past.js";
-import { isRefused } from "./replies.js";
+import { isRefused, mustBeTaken } from "./replies.js";
 import { Priority } from "./run.js";
 
 const MOST_REPLY = 20_000;
@@ -67,6 +67,7 @@ export class Edits {
     const line = `alter ${event.number} ${turn} ${event.text}`;
     this.app.say(line);
     if (!run.isNear(end, Math.min(event.turn, turn))) return;
+    for (const kind of ["picture", "cursor", "comparison", "text"]) this.app.token(kind);
     this.tried ??= { isAtWork: false, back: [] };
     const { tried } = this;
     tried.wanted = line;
@@ -80,7 +81,9 @@ export class Edits {
     if (!tried.now) tried.back = run.past.inverse(tried.wanted) ?? [];
     while (this.tried === tried && tried.wanted !== tried.now) {
       tried.now = tried.wanted;
-      const [, text] = await run.ask([tried.now, `text ${end}`], Priority.EDIT);
+      const [reply, text] = await run.ask([tried.now, `text ${end}`], Priority.EDIT);
+      mustBeTaken(reply);
+      this.app.panels.want(run, this.app.timeline.cursor);
       if (this.tried === tried) this.app.showReply(text);
     }
   }
@@ -90,7 +93,8 @@ export class Edits {
     const { tried, app } = this;
     this.tried = null;
     return this.inTurn(async () => {
-      await app.run.ask(tried?.back ?? [], Priority.EDIT);
+      const replies = await app.run.ask(tried?.back ?? [], Priority.EDIT);
+      replies.forEach(mustBeTaken);
       if (turn === null) app.changed();
       else await this.makeShown(`alter ${event.number} ${turn} ${event.text}`);
     });

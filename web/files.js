@@ -1,8 +1,11 @@
 // Opening files, by dialog or drop, and saving.
 
+import {
+  FileError, namesFile, optionLines, optionText, optionsOf, shellWords, wordsOfOptions,
+} from "./options.js";
 import { pageWith } from "./packed.js";
-import { kindOfFile, linesOf, plainOptions, sessionOf, withFile } from "./session.js";
 import { visibleName } from "./replies.js";
+import { kindOfFile, latin1, linesOf, readableLine, withFile } from "./session.js";
 
 /** Gives the user a file. */
 export function saveFile(name, contents, type) {
@@ -19,12 +22,12 @@ export function savedName(session, end) {
   return `${visibleName(name).replace(/[^\w.-]+/g, "-")}${end}`;
 }
 
-/** The past as a session. What the options name isn't in it: a comment says which files. */
+/** The past as a session, with its options. What these name isn't in it. */
 export function textOfPast(session, past, end) {
-  const words = session.arguments.map(visibleName).join(" ");
-  const head = [`# ${visibleName(session.name)}, saved by the page.`];
-  if (words) head.push(`# Its options: ${words}`.slice(0, 200));
-  return `${[...head, ...past.lines(), `regs ${end}`, `text ${end}`].join("\n")}\n`;
+  // a comment has at most 200 bytes too
+  const head = `# ${visibleName(session.name).slice(0, 40)}, saved by the page.`;
+  const asked = [`regs ${end}`, `text ${end}`];
+  return `${[head, ...optionLines(session.arguments), ...past.lines(), ...asked].join("\n")}\n`;
 }
 
 /** The page as one file with the past and its files in it. */
@@ -32,36 +35,80 @@ export function pageOfPast(session, past, end) {
   return pageWith({ ...session, lines: [...past.lines(), `regs ${end}`] });
 }
 
-/**
- * The session that these files make: a session file begins a new one, images and symbols are added
- * to the one that is open.
- * @param {import("./session.js").Session} open
- * @param {File[]} files
- */
-export async function sessionOfFiles(open, lines, files) {
-  const kinds = files.map(it => kindOfFile(it.name));
-  const at = kinds.indexOf("session");
-  let session = at < 0 ? { ...open, lines } : sessionOf(files[at].name, await files[at].text());
-  const notes = [];
-  for (const [number, file] of files.entries()) {
-    if (number === at) continue;
-    const kind = kinds[number];
-    if (kind === "session") notes.push(`${visibleName(file.name)} is a second session, left out.`);
-    else session = await added(session, kind, file);
-  }
-  return { session, notes };
+/** The files that were opened before and wait for others, and those that are opened now, unless
+    these begin another session. */
+export function filesTogether({ files, missing }, given) {
+  const isOther = it => kindOfFile(it.name) === "session" && !missing.includes(it.name);
+  return given.some(isOther) ? given : [...files, ...given];
 }
 
-async function added(session, kind, file) {
-  if (kind === "arguments") {
-    const words = plainOptions(linesOf(await file.text()).join(" "));
-    return { ...session, arguments: [...words, ...session.arguments] };
+/**
+ * The session that these files make: a session file begins a new one with the files that its
+ * options name; images and symbols are added to it, or to the one that is open.
+ * @param {import("./session.js").Session} open
+ * @param {string[]} lines those of the session that is open
+ * @param {File[]} files
+ * @returns {Promise<{session: import("./session.js").Session, notes: string[], missing: string[]}>}
+ *   `missing` are names of files that the options name and that aren't here
+ */
+export async function sessionOfFiles(open, lines, files) {
+  const left = new Map();
+  for (const it of files) left.set(it.name, new Uint8Array(await it.arrayBuffer()));
+  let session = begun({ ...open, lines }, left);
+  const notes = [];
+  for (const [name, bytes] of left) {
+    const kind = kindOfFile(name);
+    if (kind === "session") notes.push(`${visibleName(name)} is a second session, left out.`);
+    else if (kind === "arguments") notes.push(`${visibleName(name)} isn't used: see its session.`);
+    else if (kind !== "symbols") session = withFile(session, kind, name, bytes);
+    else session = { ...session, files: { ...session.files, [name]: bytes } };
   }
-  const bytes = new Uint8Array(await file.arrayBuffer());
-  if (kind === "symbols") {
-    return { ...session, files: { ...session.files, [file.name]: bytes } };
+  const named = [...optionsOf(session.arguments, session.name)];
+  const missing = named.filter(([option, it]) => namesFile(option) && !(it in session.files));
+  return { session, notes, missing: missing.map(([, name]) => name) };
+}
+
+/** The session that a session file among these begins, or the one that is open, with the options
+    that stand in it or in a file of options, and the files that they name. What is used of the
+    files is taken out of them. */
+function begun(open, left) {
+  const names = [...left.keys()];
+  const isSession = name => kindOfFile(name) === "session";
+  const name = names.find(it => it.endsWith(".session")) ?? names.find(isSession);
+  const beside = names.find(it => kindOfFile(it) === "arguments");
+  const take = it => {
+    const bytes = left.get(it);
+    left.delete(it);
+    return bytes;
+  };
+  const lines = name === undefined ? null : linesOf(latin1(take(name)));
+  const text = lines && optionText(lines);
+  const base = lines ? { name, arguments: [], files: {}, lines } : open;
+  if (typeof text === "string") {
+    return withOptions(base, shellWords(readableLine(text), visibleName(name)), left, take);
   }
-  return withFile(session, kind, file.name, bytes);
+  if (beside === undefined) return base;
+  const words = linesOf(new TextDecoder().decode(take(beside)));
+  return withOptions(base, words, left, take);
+}
+
+/** The session with these options in the place of its own of the same names. A file is known by its
+    name without its folders. */
+function withOptions(session, words, left, take) {
+  const where = visibleName(session.name);
+  const options = optionsOf(words, where), files = { ...session.files }, paths = new Map();
+  for (const [option, path] of options) {
+    if (!namesFile(option)) continue;
+    const name = path.split(/[/\\]/).at(-1);
+    if (paths.has(name) && paths.get(name) !== path) {
+      throw new FileError(`${where}: two of its files are called ${visibleName(name)}.`);
+    }
+    paths.set(name, path);
+    options.set(option, name);
+    if (left.has(name)) files[name] = take(name);
+  }
+  const all = new Map([...optionsOf(session.arguments, where), ...options]);
+  return { ...session, files, arguments: wordsOfOptions(all) };
 }
 
 /** Takes files that are dropped on the page. */

@@ -1,10 +1,12 @@
 // Draws a picture of a run on a canvas, lane below lane.
 
-import { shownByte, vectorName, visibleName } from "./replies.js";
+import { LAST_TURN, shownByte, vectorName, visibleName } from "./replies.js";
 import { SWEEP_COLOURS, letterOf } from "./sweep.js";
 
 const FONT = "11px ui-monospace, Menlo, Consolas, monospace";
 const CHARACTER = 6.7;
+const HATCH = 8;
+const MOST_NAME = 8;
 const HEIGHTS = { axis: 24, events: 62, counter: 54, row: 30, steps: 40, sweep: 24 };
 const COLOURS = ["ink", "faint", "grid", "counter", "cpu", "disk", "interrupt", "ghost",
   "accent", "ground"];
@@ -90,11 +92,14 @@ export class LanesDrawing {
     if (part !== null) this.drawPart(part, lanes[1], height);
   }
 
-  /** Where the old past and the new one part. */
-  drawPart(turn, lane, height) {
+  /** Where the old past and the new one part, or differ if turns before weren't compared. */
+  drawPart({ turn, isExact }, lane, height) {
     const { pen, view } = this;
     const x = view.x(turn);
     if (x < view.left || x > view.left + view.width) return;
+    const said = isExact ? "they part" : "they differ";
+    const wide = pen.measureText(said).width + 8;
+    const left = x + wide < view.left + view.width ? x + 4 : x - wide;
     pen.strokeStyle = this.colours.accent;
     pen.lineWidth = 1.4;
     pen.setLineDash([5, 4]);
@@ -105,8 +110,8 @@ export class LanesDrawing {
     pen.setLineDash([]);
     pen.strokeStyle = this.colours.ground;
     pen.lineWidth = 4;
-    pen.strokeText("they part", x + 4, lane.top + lane.height - 3);
-    this.text(x + 4, lane.top + lane.height - 3, "they part", "accent");
+    pen.strokeText(said, left, lane.top + lane.height - 3);
+    this.text(left, lane.top + lane.height - 3, said, "accent");
   }
 
   drawFrame(lane) {
@@ -119,12 +124,14 @@ export class LanesDrawing {
   drawLane(lane, picture, ghost, events) {
     if (lane.kind === "axis") this.drawAxis(lane);
     else if (lane.kind === "events") this.drawStems(lane, events);
-    if (!picture) return;
-    if (lane.kind === "counter") this.drawCounter(lane, picture, ghost);
-    else if (lane.name === "disk") this.drawDisk(lane, picture, ghost);
-    else if (lane.name === "interrupts") this.drawInterrupts(lane, picture, ghost);
-    else if (lane.name === "console") this.drawText(lane, picture, ghost);
-    else if (lane.kind === "steps") this.drawWord(lane, picture, ghost);
+    else if (lane.kind !== "sweep") {
+      this.drawUnknown(lane, knownTurns(lane, picture));
+      if (lane.kind === "counter") this.drawCounter(lane, picture, ghost);
+      else if (lane.name === "disk") this.drawDisk(lane, picture, ghost);
+      else if (lane.name === "interrupts") this.drawInterrupts(lane, picture, ghost);
+      else if (lane.name === "console") this.drawText(lane, picture, ghost);
+      else this.drawWord(lane, picture, ghost);
+    }
   }
 
   text(x, y, text, colour = "ink", most = Infinity) {
@@ -134,15 +141,50 @@ export class LanesDrawing {
     pen.fillText(text, x, y, most === Infinity ? undefined : most);
   }
 
-  /** Only what is inside the lanes' edges is drawn. */
-  clipped(lane, draw) {
+  /** A text that would be cut at the edge isn't drawn: a part of a number is another number. */
+  label(x, y, text, colour) {
     const { pen, view } = this;
+    const fits = x + pen.measureText(text).width <= view.left + view.width;
+    if (fits && x >= view.left) this.text(x, y, text, colour);
+  }
+
+  /** Only what is inside the lanes' edges is drawn, and of these turns. */
+  clipped(lane, draw, { from, to } = { from: this.view.first, to: this.view.end }) {
+    const { pen, view } = this;
+    const left = view.x(Math.max(view.first, from)), right = view.x(Math.min(view.end, to));
+    if (right <= left) return;
     pen.save();
     pen.beginPath();
-    pen.rect(view.left, lane.top, view.width, lane.height);
+    pen.rect(left, lane.top, right - left, lane.height);
     pen.clip();
     draw();
     pen.restore();
+  }
+
+  /** The old past in grey and then the new one, each as far as it is known. */
+  drawBoth(lane, picture, ghost, draw) {
+    for (const [it, isGhost] of [[ghost, true], [picture, false]]) {
+      if (it) this.clipped(lane, () => draw(it, isGhost), knownTurns(lane, it));
+    }
+  }
+
+  /** Hatches the turns in sight that the machine wasn't asked about. */
+  drawUnknown(lane, { from, to }) {
+    const { pen, view } = this;
+    const last = Math.min(view.end, LAST_TURN + 1);
+    const before = { from: view.first, to: Math.min(from, last) };
+    for (const turns of [before, { from: Math.max(to, before.to), to: last }]) {
+      this.clipped(lane, () => {
+        pen.strokeStyle = this.colours.grid;
+        pen.lineWidth = 1;
+        pen.beginPath();
+        for (let x = view.left - lane.height; x < view.left + view.width; x += HATCH) {
+          pen.moveTo(x, lane.top + lane.height);
+          pen.lineTo(x + lane.height, lane.top);
+        }
+        pen.stroke();
+      }, turns);
+    }
   }
 
   drawAxis(lane) {
@@ -181,7 +223,8 @@ export class LanesDrawing {
       pen.fillStyle = style.getPropertyValue(`--outcome-${outcome % SWEEP_COLOURS}`);
       pen.fillRect(x, lane.top + 5, Math.max(1, end - x), isWhole ? 14 : 7);
       const middle = (Math.max(x, view.left) + Math.min(end, view.left + view.width)) / 2;
-      if (end - x > 10) this.text(middle - 3, lane.top + 16, letterOf(outcome), "ground");
+      const letter = letterOf(outcome), wide = CHARACTER * letter.length;
+      if (end - x > wide + 3) this.text(middle - wide / 2, lane.top + 16, letter, "ground");
     }
   }
 
@@ -189,21 +232,20 @@ export class LanesDrawing {
 
   drawCounter(lane, picture, ghost) {
     const inMode = it => it.mode === lane.mode && it.state === "run";
-    const looks = picture.looks.filter(inMode);
-    const old = ghost ? ghost.looks.filter(inMode) : [];
-    if (!looks.length && !old.length) {
-      this.text(this.view.left + 6, lane.top + 18, `not in ${lane.mode} mode`, "faint");
-      return;
+    const looksOf = it => it?.looks.filter(inMode) ?? [];
+    if (picture?.looks.length && !looksOf(picture).length) {
+      const how = picture.isMade && picture.step === 1 ? "doesn't run" : "not seen to run";
+      const x = Math.max(this.view.left, this.view.x(picture.first)) + 6;
+      this.label(x, lane.top + 18, `${how} in ${lane.mode} mode`, "faint");
     }
-    const counters = [...looks, ...old].map(it => it.pc);
+    const counters = [...looksOf(picture), ...looksOf(ghost)].map(it => it.pc);
+    if (!counters.length) return;
     const [least, most] = [Math.min(...counters), Math.max(...counters)];
     const [top, high] = [lane.top + 6, lane.height - 12];
     const y = pc => top + high - (most > least ? (pc - least) / (most - least) : 0.5) * high;
     this.drawSymbols(lane, y, least, most);
-    this.clipped(lane, () => {
-      this.drawLooks(old, ghost?.step, y, "ghost");
-      this.drawLooks(looks, picture.step, y, "counter");
-    });
+    this.drawBoth(lane, picture, ghost, (it, isGhost) =>
+      this.drawLooks(looksOf(it), it.step, y, isGhost ? "ghost" : "counter"));
   }
 
   drawLooks(looks, step, y, colour) {
@@ -229,7 +271,7 @@ export class LanesDrawing {
       if (value < least || value > most || seen - at < 11 || at < lane.top + 22) continue;
       seen = at;
       pen.fillStyle = this.colours.faint;
-      pen.fillText(visibleName(name).slice(0, 8), this.view.left - 8, at + 4, 58);
+      pen.fillText(shortName(visibleName(name)), this.view.left - 8, at + 4, 58);
       pen.fillRect(this.view.left - 5, at, 5, 1);
     }
   }
@@ -237,12 +279,13 @@ export class LanesDrawing {
   // Disk, interrupts, console
 
   drawDisk(lane, picture, ghost) {
-    this.clipped(lane, () => {
-      if (ghost) this.drawBars(lane, ghost.disk.bars, lane.top + 3, 4, "ghost", false);
-      this.drawBars(lane, picture.disk.bars, lane.top + 9, 7, "disk", true);
-      const { pen, view } = this;
-      pen.fillStyle = this.colours.disk;
-      for (const look of picture.disk.busy) pen.fillRect(view.x(look.turn), lane.top + 10, 1.5, 6);
+    const { pen, view } = this;
+    this.drawBoth(lane, picture, ghost, ({ disk }, isGhost) => {
+      if (isGhost) this.drawBars(lane, disk.bars, lane.top + 3, 4, "ghost", false);
+      else this.drawBars(lane, disk.bars, lane.top + 9, 7, "disk", true);
+      const top = lane.top + (isGhost ? 2 : 10);
+      pen.fillStyle = this.colours[isGhost ? "ghost" : "disk"];
+      for (const look of disk.busy) pen.fillRect(view.x(look.turn), top, 1.5, 6);
     });
   }
 
@@ -255,7 +298,7 @@ export class LanesDrawing {
       pen.fillStyle = this.colours[colour];
       pen.fillRect(x, top, Math.max(1, end - x), high);
       if (hasLabels && x >= free) {
-        this.text(x, lane.top + 27, bar.name, colour);
+        this.label(x, lane.top + 27, bar.name, colour);
         free = x + CHARACTER * (bar.name.length + 1);
       }
     }
@@ -263,62 +306,66 @@ export class LanesDrawing {
 
   drawInterrupts(lane, picture, ghost) {
     const { pen, view } = this;
-    this.clipped(lane, () => {
-      pen.fillStyle = this.colours.ghost;
-      for (const it of ghost?.interrupts ?? []) pen.fillRect(view.x(it.turn), lane.top + 3, 1.5, 6);
+    this.drawBoth(lane, picture, ghost, ({ interrupts }, isGhost) => {
       let free = -Infinity;
-      for (const it of picture.interrupts) {
+      for (const it of interrupts) {
         const [x, name] = [view.x(it.turn), vectorName(it.vector)];
-        pen.fillStyle = this.colours.interrupt;
-        pen.fillRect(x - 0.75, lane.top + 6, 1.5, 10);
-        if (x < free || x < view.left - 20) continue;
-        this.text(x, lane.top + 27, name, "interrupt");
+        pen.fillStyle = this.colours[isGhost ? "ghost" : "interrupt"];
+        if (isGhost) pen.fillRect(x, lane.top + 3, 1.5, 6);
+        else pen.fillRect(x - 0.75, lane.top + 6, 1.5, 10);
+        if (isGhost || x < free) continue;
+        this.label(x, lane.top + 27, name, "interrupt");
         free = x + CHARACTER * (name.length + 1);
       }
     });
   }
 
   drawText(lane, picture, ghost) {
-    this.clipped(lane, () => {
-      if (ghost) this.drawBytes(ghost.text.bytes, lane.top + 27, "ghost");
-      this.drawBytes(picture.text.bytes, lane.top + 13, "ink");
+    let hasStrokes = false;
+    this.drawBoth(lane, picture, ghost, ({ text }, isGhost) => {
+      const isCut = this.drawBytes(text, lane.top + (isGhost ? 27 : 13), isGhost ? "ghost" : "ink");
+      hasStrokes = hasStrokes || isCut;
     });
+    if (hasStrokes) this.text(6, lane.top + 27, "stroke: a byte", "faint", this.view.left - 10);
   }
 
-  /** Each byte at its turn if it has room, otherwise a mark. */
-  drawBytes(bytes, y, colour) {
+  /** Each byte at its turn: as a letter if those beside it leave it room, otherwise as a stroke,
+      so that letters that stand side by side are what was printed. Returns whether one is. */
+  drawBytes({ bytes, each }, y, colour) {
     const { pen, view } = this;
-    let free = -Infinity;
-    for (const { turn, byte } of bytes) {
-      const x = view.x(turn);
-      if (x < free) {
-        pen.fillStyle = this.colours[colour];
-        pen.fillRect(x, y - 2, 1, 3);
-        continue;
-      }
-      if (byte === 0o15 || byte === 0o12 || byte === 0o40) continue;
-      this.text(x, y, shownByte(byte), colour);
-      free = x + CHARACTER;
-    }
+    const seen = bytes.filter(it => ![0o15, 0o12, 0o40].includes(it.byte));
+    const places = seen.map(it => view.x(it.turn));
+    let hasStrokes = false;
+    seen.forEach(({ byte }, at) => {
+      const x = places[at];
+      if (x < view.left || x > view.left + view.width) return;
+      const room = Math.min(x - (places[at - 1] ?? -Infinity), (places[at + 1] ?? Infinity) - x);
+      if (each === 1 && room >= CHARACTER) return this.label(x, y, shownByte(byte), colour);
+      hasStrokes = true;
+      pen.fillStyle = this.colours[colour];
+      pen.fillRect(x, y - 5, 1, 6);
+    });
+    return hasStrokes;
   }
 
   // Words
 
   drawWord(lane, picture, ghost) {
-    const named = it => it.name === lane.name;
-    const word = picture.words.find(named), old = ghost?.words.find(named);
-    if (!word) return;
-    const heights = heightsOf([...word.values, ...(old?.values ?? [])]);
+    const wordOf = it => it?.words.find(word => word.name === lane.name);
+    const why = wordOf(picture)?.why;
+    if (why) this.text(this.view.left + 6, lane.top + 18, why, "faint", this.view.width - 12);
+    const valuesOf = it => wordOf(it)?.values ?? [];
+    const heights = heightsOf([...valuesOf(picture), ...valuesOf(ghost)]);
     const [top, high] = [lane.top + 8, lane.height - 22];
     const y = value => top + high - high * heights(value);
-    this.clipped(lane, () => {
-      if (old) this.drawSteps(lane, old, y, "ghost");
-      this.drawSteps(lane, word, y, "faint");
-      this.drawWriters(lane, word, y);
+    this.drawBoth(lane, picture, ghost, (it, isGhost) => {
+      if (!valuesOf(it).length) return;
+      this.drawSteps(wordOf(it), y, isGhost ? "ghost" : "faint");
+      if (!isGhost) this.drawWriters(lane, wordOf(it), y);
     });
   }
 
-  drawSteps(lane, word, y, colour) {
+  drawSteps(word, y, colour) {
     const { pen, view } = this;
     pen.strokeStyle = this.colours[colour];
     pen.lineWidth = 1.4;
@@ -353,11 +400,22 @@ export class LanesDrawing {
       } else if (value.writer === "disk") pen.fillRect(x - 3, at - 3, 6, 6);
       const label = `${value.word.toString(8)} ${value.writer}`.trim();
       if (x < free || isSame) continue;
-      this.text(x, lane.top + lane.height - 3, label, value.writer || "faint");
+      this.label(x, lane.top + lane.height - 3, label, value.writer || "faint");
       free = x + CHARACTER * (label.length + 1);
     }
   }
 }
+
+/** The turns of a lane that a picture, which grows, has so far. */
+function knownTurns(lane, picture) {
+  const hasWord = lane.kind !== "steps" || picture?.words.some(it => it.name === lane.name);
+  if (!picture || !hasWord) return { from: Infinity, to: -Infinity };
+  const isLooks = lane.kind === "counter" || lane.name === "interrupts";
+  const to = picture.isMade ? picture.end : isLooks ? picture.reached : picture.first;
+  return { from: picture.first, to };
+}
+
+const shortName = name => name.length > MOST_NAME ? `${name.slice(0, MOST_NAME - 1)}\u2026` : name;
 
 /** How high each value is drawn, 0 to 1: in equal steps if there are few, otherwise to scale. */
 function heightsOf(values) {
@@ -376,8 +434,11 @@ export function notesOf(picture) {
   if (step > 1) notes.push(`PC and mode: the first of each ${step} turns.`);
   if (!listsAllTurns) notes.push(`Interrupts: of the first 64 of each ${step} turns.`);
   if (!disk.isWhole) notes.push(`Disk: busy or not, at the first of each ${step} turns.`);
+  if (disk.isWhole && step > 1) {
+    notes.push(`Disk: functions less than ${step} turns apart may be drawn as one.`);
+  }
   if (text.each > 1) notes.push(`Console: one of each ${text.each} bytes.`);
-  const sampled = words.filter(it => !it.isWhole).map(it => it.name);
+  const sampled = words.filter(it => it.values && !it.isWhole).map(it => it.name);
   if (sampled.length) notes.push(`Sampled once each ${step} turns, dotted: ${sampled.join(", ")}.`);
   return notes.length ? notes : ["Each turn in sight is looked at; nothing is sampled."];
 }

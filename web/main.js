@@ -7,6 +7,7 @@ import { keepLook } from "./look.js";
 import { packedSession } from "./packed.js";
 import { element } from "./page.js";
 import { placeOf } from "./place.js";
+import { LAST_TURN } from "./replies.js";
 
 function onClick(id, act) {
   element(id).addEventListener("click", act);
@@ -33,7 +34,10 @@ function bindFiles(app) {
 }
 
 function bindTurns(app) {
-  onForm("turn-form", "turn", value => /^\d{1,10}$/.test(value) && app.goTo(Number(value)));
+  onForm("turn-form", "turn", value => {
+    if (/^\d{1,10}$/.test(value) && Number(value) <= LAST_TURN) app.goTo(Number(value));
+    else app.say(`A turn is a number from 0 to ${LAST_TURN}.`);
+  });
   for (const button of document.querySelectorAll("[data-key]")) {
     button.addEventListener("click", event => app.timeline.act(button.dataset.key, event.shiftKey));
   }
@@ -48,8 +52,9 @@ function bindEdits(app) {
   onForm("edit-form", "line", line => line && app.edits.do(line));
   onForm("memory-form", "address", value => {
     if (/^[0-7]{1,6}$/.test(value)) app.goTo(app.timeline.cursor, parseInt(value, 8));
+    else app.say("An address of core is an octal number of at most six digits.");
   });
-  onForm("watch-form", "watch", value => app.watchNamed(value));
+  onForm("watch-form", "watch", value => app.watched.turnNamed(value));
   onClick("undo", () => app.edits.undo());
   onClick("redo", () => app.edits.redo());
   onClick("stop", () => app.stop());

@@ -1,6 +1,6 @@
 // The past as the page knows it: what the edits that the program took have made of it.
 
-import { keyName } from "./replies.js";
+import { eventOf, keyName } from "./replies.js";
 
 const DELAYS = { printer: 1, reader: 4, punch: 4, disk: 10, clock: 0 };
 const EDITS = new Set(
@@ -70,7 +70,7 @@ export class Past {
   applyToScript(word, rest, reply) {
     if (word === "at") {
       const [turn, text] = [Number(rest[0]), rest.slice(1).join(" ")];
-      const event = { number: Number(reply.split(" ")[1]), turn, text };
+      const event = { number: eventOf(reply), turn, text };
       this.events.set(event.number, event);
       this.putLast(event, turn);
       return;

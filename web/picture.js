@@ -2,8 +2,8 @@
 
 import { Priority } from "./run.js";
 import {
-  TURNS_OF_A_TRAIL, bytesOf, devicesOf, functionInWords, interruptsOf, octal, registersOf, turnOf,
-  wordsOf, writesOf,
+  TURNS_OF_A_TRAIL, bytesOf, devicesOf, functionInWords, interruptsOf, isRefused, lengthOf, octal,
+  refusalInWords, registersOf, turnOf, wordsOf, writesOf,
 } from "./replies.js";
 
 // If there are no more turns than this, each is looked at.
@@ -23,11 +23,28 @@ const MOST_SEARCHED_TURNS = 20_000_000;
 export const nameOfWord = word => word.kind === "core" ? `core ${octal(word.at)}`
   : `disk ${word.drive ? `${word.drive} ` : ""}${octal(word.at, 7)}`;
 
+/** The word with a name such as `2000`, `core 2000`, `disk 0` or `disk 1 0`, or null. */
+export function wordNamed(name) {
+  const [, core, drive = "0", index] =
+    /^(?:(?:core +)?([0-7]{1,10})|disk +(?:([0-7]{1,10}) +)?([0-7]{1,10}))$/.exec(name) ?? [];
+  if (core) return { kind: "core", drive: 0, at: parseInt(core, 8) };
+  return index ? { kind: "disk", drive: parseInt(drive, 8), at: parseInt(index, 8) } : null;
+}
+
 /** The question for a word before a turn. */
 export function questionOf(past, word, turn) {
   if (word.kind === "core") return `mem ${turn} ${word.at.toString(8)} 1`;
   const drive = past.version === 2 ? `${word.drive} ` : "";
   return `dsk ${turn} ${drive}${word.at.toString(8)} 1`;
+}
+
+/** Why the machine has no such word, as a part of a sentence; an empty text if it has it. */
+export async function whyNoWord(run, word, token = null) {
+  if (word.drive && run.past.version === 1) {
+    return "there is one drive; the line `version 2` gives eight";
+  }
+  const reply = await run.askOne(questionOf(run.past, word, 0), Priority.PICTURE, token);
+  return isRefused(reply) ? refusalInWords(reply) : "";
 }
 
 /** Collects a picture in parts, and tells of each part so that it is drawn at once. */
@@ -42,8 +59,8 @@ export class PictureMaker {
     const turns = wanted.end - wanted.first;
     this.step = turns <= MOST_SINGLE_TURNS ? 1 : Math.ceil(turns / wanted.columns);
     this.picture = {
-      first: wanted.first, end: wanted.end, step: this.step, isMade: false, looks: [],
-      interrupts: [],
+      first: wanted.first, end: wanted.end, reached: wanted.first, step: this.step, isMade: false,
+      looks: [], interrupts: [],
       listsAllTurns: this.step <= TURNS_OF_A_TRAIL,
       disk: { bars: [], busy: [], isWhole: false },
       text: { bytes: [], printed: 0, each: 1 }, words: [],
@@ -55,6 +72,11 @@ export class PictureMaker {
   }
 
   async make() {
+    const whyNot = await Promise.all(
+      this.wanted.words.map(it => whyNoWord(this.run, it, this.token)));
+    this.words = this.wanted.words.filter((_, at) => !whyNot[at]);
+    this.missing = this.wanted.words.map((it, at) => ({ name: nameOfWord(it), why: whyNot[at] }))
+      .filter(it => it.why);
     await this.look();
     await Promise.all([this.collectText(), this.collectDisk(), this.collectWords()]);
     this.picture.isMade = true;
@@ -66,7 +88,8 @@ export class PictureMaker {
 
   /** Looks at the machine before the first turn of each column, upwards. */
   async look() {
-    const { first, end, words } = this.wanted;
+    const { words } = this;
+    const { first, end } = this.wanted;
     const turns = [];
     for (let turn = first; turn < end; turn += this.step) turns.push(turn);
     const asked = turns.map(it => this.linesOfLook(it, words));
@@ -104,10 +127,11 @@ export class PictureMaker {
     const [registers, devices, ...rest] = replies;
     const { pc, mode, priority, state } = registersOf(registers);
     const disk = devicesOf(devices);
-    const words = rest.slice(0, this.wanted.words.length).map(it => wordsOf(it)[0]);
+    const words = rest.slice(0, this.words.length).map(it => wordsOf(it)[0]);
     const busy = disk.diskIsReady ? null : disk;
     this.picture.looks.push({ turn, pc, mode, priority, state, busy, words });
-    const trail = rest[this.wanted.words.length];
+    this.picture.reached = Math.min(this.picture.end, turn + this.step);
+    const trail = rest[this.words.length];
     if (!trail) return;
     this.picture.interrupts.push(...interruptsOf(trail));
   }
@@ -134,7 +158,7 @@ export class PictureMaker {
   /** How many bytes were printed before each of the turns. */
   async textLengths(turns) {
     const replies = await this.ask(turns.map(it => `text ${it}`));
-    return replies.map(it => Number(it.slice(5, it.indexOf(":"))));
+    return replies.map(lengthOf);
   }
 
   // The disk
@@ -199,10 +223,9 @@ export class PictureMaker {
   // The words
 
   async collectWords() {
-    const { words } = this.wanted;
-    const found = words.map((word, at) => word.kind === "core" ? this.writesOf(word, at)
+    const found = this.words.map((word, at) => word.kind === "core" ? this.writesOf(word, at)
       : this.changesOf(word, at));
-    this.picture.words = await Promise.all(found);
+    this.picture.words = [...await Promise.all(found), ...this.missing];
   }
 
   samplesOf(word, at) {

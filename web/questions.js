@@ -8,6 +8,7 @@ const OF_A_TURN = new Set(
   ["regs", "mem", "dsk", "text", "punched", "last", "trail", "devices", "pages"]);
 const OF_TURNS = new Set(["first", "writes", "change"]);
 const MOST_WRITES = 256;
+const LONGEST_LINE = 200;
 // In the first turns of a run a question is answered at once. A trail has at most so many turns.
 const EARLY = 64;
 
@@ -16,6 +17,7 @@ const isTurn = word => /^\d{1,10}$/.test(word ?? "") && Number(word) <= LAST_TUR
 
 /** The turns from one before which a question is to one; both are 0 if the program runs none. */
 export function turnsAsked(line) {
+  if (line.length > LONGEST_LINE) return [0, 0];
   const [word, ...rest] = wordsOfLine(line);
   const turns = rest.slice(0, OF_A_TURN.has(word) ? 1 : OF_TURNS.has(word) ? 2 : 0);
   const [begin, end] = turns.every(isTurn) ? turns.map(Number) : [];
@@ -31,8 +33,14 @@ export function earlyQuestion(line) {
   return [word, ...early, ...rest.slice(turns)].join(" ");
 }
 
+/** What is asked of the line of a session that is opened: an edit as it is, of a question one that
+    runs nothing. */
+export const askedAtOnce = line =>
+  turnsAsked(line)[1] > 0 || byteAsked(line) !== null ? earlyQuestion(line) : line;
+
 /** The byte of the console's text that `when` is about; null for any other line. */
 export function byteAsked(line) {
+  if (line.length > LONGEST_LINE) return null;
   const [, byte] = /^[ \t]*when[ \t]+(\d{1,10})[ \t]*$/.exec(line) ?? [];
   return byte === undefined ? null : Number(byte);
 }

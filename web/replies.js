@@ -1,4 +1,5 @@
-// The replies of the session language as values with names.
+// The replies of the session language as values with names. A reply that isn't of the form that was
+// asked for, such as a refusal, is an error: no part of it becomes a value.
 
 export const LAST_TURN = 1_000_000_000;
 export const WORDS_AT_ONCE = 256;
@@ -6,6 +7,7 @@ export const TURNS_OF_A_TRAIL = 64;
 
 const IO_PAGE = 0o160000;
 const PHYSICAL = 0o1000000;
+const CYLINDERS = 203, SECTORS_OF_A_TRACK = 12;
 const MODES = ["kernel", "mode 01", "mode 10", "user"];
 const VECTORS = new Map([
   [0o4, "bus error"], [0o10, "reserved"], [0o14, "trace"], [0o20, "IOT"], [0o30, "EMT"],
@@ -20,7 +22,51 @@ const FUNCTIONS = [
 /** A number in octal digits, as the session language writes words. */
 export const octal = (word, digits = 6) => word.toString(8).padStart(digits, "0");
 
+const REFUSALS = new Map([
+  [1, "the memory that this needs was refused"], [2, "the address isn't in core"],
+  [3, "the address is odd"], [4, "the number is past the end of a drive"],
+  [5, "no event has this number"], [6, "the script is full"],
+  [7, `the turn or the delay is above ${LAST_TURN}`], [8, "the count is out of range"],
+  [9, "this core word has no patch"], [10, "it isn't a line of the session language"],
+  [11, "the line has more than 200 bytes"], [16, "the drive's number is above 7"],
+]);
+
 export const isRefused = reply => reply.startsWith("refused ");
+
+/** Why the program refused a line, as a part of a sentence. */
+export function refusalInWords(reply) {
+  const [, number] = reply.split(" ");
+  return REFUSALS.get(Number(number)) ?? reply;
+}
+
+/** A reply that isn't what was asked for. */
+export class WrongReply extends Error {
+  constructor(reply) {
+    super(isRefused(reply) ? `${refusalInWords(reply)} (${reply})`
+      : `the program's reply can't be read: ${visibleName(reply.slice(0, 80))}`);
+    this.reply = reply;
+  }
+}
+
+/** The reply to a line, which the program must have taken. */
+export function mustBeTaken(reply) {
+  if (isRefused(reply)) throw new WrongReply(reply);
+  return reply;
+}
+
+/** What a pattern finds in a reply, which must have its form. */
+function read(pattern, reply) {
+  const found = pattern.exec(reply);
+  if (!found) throw new WrongReply(reply);
+  return found;
+}
+
+/** The fields after the first word of a reply, which must be one of `heads`. */
+function fieldsOf(reply, ...heads) {
+  const [head, ...fields] = reply.split(" ");
+  if (!heads.includes(head)) throw new WrongReply(reply);
+  return fields;
+}
 
 /** @param {string[]} fields names and words, one after the other */
 function namedWords(fields) {
@@ -35,7 +81,7 @@ export const vectorName = vector => VECTORS.get(vector) ?? octal(vector, 3);
 
 /** The reply of `regs`. */
 export function registersOf(reply) {
-  const fields = reply.split(" ");
+  const fields = ["R0", ...fieldsOf(reply, "R0")];
   const words = namedWords(fields);
   const ps = words.PS;
   return {
@@ -54,9 +100,11 @@ export function statusInWords(ps) {
 
 /** The reply of `devices`, with what the disk does. */
 export function devicesOf(reply) {
-  const words = namedWords(reply.split(" ").slice(1));
+  const words = namedWords(fieldsOf(reply, "devices"));
   const address = words.RKDA;
-  const track = (address >> 5 & 0o377) * 2 + (address >> 4 & 1);
+  const [cylinder, place] = [address >> 5 & 0o377, address & 0o17];
+  const isThere = cylinder < CYLINDERS && place < SECTORS_OF_A_TRACK;
+  const track = cylinder * 2 + (address >> 4 & 1);
   return {
     words,
     keyWaits: (words.TKS & 0o200) !== 0,
@@ -65,21 +113,28 @@ export function devicesOf(reply) {
     busAddress: (words.RKCS & 0o60) << 12 | words.RKBA & 0o177776,
     wordCount: 0o200000 - words.RKWC,
     drive: address >> 13,
-    sector: track * 12 + (address & 0o17),
+    sector: isThere ? track * SECTORS_OF_A_TRACK + place : null,
   };
 }
 
-/** What the disk's function moves, in words. */
-export function functionInWords(devices) {
-  const core = `core ${octal(devices.busAddress)}`;
-  const sector = `sector ${devices.sector} of drive ${devices.drive}`;
-  const [from, to] = devices.diskFunction === "write" ? [core, sector] : [sector, core];
-  return `${devices.diskFunction} of ${devices.wordCount} words from ${from} to ${to}`;
+/** What the disk's function does, in words. */
+export function functionInWords({ diskFunction, wordCount, sector, drive, busAddress }) {
+  const name = sector === null ? "a sector that isn't there" : `sector ${sector}`;
+  const [core, place] = [`core ${octal(busAddress)}`, `${name} of drive ${drive}`];
+  const words = `${diskFunction} of ${wordCount} words`;
+  switch (diskFunction) {
+    case "write": return `${words} from ${core} to ${place}`;
+    case "read": return `${words} from ${place} to ${core}`;
+    case "write check": return `${words} of ${place} with ${core}`;
+    case "read check": return `${words} from ${place} on`;
+    case "seek": return `seek of ${place}`;
+    default: return `${diskFunction} of drive ${drive}`;
+  }
 }
 
 /** The reply of `pages`. */
 export function pagesOf(reply) {
-  const fields = reply.split(" ");
+  const fields = fieldsOf(reply, "pages");
   const words = (name, count) => {
     const at = fields.indexOf(name) + 1;
     return fields.slice(at, at + count).map(it => parseInt(it, 8));
@@ -116,6 +171,7 @@ export function pageInWords(pages, mode, page) {
 
 /** The lines of the reply of `trail`. */
 export function turnsOf(reply) {
+  read(/^trail \d+$/m, reply);
   return reply.split("\n").slice(1).map(line => {
     const [turn, pc, act, vector] = line.split(" ");
     return {
@@ -127,6 +183,7 @@ export function turnsOf(reply) {
 
 /** The interrupts of the reply of `trail`. */
 export function interruptsOf(reply) {
+  read(/^trail \d+$/m, reply);
   const found = reply.matchAll(/^(\d+) [0-7]{6} irq ([0-7]{3})$/gm);
   return [...found].map(it => ({ turn: Number(it[1]), vector: parseInt(it[2], 8) }));
 }
@@ -134,6 +191,7 @@ export function interruptsOf(reply) {
 /** The lines of the reply of `writes`: who wrote a word, and whether there are more. */
 export function writesOf(reply) {
   const [head, ...lines] = reply.split("\n");
+  read(/^writes \d+( or more)?$/, head);
   const writes = lines.map(line => {
     const [turn, writer, word] = line.split(" ");
     return { turn: Number(turn), writer, word: parseInt(word, 8) };
@@ -143,22 +201,34 @@ export function writesOf(reply) {
 
 /** The reply of `last`, or null if the word was never written. */
 export function lastOf(reply) {
-  const [, turn, writer, word] = reply.split(" ");
+  const [turn, writer, word] = fieldsOf(reply, "last");
   return turn === "never" ? null : { turn: Number(turn), writer, word: parseInt(word, 8) };
 }
 
 /** The words of a reply of `mem` or `dsk`. */
-export const wordsOf = reply => reply.split(" ").slice(1).map(it => parseInt(it, 8));
+export const wordsOf = reply => fieldsOf(reply, "mem", "dsk").map(it => parseInt(it, 8));
 
 /** The turn of a reply such as `first 11` or `when none`, or null. */
 export function turnOf(reply) {
-  const turn = reply.split(" ")[1];
+  const [turn] = fieldsOf(reply, "first", "change", "when");
   return turn === "none" ? null : Number(turn);
 }
 
+/** The number of an event that was made. */
+export const eventOf = reply => Number(read(/^event (\d+)$/, reply)[1]);
+
+/** How many bytes a reply of `text` or `punched` has. */
+export const lengthOf = reply => Number(read(/^(?:text|punched) (\d+):/, reply)[1]);
+
 /** The bytes of a reply of `text` or `punched`. */
 export function bytesOf(reply) {
-  const [first, ...rest] = reply.slice(reply.indexOf(":") + 1).split("\\");
+  const [head] = read(/^(?:text|punched) \d+:/, reply);
+  return bytesOfText(reply.slice(head.length));
+}
+
+/** The bytes that a text stands for: a backslash and three octal digits are one. */
+function bytesOfText(text) {
+  const [first, ...rest] = text.split("\\");
   const codes = [...first].map(it => it.charCodeAt(0));
   for (const part of rest) {
     codes.push(parseInt(part.slice(0, 3), 8));
@@ -169,9 +239,10 @@ export function bytesOf(reply) {
 
 /** The bytes of a reply of `text`; of a long one the lines at its end. */
 export function tailOf(reply, most) {
+  lengthOf(reply);
   const from = reply.length > most ? reply.indexOf("\\012", reply.length - most) : -1;
   if (from < 0) return { bytes: bytesOf(reply), isCut: false };
-  return { bytes: bytesOf(`:${reply.slice(from + 4)}`), isCut: true };
+  return { bytes: bytesOfText(reply.slice(from + 4)), isCut: true };
 }
 
 /** A byte as one character; a byte that can't be seen is a dot. */

@@ -2,8 +2,8 @@
 
 import { Machine, Stopped } from "./machine.js";
 import { Past, isEdit, wordsOfLine } from "./past.js";
-import { byteAsked, earlyQuestion, searchOf, turnsAsked } from "./questions.js";
-import { LAST_TURN, isRefused } from "./replies.js";
+import { askedAtOnce, byteAsked, earlyQuestion, searchOf, turnsAsked } from "./questions.js";
+import { LAST_TURN, eventOf, isRefused, mustBeTaken, octal, wordsOf } from "./replies.js";
 
 // A part is what is asked at once. It runs about so many turns: fewer if parts take long.
 const [FEWEST_TURNS, FIRST_TURNS, MOST_TURNS] = [100_000, 1_000_000, 4_000_000];
@@ -13,9 +13,6 @@ const TURNS_OF_A_LINE = 10_000;
 const MOST_LINES = 512;
 // Checkpoints are so many turns apart at first. Twice as many if there would be too many of them.
 const [FIRST_STRIDE, MOST_CHECKPOINTS] = [10_000, 256];
-
-/** The number in the reply to an edit that makes an event. */
-const eventOf = reply => reply.startsWith("event ") ? reply.split(" ")[1] : undefined;
 
 /** Of several questions the one with the lowest number goes first. */
 export const Priority = { EDIT: 0, CURSOR: 1, QUESTION: 2, PICTURE: 3, TEXT: 4, COMPARISON: 5 };
@@ -33,6 +30,7 @@ export class Run {
     this.onProgress = onProgress;
     /** @type {string[]} every edit that the program took, also those of undo and redo */
     this.taken = [];
+    this.pasts = 0;   // how many edits made another past
     this.jobs = [];
     this.past = new Past();
     /** @type {Edit[][]} what the user did, each as its edits: one undo takes all of them back */
@@ -137,7 +135,7 @@ export class Run {
     this.onProgress({ done, all: turnsAsked(line)[0], what: "turns" });
     if (isTried) {
       const [reply] = await this.timed([`regs ${turn}`], this.turnsAtOnce);
-      if (isRefused(reply)) throw new Error(reply);
+      mustBeTaken(reply);
       return;
     }
     const [reply] = await this.send([earlyQuestion(line)]);
@@ -233,16 +231,19 @@ export class Run {
 
   // Edits
 
-  /** Takes up the lines of a session. Returns those that are refused, with their replies. */
+  /**
+   * Takes up the edits of a session. Returns its lines that are refused, with their numbers and
+   * replies. In the place of a question one is asked that runs nothing.
+   */
   async load(lines) {
-    const edits = lines.filter(isEdit);
-    const replies = await this.ask(edits, Priority.EDIT);
-    const found = edits.map((line, at) => ({ line, reply: replies[at] }));
+    const replies = await this.ask(lines.map(askedAtOnce), Priority.EDIT);
+    const found = lines.map((line, at) => ({ number: at + 1, line, reply: replies[at] }));
     return found.filter(it => isRefused(it.reply));
   }
 
   /** An edit was taken: what is known of the turns that it may change no longer holds. */
   take(line, reply) {
+    this.pasts += 1;
     this.taken.push(line);
     const [word, number, turn] = wordsOfLine(line);
     const event = this.past.events.get(Number(number));
@@ -268,7 +269,7 @@ export class Run {
     const back = await this.inverse(line);
     const reply = await this.askOne(line, Priority.EDIT);
     if (isRefused(reply)) return { reply };
-    const event = eventOf(reply);
+    const event = wordsOfLine(line)[0] === "at" ? String(eventOf(reply)) : undefined;
     return { reply, edit: { line, back: event ? [`drop ${event}`] : back, event, before } };
   }
 
@@ -277,7 +278,7 @@ export class Run {
     if (wordsOfLine(line)[0] !== "disk" || lines?.[0]) return lines;
     const where = wordsOfLine(line).slice(1, -1).join(" ");
     const reply = await this.askOne(`dsk 0 ${where} 1`, Priority.EDIT);
-    return isRefused(reply) ? null : [`disk ${where} ${reply.split(" ")[1]}`];
+    return isRefused(reply) ? null : [`disk ${where} ${octal(wordsOf(reply)[0])}`];
   }
 
   /** Takes back what the user did last. If this is stopped, the rest of it stays done. */
@@ -302,8 +303,9 @@ export class Run {
     }
     const [word, number] = wordsOfLine(edit.line);
     for (const line of edit.back) {
-      const reply = await this.askOne(line, Priority.EDIT);
-      if (word === "drop" && eventOf(reply)) this.renumber(number, eventOf(reply));
+      const reply = mustBeTaken(await this.askOne(line, Priority.EDIT));
+      const isBack = word === "drop" && wordsOfLine(line)[0] === "at";
+      if (isBack) this.renumber(number, String(eventOf(reply)));
     }
   }
 
@@ -351,7 +353,7 @@ export class Run {
     const lines = this.taken;
     this.taken = [];
     this.past = new Past();
-    await this.ask(lines, Priority.EDIT);
+    (await this.ask(lines, Priority.EDIT)).forEach(mustBeTaken);
   }
 
   end() {

@@ -1,22 +1,38 @@
 // A session as the page holds it: options, files, lines and symbols; how it is read and stored.
 
-import { wordsOfLine } from "./past.js";
 import { turnsAsked } from "./questions.js";
 
-const OPTIONS_WITH_FILES = /^--(core|tape|disk[1-7]?)$/;
-
 /**
- * Files are images, a tape, and symbols.
+ * Lines have a character for each byte. Files are images, a tape, and symbols.
  * @typedef {{name: string, arguments: string[], files: Object<string, Uint8Array>,
  *   lines: string[]}} Session
  */
 
-/** A session of these lines, without images. @returns {Session} */
-export function sessionOf(name, text) {
-  return { name, arguments: [], files: {}, lines: linesOf(text) };
+/** The lines of a text, without their ends. The last one may lack its end. */
+export function linesOf(text) {
+  const lines = text.split("\n").map(it => it.replace(/\r$/, ""));
+  return lines.at(-1) === "" ? lines.slice(0, -1) : lines;
 }
 
-export const linesOf = text => text.split("\n").map(it => it.replace(/\r$/, ""));
+/** The bytes as a text with a character for each. */
+export function latin1(bytes) {
+  let text = "";
+  // not all at once: the arguments of a call are limited
+  for (let at = 0; at < bytes.length; at += 4096) {
+    text += String.fromCharCode(...bytes.subarray(at, at + 4096));
+  }
+  return text;
+}
+
+/** A line for reading: its bytes are UTF-8 if they can be. */
+export function readableLine(line) {
+  const bytes = Uint8Array.from(line, it => it.charCodeAt(0));
+  try {
+    return new TextDecoder("utf-8", { fatal: true }).decode(bytes);
+  } catch {
+    return line;
+  }
+}
 
 /** The last turn that a question of the lines is about. */
 export const lastTurnOf = lines =>
@@ -83,11 +99,4 @@ export function withFile(session, option, name, bytes) {
   }
   files[name] = bytes;
   return { ...session, files, arguments: [...words, `--${option}`, name] };
-}
-
-/** Options that are written in one line, those with files left out. */
-export function plainOptions(text) {
-  const words = wordsOfLine(text);
-  return words.filter((it, at) => !OPTIONS_WITH_FILES.test(it)
-    && !OPTIONS_WITH_FILES.test(words[at - 1] ?? ""));
 }

@@ -9,7 +9,7 @@ const MOST_OF_A_LANE = 100;
 /**
  * @typedef {{turn: number, lane: string, what: string}} Row
  * @typedef {{first: number, end: number, events: object[], gone: object[], picture: object | null,
- *   ghost: object | null, part: number | null}} Drawn
+ *   ghost: object | null, part: {turn: number, isExact: boolean} | null}} Drawn
  */
 
 /** All rows of what is drawn, by their turns. @param {Drawn} drawn @returns {Row[]} */
@@ -19,7 +19,8 @@ export function rowsOf({ first, end, events, gone, picture, ghost, part }) {
     { turn: it.turn, lane: "event", what: `${it.number}: ${eventInWords(it)}` }));
   const lost = gone.map(it => (
     { turn: it.turn, lane: "event, old past", what: eventInWords(it) }));
-  if (part !== null) rows.push({ turn: part, lane: "pasts", what: "the registers first differ" });
+  const differ = part?.isExact ? "the registers first differ" : "the registers differ";
+  if (part !== null) rows.push({ turn: part.turn, lane: "pasts", what: differ });
   const now = picture ? rowsOfPicture(picture) : [];
   const keyOf = it => `${it.turn} ${it.lane} ${it.what}`;
   const known = new Set(now.map(keyOf));
@@ -37,7 +38,9 @@ function rowsOfPicture({ first, interrupts, disk, words }) {
     rows.push({ turn: begin ?? first, lane: "disk", what: `${under}${title}; ${until}` });
   }
   const busy = disk.busy.map(it => ({ turn: it.turn, lane: "disk", what: "busy (a sample)" }));
-  return [...rows, ...busy, ...words.flatMap(rowsOfWord)];
+  const missing = words.filter(it => it.why)
+    .map(({ name, why }) => ({ turn: first, lane: name, what: why }));
+  return [...rows, ...busy, ...missing, ...words.filter(it => !it.why).flatMap(rowsOfWord)];
 }
 
 /** The writes of a word, or the samples in which it is another than before. */
@@ -63,16 +66,18 @@ export function boundedRows(rows) {
 }
 
 /** The lanes that have no rows, in words. */
-function othersOf({ looks, text }) {
+function othersOf({ looks, text, step }) {
   const countersOf = mode => looks.filter(it => it.mode === mode && it.state === "run")
     .map(it => it.pc).sort((a, b) => a - b);
   const range = mode => {
     const counters = countersOf(mode);
-    return counters.length ? `from ${octal(counters[0])} to ${octal(counters.at(-1))}` : "none";
+    return counters.length ? `from ${octal(counters[0])} to ${octal(counters.at(-1))}`
+      : step > 1 ? "none was seen" : "none";
   };
-  const printed = readableText(text.bytes.map(it => it.byte)).trim();
+  const printed = text.each > 1 ? `${text.printed} bytes are printed`
+    : readableText(text.bytes.map(it => it.byte)).trim() || "nothing is printed";
   return `PC in kernel mode: ${range("kernel")}. PC in user mode: ${range("user")}. Console: `
-    + `${printed ? printed : "nothing is printed"}.`;
+    + `${printed}.`;
 }
 
 export class Sight {
@@ -102,7 +107,7 @@ export class Sight {
   sentences(left) {
     const { picture, view } = this.timeline;
     const isAll = picture?.isMade && picture.first <= view.first && picture.end >= view.end;
-    const found = picture ? [othersOf(picture)] : [];
+    const found = picture?.isMade ? [othersOf(picture)] : [];
     if (!isAll) found.push("The machine is still asked for the rest.");
     if (left.length) found.push(`Left out are ${left.join(", ")}: zoom in for them.`);
     return found.join(" ");

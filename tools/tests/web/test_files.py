@@ -98,5 +98,6 @@ class Files(PageCase):
         if packed_page().startswith("http"):
             self.skipTest("the page isn't packed")
         self.browser.open(path.as_uri())
-        self.balance(SAFE)
         self.assertIn(SAFE, self.wait_text("#text", SAFE))
+        is_hidden = "document.querySelector('#story').hidden"
+        self.assertTrue(self.browser.value(is_hidden), "the story tells of another past")

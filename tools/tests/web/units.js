@@ -141,7 +141,7 @@ export function test_axis() {
 export function test_notes_say_what_is_sampled() {
   const picture = {
     step: 100, listsAllTurns: false, disk: { isWhole: false }, text: { each: 3 },
-    words: [{ name: "core 002000", isWhole: false }],
+    words: [{ name: "core 002000", values: [], isWhole: false }],
   };
   equal(notesOf(picture).length, 5);
   const whole = { ...picture, step: 1, listsAllTurns: true, disk: { isWhole: true } };
@@ -185,9 +185,29 @@ export async function test_where_two_pasts_part() {
   const [now, old] = [pastOf("at 50 key 66"), pastOf("at 20 key 66")];
   const comparison = new Comparison(runOf(now, turn => turn < 5_000 ? "same" : "other"),
     runOf(old, () => "same"), null);
-  equal(comparison.firstEdited(), 20);
-  equal(await comparison.part(9_000), { edited: 20, turn: 5_000, isExact: true });
-  equal(await comparison.part(4_000), { edited: 20, turn: null, isExact: false });
+  equal(comparison.editedTurns(), [20, 50]);
+  equal(await comparison.part(9_000), { edited: 20, turn: 5_000, single: 5_000, later: 0 });
+  equal(await comparison.part(4_000), { edited: 20, turn: null, single: 4_000, later: 0 });
+}
+
+/** Edits of the setup and of a key, with a difference that is gone again before the end. */
+export async function test_a_difference_that_is_gone_at_the_end() {
+  const [now, old] = [pastOf("delay punch 5", "at 700000 key 66"), pastOf("at 600000 key 66")];
+  const differFrom = (first, last) => new Comparison(
+    runOf(now, turn => turn >= first && turn <= last ? "other" : "same"), runOf(old, () => "same"),
+    null);
+  equal((await differFrom(127_163, 200_000).part(238_614)).turn, 127_163);
+  const after = await differFrom(600_200, 600_300).part(5_000_000);
+  equal([after.turn, after.single, after.later > 0], [600_200, 65_535, true]);
+  const missed = await differFrom(5_000_100, 5_000_101).part(9_000_000);
+  equal([missed.turn, missed.single, missed.later > 2_000], [null, 65_535, true]);
+}
+
+export async function test_two_equal_refusals_are_no_equal_registers() {
+  const [now, old] = [pastOf("at 50 key 66"), pastOf("at 20 key 66")];
+  const refused = () => "refused 1 NoMemory";
+  const comparison = new Comparison(runOf(now, refused), runOf(old, refused), null);
+  equal(await comparison.part(90).catch(it => it.name + it.reply), "Errorrefused 1 NoMemory");
 }
 
 /** A machine that notes what it is asked, and the turns that each message runs, with checkpoints as
@@ -247,12 +267,13 @@ const FAR = "regs 1000000000";
 
 export async function test_an_edit_runs_nothing() {
   const run = new NotingRun({});
-  const refused = await run.load(["at 99999999 tick x", "at 5 tick", "regs 7"]);
-  equal(refused, [{ line: "at 99999999 tick x", reply: "refused 3 OddAddress" }]);
+  const refused = await run.load(["at 99999999 tick x", "at 5 tick", "regs 700000000"]);
+  equal(refused, [{ number: 1, line: "at 99999999 tick x", reply: "refused 3 OddAddress" }]);
   const edits = ["at 400000000 tick", "alter 1 999999990 tick", "drop 2"];
   for (const line of edits) await run.edit(line);
   await run.undo();
-  equal(run.machine.lines, ["at 99999999 tick x", "at 5 tick", ...edits, "at 400000000 tick"]);
+  equal(run.machine.lines,
+    ["at 99999999 tick x", "at 5 tick", "regs 64", ...edits, "at 400000000 tick"]);
 }
 
 export async function test_a_long_question_is_asked_in_parts() {

@@ -1,0 +1,86 @@
+"""What the page shows is so, or says that it isn't known."""
+from .common import SAFE, PageCase, ledger_lines, replies_of
+
+FAR = 900_000_000
+CURSOR = 126_967
+PANELS = ("registers", "instructions", "memory", "stack", "devices", "pages")
+# names of words that the machine hasn't, each with a part of the sentence that says why
+NO_WORDS = {
+    "disk 4604000": "past the end",
+    "770000": "isn't in core",
+    "2001": "odd",
+    "disk 1 0": "there is one drive",
+    "1 2000": "is named as",
+}
+
+
+class Words(PageCase):
+    def draw(self, name: str) -> None:
+        self.fill("#watch", name)
+        self.browser.key("Enter")
+
+    def test_a_word_that_is_not_there(self) -> None:
+        drawn = self.browser.text("#words")
+        for name, why in NO_WORDS.items():
+            self.draw(name)
+            said = self.wait_text("#reply", f"{name} can't be drawn: ")
+            self.assertIn(why, said)
+        self.assertEqual(self.browser.text("#words"), drawn)
+
+    def test_a_drive_that_an_undo_takes_away(self) -> None:
+        self.type_line("version 2")
+        self.draw("disk 1 0")
+        self.wait_text("#words", "disk 1 0000000")
+        self.browser.click("#undo")
+        self.browser.wait("document.querySelectorAll('#edits li').length === 0")
+        self.wait_still()
+        self.browser.click("#sight summary")
+        self.wait_text("#sight", "disk 1 0000000there is one drive")
+
+    def test_core_that_is_not_there_has_no_instructions(self) -> None:
+        path = self.folder() / "small.session"
+        path.write_text("#! --units 1 --start 20000\nregs 1\n")
+        self.give(path)
+        self.wait_text("#instructions", "can't be fetched")
+
+
+class Stopping(PageCase):
+    def go(self, turn: int) -> None:
+        self.fill("#turn", str(turn))
+        self.browser.key("Enter")
+
+    def marks(self) -> list[str]:
+        return [self.browser.text(f"#{it}-turn") for it in PANELS]
+
+    def test_the_turn_of_each_panel(self) -> None:
+        self.wait_still()
+        self.assertEqual(self.marks(), [f"before turn {CURSOR}"] * 6)
+        self.go(FAR)
+        self.browser.wait("!document.querySelector('#work').hidden")
+        self.assertEqual(self.marks(), [f"still before turn {CURSOR}"] * 6)
+        self.wait_text("#notes", "hatched isn't known yet")
+        self.type_line("at 1000 tick")
+        old = f"still before turn {CURSOR}, from before the last edit"
+        self.assertEqual(self.marks(), [old] * 6)
+        self.browser.click("#stop")
+        self.wait_text("#reply", "Stopped")
+        self.assertEqual(self.turn(), CURSOR)
+        self.assertEqual(self.browser.value("document.querySelector('#turn').value"), str(CURSOR))
+        self.wait_text("#difference", "wasn't compared")
+        self.wait_still()
+        self.assertNotIn("hatched", self.browser.text("#notes"))
+
+
+class Comparing(PageCase):
+    def test_a_difference_that_is_gone_at_the_end(self) -> None:
+        """An edit of the setup, which is as of turn 0, and a key that is moved far after it."""
+        edits = ["delay punch 5", "alter 15 127165 key 66"]
+        for line in edits:
+            self.type_line(line)
+        self.balance(SAFE)
+        said = self.wait_text("#difference", "Drive 0")
+        self.assertIn("The registers first differ before turn 127163.", said)
+        asked = ["regs 127162", "regs 127163"]
+        replies = replies_of([*ledger_lines()[:-2], *asked, *edits, *asked])
+        self.assertEqual(replies[-6], replies[-2])
+        self.assertNotEqual(replies[-5], replies[-1])

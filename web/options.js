@@ -1,0 +1,89 @@
+// The options of the program, as words of its command line, and as they stand in a session: in
+// comment lines `#! OPTIONS`, which the program passes over and explore reads too.
+
+const FILES = /^(?:core|disk[1-7]?|tape)$/, VALUES = /^(?:units|start|stride)$/;
+const MARK = "#!";
+// A line of a session has 200 bytes at most, comments too.
+const LONGEST_PART = 190;
+const [UNITS, BYTES_OF_A_UNIT] = [31, 0o20000];
+
+/** Why files make no session, for the user to read. */
+export class FileError extends Error {}
+
+export const namesFile = option => FILES.test(option);
+
+/** The options in these words, each value by its option's name. @returns {Map<string, string>} */
+export function optionsOf(words, where) {
+  const left = words.flatMap(it => it.startsWith("--") ? it.split(/=(.*)/s, 2) : [it]);
+  const found = new Map();
+  for (let at = 0; at < left.length; at += 2) {
+    const [option, value] = [left[at], left[at + 1]], name = option.slice(2);
+    const isKnown = option.startsWith("--") && (FILES.test(name) || VALUES.test(name));
+    if (!isKnown) throw new FileError(`${where}: '${option}' is no option of pdp11 with a value.`);
+    if (value === undefined) throw new FileError(`${where}: ${option} has no value.`);
+    if (found.has(name)) throw new FileError(`${where}: ${option} stands there twice.`);
+    found.set(name, value);
+  }
+  return found;
+}
+
+export const wordsOfOptions = options => [...options].flatMap(([name, it]) => [`--${name}`, it]);
+
+/** How many bytes of core a machine with these options has. */
+export function coreBytes(words) {
+  const at = words.indexOf("--units");
+  return (at < 0 ? UNITS : Number(words[at + 1])) * BYTES_OF_A_UNIT;
+}
+
+/** What the comment lines of options say, or null if there are none. They stand before the first
+    line that is no comment. */
+export function optionText(lines) {
+  const first = lines.findIndex(it => !it.startsWith("#") && it.trim());
+  let [text, goesOn, isThere] = ["", false, false];
+  for (const line of first < 0 ? lines : lines.slice(0, first)) {
+    const found = (goesOn ? /^#! (.*)$/s : /^#!( -.*|)$/s).exec(line);
+    if (!found) continue;
+    isThere = true;
+    const part = goesOn ? found[1] : found[1].replace(/^ +/, "");
+    goesOn = part.endsWith("\\");
+    text += goesOn ? part.slice(0, -1) : `${part} `;
+  }
+  return isThere ? text : null;
+}
+
+/** The words of a line with quotes, as a shell reads them. */
+export function shellWords(text, where) {
+  const words = [];
+  const piece = /'([^']*)'|"((?:[^"\\]|\\.)*)"|\\(.)|([^\s'"\\]+)|(\s+)/sy;
+  for (let word = null, at = 0; at < text.length || word !== null; at = piece.lastIndex) {
+    piece.lastIndex = at;
+    const found = piece.exec(text);
+    if (!found && at < text.length) {
+      throw new FileError(`${where}: a quote in its options doesn't end.`);
+    }
+    const [, single, double, escaped, plain] = found ?? [];
+    const more = single ?? double?.replace(/\\(["\\])/g, "$1") ?? escaped ?? plain;
+    if (more !== undefined) word = (word ?? "") + more;
+    else if (word !== null) {
+      words.push(word);
+      word = null;
+    }
+    if (!found) break;
+  }
+  return words;
+}
+
+const quoted = word =>
+  /^[\w@%+=:,./-]+$/.test(word) ? word : `'${word.replaceAll("'", "'\"'\"'")}'`;
+
+/** The options as comment lines. One that is too long goes on in the next line. */
+export function optionLines(words) {
+  if (!words.length) return [];
+  const parts = [""], encoder = new TextEncoder();
+  for (const character of words.map(quoted).join(" ")) {
+    const longer = parts.at(-1) + character;
+    if (encoder.encode(longer).length > LONGEST_PART) parts.push(character);
+    else parts[parts.length - 1] = longer;
+  }
+  return parts.map((it, at) => `${MARK} ${it}${at < parts.length - 1 ? "\\" : ""}`);
+}

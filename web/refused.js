@@ -1,0 +1,35 @@
+// The lines of a session that were refused as it was opened.
+
+import { make } from "./page.js";
+import { visibleName } from "./replies.js";
+import { wordsOfLine } from "./past.js";
+import { readableLine } from "./session.js";
+
+const MOST_SHOWN = 20, LONGEST_SHOWN = 80;
+
+/**
+ * Lists the refused lines of a session with their numbers and replies, at most some of them.
+ * Returns how many they are, in a sentence, or an empty text.
+ * @param {{number: number, line: string, reply: string}[]} refused
+ */
+export function showRefused(place, refused, lines) {
+  place.hidden = !refused.length;
+  place.replaceChildren();
+  if (!refused.length) return "";
+  const isAll = refused.length === lines.filter(it => wordsOfLine(it).length).length;
+  const were = refused.length > 1 ? "were" : "was";
+  const said = isAll ? `All of its lines were refused (${refused.length}): is it a session?`
+    : `${refused.length} of its ${lines.length} lines ${were} refused.`;
+  const shown = refused.slice(0, MOST_SHOWN).map(lineInWords);
+  const left = refused.length - shown.length;
+  if (left) shown.push(`and ${left} more`);
+  place.append(make("summary", {}, said), make("pre", { tabindex: "0" }, shown.join("\n")));
+  return said;
+}
+
+function lineInWords({ number, line, reply }) {
+  const text = visibleName(readableLine(line));
+  const isCut = text.length > LONGEST_SHOWN;
+  const shown = isCut ? `${text.slice(0, LONGEST_SHOWN)} .. (${line.length} bytes)` : text;
+  return `line ${number}: ${shown}: ${reply}`;
+}
