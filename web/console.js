@@ -54,7 +54,8 @@ export class Console {
 
   begin() {
     if (this.running) return;
-    const running = { turn: this.app.timeline.cursor, isInLine: false };
+    const token = { isStopped: false };
+    const running = { turn: this.app.timeline.cursor, isInLine: false, token };
     this.running = running;
     this.keys = [];
     this.pane.classList.add("running");
@@ -68,6 +69,7 @@ export class Console {
     const { running, app } = this;
     if (!running) return;
     this.running = null;
+    running.token.isStopped = true;
     this.pane.classList.remove("running");
     app.reach(running.turn);
     app.timeline.setCursor(running.turn);
@@ -90,30 +92,34 @@ export class Console {
   /** Runs on until it is ended. */
   async runOn(running) {
     this.step = TURNS_A_SECOND * TICK / 1000;
-    const reply = await this.ask(`text ${running.turn}`);
+    const [reply] = await this.ask(running, `text ${running.turn}`);
     this.bytes = tailOf(reply, MOST_BYTES).bytes;
     this.printed = lengthOf(reply);
     this.show(running.turn, "run");
     let hasKeys = false;
-    while (this.running === running) {
-      const began = performance.now();
-      hasKeys = await this.strikeNext(running) || hasKeys;
-      await this.goOn(running);
-      const time = performance.now() - began;
-      this.adapt(time);
-      await new Promise(resolve => setTimeout(resolve, Math.max(0, TICK - time)));
+    try {
+      while (this.running === running) {
+        const began = performance.now();
+        hasKeys = await this.strikeNext(running) || hasKeys;
+        await this.goOn(running);
+        const time = performance.now() - began;
+        this.adapt(time);
+        await new Promise(resolve => setTimeout(resolve, Math.max(0, TICK - time)));
+      }
+    } finally {
+      if (hasKeys) this.app.changed();
     }
-    if (hasKeys) this.app.changed();
   }
 
-  ask(line) {
-    return this.app.run.askOne(line, Priority.EDIT);
+  ask(running, ...lines) {
+    return this.app.run.ask(lines, Priority.CURSOR, running.token);
   }
 
   /** Strikes the next key, if the keyboard can take one. One undo takes back a typed line. */
   async strikeNext(running) {
     if (!this.keys.length) return false;
-    if (devicesOf(await this.ask(`devices ${running.turn}`)).keyWaits) return false;
+    const [devices] = await this.ask(running, `devices ${running.turn}`);
+    if (devicesOf(devices).keyWaits) return false;
     const byte = this.keys.shift();
     await this.app.edits.make(`at ${running.turn} key ${byte.toString(8)}`, running.isInLine);
     running.isInLine = byte !== KEYS.get("Enter");
@@ -124,8 +130,8 @@ export class Console {
 
   async goOn(running) {
     const turn = Math.min(LAST_TURN, running.turn + Math.round(this.step));
-    const [text, registers] = await this.app.run.ask(
-      [`text ${turn} from ${this.printed}`, `regs ${turn}`], Priority.EDIT);
+    const [text, registers] = await this.ask(
+      running, `text ${turn} from ${this.printed}`, `regs ${turn}`);
     if (this.running !== running) return;
     if (turn === running.turn) {
       this.end();

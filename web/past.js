@@ -52,6 +52,8 @@ export class Past {
     this.events = new Map();
     /** all events, in the order in which they happen */
     this.script = [];
+    /** the numbers of the events that were altered or dropped */
+    this.touched = new Set();
     this.places = 0;
   }
 
@@ -76,6 +78,7 @@ export class Past {
       return;
     }
     const event = this.events.get(Number(rest[0]));
+    this.touched.add(event.number);
     if (word === "drop") {
       this.takeOut(event);
       this.events.delete(event.number);

@@ -38,6 +38,8 @@ export function earlyQuestion(line) {
 export const askedAtOnce = line =>
   turnsAsked(line)[1] > 0 || byteAsked(line) !== null ? earlyQuestion(line) : line;
 
+export const isSearch = line => OF_TURNS.has(wordsOfLine(line)[0]);
+
 /** The byte of the console's text that `when` is about; null for any other line. */
 export function byteAsked(line) {
   if (line.length > LONGEST_LINE) return null;

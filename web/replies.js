@@ -237,12 +237,15 @@ function bytesOfText(text) {
   return Uint8Array.from(codes);
 }
 
-/** The bytes of a reply of `text`; of a long one the lines at its end. */
+/** The bytes of a reply of `text`; of a long one the lines at its end, or of one line its end. */
 export function tailOf(reply, most) {
   lengthOf(reply);
-  const from = reply.length > most ? reply.indexOf("\\012", reply.length - most) : -1;
-  if (from < 0) return { bytes: bytesOf(reply), isCut: false };
-  return { bytes: bytesOfText(reply.slice(from + 4)), isCut: true };
+  if (reply.length <= most) return { bytes: bytesOf(reply), isCut: false };
+  const begin = reply.length - most, end = reply.indexOf("\\012", begin);
+  // a byte that is cut through, as \ and three digits, stays whole
+  const cut = /\\\d?\d?$/.exec(reply.slice(begin - 3, begin))?.[0].length ?? 0;
+  const from = end < 0 ? begin - cut : end + 4;
+  return { bytes: bytesOfText(reply.slice(from)), isCut: true };
 }
 
 /** A byte as one character; a byte that can't be seen is a dot. */

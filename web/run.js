@@ -2,7 +2,9 @@
 
 import { Machine, Stopped } from "./machine.js";
 import { Past, isEdit, wordsOfLine } from "./past.js";
-import { askedAtOnce, byteAsked, earlyQuestion, searchOf, turnsAsked } from "./questions.js";
+import {
+  askedAtOnce, byteAsked, earlyQuestion, isSearch, searchOf, turnsAsked,
+} from "./questions.js";
 import { LAST_TURN, eventOf, isRefused, mustBeTaken, octal, wordsOf } from "./replies.js";
 
 // A part is what is asked at once. It runs about so many turns: fewer if parts take long.
@@ -184,9 +186,10 @@ export class Run {
     return { lines: lines.slice(begin, end), cost };
   }
 
+  /** Whether a line is asked beside others, and not in parts of its own. */
   isPlain(line) {
     const byte = byteAsked(line);
-    return byte === null ? searchOf(line) === null : byte < this.printed;
+    return byte === null ? !isSearch(line) : byte < this.printed;
   }
 
   /** Sends a part. The next one is shorter if it takes long, so that others don't wait. */
@@ -203,7 +206,8 @@ export class Run {
 
   /** The machine's replies, without the line feed at their ends. */
   async send(lines) {
-    const replies = (await this.machine.ask(lines)).map(it => it.replace(/\n$/, ""));
+    const ended = await this.machine.ask(lines);
+    const replies = ended.map(it => it.endsWith("\n") ? it.slice(0, -1) : it);
     lines.forEach((line, at) => {
       if (isRefused(replies[at])) return;
       if (isEdit(line)) this.take(line, replies[at]);

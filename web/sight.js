@@ -15,8 +15,10 @@ const MOST_OF_A_LANE = 100;
 /** All rows of what is drawn, by their turns. @param {Drawn} drawn @returns {Row[]} */
 export function rowsOf({ first, end, events, gone, picture, ghost, part }) {
   const isInSight = it => it.turn >= first && it.turn <= end;
-  const rows = events.filter(isInSight).map(it => (
-    { turn: it.turn, lane: "event", what: `${it.number}: ${eventInWords(it)}` }));
+  // of many events only the first are shown: only these are put into words
+  const rows = events.filter(isInSight).map(it => ({
+    turn: it.turn, lane: "event", get what() { return `${it.number}: ${eventInWords(it)}`; },
+  }));
   const lost = gone.map(it => (
     { turn: it.turn, lane: "event, old past", what: eventInWords(it) }));
   const differ = part?.isExact ? "the registers first differ" : "the registers differ";

@@ -198,11 +198,10 @@ export class Timeline {
 
   /** The old past's events in sight that aren't there now. */
   goneEvents() {
-    const { past } = this;
-    const isLike = (it, other) => it?.turn === other.turn && it.text === other.text;
-    return this.eventsInSight(this.oldPast)
-      .filter(it => !isLike(past.events.get(it.number), it))
-      .filter(it => !eventsIn(past.script, it.turn, it.turn).some(now => isLike(now, it)));
+    const { past, oldPast, view } = this;
+    const touched = Array.from(past.touched, it => oldPast.events.get(it));
+    return touched.filter(it => it && it.turn >= view.first && it.turn <= view.end)
+      .filter(it => !eventsIn(past.script, it.turn, it.turn).some(now => now.text === it.text));
   }
 
   ghostMarks() {

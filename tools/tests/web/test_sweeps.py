@@ -117,6 +117,32 @@ class TheSweep(PageCase):
         self.type_line("drop 3")
         self.browser.wait("document.querySelector('#outcomes').textContent === ''")
 
-    def test_a_wrong_range_is_told(self) -> None:
+    def test_a_wrong_form_is_told(self) -> None:
         self.sweep(126_600, 5)
         self.wait_text("#sweep-status", "two turns")
+        for line, said in (
+            ("drop 3", "Ask a question"),
+            ("", "Ask a question"),
+            ("regs 2000000000", "refused 7 TurnTooLarge"),
+            ("mem 1000000000 1001 1", "refused 3 OddAddress"),
+        ):
+            self.fill("#sweep-question", line)
+            self.sweep(126_600, 126_603)
+            self.wait_text("#sweep-status", said)
+        self.assertEqual(self.edits(), [])
+
+    def test_an_event_that_is_gone_is_no_other(self) -> None:
+        self.wait_text("#sweep-chosen", "key 66 '6' at 126967")
+        self.type_line("drop 15")
+        self.wait_text("#sweep-chosen", "no event")
+        self.sweep(126_600, 126_603)
+        self.wait_text("#sweep-status", "No event has this number")
+
+    def test_the_form_is_emptied_with_the_session(self) -> None:
+        path = self.folder() / "other.session"
+        path.write_text("at 5 tick\nregs 9\n")
+        self.give(path)
+        self.wait_text("#session-name", "other")
+        fields = "['event', 'from', 'to', 'question'].map(it => `#sweep-${it}`)"
+        values = f"{fields}.map(it => document.querySelector(it).value)"
+        self.assertEqual(self.browser.value(values), ["", "", "", "text 9"])

@@ -1,9 +1,19 @@
-"""Long questions: a bar, Stop, and a page that goes on."""
+"""Edits that run nothing, long questions, many events: the page goes on."""
 import os
+from typing import Callable
 
-from .common import PageCase
+from .common import PageCase, ledger_lines
 
-FAR = 100_000_000
+FAR, LAST = 100_000_000, 1_000_000_000
+# notes what is sent to the worker
+NOTE = """(() => {
+  window.sent = [];
+  const post = Worker.prototype.postMessage;
+  Worker.prototype.postMessage = function (message, ...more) {
+    if (message.lines) window.sent = [...window.sent, ...message.lines];
+    return post.call(this, message, ...more);
+  };
+})()"""
 # the longest time in which the page did nothing else, in milliseconds
 WATCH = """(() => {
   window.longest = 0;
@@ -17,6 +27,42 @@ WATCH = """(() => {
   look();
 })()"""
 MOST_MILLISECONDS = 100
+
+
+def last_turn(question: str) -> int:
+    """The last turn that a question is about."""
+    word, *numbers = question.split()
+    return int(numbers[1 if word in ("first", "writes", "change") else 0])
+
+
+class Edits(PageCase):
+    def test_an_edit_runs_nothing(self) -> None:
+        """No line that is sent for an edit is about a turn after those that are shown."""
+        self.wait_still()
+        self.browser.value(NOTE)
+        edits = ["at 400000000 tick", "alter 15 999999990 key 66"]
+        for line in edits:
+            self.type_line(line)
+            self.wait_still()
+        self.browser.click("#undo")
+        self.wait_still()
+        sent = self.browser.value("sent")
+        lines = [it for it in sent if it not in (*edits, *ledger_lines())]
+        self.assertGreater(len(lines), 100)
+        far = [it for it in lines if last_turn(it) > 238_614]
+        self.assertEqual(far, [])
+
+    def test_a_session_with_far_edits_opens_at_once(self) -> None:
+        path = self.folder() / "far.session"
+        path.write_text("at 99999999999 tick\nat 5 tick\nregs 9\n")
+        self.browser.value(NOTE)
+        self.give(path)
+        self.wait_text("#session-name", "far")
+        self.wait_still()
+        lines = [it for it in self.browser.value("sent") if not it.startswith("at ")]
+        self.assertGreater(len(lines), 100)
+        self.assertEqual([it for it in lines if last_turn(it) > 238_614], [])
+        self.assertIn("event 2", self.type_line("at 7 tick"))
 
 
 class LongQuestions(PageCase):
@@ -35,11 +81,54 @@ class LongQuestions(PageCase):
         self.balance("145")
         self.assertIn("dsk 000176", self.type_line("dsk 238614 0 1"))
 
+    def test_refused_lines_hide_no_long_question(self) -> None:
+        path = self.folder() / "hidden.session"
+        loop = ["core 1000 5200", "core 1002 776"]
+        refused = [f"at {4 * it}000000 x" for it in range(1, 251)]
+        path.write_text("\n".join([*loop, *refused, f"regs {LAST}", ""]))
+        self.give(path)
+        self.browser.wait("!document.querySelector('#work').hidden", 10)
+        self.go(5_000)
+        self.wait_text("#instructions", "4999")
+        self.assertIn("PC 001000", self.type_line("regs 5000"))
+        self.browser.click("#stop")
+        self.wait_text("#reply", "Stopped")
+        self.browser.wait("document.querySelector('#work').hidden")
+
+    def test_a_question_that_is_refused_runs_nothing(self) -> None:
+        self.wait_still()
+        self.browser.value(NOTE)
+        self.assertIn("refused 7", self.type_line("regs 2000000000"))
+        self.assertIn("refused 3", self.type_line(f"mem {LAST} 1001 1"))
+        sent = self.browser.value("sent")
+        self.assertEqual(sent, ["regs 2000000000", "mem 64 1001 1"])
+
+    def test_a_search_is_asked_in_parts(self) -> None:
+        asked = f"first 0 {LAST} at 157776"
+        self.fill("#line", asked)
+        self.browser.key("Enter")
+        self.wait_text("#work-text", f"of {LAST} turns")
+        self.go(5_000)
+        self.wait_text("#instructions", "4999")
+        self.browser.click("#stop")
+        self.wait_text("#reply", "Stopped")
+
+    def test_lines_are_shown_as_lines(self) -> None:
+        self.type_line("trail 100 2")
+        shown = self.browser.value("document.querySelector('#reply').innerText")
+        self.assertRegex(shown, r"^trail 100 2:\s*\ntrail 2\n98 .*\n99 ")
+
     def test_the_page_never_hangs(self) -> None:
+        self.never_hangs(self.hang_at_far_turns)
+
+    def test_an_edit_among_many_events(self) -> None:
+        self.never_hangs(self.hang_of_edits)
+
+    def never_hangs(self, measured: Callable[[], float]) -> None:
         """The least of three tries: another program's work may hold the page up too."""
         longest = []
         for _ in range(3):
-            longest.append(self.longest_hang())
+            longest.append(measured())
             if longest[-1] < MOST_MILLISECONDS:
                 return
         told = f"the page hung for {longest} milliseconds"
@@ -48,8 +137,22 @@ class LongQuestions(PageCase):
             self.skipTest(f"{told}, beside other work: a load of {load} on {processors} processors")
         self.fail(told)
 
-    def longest_hang(self) -> float:
-        """The longest time in which the page did nothing else, at turns that are far."""
+    def hang_of_edits(self) -> float:
+        """The longest time in which the page did nothing else, at edits of 10,000 events."""
+        path = self.folder() / "many.session"
+        events = [f"at {it} key 101" for it in range(0, 200_000, 20)]
+        path.write_text("\n".join([*events, "regs 200000", ""]))
+        self.give(path)
+        self.wait_text("#session-name", "many")
+        self.wait_still()
+        self.browser.value(WATCH)
+        for line in ("alter 5000 100001 key 101", "drop 7", "at 5 tick"):
+            self.type_line(line)
+        self.browser.click("#undo")
+        self.wait_still()
+        return float(self.browser.value("longest"))
+
+    def hang_at_far_turns(self) -> float:
         self.browser.open(self.address)
         self.wait_still()
         self.browser.value(WATCH)

@@ -71,6 +71,8 @@ export function test_text() {
   const long = `text 12:${"A\\012".repeat(6)}`;
   const { bytes: tail, isCut } = tailOf(long, 11);
   equal([[...tail], isCut, tailOf(long, 1000).isCut], [[65, 10], true, false]);
+  const ends = [1, 2, 3, 4, 5].map(it => [...tailOf("text 3:AB\\001C", it).bytes]);
+  equal(ends, [[67], [1, 67], [1, 67], [1, 67], [1, 67]]);
   equal([keyName(3), keyName(0o75), keyName(0o15)], ["Ctrl-C", "=", "CR"]);
   equal(visibleName("a\u202eb\u0007"), "a\\u202eb\\u0007");
 }
