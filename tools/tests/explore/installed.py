@@ -8,6 +8,10 @@ from .common import SECONDS
 CHROMIUM = next(
     filter(None, map(shutil.which, ("chromium", "chromium-browser", "google-chrome"))), None
 )
+BLOCKING = ["/usr/bin/env", "--block-signal=INT", "true"]
+BY_BLOCKING = unittest.skipIf(
+    subprocess.run(BLOCKING, stderr=subprocess.DEVNULL).returncode, "env can't block a signal"
+)
 BY_PS = unittest.skipUnless(shutil.which("ps"), "ps isn't installed")
 
 

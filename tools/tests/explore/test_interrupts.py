@@ -5,7 +5,7 @@ import subprocess
 import time
 
 from .common import SECONDS
-from .installed import BY_PS
+from .installed import BY_BLOCKING, BY_PS
 from .terminal import AtTerminal
 
 GAPS = (0.0, 0.001, 0.003, 0.005, 0.007, 0.01, 0.03, 0.1)
@@ -94,6 +94,7 @@ class Interrupts(AtTerminal):
         self.assertLessEqual(len(self.children()), 2)  # the machine's and the disassembler
         self.end()
 
+    @BY_BLOCKING
     def test_at_the_start(self) -> None:
         for number in range(50):
             child = subprocess.Popen(

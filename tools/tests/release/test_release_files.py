@@ -120,7 +120,7 @@ class Checked(Tree):
         self.assertEqual(first.read_bytes(), second.read_bytes())
         self.tree = self.folder / "unpacked" / first.name[: -len(".tar.gz")]
         self.tree.parent.mkdir()
-        subprocess.run(["tar", "-xf", first, "-C", self.tree.parent], check=True)
+        subprocess.run(["tar", "-xzf", first, "-C", self.tree.parent], check=True)
         self.assertRuns()
 
     @BY_GIT
