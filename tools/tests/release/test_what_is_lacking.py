@@ -46,10 +46,6 @@ class Lacking(Tree):
         found = shutil.which(name)
         self.write(f"../bin/{name}", text.format(**{name: found}), 0o755)
 
-    def first_line(self, *command: str) -> str:
-        self.run_in(*command)
-        return self.said.split("\n")[0]
-
     @unittest.skipUnless(SHELLS, "neither dash nor busybox is installed")
     def test_another_shell(self) -> None:
         for shell in SHELLS:
@@ -60,13 +56,15 @@ class Lacking(Tree):
 
     def test_the_gate_names_what_it_lacks(self) -> None:
         self.path = path_without(self.folder, "rt", "git", "ps", "cc")
-        first = self.first_line("bash", ".ci/run", "--without-proofs")
-        self.assertEqual(first, "The gate lacks git, ps (procps), cc (gcc)")
-        self.path = path_without(self.folder, "rt", "python3")
+        lacks = "git, ps (procps), cc (gcc)\n"
+        self.run_in("bash", ".ci/run", "--without-proofs")
+        self.assertTrue(self.said.startswith(f"The gate lacks {lacks}== "), self.said)
+        self.path = path_without(self.folder, "rt", "git", "ps", "cc", "python3")
         ended = self.run_in("bash", ".ci/run", "--without-proofs")
         self.assertEqual(ended.returncode, 3)
-        self.assertEqual(self.said, "The gate lacks python3 (3.9 or later, whole)\n")
-        self.assertIn("python3", self.first_line("./explore"))
+        self.assertEqual(self.said, f"The gate lacks python3 (3.9 or later, whole), {lacks}")
+        self.run_in("./explore")
+        self.assertIn("needs Debian's python3, 3.9 or later", self.said)
 
     def test_a_part_has_no_variables_of_the_caller(self) -> None:
         self.write("tools/release", PART, 0o755)
@@ -90,6 +88,11 @@ class Lacking(Tree):
         self.replace("sha256sum", OLDER_SHA256SUM)
         self.assertRuns()
         self.assertTrue(self.run_in("tools/release", "--verify").returncode == 0, self.said)
+
+    def test_no_sum_of_the_sources(self) -> None:
+        self.make_release()
+        self.path = path_without(self.folder, "rt", "find")
+        self.assertRefuses("find: ", "the sum of the sources can't be told")
 
     def test_an_older_env(self) -> None:
         """explore is started without GNU's env."""
