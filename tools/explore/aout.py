@@ -89,7 +89,7 @@ def program_of(data: bytes) -> Program:
     start_of_symbols = HEAD.size + (text + words) * (1 if is_bare else 2)
     end = start_of_symbols + symbols
     if len(data) < end:
-        sizes = f"the file has {len(data)} bytes, and by its head at least {end}"
+        sizes = f"the file has {counted(len(data), 'byte')}, and by its head at least {end}"
         raise ExploreError(f"{sizes}; {AS_WORDS}")
     at = HEAD.size + text
     found, odd = symbols_of(data[start_of_symbols:end], data[end:])
@@ -116,7 +116,7 @@ def symbols_of(table: bytes, rest: bytes) -> tuple[list[Symbol], list[str]]:
 def entries_of(table: bytes) -> Iterator[tuple[bytes, int, int]]:
     """Name, type and value of the symbols of V6, V7 and the earlier 2BSD."""
     if len(table) % ENTRY.size:
-        raise ExploreError(f"the symbol table has {len(table)} bytes, not {ENTRY.size} a symbol")
+        raise ExploreError(f"the symbol table has {counted(len(table), 'byte')}, not {ENTRY.size} a symbol")
     for padded, kind, value in ENTRY.iter_unpack(table):
         yield padded.rstrip(b"\0"), kind, value
 
@@ -126,9 +126,11 @@ def entries_of_211(table: bytes, rest: bytes) -> Iterator[tuple[bytes, int, int]
     high, low = struct.unpack("<HH", rest[:4].ljust(4, b"\0"))
     length = high << 16 | low
     if len(rest) < max(4, length):
-        raise ExploreError(f"the file ends in the names of its symbols, which have {length} bytes")
+        names = f"the names of its symbols, which have {counted(length, 'byte')}"
+        raise ExploreError(f"the file ends in {names}")
     if len(table) % ENTRY_OF_211.size:
-        raise ExploreError(f"the symbol table has {len(table)} bytes, not {ENTRY_OF_211.size} each")
+        size = counted(len(table), "byte")
+        raise ExploreError(f"the symbol table has {size}, not {ENTRY_OF_211.size} each")
     for high, low, kind, _, value in ENTRY_OF_211.iter_unpack(table):
         yield string_at(rest[:length], high << 16 | low), kind, value
 

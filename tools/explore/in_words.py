@@ -8,6 +8,11 @@ def counted(count: int, what: str) -> str:
     return f"{count} {what}{'es' if what.endswith('ch') else 's'}"
 
 
+def some_are(count: int, total: int, what: str) -> str:
+    """How many of a total, with the verb: `3 of 5 keys are`, `0 of 1 key is`."""
+    return f"{count} of {counted(total, what)} {'is' if total == 1 else 'are'}"
+
+
 def span(turns: range) -> str:
     """The turns of a range that has one at least: `turn 5`, or `the turns 5 to 9`."""
     first, last = turns[0], turns[-1]

@@ -216,7 +216,7 @@ def difference_in_words(before: Shown, now: Shown) -> str:
     """What a mark of `show` says."""
     if (before.start, before.journal) == (now.start, now.journal):
         return f"changed since turn {before.turn}"
-    return f"different from turn {before.turn} of the past before the edits"
+    return f"different from turn {before.turn} of the past as it was then"
 
 
 @dataclass(frozen=True)

@@ -10,6 +10,7 @@ from pathlib import Path
 from typing import Any, Iterable, Iterator, NoReturn, Optional
 
 from .errors import ExploreError
+from .in_words import counted
 from .output import put
 from .visible import visible
 
@@ -95,9 +96,9 @@ def fault_of_file(name: str, path: Path, units: int) -> str:
     most = TAPE_BYTES if is_tape else units * UNIT_BYTES if name == "core" else RK05_BYTES
     if size > most:
         holder = {"tape": "a tape", "core": f"core of --units {units}"}.get(name, "an RK05")
-        return f"it has {size} bytes, and {holder} has {most} at most"
+        return f"it has {counted(size, 'byte')}, and {holder} has {most} at most"
     is_odd = size % 2 and not is_tape
-    return f"it has {size} bytes, and each word of an image has two" if is_odd else ""
+    return f"it has {counted(size, 'byte')}, and each word of an image has two" if is_odd else ""
 
 
 def fault_of_option(name: str, options: Options) -> str:

@@ -4,6 +4,8 @@ import re
 from pathlib import Path
 from typing import Iterator, Sequence
 
+import sessions
+
 from . import styles
 from .commands import Arguments, Explorer, command, turns_between
 from .disk_words import DiskWord
@@ -204,7 +206,7 @@ def page(explorer: Explorer, arguments: Arguments) -> Iterator[str]:
     as a hatched band with samples, and the legend says what else is sampled. Symbols that were read
     label the PC, those of each mode at a side of their own."""
     machine, path = explorer.machine, Path(arguments.text("file"))
-    rest = arguments.text("rest").split()
+    rest = sessions.words_of(arguments.text("rest"))
     found = keyed([it if it in KEYS else explorer.symbols.in_octal(it) for it in rest])
     first = int(found["from"][0]) if found["from"] else 0
     turns = turns_between(first, int(found["to"][0]) if found["to"] else first)

@@ -4,10 +4,10 @@ from bisect import bisect_left
 from pathlib import Path
 from typing import Iterator, Sequence
 
-from .commands import Arguments, Explorer, check_turn, command
+from .commands import Arguments, Explorer, command, turns_between
 from .errors import ExploreError
 from .files import write_whole as write_whole
-from .in_words import counted
+from .in_words import counted, some_are
 from .machine import LAST_TURN, Machine, in_parts, is_refused
 from .options import option_lines, options_of_words
 from .past import MOST_EVENTS
@@ -114,7 +114,8 @@ class Keyboard:
                 self.usual = free - first + 1
                 return free
             begin = bound + 1
-        raise ExploreError(f"the key before turn {first} isn't taken within {WAITED_TURNS} turns")
+        within = f"within {WAITED_TURNS} turns" if limit < LAST_TURN else "before the run ends"
+        raise ExploreError(f"the key before turn {first} isn't taken {within}")
 
     def first_free_between(self, first: int, bound: int) -> int:
         """The same, of turns that have no key, or `bound`."""
@@ -178,11 +179,12 @@ def type_text(explorer: Explorer, arguments: Arguments) -> Iterator[str]:
     try:
         with machine.edits_together():
             for byte in keys:
-                check_turn(turn)
+                turns_between(turn, turn)
                 turn = keyboard.first_free(turn)
                 then = turn + max(1, every)
                 reply = keyboard.strike(turn, byte, then)
                 yield f"{reply} at {turn} key {byte:o}"
                 typed, turn = typed + 1, then
     except ExploreError as error:
-        raise ExploreError(f"{error}; {typed} of {len(keys)} keys are typed") from error
+        keys_are = some_are(typed, len(keys), "key")
+        raise ExploreError(f"{error}; {keys_are} typed") from error

@@ -1,12 +1,15 @@
 """Words that people know from other debuggers: `step`, `back`, `run`."""
 from typing import Iterator
 
-from .commands import COMMANDS, Arguments, Explorer, check_turn, command
+from .commands import COMMANDS, Arguments, Explorer, command
 from .errors import ExploreError
+from .machine import LAST_TURN
 
 
 def shown(explorer: Explorer, turn: int) -> Iterator[str]:
-    check_turn(turn)
+    if not 0 <= turn <= LAST_TURN:
+        where = "before turn 0" if turn < 0 else f"after turn {LAST_TURN}"
+        raise ExploreError(f"that is {where}: the current turn is {explorer.turn}")
     return COMMANDS["show"].lines(explorer, str(turn))
 
 
@@ -21,10 +24,7 @@ def step(explorer: Explorer, arguments: Arguments) -> Iterator[str]:
 def back(explorer: Explorer, arguments: Arguments) -> Iterator[str]:
     """Shows what `show` shows, K turns before the current turn, or one turn. That turn is then the
     current one. `help` says at its end what else sets the current turn; at first it is turn 0."""
-    turn = explorer.turn - arguments.decimal("count", 1)
-    if turn < 0:
-        raise ExploreError(f"that is before turn 0: the current turn is {explorer.turn}")
-    return shown(explorer, turn)
+    return shown(explorer, explorer.turn - arguments.decimal("count", 1))
 
 
 @command("run", r".*", "says what to type: the machine runs as far as a question needs")

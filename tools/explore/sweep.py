@@ -16,15 +16,15 @@ from .commands import Arguments, Explorer, check_turn, command
 from .crew import Progress, each_of, processors
 from .errors import ExploreError
 from .files import OUTPUT, is_locked_here, write_whole
-from .in_words import counted
+from .in_words import counted, some_are
 from .interrupts import INTERRUPTS, typed_line
-from .language import SEARCHES, comma_fault, explanation, is_decimal, is_edit
+from .language import MOST_DIGITS, SEARCHES, comma_fault, explanation, is_decimal, is_edit
 from .machine import Machine, is_refused
 from .quotes import WORD, file_of, files_of, quote_fault
 from .script import session_lines
 
 SWEEP = re.compile(
-    r"(?P<event>[0-9]+|[a-z].*?) from (?P<first>[0-9]{1,10}) to (?P<last>[0-9]{1,10})"
+    r"(?P<event>[0-9]{1,10}|[a-z].*?) from (?P<first>[0-9]{1,10}) to (?P<last>[0-9]{1,10})"
     r"( step (?P<step>[0-9]{1,10}))? ?: ?(?P<question>.+)"
 )
 QUESTIONS = SEARCHES | {it.decode() for it in sessions.QUESTIONS}
@@ -150,7 +150,7 @@ class Results:
                     raise ExploreError(
                         f"{path}:{number}: of another sweep, or of another past: {line}"
                     )
-            elif is_decimal(turn) and reply:
+            elif is_decimal(turn) and len(turn) <= MOST_DIGITS and reply:
                 self.add(int(turn), reply)
             else:
                 raise ExploreError(f"{path}:{number}: no line of a sweep")
@@ -257,7 +257,8 @@ def sweep_lines(
     yield from results.lines(sweep.turns.step)
     if stopped:
         kept = f"; the same line goes on from {path}" if path else "; with -o FILE it could go on"
-        yield f"{stopped}: {len(results.replies)} of {len(sweep.turns)} turns are done{kept}"
+        turns_are = some_are(len(results.replies), len(sweep.turns), "turn")
+        yield f"{stopped}: {turns_are} done{kept}"
 
 
 def job_lines(explorer: Explorer, sweep: Sweep, path: Path) -> Iterator[str]:
@@ -301,7 +302,7 @@ def gathered(paths: Sequence[str]) -> Iterator[str]:
 
 
 OPTIONS = re.compile(rf"(-j|-o|--jobs)[ \t]+({WORD})[ \t]+|(-y)()[ \t]+")
-MOST_TURNS_UNASKED = 100_000
+MOST_TURNS_UNASKED, MOST_HANDS = 100_000, 256
 
 
 def ask_first(explorer: Explorer, turns: range) -> None:
@@ -331,12 +332,12 @@ def sweep_command(explorer: Explorer, arguments: Arguments) -> Iterator[str]:
     sweeps can't write to one FILE. More than 100000 turns want a `y`, or -y.
     --jobs FILE writes commands for GNU parallel instead, on this machine or on others with the same
     folders, and --gather FILE .. reads what they have written."""
-    words = arguments.text("words").strip()
+    words = arguments.text("words")
     options: dict[str, str] = {}
     wrong = quote_fault(words)
     if wrong:
         raise ExploreError(wrong)
-    if words.split()[0] == "--gather":
+    if words_of(words)[0] == "--gather":
         yield from gathered(files_of(words)[1:])
         return
     match = OPTIONS.match(words)
@@ -345,8 +346,8 @@ def sweep_command(explorer: Explorer, arguments: Arguments) -> Iterator[str]:
         words = words[match.end() :]
         match = OPTIONS.match(words)
     hands = options.get("-j", str(processors()))
-    if not is_decimal(hands) or not 1 <= int(hands) <= 256:
-        raise ExploreError("N of -j is 1 to 256")
+    if not is_decimal(hands) or not 1 <= int(hands[:MOST_DIGITS]) <= MOST_HANDS:
+        raise ExploreError(f"N of -j is 1 to {MOST_HANDS}")
     head, colon, question = words.partition(":")
     question = explorer.symbols.line_in_octal(question, explorer.machine.past)
     sweep = Sweep.of(explorer.machine, f"{head}{colon}{question}")

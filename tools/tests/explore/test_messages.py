@@ -30,7 +30,6 @@ class Messages(Case):
             "compare from 1000000001",
             "see 1000000001",
             "show 9999999999",
-            "step 1000000001",
             "screen 9999999999",
             "list 1000 3 at 9999999999",
             "where disk 5 9999999999",
@@ -56,9 +55,18 @@ class Messages(Case):
             self.refuses(f"core 0 1\n{line}", f"{line.split()[0]}: {end}")
         self.assertEqual(not_found(range(5, LAST_TURN), "it"), f"not in {LAST}; the run ends there")
 
-    def test_digits_of_other_scripts(self) -> None:
-        for line in ("show \u0663", "page it.html to \u0663", "sweep -j \u0661 tick from 1 to 2: regs 5"):
-            self.assertRegex(self.explore(f"{line}\n"), "^(show|page|sweep): .*(form is|is 1 to 256)")
+    def test_what_is_no_number(self) -> None:
+        """A digit of another script, and more digits than Python takes."""
+        three, many = "\u0663", "9" * 5000
+        for line in (
+            f"show {three}",
+            f"page it.html to {three}",
+            f"sweep -j {three} tick from 1 to 2: regs 5",
+            f"sweep -j {many} tick from 1 to 2: regs 5",
+            f"sweep {many} from 1 to 2: regs 5",
+        ):
+            written = self.explore(f"{line}\n")
+            self.assertRegex(written, "^(show|page|sweep): .*(form is: |N of -j is 1 to 256)")
 
     def test_a_key_that_comes_after_the_last_turn(self) -> None:
         # TSTB @#177560; BPL .-4; MOVB @#177562,R0; BR: each key is taken
@@ -139,11 +147,12 @@ class Messages(Case):
         self.assertEqual(written[2:], ["R0 9 run"])
 
     def test_words_of_other_debuggers(self) -> None:
-        lines = "show 1\nstep\nback 2\nback\nstep 2\nrun\nrun 1000\n"
+        lines = "show 1\nstep\nback 2\nback\nstep 2\nstep 999999999\nrun\nrun 1000\n"
         written = self.explore(lines, "examples/first-run.session")
         turns = [int(it.split()[2][:-1]) for it in written.splitlines() if it.startswith("before")]
         self.assertEqual(turns, [1, 2, 0, 2])
-        self.assertIn("back: that is before turn 0", written)
+        self.assertIn("back: that is before turn 0: the current turn is 0\n", written)
+        self.assertIn("step: that is after turn 1000000000: the current turn is 2\n", written)
         self.assertEqual(written.count("each turn is there already: show N"), 2)
 
     def test_texts_that_part(self) -> None:
