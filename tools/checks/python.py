@@ -77,7 +77,7 @@ def main() -> int:
     }
     for name, (wrong_by, files) in checkers.items():
         if shutil.which(name) is None:
-            print(f"skipped, since {name} isn't installed")
+            print(f"{name} isn't installed")
             continue
         try:
             wrong = wrong_by(files)
