@@ -1,4 +1,4 @@
-"""Which Python the tools need. They ask before they read any other module, and any Python 3 can read
+"""Which Python the tools need. They ask before they read any other module. Any Python 3 can read
 this one."""
 import sys
 

@@ -4,8 +4,9 @@ byte for byte. With a list of strides each session that has no stride of its own
 them, and must end the same.
 
 With --search the program is search: it must end as pdp11 does, with its own name on standard error.
-Sessions that ask for help, or have a line of a search, are left out. With --searches it is given the sessions NAME.search and
-NAME.search-transcript in place of the others. The last line is 'N passed, M failed'."""
+Sessions that ask for help, or have a line of a search, are left out. With --searches it is given
+the sessions NAME.search and NAME.search-transcript in place of the others. The last line is 'N
+passed, M failed'."""
 import sys
 
 import sessions

@@ -71,7 +71,8 @@ class Checked(Tree):
         made = self.run_in("tools/release", "--make", kit=True)
         self.assertIn("README.md must name this kit: another line", made.stderr)
         with mock.patch.object(docs, "ROOT", str(self.tree)):
-            self.assertIn("another line", docs.failure_of_kit(docs.read_document(docs.README)) or "")
+            wrong = docs.failure_of_kit(docs.read_document(docs.README))
+            self.assertIn("another line", wrong or "")
             self.write("README.md", "Made with `another line`.\n")
             self.assertIsNone(docs.failure_of_kit(docs.read_document(docs.README)))
         self.assertEqual(self.counted("--check"), "14 passed, 0 failed")

@@ -110,7 +110,7 @@ class Tree(unittest.TestCase):
 
 
 def path_without(folder: Path, *names: str) -> list[Path]:
-    """The folders of PATH. One that has such a command is replaced by one with links to its others."""
+    """The folders of PATH. Links to the other commands stand for one that has such a command."""
     found = []
     for number, it in enumerate(map(Path, os.environ["PATH"].split(os.pathsep))):
         place = it
