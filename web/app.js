@@ -2,6 +2,7 @@
 
 import { Comparison } from "./comparison.js";
 import { CursorPanels } from "./cursor.js";
+import { keepSession, keptEdits } from "./kept.js";
 import { notesOf } from "./lanes.js";
 import { Ended, Machine, Stopped } from "./machine.js";
 import { Differences, marked } from "./differences.js";
@@ -97,8 +98,9 @@ export class App {
   /**
    * @param {import("./session.js").Session} session
    * @param {Partial<import("./place.js").Place>} place where it is shown
+   * @param {import("./kept.js").KeptEdits | null} edits those that are made again
    */
-  async open(session, place) {
+  async open(session, place, edits = keptEdits(session)) {
     const { run, refused } = await this.loaded(session);
     this.console?.end();
     for (const kind of Object.keys(this.tokens)) this.token(kind);
@@ -108,7 +110,7 @@ export class App {
     this.session = session;
     this.run = run;
     this.begun = [...run.taken];
-    this.say(showRefused(element("refused"), refused, session.lines));
+    const said = showRefused(element("refused"), refused, session.lines);
     const isRefusedLine = new Set(refused.map(it => it.number));
     const taken = session.lines.filter((_, at) => !isRefusedLine.has(at + 1));
     this.end = Math.max(run.past.lastTurn(), lastTurnOf(taken)) || 1_000;
@@ -119,8 +121,10 @@ export class App {
     this.timeline.symbols = this.symbols;
     this.timeline.whole = this.end;
     this.watched.words = this.isStory ? STORY.words : [];
-    this.timeline.ghost = null;
     this.oldText = undefined;
+    const restored = await this.edits.restore(edits);
+    this.say([said, restored].filter(Boolean).join(" "));
+    this.timeline.ghost = null;
     if (this.isStory) this.timeline.show(STORY.first, STORY.span);
     else this.timeline.show(0, Math.max(16, this.end));
     this.timeline.setCursor(this.isStory ? STORY.cursor : 0, { isTold: false });
@@ -169,7 +173,7 @@ export class App {
       const files = filesTogether(this.waiting, given);
       this.waiting = { files: [], missing: [] };
       const { session, notes, missing } =
-        await sessionOfFiles(this.session, this.run.past.lines(), files);
+        await sessionOfFiles(this.session, this.session.lines, files);
       if (missing.length) {
         this.waiting = { files, missing };
         const names = missing.map(visibleName).join(", ");
@@ -177,17 +181,21 @@ export class App {
           + "Open what is missing too.");
         return;
       }
-      await this.open(session, {});
+      // files that are added to what is open leave its edits
+      const isAdded = session.lines === this.session.lines;
+      await this.open(session, {}, isAdded ? this.edits.kept() : undefined);
+      this.attempt(() => keepSession(session));
       history.replaceState(null, "", "#");
       const names = files.map(it => visibleName(it.name)).join(", ");
-      const refused = element("reply").textContent;
-      this.say([`Opened: ${names}.`, ...notes, refused].filter(Boolean).join(" "));
+      const said = element("reply").textContent;
+      this.say([`Opened: ${names}.`, ...notes, said].filter(Boolean).join(" "));
     });
   }
 
   saveSession() {
     const { session, run, end } = this;
     saveFile(savedName(session, ".session"), textOfPast(session, run.past, end), "text/plain");
+    this.edits.noteSaved();
     const files = Object.keys(session.files).map(visibleName).join(", ");
     this.say(files ? `Saved. It is opened with its files: ${files}` : "Saved.");
   }
@@ -197,6 +205,7 @@ export class App {
       const { session, run, end } = this;
       const page = await pageOfPast(session, run.past, end);
       saveFile(savedName(session, ".html"), page, "text/html");
+      this.edits.noteSaved();
       this.say("Saved: one file with all in it.");
     });
   }
@@ -282,16 +291,23 @@ export class App {
     const { run, end } = this;
     const token = this.token("text");
     const priority = run.isNear(end) ? Priority.CURSOR : Priority.TEXT;
-    this.attempt(async () => this.showReply(await run.askOne(`text ${end}`, priority, token)));
+    const ask = it => it.askOne(`text ${end}`, priority, token);
+    this.attempt(async () => {
+      const reply = await ask(run);
+      this.showReply(reply);
+      if (this.oldText !== undefined) return;
+      await this.oldIsLoaded;
+      this.oldText = shownText(await ask(this.old)).text;
+      this.showReply(reply);
+    });
   }
 
   showReply(reply) {
-    const { bytes, isCut } = tailOf(reply, MOST_TEXT);
-    const text = readableText(bytes);
+    const { text, bytes, isCut } = shownText(reply);
     const cut = isCut ? `, its last ${bytes.length} bytes` : "";
     element("text-turn").textContent = `before turn ${this.end}${cut}`;
     element("text").replaceChildren(...marked(text, this.oldText ?? text));
-    if (this.oldText === undefined) this.oldText = text;
+    if (!this.old) this.oldText = text;
     if (!this.isStory) return;
     const { balance, verdict, isGood } = verdictOf(text, this.run.changes.length > 0);
     element("balance").textContent = balance;
@@ -402,4 +418,10 @@ export class App {
     this.panels.want(this.run, this.timeline.cursor);
     this.keepPlaceLater();
   }
+}
+
+/** The text of a reply of `text`, of a long one its end. */
+function shownText(reply) {
+  const { bytes, isCut } = tailOf(reply, MOST_TEXT);
+  return { text: readableText(bytes), bytes, isCut };
 }

@@ -1,5 +1,6 @@
 // What the user does to the past: edits, moves of events, undo and redo, one after the other.
 
+import { keepEdits, sumOf } from "./kept.js";
 import { element, itemsOf, make } from "./page.js";
 import { isEdit } from "./past.js";
 import { isRefused, mustBeTaken } from "./replies.js";
@@ -14,6 +15,8 @@ export class Edits {
     this.last = Promise.resolve();
     this.tried = null;
     this.showItems = itemsOf(element("edits"), shownChange);
+    /** A sum of the past that was saved last, or null. */
+    this.saved = null;
   }
 
   /** Does work after all that was begun before it, unless another session is open by then. */
@@ -117,8 +120,47 @@ export class Edits {
     });
   }
 
+  // Kept until the tab is closed
+
+  /** Makes the edits again that were kept of the session. Returns what is said of it. */
+  async restore(kept) {
+    const { app } = this;
+    this.saved = kept?.saved ?? null;
+    if (!kept?.changes.length) return "";
+    await this.inTurn(async () => {
+      app.keepOld();
+      app.reach(kept.end);
+      app.run.undone = kept.changes.reverse();
+      while (app.run.undone.length) await app.run.redo();
+    });
+    return "Its edits are made again: Undo takes them back.";
+  }
+
+  /** The edits as they are kept. */
+  kept() {
+    const { run, end } = this.app;
+    const changes = run.changes.map(it => it.map(({ line, event }) => ({ line, event })));
+    return { changes, end, saved: this.saved };
+  }
+
+  noteSaved() {
+    this.saved = this.sum();
+    this.show();
+  }
+
+  sum() {
+    return sumOf(...this.app.run.past.lines());
+  }
+
+  /** Whether something would be lost if the page were left now. */
+  areUnsaved() {
+    return Boolean(this.app.run?.changes.length) && this.sum() !== this.saved;
+  }
+
+  /** Shows what the user did, and keeps it. */
   show() {
     const { changes, undone } = this.app.run;
+    element("edits-kept").hidden = keepEdits(this.app.session, this.kept());
     this.showItems(changes.map(it => it.map(edit => edit.line).join("\n")));
     element("undo").disabled = !changes.length;
     element("redo").disabled = !undone.length;

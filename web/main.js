@@ -3,8 +3,8 @@
 import { App } from "./app.js";
 import { Console } from "./console.js";
 import { takeDrops } from "./files.js";
+import { firstSession } from "./kept.js";
 import { keepLook } from "./look.js";
-import { packedSession } from "./packed.js";
 import { element } from "./page.js";
 import { placeOf } from "./place.js";
 import { LAST_TURN } from "./replies.js";
@@ -72,8 +72,9 @@ function begin() {
   for (const name of ["popstate", "hashchange"]) {
     addEventListener(name, () => app.goToPlace(placeOf(location.hash)));
   }
+  addEventListener("beforeunload", event => app.edits.areUnsaved() && event.preventDefault());
   app.attempt(async () => {
-    await app.open(await packedSession(), placeOf(location.hash));
+    await app.open(await firstSession(), placeOf(location.hash));
     document.documentElement.dataset.state = "ready";
   });
   return app;

@@ -39,19 +39,29 @@ export function newWorker() {
   return new Worker(workerAddress);
 }
 
-// The session in the file: {name, arguments: [..], lines: [..], files: {name: Uint8Array}}.
-export async function packedSession() {
-  const { files, ...session } = JSON.parse(textOf("session"));
+// A session, {name, arguments: [..], lines: [..], files: {name: Uint8Array}}, as a text and back.
+export async function textOfSession({ files, ...session }) {
+  const packed = Object.entries(files).map(async ([name, it]) => [name, await deflated(it)]);
+  const held = { ...session, files: Object.fromEntries(await Promise.all(packed)) };
+  return JSON.stringify(held);
+}
+
+export async function sessionOfText(text) {
+  const { files, ...session } = JSON.parse(text);
   const found = Object.entries(files).map(async ([name, it]) => [name, await inflated(it)]);
   return { ...session, files: Object.fromEntries(await Promise.all(found)) };
 }
 
+// The session in the file, as its text and as itself.
+export const packedText = () => textOf("session");
+
+export const packedSession = () => sessionOfText(packedText());
+
 // The text of this page's file with another session in it.
-export async function pageWith({ files, ...session }) {
-  const packed = Object.entries(files).map(async ([name, it]) => [name, await deflated(it)]);
-  const held = { ...session, files: Object.fromEntries(await Promise.all(packed)) };
+export async function pageWith(session) {
   const page = opened.cloneNode(true);
+  const text = await textOfSession(session);
   // `<` can't stand in the element as itself: it may begin its end
-  page.querySelector("#session").textContent = JSON.stringify(held).replaceAll("<", "\\u003c");
+  page.querySelector("#session").textContent = text.replaceAll("<", "\\u003c");
   return `<!DOCTYPE html>\n${page.outerHTML}\n`;
 }

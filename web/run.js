@@ -337,6 +337,7 @@ export class Run {
       if (edit?.event) this.renumber(event, edit.event);
     }
     this.undone.pop();
+    if (!change.length) this.changes.pop();
   }
 
   /** Ends the questions that the machine is at. Edits go on: they run nothing. */

@@ -73,6 +73,7 @@ class Browser:
         self.number = 0
         self.session = ""
         self.messages: list[str] = []
+        self.dialogs: list[str] = []
         self.requests: list[str] = []
         self._attach()
 
@@ -94,6 +95,18 @@ class Browser:
 
     def call(self, method: str, **parameters: Any) -> dict[str, Any]:
         """Calls a method of the protocol; returns its result."""
+        number = self._send(method, **parameters)
+        end = time.monotonic() + SECONDS
+        while True:
+            found = self._message(end - time.monotonic())
+            if found.get("id") == number:
+                if "error" in found:
+                    raise BrowserError(f"{method}: {found['error']['message']}")
+                return dict(found["result"])
+            self._note(found)
+
+    def _send(self, method: str, **parameters: Any) -> int:
+        """Sends a message, and returns its number."""
         self.number += 1
         message = {"id": self.number, "method": method, "params": parameters}
         if self.session:
@@ -101,14 +114,7 @@ class Browser:
         rest = json.dumps(message).encode() + b"\0"
         while rest:
             rest = rest[os.write(self.output, rest) :]
-        end = time.monotonic() + SECONDS
-        while True:
-            found = self._message(end - time.monotonic())
-            if found.get("id") == self.number:
-                if "error" in found:
-                    raise BrowserError(f"{method}: {found['error']['message']}")
-                return dict(found["result"])
-            self._note(found)
+        return self.number
 
     def _message(self, seconds: float) -> dict[str, Any]:
         end = time.monotonic() + seconds
@@ -124,7 +130,8 @@ class Browser:
         return dict(json.loads(first))
 
     def _note(self, message: dict[str, Any]) -> None:
-        """Keeps what the console says of errors, and what is asked of the network."""
+        """Keeps what the console says of errors, what is asked of the network, and which dialogs
+        open; each gets a yes."""
         method, parameters = message.get("method"), message.get("params", {})
         if method == "Runtime.exceptionThrown":
             details = parameters["exceptionDetails"]
@@ -134,16 +141,28 @@ class Browser:
             self.messages.append(" ".join(str(it.get("value", it)) for it in parameters["args"]))
         elif method == "Log.entryAdded" and parameters["entry"]["level"] == "error":
             self.messages.append(parameters["entry"]["text"])
+        elif method == "Page.javascriptDialogOpening":
+            self.dialogs.append(parameters["type"])
+            self._send("Page.handleJavaScriptDialog", accept=True)
         elif method == "Network.requestWillBeSent":
             self.requests.append(parameters["request"]["url"])
 
     # The page
 
     def open(self, address: str) -> None:
-        """Opens an address, and waits until the page is ready."""
-        self.messages, self.requests = [], []
+        """Opens an address as in a new tab, and waits until the page is ready."""
+        self.value("try { sessionStorage.clear(); } catch {}")
         self.call("Page.navigate", url="about:blank")
+        self.wait("location.href === 'about:blank'")
+        self.messages, self.requests = [], []
         self.call("Page.navigate", url=address)
+        self.wait("document.documentElement?.dataset.state === 'ready'")
+
+    def reload(self) -> None:
+        """Loads the page again, and waits until it is ready."""
+        self.dialogs = []
+        self.value("document.documentElement.dataset.state = 'left'")
+        self.call("Page.reload")
         self.wait("document.documentElement?.dataset.state === 'ready'")
 
     def size(self, width: int, height: int, is_dark: bool = False) -> None:

@@ -9,7 +9,7 @@ from .common import KEY, LOST, ROOT, SAFE, PageCase, packed_page, replies_of
 EXAMPLES = ROOT / "examples"
 
 
-class Files(PageCase):
+class FilesCase(PageCase):
     def drop(self, *paths: Path) -> None:
         """Drops files on the page."""
         held = {it.name: base64.b64encode(it.read_bytes()).decode() for it in paths}
@@ -39,6 +39,8 @@ class Files(PageCase):
             time.sleep(0.05)
         raise AssertionError("no file was saved")
 
+
+class Files(FilesCase):
     def test_a_session_is_dropped(self) -> None:
         self.drop(EXAMPLES / "who-wrote-this-word.session")
         self.wait_text("#session-name", "who-wrote-this-word.session")
@@ -101,3 +103,53 @@ class Files(PageCase):
         self.assertIn(SAFE, self.wait_text("#text", SAFE))
         is_hidden = "document.querySelector('#story').hidden"
         self.assertTrue(self.browser.value(is_hidden), "the story tells of another past")
+
+
+class Kept(FilesCase):
+    """What the tab keeps when the page is loaded again, and what it asks before it is left."""
+
+    def count(self, wanted: int) -> None:
+        self.browser.wait(f"document.querySelectorAll('#edits > li').length === {wanted}")
+
+    def test_edits_outlive_a_reload(self) -> None:
+        """Events that came back have other numbers then."""
+        number = self.type_line("at 5 key 101").split()[-1]
+        self.browser.click("#undo")
+        self.count(0)
+        self.browser.click("#redo")
+        self.count(1)
+        again = f"alter {int(number) + 1} 6 key 102"
+        for line in (again, "alter 15 127165 key 66", "disk 0 101"):
+            self.type_line(line)
+        before = self.type_line("regs 238614")
+        self.browser.reload()
+        self.assertEqual(self.browser.dialogs, ["beforeunload"])
+        self.count(4)
+        self.assertEqual(self.edits()[1], f"alter {number} 6 key 102")
+        self.assertEqual(self.type_line("regs 238614"), before)
+        for left in (3, 2, 1, 0):
+            self.browser.click("#undo")
+            self.count(left)
+        self.balance(LOST)
+        self.browser.reload()
+        self.assertEqual(self.browser.dialogs, [])
+        self.assertEqual(self.edits(), [])
+
+    def test_a_session_that_was_opened_outlives_a_reload(self) -> None:
+        name = "text-from-disk"
+        self.drop(EXAMPLES / f"{name}.session", EXAMPLES / f"{name}.disk")
+        self.wait_text("#session-name", name)
+        self.type_line("disk 0 101")
+        self.drop(EXAMPLES / "ledger" / "kernel.sym")
+        self.wait_text("#reply", "Its edits are made again: ")
+        self.assertEqual(self.edits(), ["disk 0 101"])
+        before = self.type_line("dsk 1 0 2")
+        self.saved("#save")
+        self.browser.reload()
+        self.assertEqual(self.browser.dialogs, [], "nothing is lost that wasn't saved")
+        self.assertIn(name, self.browser.text("#session-name"))
+        self.count(1)
+        self.assertEqual(self.type_line("dsk 1 0 2"), before)
+        self.browser.click("#undo")
+        self.count(0)
+        self.assertNotEqual(self.type_line("dsk 1 0 2"), before)

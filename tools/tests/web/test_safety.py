@@ -63,11 +63,12 @@ class Safety(PageCase):
             outside = [it for it in outside if not it.startswith(self.address)]
         self.assertEqual(outside, [])
 
-    def test_nothing_is_stored(self) -> None:
+    def test_only_this_tab_keeps_anything(self) -> None:
         self.type_line("alter 15 127165 key 66")
         stored = self.browser.value(
-            "(async () => { let count = document.cookie.length;"
-            "try { count += localStorage.length + sessionStorage.length; } catch {}"
+            "(async () => { let count = document.cookie.length + localStorage.length;"
             "return count + ((await indexedDB.databases?.())?.length ?? 0); })()"
         )
         self.assertEqual(stored, 0)
+        keys = self.browser.value("Object.keys(sessionStorage)")
+        self.assertEqual([it for it in keys if not it.startswith("nezdrab ")], [])

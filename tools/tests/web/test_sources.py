@@ -10,7 +10,7 @@ WEB = ROOT / "web"
 MOST_LINES, MOST_FUNCTION_LINES, WIDEST = 500, 40, 100
 UNSAFE = re.compile(
     r"innerHTML|outerHTML\s*=|insertAdjacentHTML|document\.write|eval\(|new Function|localStorage"
-    r"|sessionStorage|document\.cookie|indexedDB|XMLHttpRequest|WebSocket|sendBeacon|https?://"
+    r"|document\.cookie|indexedDB|XMLHttpRequest|WebSocket|sendBeacon|https?://"
 )
 FUNCTION = re.compile(r"( *)(?:export )?(?:async )?(?:static )?(?:function )?(\w+)\(.*\{$")
 READ = ("ink", "faint", "counter", "cpu", "disk", "interrupt", "good", "bad", "accent", "ghost")
@@ -61,6 +61,8 @@ class Sources(unittest.TestCase):
     def test_no_unsafe_form(self) -> None:
         for path in [*modules(), WEB / "index.html"]:
             self.assertIsNone(UNSAFE.search(path.read_text()), path.name)
+        keeping = [it.name for it in modules() if "sessionStorage" in it.read_text()]
+        self.assertEqual(keeping, ["kept.js"])
 
     def test_contrast(self) -> None:
         """WCAG AA: each colour of text on each ground on which it stands, in both looks."""

@@ -1,0 +1,90 @@
+// What the browser keeps for this tab until it is closed: the session that was opened in this page,
+// and the edits of each session, by a sum of its contents.
+
+import { packedSession, packedText, sessionOfText, textOfSession } from "./packed.js";
+import { isEdit } from "./past.js";
+
+/**
+ * The edits, the turn up to which the run was shown, and a sum of the past that was saved last.
+ * @typedef {{changes: {line: string, event: string | undefined}[][], end: number,
+ *   saved: string | null}} KeptEdits
+ */
+
+/** A sum of texts and bytes. That two which differ have the same one is hardly ever so. */
+export function sumOf(...parts) {
+  let [one, other] = [0x811c9dc5, 0x41c6ce57];
+  const add = code => {
+    one = Math.imul(one ^ code, 0x01000193);
+    other = Math.imul(other ^ code, 0x5f356495);
+  };
+  for (const part of parts) {
+    const isText = typeof part === "string";
+    add(part.length);
+    for (let at = 0; at < part.length; at++) add(isText ? part.charCodeAt(at) : part[at]);
+  }
+  return [one, other].map(it => (it >>> 0).toString(36)).join("-");
+}
+
+const sums = new WeakMap();
+
+function keyOfEdits(session) {
+  const { name, arguments: words, lines, files } = session;
+  if (!sums.has(session)) {
+    const texts = [name, JSON.stringify([words, lines])];
+    sums.set(session, sumOf(...texts, ...Object.entries(files).flat()));
+  }
+  return `nezdrab edits ${sums.get(session)}`;
+}
+
+const keyOfPage = () => `nezdrab session ${location.pathname} ${sumOf(packedText())}`;
+
+function read(key) {
+  try {
+    return sessionStorage.getItem(key);
+  } catch {
+    return null;
+  }
+}
+
+/** Keeps a text, or with null nothing. Returns whether the browser does so. */
+function keep(key, text) {
+  try {
+    sessionStorage.removeItem(key);
+    if (text !== null) sessionStorage.setItem(key, text);
+    return true;
+  } catch {
+    return text === null;
+  }
+}
+
+/** The session to begin with: the one that was opened in this tab, or the one in the page. */
+export async function firstSession() {
+  try {
+    const text = read(keyOfPage());
+    if (text !== null) return await sessionOfText(text);
+  } catch {
+    keep(keyOfPage(), null);
+  }
+  return packedSession();
+}
+
+/** Keeps a session that was opened. One that is too large isn't kept. */
+export async function keepSession(session) {
+  keep(keyOfPage(), await textOfSession(session));
+}
+
+/** The edits of a session that were kept, or null. @returns {KeptEdits | null} */
+export function keptEdits(session) {
+  try {
+    const kept = JSON.parse(read(keyOfEdits(session)));
+    const isLine = ({ line }) => isEdit(line) && !/[\r\n]/.test(line);
+    return kept?.changes.every(it => it.every(isLine)) ? kept : null;
+  } catch {
+    return null;
+  }
+}
+
+/** Keeps the edits of a session. Returns whether the browser does so. */
+export function keepEdits(session, edits) {
+  return keep(keyOfEdits(session), edits.changes.length ? JSON.stringify(edits) : null);
+}
