@@ -118,7 +118,12 @@ SEARCHES = [
     Line("change N M I", SEARCH, "change T", "the first turn that changes word I of the drive"),
     Line("change N M D I", SEARCH, "change T", "the same of drive D, in version 2"),
     Line("text N from F", SEARCH, "text C:", "what was printed before turn N, from byte F on"),
-    Line("punched N from F", SEARCH, "punched C:", "what was punched before turn N, from byte F on"),
+    Line(
+        "punched N from F",
+        SEARCH,
+        "punched C:",
+        "what was punched before turn N, from byte F on",
+    ),
     Line(
         "when F",
         SEARCH,

@@ -37,7 +37,7 @@ def answered_lines(session: sessions.Session) -> Optional[Answered]:
 
 def is_question(line: bytes, reply: bytes) -> bool:
     is_taken = reply != b"" and not reply.startswith(b"refused")
-    return is_taken and line.split()[0] in sessions.QUESTIONS
+    return is_taken and sessions.first_word(line) in sessions.QUESTIONS
 
 
 def with_jumps(answered: Answered) -> tuple[bytes, bytes]:

@@ -193,8 +193,8 @@ def check_drive(machine: Machine) -> None:
         raise ExploreError("version 1 has one drive, which isn't named; see version 2")
 
 
-# What separates words. It begins at one place alone: otherwise a long run of blanks takes the square
-# of its length.
+# What separates words. It can begin at one place alone: with more, a long run of blanks would take
+# the square of its length.
 BLANKS = r"(?<![ \t])[ \t]+"
 # The parts of patterns: a turn, a count and an event are decimal, a word is octal, and so is an
 # address, or it is a symbol. A file and a text may stand in quotes.

@@ -1,5 +1,4 @@
 """The machine that the program runs, with its edits."""
-import copy
 import os
 from contextlib import contextmanager
 from dataclasses import dataclass, field, replace
@@ -122,12 +121,11 @@ class Machine:
         """Another program with the same edits, or with these; with a stride of its own, if any."""
         if edits is None:
             start = self.start if stride is None else self.start.with_stride(stride)
-            past = copy.deepcopy(self.past)
+            past = Past.of(self.journal, self.replies)
             return Machine(start, list(self.journal), past, list(self.replies))
         twin = Machine(self.start)
         try:
-            for line in edits:
-                twin.ask(line)
+            twin.edit_all(edits)
         except BaseException:
             twin.close()
             raise

@@ -19,7 +19,8 @@ from .load import warnings_of
 from .machine import Machine, Start, existing_program, in_parts, is_refused
 from .options import Options, Parser, add_options, check_options, option_lines, options_of
 from .options import words_of_options
-from .output import Unwritable, complain, fault_in_words, leave_streams, prepare_streams, put
+from .output import Unwritable, complain, fault_in_words, flush
+from .output import leave_streams, prepare_streams, put
 from .past import Past
 from .prompt import Prompt, read_at_terminal, read_lines
 from .sweep import raw_lines
@@ -39,9 +40,9 @@ Lines from a pipe are read too: ./explore --echo SESSION < my.lines
 ./explore web [SESSION] opens the machine as a page in the browser: ./explore web --help
 
 At a terminal each edit is written at once to a journal, a session in ~/.local/state/nezdrab (or in
-the folder nezdrab of XDG_STATE_HOME), so that a closed terminal or a power cut loses none (but of a
-console's keys a power cut may lose those of the last moment). It goes when all edits are saved, or
-with `quit!`; the 30 newest are kept."""
+the folder nezdrab of XDG_STATE_HOME), so that a closed terminal or a power cut loses none (but of
+the keys of a console or of `type` a power cut may lose those of the last moment). It goes when all
+edits are saved, or with `quit!`; the 30 newest are kept."""
 
 
 def arguments(words: list[str]) -> argparse.Namespace:
@@ -124,7 +125,8 @@ def read_session(machine: Machine, path: Path) -> None:
     for (number, line), reply in zip(lines, replies):
         if is_refused(reply):
             why = explanation(line, reply, past)
-            complain(f"{path}:{number}: {line[:LONGEST_SHOWN]}: {reply} {why}".rstrip())
+            shown = line if len(line) <= LONGEST_SHOWN else f"{line[:LONGEST_SHOWN]}.."
+            complain(f"{path}:{number}: {shown}: {reply} {why}".rstrip())
         elif sessions.first_word(line) == "version":
             past.apply(line, reply)
 
@@ -220,6 +222,7 @@ def explore(found: argparse.Namespace) -> None:
     finally:
         explorer.machine.close()
         explorer.disassembler.close()
+        flush()
 
 
 def status() -> int:

@@ -95,9 +95,9 @@ class Prompt:
         return False
 
     def pasted(self, lines: Sequence[str]) -> bool:
-        """Does lines that came in one piece, as a terminal gives a paste. Each is shown again before
-        its replies. After Ctrl-C and after `quit` the others aren't done. Tells whether one was the
-        last."""
+        """Does lines that came in one piece, as a terminal gives a paste. Each is shown again
+        before its replies. After Ctrl-C and after `quit` the others aren't done. Tells whether one
+        was the last."""
         is_last = self.is_stopped = False
         for line in lines:
             if not is_last and not self.is_stopped and line.strip(BLANKS):
