@@ -77,7 +77,7 @@ class Starts(Media):
             "    if word == 'mem': print('mem', *['000000'] * int(rest[2]), flush=True)\n"
             "    elif line.startswith('core 2002'): print('refused 1 NoMemory', flush=True)\n"
             "    elif word == 'core': print('ok', flush=True)\n"
-            "    else: print(sys.argv[1:], flush=True)\n"
+            "    else: print('R0', sys.argv[1:], flush=True)\n"
         )
         stand_in.chmod(0o755)
         self.put("it", self.TAPE)
