@@ -1,12 +1,12 @@
 // The timeline: lanes over turns, a cursor, and marks of events that can be dragged.
 
+import { clusterInWords, clustersOf } from "./clusters.js";
 import { LanesDrawing, View, lanesOf } from "./lanes.js";
 import { Past, eventInWords, eventLabel, eventsIn } from "./past.js";
 import { delayed, keepChildren } from "./page.js";
 import { LAST_TURN } from "./replies.js";
 
 const [LEFT_WIDE, LEFT_NARROW, RIGHT] = [112, 74, 10];
-const MOST_MARKS = 300;
 const FEWEST_PIXELS = 3;
 const MARK_ROWS = 2;
 // A move by keys ends this long after the last key was let go, if Alt isn't let go before.
@@ -154,29 +154,49 @@ export class Timeline {
       for (const it of this.marks.children) this.place(it, Number(it.dataset.turn));
       return;
     }
-    this.isCut = seen.length > MOST_MARKS;
     const focused = document.activeElement?.dataset?.event;
-    const marks = this.eventMarks(seen.slice(0, MOST_MARKS));
-    keepChildren(this.marks, [...marks, ...this.ghostMarks()]);
+    keepChildren(this.marks, [...this.eventMarks(seen), ...this.ghostMarks()]);
     if (focused) this.marks.querySelector(`[data-event="${focused}"]`)?.focus();
   }
 
   eventMarks(events) {
     const ends = new Array(MARK_ROWS).fill(-Infinity);
-    return events.map(event => {
+    return clustersOf(events, this.view).map(cluster => {
       const button = document.createElement("button");
       button.type = "button";
-      button.className = event.text.startsWith("key") ? "mark" : "mark other";
-      if (event.number === this.wanted) button.classList.add("wanted");
-      button.textContent = eventLabel(event);
-      button.dataset.event = String(event.number);
-      const turn = this.turnOf(event), x = this.view.x(turn);
+      if (cluster.count > 1) this.markCluster(button, cluster);
+      else this.markEvent(button, cluster.event);
+      const x = this.view.x(Number(button.dataset.turn));
       const row = Math.max(0, ends.findIndex(it => x >= it));
       ends[row] = x + 9 + 8 * button.textContent.length;
       button.style.setProperty("--row", String(row));
-      this.placeMark(button, event, turn);
       return button;
     });
+  }
+
+  markEvent(button, event) {
+    button.className = event.text.startsWith("key") ? "mark" : "mark other";
+    if (event.number === this.wanted) button.classList.add("wanted");
+    button.textContent = eventLabel(event);
+    button.dataset.event = String(event.number);
+    this.placeMark(button, event, this.turnOf(event));
+  }
+
+  /** Events that have one mark together: it zooms to them. */
+  markCluster(button, cluster) {
+    const said = clusterInWords(cluster);
+    button.className = "mark cluster";
+    button.textContent = `\u00d7${cluster.count}`;
+    button.title = `${said}: zoom in`;
+    button.setAttribute("aria-label", `${said}: zoom in`);
+    Object.assign(button.dataset, { first: cluster.event.turn, last: cluster.last.turn });
+    this.place(button, Math.round((cluster.event.turn + cluster.last.turn) / 2));
+  }
+
+  /** Shows the turns of a mark of many events. */
+  zoomTo({ dataset: { first, last } }) {
+    const span = Number(last) - Number(first) + 1;
+    this.show(Number(first) - span / 20, span * 1.1);
   }
 
   place(mark, turn) {
@@ -205,11 +225,13 @@ export class Timeline {
   }
 
   ghostMarks() {
-    return this.goneEvents().slice(0, MOST_MARKS).map(event => {
+    return clustersOf(this.goneEvents(), this.view).map(cluster => {
+      const { event, count } = cluster;
       const mark = document.createElement("span");
       mark.className = "mark ghost";
-      mark.textContent = eventLabel(event);
-      mark.title = `was at ${event.turn} ${eventInWords(event)}`;
+      mark.textContent = count > 1 ? `\u00d7${count}` : eventLabel(event);
+      mark.title = count > 1 ? `were there: ${clusterInWords(cluster)}`
+        : `was at ${event.turn} ${eventInWords(event)}`;
       this.place(mark, event.turn);
       return mark;
     });
@@ -237,8 +259,9 @@ export class Timeline {
 
   onPointerDown(event) {
     if (event.button) return;
-    const button = event.target.closest?.("button.mark");
-    const at = { x: this.xOf(event), first: this.view.first, moved: false };
+    const mark = event.target.closest?.("button.mark");
+    const cluster = mark?.matches(".cluster") ? mark : null, button = cluster ? null : mark;
+    const at = { x: this.xOf(event), first: this.view.first, moved: false, cluster };
     this.endMoveByKeys();
     this.pointers.set(event.pointerId, at);
     this.element.setPointerCapture(event.pointerId);
@@ -299,9 +322,8 @@ export class Timeline {
       const { dragged } = this;
       this.endMove(event.type === "pointerup");
       if (!at.moved) this.listener.onOpen(dragged.event);
-    } else if (!at.moved && at.x >= this.view.left) {
-      this.setCursor(this.view.turn(at.x));
-    }
+    } else if (!at.moved && at.cluster) this.zoomTo(at.cluster);
+    else if (!at.moved && at.x >= this.view.left) this.setCursor(this.view.turn(at.x));
   }
 
   // A move of an event, by the pointer or by keys
@@ -349,7 +371,8 @@ export class Timeline {
     const button = event.target.closest?.("button.mark");
     if (button && (event.key === "Enter" || event.key === " ")) {
       event.preventDefault();
-      this.listener.onOpen(this.eventOf(button));
+      if (button.matches(".cluster")) this.zoomTo(button);
+      else this.listener.onOpen(this.eventOf(button));
       return undefined;
     }
     if (this.act(event.key, event.shiftKey)) event.preventDefault();
@@ -358,7 +381,7 @@ export class Timeline {
 
   /** Alt with an arrow moves the event whose mark has the focus by a turn, with shift by 64. */
   onMarkKey(event) {
-    const button = event.target.closest?.("button.mark");
+    const button = event.target.closest?.("button.mark:not(.cluster)");
     const direction = { ArrowLeft: -1, ArrowRight: 1 }[event.key];
     if (!button || !direction || !event.altKey) return;
     event.preventDefault();

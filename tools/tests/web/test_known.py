@@ -84,3 +84,20 @@ class Comparing(PageCase):
         replies = replies_of([*ledger_lines()[:-2], *asked, *edits, *asked])
         self.assertEqual(replies[-6], replies[-2])
         self.assertNotEqual(replies[-5], replies[-1])
+
+
+class ManyEvents(PageCase):
+    def test_each_is_counted(self) -> None:
+        path, count = self.folder() / "many.session", 2_000
+        path.write_text("".join(f"at {5 * it} key 101\n" for it in range(count)) + "regs 10000\n")
+        self.give(path)
+        self.wait_text(".marks", "\u00d7")
+        marks = self.browser.value(
+            "[...document.querySelectorAll('.marks button')].map(it => it.textContent)"
+        )
+        shown = sum(int(it[1:]) if it.startswith("\u00d7") else 1 for it in marks)
+        self.assertEqual(shown, count)
+        label = self.browser.value("document.querySelector('.mark.cluster').ariaLabel")
+        self.assertRegex(label, r"^\d+ events in the turns 0 to \d+: zoom in$")
+        self.browser.click(".mark.cluster")
+        self.browser.wait("document.querySelector('[data-event=\"1\"]') !== null")
