@@ -16,7 +16,8 @@ export function showRefused(place, refused, lines) {
   place.hidden = !refused.length;
   place.replaceChildren();
   if (!refused.length) return "";
-  const isAll = refused.length === lines.filter(it => wordsOfLine(it).length).length;
+  const numbers = new Set(refused.map(it => it.number));
+  const isAll = !lines.some((it, at) => wordsOfLine(it).length && !numbers.has(at + 1));
   const were = refused.length > 1 ? "were" : "was";
   const said = isAll ? `All of its lines were refused (${refused.length}): is it a session?`
     : `${refused.length} of its ${lines.length} lines ${were} refused.`;

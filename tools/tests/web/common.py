@@ -4,6 +4,7 @@ import json
 import subprocess
 import sys
 import tempfile
+import time
 import unittest
 from pathlib import Path
 from typing import Optional
@@ -131,8 +132,24 @@ class PageCase(unittest.TestCase):
 
     def give(self, *paths: Path) -> None:
         """Opens files by the dialog's input."""
+        self.browser.value("document.querySelector('#reply').textContent = ''")
         self.browser.give_files("#files", [str(it) for it in paths])
         self.wait_text("#reply", "Opened: ")
+
+    def saved(self, selector: str) -> Path:
+        """The file that a button saves."""
+        folder = self.folder()
+        self.browser.call(
+            "Browser.setDownloadBehavior", behavior="allow", downloadPath=str(folder)
+        )
+        self.browser.click(selector)
+        end = time.monotonic() + 30
+        while time.monotonic() < end:
+            found = [it for it in folder.iterdir() if it.suffix in (".session", ".html")]
+            if found:
+                return found[0]
+            time.sleep(0.05)
+        raise AssertionError("no file was saved")
 
     def edits(self) -> list[str]:
         found = self.browser.value(

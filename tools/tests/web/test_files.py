@@ -1,7 +1,6 @@
 """Files: opened by the dialog and by a drop, saved as a session and as a page."""
 import base64
 import json
-import time
 from pathlib import Path
 
 from .common import KEY, LOST, ROOT, SAFE, PageCase, packed_page, replies_of
@@ -23,21 +22,6 @@ class FilesCase(PageCase):
             "document.querySelector('main').dispatchEvent(event); })()"
         )
         self.wait_text("#reply", "Opened: ")
-
-    def saved(self, selector: str) -> Path:
-        """The file that a button saves."""
-        folder = self.folder()
-        self.browser.call(
-            "Browser.setDownloadBehavior", behavior="allow", downloadPath=str(folder)
-        )
-        self.browser.click(selector)
-        end = time.monotonic() + 30
-        while time.monotonic() < end:
-            found = [it for it in folder.iterdir() if it.suffix in (".session", ".html")]
-            if found:
-                return found[0]
-            time.sleep(0.05)
-        raise AssertionError("no file was saved")
 
 
 class Files(FilesCase):

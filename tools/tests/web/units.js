@@ -3,13 +3,15 @@
 import { Comparison } from "/comparison.js";
 import { byteOfKey } from "/console.js";
 import { marked } from "/differences.js";
-import { View, notesOf, ticksOf } from "/lanes.js";
+import { LanesDrawing, View, lanesOf, notesOf, ticksOf } from "/lanes.js";
+import { optionLines, optionText, shellWords } from "/options.js";
 import { Past, eventLabel, eventsIn, isEdit } from "/past.js";
 import { fragmentOf, placeOf } from "/place.js";
 import { searchOf, turnsAsked } from "/questions.js";
 import {
-  bytesOf, devicesOf, functionInWords, interruptsOf, keyName, lastOf, pageInWords, pagesOf,
-  physicalOf, readableText, registersOf, statusInWords, tailOf, turnsOf, visibleName, writesOf,
+  WrongReply, bytesOf, devicesOf, eventOf, functionInWords, interruptsOf, keyName, lastOf, lengthOf,
+  pageInWords, pagesOf, physicalOf, readableText, registersOf, statusInWords, tailOf, turnOf,
+  turnsOf, visibleName, wordsOf, writesOf,
 } from "/replies.js";
 import { Priority, Run } from "/run.js";
 import { boundedRows, rowsOf } from "/sight.js";
@@ -344,4 +346,100 @@ export function test_keys_and_their_bytes() {
   equal(byte("c", { ctrlKey: true }), 3);
   equal([byte("Tab"), byte("ArrowLeft"), byte("a", { altKey: true }), byte("\u00e9")],
     [null, null, null, null]);
+}
+
+/** What is drawn of a picture: each text, and each colour that is in the column of a turn. */
+function drawn(picture, { first, span, ghost = null }) {
+  const canvas = document.createElement("canvas");
+  document.body.append(canvas);
+  for (const [name, it] of [["faint", "#f00"], ["disk", "#0f0"], ["grid", "#00f"]]) {
+    canvas.style.setProperty(`--${name}`, it);
+  }
+  const drawing = new LanesDrawing(canvas), view = new View(first, span), texts = [];
+  Object.assign(view, { left: 100, width: 1000 });
+  const write = drawing.pen.fillText;
+  drawing.pen.fillText = (text, ...more) => {
+    texts.push(text);
+    write.call(drawing.pen, text, ...more);
+  };
+  const { lanes, height } = lanesOf(picture.words.map(it => it.name));
+  drawing.draw({
+    view, lanes, height, width: 1110, picture, ghost, symbols: {}, events: [], part: null,
+    sweep: null,
+  });
+  const coloursOf = (lane, turn) => {
+    const { top } = lanes.find(it => it.name === lane);
+    const { data } = drawing.pen.getImageData(view.x(turn), top + 2, 3, 28);
+    const seen = at => data.some((it, place) => place % 4 === at && it > 100);
+    return ["faint", "disk", "grid"].filter((_, at) => seen(at));
+  };
+  canvas.remove();
+  return { texts, coloursOf };
+}
+
+const PICTURE = {
+  first: 0, end: 100, reached: 100, step: 1, isMade: true, looks: [], interrupts: [],
+  listsAllTurns: true, disk: { bars: [{ begin: 50, end: null, name: "read" }], busy: [] },
+  text: { bytes: [], printed: 0, each: 1 },
+  words: [{ name: "core 002000", isWhole: true, values: [{ turn: 0, word: 5, writer: "" }] }],
+};
+
+export function test_no_part_of_a_picture_is_drawn_for_other_turns() {
+  const { coloursOf } = drawn(PICTURE, { first: 0, span: 200 });
+  equal(["disk", "core 002000"].map(it => coloursOf(it, 60)), [["disk"], ["faint"]]);
+  equal(["disk", "core 002000", "console"].map(it => coloursOf(it, 150)),
+    [["grid"], ["grid"], ["grid"]]);
+  const growing = { ...PICTURE, isMade: false, reached: 60 };
+  equal(["kernel PC", "disk", "console"].map(it => drawn(growing, { first: 0, span: 100 })
+    .coloursOf(it, 30)), [[], ["grid"], ["grid"]]);
+  equal(drawn(growing, { first: 0, span: 100 }).coloursOf("kernel PC", 80), ["grid"]);
+}
+
+export function test_letters_that_do_not_fit_are_no_text() {
+  const at = (turn, letter) => ({ turn, byte: letter.charCodeAt(0) });
+  const bytes = [at(10, "A"), at(50, "C"), at(50.2, "A"), at(50.4, "T"), at(50.6, "S"), at(90, "B")];
+  const lettersOf = text => drawn({ ...PICTURE, text }, { first: 0, span: 100 }).texts
+    .filter(it => /^([A-Z]$|stroke)/.test(it));
+  equal(lettersOf({ bytes, printed: 6, each: 1 }), ["A", "B", "stroke: a byte"]);
+  equal(lettersOf({ bytes, printed: 60, each: 10 }), ["stroke: a byte"]);
+  equal(lettersOf({ bytes: bytes.slice(0, 2), printed: 2, each: 1 }), ["A", "C"]);
+}
+
+export function test_numbers_are_not_cut_at_the_edge() {
+  const values = [{ turn: 5, word: 0o170, writer: "cpu" }, { turn: 99, word: 0o176, writer: "cpu" }];
+  const words = [{ ...PICTURE.words[0], values }];
+  const { texts } = drawn({ ...PICTURE, words }, { first: 0, span: 100 });
+  equal(texts.filter(it => it.startsWith("17")), ["170 cpu"]);
+}
+
+export function test_a_refusal_is_never_a_value() {
+  const parsers = {
+    registersOf, devicesOf, pagesOf, turnsOf, interruptsOf, writesOf, lastOf, wordsOf, turnOf,
+    eventOf, lengthOf, bytesOf, tailOf,
+  };
+  const taken = Object.entries(parsers).filter(([, parse]) => {
+    try {
+      parse("refused 4 OutsideDisk", 100);
+      return true;
+    } catch (error) {
+      return !(error instanceof WrongReply);
+    }
+  });
+  equal(taken.map(([name]) => name), []);
+}
+
+export function test_what_the_disk_does_in_words() {
+  const devices = { diskFunction: "seek", wordCount: 65_536, sector: 12, drive: 1, busAddress: 0 };
+  equal(functionInWords(devices), "seek of sector 12 of drive 1");
+  const { sector } = devicesOf("devices RKCS 000004 RKWC 177400 RKBA 030000 RKDA 000017");
+  equal(sector, null);
+}
+
+export function test_options_are_read_as_a_shell_reads_them() {
+  const words = ["--start", "2000", "--disk", "a 'b\".disk"];
+  equal(shellWords(optionText(optionLines(words)), ""), words);
+  const long = ["--disk", "x".repeat(400)];
+  equal(shellWords(optionText(["# first", ...optionLines(long), "regs 1"]), ""), long);
+  equal(optionLines(long).map(it => it.length < 200), [true, true, true]);
+  equal([optionText(["regs 1", "#! --start 2"]), optionText(["#!"])], [null, " "]);
 }
