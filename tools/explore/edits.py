@@ -39,6 +39,8 @@ def redo(explorer: Explorer, arguments: Arguments) -> Iterator[str]:
         raise ExploreError("nothing was taken back, or an edit came after it")
     step = steps.undone[-1]
     explorer.machine.begin()
+    if explorer.machine.file is not None:
+        explorer.machine.file.begins(step.line)
     with INTERRUPTS.held():
         if step.starts:
             begin_as(explorer.machine, step.starts[1])

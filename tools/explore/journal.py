@@ -1,9 +1,10 @@
 """The journal: a session on the disk that has each edit at once, so that no edit is lost with the
 terminal or with the power."""
 import os
+import shlex
 import threading
 import time
-from contextlib import contextmanager
+from contextlib import contextmanager, suppress
 from dataclasses import dataclass, field, replace
 from pathlib import Path
 from typing import Iterator, Optional, Sequence
@@ -12,13 +13,17 @@ from .errors import ExploreError
 from .files import is_locked_here
 from .in_words import counted
 from .language import is_edit
-from .options import MARK
+from .options import LONGEST_PART, MARK, Options, option_text, options_of_words
 
 ENDING = ".journal"
 MOST_KEPT = 30
 SECONDS_BETWEEN_SYNCS = 0.05
 AT_THE_PROMPT = "# at the prompt"
 OF_SESSION = "# session "
+# Comments before the edits of a line at the prompt: the line, and the options that it changed, as
+# they were before.
+OF_LINE, OPTIONS_BEFORE = "# line ", "#<"
+LOCKS = Path("/proc/locks")
 
 
 def state_folder() -> Optional[Path]:
@@ -27,37 +32,82 @@ def state_folder() -> Optional[Path]:
     return Path(folder) / "nezdrab" if os.path.isabs(folder) else None
 
 
-@dataclass(frozen=True)
-class Contents:
-    """What a journal has: its session's name, the session's edits, those of the prompt, and where
-    each of the latter ends, in bytes. What follows the last line feed was cut off."""
+@dataclass
+class KeptStep:
+    """A line at the prompt, its edits, and the lines of the options that it changed."""
 
-    session: str
-    of_session: list[str]
-    edits: list[str]
-    ends: list[int]
+    line: str
+    edits: list[str] = field(default_factory=list)
+    before: list[str] = field(default_factory=list)
+    is_marked: bool = True  # an edit without a comment is a step by itself
+
+    def options_before(self, path: Path) -> Optional[Options]:
+        """The options before this line, if it changed them. Their paths are absolute."""
+        text = option_text(MARK + it[len(OPTIONS_BEFORE) :] for it in self.before)
+        return None if text is None else options_of_words(shlex.split(text), str(path), path.parent)
+
+
+@dataclass
+class Contents:
+    """What a journal has: its session's name, the session's edits, the steps at the prompt, and
+    where each edit of these ends, in bytes. What follows the last line feed was cut off."""
+
+    session: str = "none"
+    of_session: list[str] = field(default_factory=list)
+    steps: list[KeptStep] = field(default_factory=list)
+    ends: list[int] = field(default_factory=list)
+
+    @property
+    def edits(self) -> list[str]:
+        return [edit for step in self.steps for edit in step.edits]
 
     @classmethod
     def of(cls, path: Path) -> "Contents":
         """What this file has. An error if it is no journal."""
-        found = cls("none", [], [], [])
-        session, at = "none", 0
+        found, at = cls(), 0
         for number, line in enumerate(path.read_bytes().split(b"\n")[:-1], 1):
             at += len(line) + 1
             text = line.decode(errors="surrogateescape")
-            if text == AT_THE_PROMPT:
-                found.ends.append(at)
-            elif text.startswith(OF_SESSION):
-                session = text[len(OF_SESSION) :]
-            elif is_edit(text):
-                (found.edits if found.ends else found.of_session).append(text)
-                if found.ends:
-                    found.ends.append(at)
-            elif not text.startswith("#"):
+            if is_edit(text):
+                found._take_edit(text, at)
+            elif text.startswith("#"):
+                found._take_comment(text, at)
+            else:
                 raise ExploreError(f"{path}:{number}: no line of a journal")
         if not found.ends:
             raise ExploreError(f"{path} is no journal")
-        return replace(found, session=session)
+        found.steps = [it for it in found.steps if it.edits]
+        return found
+
+    def _take_edit(self, text: str, end: int) -> None:
+        if not self.ends:
+            self.of_session.append(text)
+            return
+        if not self.steps or not self.steps[-1].is_marked:
+            self.steps.append(KeptStep(text, is_marked=False))
+        self.steps[-1].edits.append(text)
+        self.ends.append(end)
+
+    def _take_comment(self, text: str, end: int) -> None:
+        if text == AT_THE_PROMPT:
+            self.ends.append(end)
+        elif text.startswith(OF_SESSION):
+            self.session = text[len(OF_SESSION) :]
+        elif text.startswith(OF_LINE):
+            self.steps.append(KeptStep(text[len(OF_LINE) :]))
+        elif text.startswith(OPTIONS_BEFORE) and self.steps:
+            self.steps[-1].before.append(text)
+
+
+def holder_in_words(handle: int) -> str:
+    """The process that has locked a file, if the system tells."""
+    file = os.fstat(handle).st_ino
+    with suppress(OSError, ValueError):
+        for line in LOCKS.read_text().splitlines():
+            _, kind, _, _, process, place, *_ = line.split()
+            if kind == "FLOCK" and int(place.rpartition(":")[2]) == file and int(process) > 0:
+                return f", process {process}"
+    return ""
 
 
 def opened(path: Path, flags: int) -> int:
@@ -69,8 +119,9 @@ def opened(path: Path, flags: int) -> int:
     except OSError as error:
         raise ExploreError(f"{path}: {error.strerror}") from error
     if not is_locked_here(handle):
+        holder = holder_in_words(handle)
         os.close(handle)
-        raise ExploreError(f"{path} is in use by another explore")
+        raise ExploreError(f"{path} is in use by another explore{holder}")
     return handle
 
 
@@ -100,6 +151,7 @@ class Journal:
     is_own: bool = False
     handle: Optional[int] = None
     ends: list[int] = field(default_factory=list)
+    marks: list[str] = field(default_factory=list)  # that stand before the next edit
     waiting: list[str] = field(default_factory=list)
     options: Optional[Sequence[str]] = None  # those that wait to be written
     fault: str = ""
@@ -119,9 +171,17 @@ class Journal:
         os.ftruncate(handle, ends[-1])
         return cls((), path, is_own, handle, ends)
 
+    def begins(self, line: str) -> None:
+        """The next edits are those of this line at the prompt, so one step for `undo`."""
+        data = line.replace("\n", " ").encode(errors="surrogateescape")
+        cut = " .." if len(data) > LONGEST_PART else ""
+        self.marks = [f"{OF_LINE}{data[:LONGEST_PART].decode(errors='surrogateescape')}{cut}"]
+
     def add(self, before: Sequence[str], edits: Sequence[str]) -> None:
         """Writes edits that were taken after these. What can't be written waits for the next."""
-        self.waiting += edits
+        if edits:
+            self.waiting += ["\n".join([*self.marks, edits[0]]), *edits[1:]]
+            self.marks = []
         try:
             if self.handle is None:
                 self._create(before)
@@ -134,9 +194,10 @@ class Journal:
             said = error.strerror if isinstance(error, OSError) else str(error)
             self.fault = f"the journal can't be written: {said}"
 
-    def change_options(self, lines: Sequence[str]) -> None:
-        """Puts these lines of options in the place of those that it has. If the file can't be
-        written, they wait for the next edit."""
+    def change_options(self, before: Sequence[str], lines: Sequence[str]) -> None:
+        """Puts lines of options in the place of those before. If the file can't be written, they
+        wait for the next edit."""
+        self.marks += [OPTIONS_BEFORE + it[len(MARK) :] for it in before]
         self.heading = [*lines, *(it for it in self.heading if not it.startswith(MARK))]
         if self.handle is not None:
             self.options = lines
@@ -235,13 +296,13 @@ def kept_journals() -> Iterator[Path]:
     yield from (path for _, path in sorted(found, reverse=True))
 
 
-def is_free(path: Path) -> bool:
-    """Whether no explore has it."""
+def holder_of(path: Path) -> str:
+    """That another explore has it, or why it can't be opened; nothing if it is free."""
     try:
         os.close(opened(path, 0))
-    except ExploreError:
-        return False
-    return True
+    except ExploreError as error:
+        return str(error)
+    return ""
 
 
 def new_path() -> Path:
@@ -251,20 +312,27 @@ def new_path() -> Path:
         raise ExploreError("there is no folder for it")
     folder.mkdir(parents=True, exist_ok=True)
     for path in [*kept_journals()][MOST_KEPT - 1 :]:
-        if is_free(path):
+        if not holder_of(path):
             path.unlink(missing_ok=True)
     return folder / f"{time.strftime('%Y%m%d-%H%M%S')}-{os.getpid()}{ENDING}"
 
 
+def with_edits() -> Iterator[Path]:
+    """The journals with edits, the newest first."""
+    for path in kept_journals():
+        with suppress(ExploreError, OSError):
+            if Contents.of(path).edits:
+                yield path
+
+
 def newest() -> Optional[Path]:
     """The newest journal with edits that no explore has."""
-    for path in kept_journals():
-        try:
-            if is_free(path) and Contents.of(path).edits:
-                return path
-        except (ExploreError, OSError):
-            pass
-    return None
+    return next((it for it in with_edits() if not holder_of(it)), None)
+
+
+def in_use() -> str:
+    """That another explore has the newest journal with edits, if one has it."""
+    return next(filter(None, map(holder_of, with_edits())), "")
 
 
 def told() -> Iterator[str]:

@@ -3,22 +3,23 @@ import argparse
 import os
 import subprocess
 import sys
+from dataclasses import replace
 from pathlib import Path
 from typing import Iterator, Optional
 
 import sessions
 
-from .commands import Explorer
+from .commands import Explorer, Step
 from .disassembly import Disassembler
 from .errors import ExploreError
 from .in_words import counted
 from .interrupts import INTERRUPTS
-from .journal import OF_SESSION, Contents, Journal, newest, state_folder, told
+from .journal import OF_SESSION, Contents, Journal, in_use, newest, state_folder, told
 from .language import explanation
 from .load import warnings_of
 from .machine import Machine, Start, existing_program, in_parts, is_refused
-from .options import Options, Parser, add_options, check_options, option_lines, options_of
-from .options import words_of_options
+from .options import Options, Parser, add_options, check_options, check_session
+from .options import option_lines, options_of, words_of_options
 from .output import Unwritable, complain, fault_in_words, flush
 from .output import leave_streams, prepare_streams, put
 from .past import Past
@@ -137,7 +138,7 @@ def resumed(found: argparse.Namespace) -> Path:
         raise ExploreError("--resume takes up a journal: there is no SESSION and no --journal")
     path = Path(found.resume) if found.resume else newest()
     if path is None:
-        raise ExploreError("no journal with edits is kept")
+        raise ExploreError(in_use() or "no journal with edits is kept")
     return path
 
 
@@ -164,19 +165,30 @@ def take_up(explorer: Explorer, path: Path, is_kept_on: bool) -> Iterator[str]:
     replies = machine.edit_all([*contents.of_session, *contents.edits])
     refused = [it for it in replies if is_refused(it)]
     if refused:
-        raise ExploreError(f"{path} has {counted(len(refused), 'edit')} that can't be made: {refused[0]}")
+        count = counted(len(refused), "edit")
+        raise ExploreError(f"{path} has {count} that can't be made: {refused[0]}")
     machine.file = journal
-    steps.count = len(contents.of_session)
+    steps.count = len(machine.journal)
     explorer.saved = list(contents.of_session)
-    for edit in contents.edits:
-        steps.note(edit, machine.journal[: steps.count + 1])
+    steps.done = taken_steps(contents, path, machine.start)
     yield f"{counted(len(contents.edits), 'edit')} taken up (session: {contents.session})"
+
+
+def taken_steps(contents: Contents, path: Path, start: Start) -> list[Step]:
+    """The steps of a journal, whose options are those of this start by now."""
+    steps: list[Step] = []
+    for kept in reversed(contents.steps):
+        options = kept.options_before(path)
+        before = start if options is None else replace(start, options=words_of_options(options))
+        steps.insert(0, Step(kept.line, kept.edits, None if options is None else (before, start)))
+        start = before
+    return steps
 
 
 def begun(found: argparse.Namespace) -> Explorer:
     """The machine with the session's edits, and what shows instructions."""
-    if found.session and not Path(found.session).is_file():
-        raise ExploreError(f"{found.session}: no such file")
+    if found.session:
+        check_session(Path(found.session))
     taken_up = resumed(found) if found.resume is not None else None
     session = Path(found.session) if found.session else None
     options = options_of(found, taken_up or session)

@@ -170,6 +170,20 @@ def option_text(lines: Iterable[str]) -> Optional[str]:
     return text if is_there else None
 
 
+def check_session(path: Path) -> None:
+    """An error if this is no file that can be read twice: its options first, then its lines."""
+    try:
+        mode = path.stat().st_mode
+    except FileNotFoundError:
+        raise ExploreError(f"{path}: no such file") from None
+    except OSError as error:
+        raise ExploreError(f"{path}: {error.strerror}") from error
+    if stat.S_ISDIR(mode):
+        raise ExploreError(f"{path} is a folder")
+    if not stat.S_ISREG(mode):
+        raise ExploreError(f"{path} is no plain file; ./explore < {path} reads its lines")
+
+
 def options_of_session(path: Path) -> Options:
     """The options in a session, or without any, those of a file beside it with the ending .args,
     one word a line."""

@@ -74,6 +74,8 @@ class Prompt:
             return False
         word = sessions.first_word(bare)
         rest, name = bare[len(word) :].lstrip(BLANKS), word.rstrip("!")
+        if self.explorer.machine.file is not None:
+            self.explorer.machine.file.begins(bare)
         try:
             if name in ENDS:
                 self.end(is_dropped=word != name)

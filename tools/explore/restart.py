@@ -36,7 +36,8 @@ def begin_as(machine: Machine, start: Start) -> None:
         machine.start = before
         raise
     if machine.file is not None:
-        machine.file.change_options(list(option_lines(options_of(start))))
+        lines = [list(option_lines(options_of(it))) for it in (before, start)]
+        machine.file.change_options(*lines)
 
 
 def make(

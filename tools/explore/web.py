@@ -9,7 +9,7 @@ from webassembly import files as modules
 
 from .errors import ExploreError
 from .files import OUTPUT, write_whole
-from .options import FILES, Options, Parser, add_options, check_options, options_of
+from .options import FILES, Options, Parser, add_options, check_options, check_session, options_of
 from .output import complain, put
 
 PAGE = modules.ROOT / "web" / "index.html"
@@ -105,8 +105,8 @@ def write_page(to: Path, text: str) -> None:
 def show_page(words: list[str]) -> None:
     found = arguments(words)
     session = found.session
-    if session and not session.is_file():
-        raise ExploreError(f"{session}: no such file")
+    if session:
+        check_session(session)
     options = options_of(found, session)
     check_options(options, found, session)
     text = page_of(session_for_page(session, options), found.programs)

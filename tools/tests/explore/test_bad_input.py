@@ -1,4 +1,5 @@
 """Input that is wrong: each ends with a message, and nothing is lost."""
+import os
 import signal
 import subprocess
 import sys
@@ -26,8 +27,11 @@ class BadInput(Case):
     def test_no_session(self) -> None:
         self.fails("explore: missing.session: no such file", "missing.session")
 
-    def test_a_folder_as_a_session(self) -> None:
-        self.fails("explore: examples: no such file", "examples")
+    def test_sessions_that_are_no_files(self) -> None:
+        os.mkfifo(self.folder / "pipe")
+        self.fails("explore: examples is a folder\n", "examples")
+        said = "explore: pipe is no plain file; ./explore < pipe reads its lines\n"
+        self.fails(said, "pipe")
 
     def test_no_program(self) -> None:
         self.fails("explore: missing: no such program", "--program", "missing")

@@ -6,6 +6,7 @@ import subprocess
 from pathlib import Path
 
 from .common import SECONDS
+from .media import tape, words
 from .terminal import AtTerminal
 
 PAST = "regs 40\nevents\npatches\n"
@@ -13,6 +14,8 @@ PAST = "regs 40\nevents\npatches\n"
 
 class Journals(AtTerminal):
     """The journal of a run, and the one that takes it up."""
+
+    LINE = "# line core 2000 5\ncore 2000 5\n"
 
     def journals(self) -> list[Path]:
         return sorted((self.folder / "state" / "nezdrab").glob("*.journal"))
@@ -69,7 +72,36 @@ class Journals(AtTerminal):
         self.child.wait(SECONDS)
         (journal,) = self.journals()
         edits = journal.read_text().split("# at the prompt\n")[1]
-        self.assertEqual(edits, "core 2000 123\nat 5 key 101\nat 8 key 7\n")
+        lines = ("core 2000 123", "at 5 key 101", "at 8 key 7")
+        self.assertEqual(edits, "".join(f"# line {it}\n{it}\n" for it in lines))
+
+    def test_a_line_is_taken_back_whole(self) -> None:
+        """As it was made, with the options that it changed, and made again."""
+        for name, at in (("it", 0o2000), ("other", 0o3000)):
+            data = tape((at, words(0o12700, 5, 0)), start=at)
+            (self.folder / name).write_bytes(data)
+        # TSTB @#177560; BPL .-4; MOVB @#177562,R0; BR: each key is taken
+        taking = ["105737", "177560", "100375", "113700", "177562", "772"]
+        lines = "load it\nload other\ncore 1000 7\ndrop from 9\n"
+        lines += "".join(f"core {0o3000 + 2 * at:o} {it}\n" for at, it in enumerate(taking))
+        lines += f"type 'ab{'c' * 300}' from 5\nundo\nredo\n"
+        begun = self.explore(lines, "--units", "4", "--journal", "mine")
+        self.assertIn("made again: type 'abccc", begun)
+        self.explore("regs 0\n", (self.folder / "mine").name)  # it is a session too
+        self.assertEqual(self.error, "")
+        undone = "undo\nredo\n" + "undo\n" * 10 + "regs 0\npatches\nmem 0 100000 1\nundo\n"
+        written = self.explore(undone, "--resume", "mine").splitlines()
+        self.assertEqual(written[0], "313 edits taken up (session: none)")
+        self.assertRegex(written[1], r"^taken back: type 'abc+ \.\. \(302 edits\)$")
+        self.assertEqual(written[2], written[1].replace("taken back", "made again"))
+        self.assertEqual(written[10], "taken back: core 1000 7")
+        self.assertEqual(written[11], "taken back: load other (2 edits)")
+        self.assertEqual(written[12], "taken back: load it (2 edits)")
+        self.assertIn("PC 001000", written[13])
+        self.assertEqual(written[14:16], ["patches 0", "refused 2 OutsideCore"])
+        self.assertTrue(written[17].startswith("undo: no edit was made here"), written)
+        journal = (self.folder / "mine").read_text()
+        self.assertEqual(journal, "#! --units 4\n# session none\n# at the prompt\n")
 
     def test_a_line_that_was_cut_off(self) -> None:
         """Of a last line without its end nothing is known."""
@@ -107,20 +139,26 @@ class Journals(AtTerminal):
         self.begin("--resume")
         self.wait_for(b"3 edits taken up")
         (journal,) = self.journals()
-        self.assertEqual(self.explore("", "--resume", status=1), "")
-        self.assertIn("no journal with edits is kept", self.error)
-        self.assertEqual(self.explore("", "--resume", str(journal), status=1), "")
-        self.assertIn("is in use by another explore", self.error)
+        said = f"explore: {journal} is in use by another explore, process {self.child.pid}\n"
+        for words in (("--resume",), ("--resume", str(journal))):
+            self.assertEqual(self.explore("", *words, status=1), "")
+            self.assertEqual(self.error, said)
         self.end()
+        self.explore("", "--resume", str(self.folder), status=1)
+        self.assertIn("Is a directory", self.error)
+        journal.unlink()
+        self.explore("", "--resume", status=1)
+        self.assertIn("no journal with edits is kept", self.error)
 
     def test_a_file_of_its_own_and_none(self) -> None:
         self.explore("core 2000 5\nat 3 key 7\nundo\n", "--journal", "mine")
         text = (self.folder / "mine").read_text()
-        self.assertEqual(text, "#!\n# session none\n# at the prompt\ncore 2000 5\n")
+        self.assertEqual(text, f"#!\n# session none\n# at the prompt\n{self.LINE}")
         self.explore("core 2000 7\n", "--journal", "mine", status=1)
         self.assertIn("mine is there already; --resume mine takes it up", self.error)
         self.explore("core 2002 7\n", "--resume", "mine")
-        self.assertTrue((self.folder / "mine").read_text().endswith("5\ncore 2002 7\n"))
+        last = self.LINE + self.LINE.replace("2000 5", "2002 7")
+        self.assertTrue((self.folder / "mine").read_text().endswith(last))
         self.begin("--no-journal")
         self.type("core 2000 5\n")
         self.wait_for(b"ok")
@@ -162,7 +200,8 @@ class Journals(AtTerminal):
         self.assertEqual(ended.stdout.count(told), 1)
         self.assertIn("patches 512\n", ended.stdout)
         journal = (self.folder / "mine").read_text()
-        self.assertTrue(f"#!\n# session none\n# at the prompt\n{lines}".startswith(journal))
+        marked = "".join(f"# line {it}\n{it}\n" for it in lines.splitlines())
+        self.assertTrue(f"#!\n# session none\n# at the prompt\n{marked}".startswith(journal))
         self.assertTrue(journal.endswith(" 5\n"))
 
 

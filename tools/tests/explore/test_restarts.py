@@ -108,9 +108,9 @@ class Killed(AtTerminal):
         self.begin("--resume")
         self.wait_for(b"3 edits taken up")
         self.type("undo\n")
-        self.wait_for(b"taken back: core 2002 5")
+        self.wait_for(b"taken back: load it (2 edits)")
         self.type("redo\n")
-        self.wait_for(b"made again")
+        self.wait_for(b"made again: load it (2 edits)")
         self.type("regs 2\n")
         self.wait_for(b"R0 000005")
         self.type("mem 2 3000 1\n")
@@ -123,7 +123,8 @@ class Full(Media):
 
     def test_the_options_wait(self) -> None:
         self.put("it", tape((0o2000, words(0)), start=0o2000))
-        edits = "".join(f"core {it:o} 5\n" for it in range(0o3000, 0o3000 + 2 * 82, 2))
+        edits = "core 2774 177777\ncore 2776 177777\n"
+        edits += "".join(f"core {it:o} 5\n" for it in range(0o3000, 0o3000 + 2 * 29, 2))
         lines = f"{edits}load it\nregs 0\nundo\nload it\ncore 3000 5\nsave my.session\nquit!\n"
         limited = ["bash", "-c", 'ulimit -f 1; trap "" XFSZ; exec "$@"', "bash"]
         ended = subprocess.run(
@@ -136,7 +137,7 @@ class Full(Media):
             timeout=SECONDS,
         )
         self.assertEqual(ended.stderr, "")
-        written = ended.stdout.splitlines()[82:]
+        written = ended.stdout.splitlines()[31:]
         full = "the journal can't be written: File too large; edits are in memory alone"
         self.assertIn("0 patches, start 2000 (started again)", written[0])
         self.assertEqual(written[1], full)
