@@ -4,6 +4,7 @@ import os
 import re
 import shlex
 import stat
+from contextlib import closing
 from dataclasses import dataclass, field
 from pathlib import Path
 from typing import Container, Iterator, Optional, Sequence
@@ -67,30 +68,32 @@ class Sweep:
 
     def check(self, machine: Machine) -> None:
         """Tries the event and the question, once, on a twin."""
-        twin = machine.twin()
-        try:
-            self.asked_of(twin, f"at {self.turns[0]} {self.event}")
-        finally:
-            twin.close()
+        with closing(machine.twin()) as twin:
+            self.with_event(twin, f"at {self.turns[0]} {self.event}")
 
     def work(self, twin: Machine, turn: int) -> str:
-        """The reply with the event at this turn. A twin has the event once, and moves it on."""
+        """The reply with the event at this turn. A twin has the event once, and moves it on. Back in
+        its own turn it would be the last of its events: there a further twin has it unmoved."""
+        if self.number is not None and twin.past.events[self.number].turn == turn:
+            with closing(twin.twin()) as unmoved:
+                return self.with_event(unmoved, f"alter {self.number} {turn} {self.event}")[1]
         added = (it for it in twin.past.events if it > self.last_event)
         number = self.number or next(added, None)
         edit = f"{'at' if number is None else f'alter {number}'} {turn} {self.event}"
-        edited, reply = self.asked_of(twin, edit)
+        edited, reply = self.with_event(twin, edit)
         if number is None:
             twin.past.apply(edit, edited)  # lines that are asked aren't noted
-        return reply.replace("\n", " / ")
+        return reply
 
-    def asked_of(self, twin: Machine, edit: str) -> list[str]:
-        """The replies to an edit and the question. An error if one is refused."""
+    def with_event(self, twin: Machine, edit: str) -> tuple[str, str]:
+        """The replies to an edit and the question, in one line each. An error if one is refused."""
         lines = [edit, self.question]
         replies = list(twin.ask_all(lines))
         for line, reply in zip(lines, replies):
             if is_refused(reply):
                 raise ExploreError(f"{line}: {reply}: {explanation(line, reply, twin.past)}")
-        return replies
+        edited, reply = (it.replace("\n", " / ") for it in replies)
+        return edited, reply
 
     def stride(self) -> Optional[int]:
         """A stride with which a state is kept shortly before the first turn, so that each further

@@ -84,6 +84,13 @@ class Sweeps(AtTerminal):
         self.assertEqual(written[4], "2 turns, 1 run of equal replies")
         self.assertEqual(len(self.results()), 3)
 
+    def test_an_event_in_its_own_turn_is_where_it_was(self) -> None:
+        """Of two keys of a turn the second one counts, whichever turn a sweep begins with."""
+        lines = "at 5 key 101\nat 5 key 102\ndevices 6\nsweep -j 1 1 from 4 to 5: devices 6\n"
+        written = self.explore(lines).splitlines()
+        self.assertIn("TKB 000102", written[2])
+        self.assertEqual(written[3], f"turns 4 to 5: {written[2]}")
+
     def test_what_is_refused_leaves_no_file(self) -> None:
         (self.folder / "mine").write_text("old")
         before = sorted(self.folder.iterdir())
