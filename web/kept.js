@@ -63,10 +63,12 @@ export async function firstSession() {
     const text = read(keyOfPage());
     if (text !== null) return await sessionOfText(text);
   } catch {
-    keep(keyOfPage(), null);
+    forgetSession();
   }
   return packedSession();
 }
+
+export const forgetSession = () => keep(keyOfPage(), null);
 
 /** Keeps a session that was opened. One that is too large isn't kept. */
 export async function keepSession(session) {

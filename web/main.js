@@ -3,7 +3,7 @@
 import { App } from "./app.js";
 import { Console } from "./console.js";
 import { takeDrops } from "./files.js";
-import { firstSession } from "./kept.js";
+import { firstSession, forgetSession } from "./kept.js";
 import { keepLook } from "./look.js";
 import { element } from "./page.js";
 import { placeOf } from "./place.js";
@@ -74,7 +74,12 @@ function begin() {
   }
   addEventListener("beforeunload", event => app.edits.areUnsaved() && event.preventDefault());
   app.attempt(async () => {
-    await app.open(await firstSession(), placeOf(location.hash));
+    try {
+      await app.open(await firstSession(), placeOf(location.hash));
+    } catch (error) {
+      forgetSession();
+      throw error;
+    }
     document.documentElement.dataset.state = "ready";
   });
   return app;

@@ -26,10 +26,16 @@ export function rowsOf({ first, end, events, gone, picture, ghost, part }) {
   const now = picture ? rowsOfPicture(picture) : [];
   const keyOf = it => `${it.turn} ${it.lane} ${it.what}`;
   const known = new Set(now.map(keyOf));
-  const old = ghost ? rowsOfPicture(ghost).filter(it => !known.has(keyOf(it))) : [];
+  const old = isBeside(picture, ghost)
+    ? rowsOfPicture(ghost).filter(it => !known.has(keyOf(it))) : [];
   const olds = old.map(it => ({ ...it, lane: `${it.lane}, old past` }));
   return [...rows, ...lost, ...now, ...olds].filter(isInSight).sort((a, b) => a.turn - b.turn);
 }
+
+/** Whether two pictures are whole and of the same turns, so that each row of one may be missed in
+    the other. */
+const isBeside = (one, other) => Boolean(one?.isMade && other?.isMade)
+  && one.first === other.first && one.end === other.end;
 
 function rowsOfPicture({ first, interrupts, disk, words }) {
   const rows = interrupts.map(({ turn, vector }) => (
@@ -107,10 +113,11 @@ export class Sight {
   }
 
   sentences(left) {
-    const { picture, view } = this.timeline;
-    const isAll = picture?.isMade && picture.first <= view.first && picture.end >= view.end;
-    const found = picture?.isMade ? [othersOf(picture)] : [];
-    if (!isAll) found.push("The machine is still asked for the rest.");
+    const { picture, ghost, view } = this.timeline;
+    const isMade = picture?.isMade && picture.first <= view.first && picture.end >= view.end;
+    const isAll = isMade && (!ghost || isBeside(picture, ghost));
+    const found = isMade ? [othersOf(picture)] : [];
+    if (!isAll) found.push("Not all of it is known yet.");
     if (left.length) found.push(`Left out are ${left.join(", ")}: zoom in for them.`);
     return found.join(" ");
   }

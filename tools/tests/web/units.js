@@ -158,13 +158,18 @@ export function test_the_table_says_what_it_leaves_out() {
   const disk = { bars: [{ begin: null, end: null, title: "read" }], busy: [] };
   const word = { name: "core 002000", isWhole: false, values: [5, 5, 6].map((it, turn) => (
     { turn, word: it, writer: "" })) };
-  const picture = { first: 0, interrupts, disk, words: [word] };
-  const { shown, left } = boundedRows(rowsOf(
-    { first: 0, end: 200, events: [], gone: [], picture, ghost: null, part: null }));
-  equal([shown.length, left], [103, ["50 of interrupt"]]);
+  const picture = { first: 0, end: 200, isMade: true, interrupts, disk, words: [word] };
+  const old = { ...picture, interrupts: [...interrupts, { turn: 190, vector: 0o60 }] };
+  const rows = ghost => boundedRows(rowsOf(
+    { first: 0, end: 200, events: [], gone: [], picture, ghost, part: null }));
+  const { shown, left } = rows(old);
+  equal([shown.length, left], [104, ["50 of interrupt"]]);
   equal(shown.filter(it => it.lane !== "interrupt").map(it => it.what),
     ["under way: read; goes on past what is in sight", "000005 at the left edge",
-      "000006 (a sample)"]);
+      "000006 (a sample)", "060 keyboard"]);
+  const lanes = ghost => rows(ghost).shown.map(it => it.lane);
+  equal([lanes(old).at(-1), lanes({ ...old, isMade: false }).at(-1)],
+    ["interrupt, old past", "interrupt"]);
 }
 
 export function test_differences_are_marked() {
