@@ -74,6 +74,7 @@ class Browser:
         self.session = ""
         self.messages: list[str] = []
         self.dialogs: list[str] = []
+        self.loads = 0
         self.requests: list[str] = []
         self._attach()
 
@@ -130,8 +131,8 @@ class Browser:
         return dict(json.loads(first))
 
     def _note(self, message: dict[str, Any]) -> None:
-        """Keeps what the console says of errors, what is asked of the network, and which dialogs
-        open; each gets a yes."""
+        """Keeps what the console says of errors, what is asked of the network, how many pages were
+        loaded, and which dialogs open; each gets a yes."""
         method, parameters = message.get("method"), message.get("params", {})
         if method == "Runtime.exceptionThrown":
             details = parameters["exceptionDetails"]
@@ -144,6 +145,8 @@ class Browser:
         elif method == "Page.javascriptDialogOpening":
             self.dialogs.append(parameters["type"])
             self._send("Page.handleJavaScriptDialog", accept=True)
+        elif method == "Page.loadEventFired":
+            self.loads += 1
         elif method == "Network.requestWillBeSent":
             self.requests.append(parameters["request"]["url"])
 
@@ -152,18 +155,23 @@ class Browser:
     def open(self, address: str) -> None:
         """Opens an address as in a new tab, and waits until the page is ready."""
         self.value("try { sessionStorage.clear(); } catch {}")
-        self.call("Page.navigate", url="about:blank")
-        self.wait("location.href === 'about:blank'")
+        self._load("Page.navigate", url="about:blank")
         self.messages, self.requests = [], []
-        self.call("Page.navigate", url=address)
+        self._load("Page.navigate", url=address)
         self.wait("document.documentElement?.dataset.state === 'ready'")
 
     def reload(self) -> None:
         """Loads the page again, and waits until it is ready."""
         self.dialogs = []
-        self.value("document.documentElement.dataset.state = 'left'")
-        self.call("Page.reload")
+        self._load("Page.reload")
         self.wait("document.documentElement?.dataset.state === 'ready'")
+
+    def _load(self, method: str, **parameters: Any) -> None:
+        """Calls a method that loads a page, and waits until it is loaded."""
+        before, end = self.loads, time.monotonic() + SECONDS
+        self.call(method, **parameters)
+        while self.loads == before:
+            self._note(self._message(end - time.monotonic()))
 
     def size(self, width: int, height: int, is_dark: bool = False) -> None:
         self.call(
