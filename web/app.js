@@ -2,7 +2,7 @@
 
 import { Comparison } from "./comparison.js";
 import { CursorPanels } from "./cursor.js";
-import { keepSession, keptEdits } from "./kept.js";
+import { firstSession, forgetSession, isOwn, keepSession, keptEdits } from "./kept.js";
 import { notesOf } from "./lanes.js";
 import { Ended, Machine, Stopped } from "./machine.js";
 import { Differences, marked } from "./differences.js";
@@ -116,6 +116,7 @@ export class App {
     this.end = Math.max(run.past.lastTurn(), lastTurnOf(taken)) || 1_000;
     this.symbols = symbolsOfSession(session);
     element("session-name").textContent = visibleName(session.name);
+    element("own").hidden = isOwn(session);
     this.isStory = isStory(session, run.past);
     element("story").hidden = !this.isStory;
     this.timeline.symbols = this.symbols;
@@ -189,6 +190,15 @@ export class App {
       const names = files.map(it => visibleName(it.name)).join(", ");
       const said = element("reply").textContent;
       this.say([`Opened: ${names}.`, ...notes, said].filter(Boolean).join(" "));
+    });
+  }
+
+  /** Opens the page's own session again. */
+  openOwn() {
+    return this.attempt(async () => {
+      forgetSession();
+      await this.open(await firstSession(), {});
+      history.replaceState(null, "", "#");
     });
   }
 

@@ -116,6 +116,7 @@ export class Edits {
   redo() {
     return this.inTurn(async () => {
       await this.app.run.redo();
+      this.app.say("made again");
       this.app.changed();
     });
   }

@@ -57,6 +57,11 @@ function keep(key, text) {
   }
 }
 
+const own = new WeakSet();
+
+/** Whether a session is the one in the page. */
+export const isOwn = session => own.has(session);
+
 /** The session to begin with: the one that was opened in this tab, or the one in the page. */
 export async function firstSession() {
   try {
@@ -65,7 +70,9 @@ export async function firstSession() {
   } catch {
     forgetSession();
   }
-  return packedSession();
+  const session = await packedSession();
+  own.add(session);
+  return session;
 }
 
 export const forgetSession = () => keep(keyOfPage(), null);

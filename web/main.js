@@ -28,6 +28,7 @@ function bindFiles(app) {
     element("files").value = "";
     if (files.length) app.openFiles(files);
   });
+  onClick("own", () => app.openOwn());
   onClick("save", () => app.saveSession());
   onClick("save-page", () => app.savePage());
   takeDrops(document.body, files => app.openFiles(files));

@@ -137,3 +137,8 @@ class Kept(FilesCase):
         self.browser.click("#undo")
         self.count(0)
         self.assertNotEqual(self.type_line("dsk 1 0 2"), before)
+        self.browser.click("#own")
+        self.balance(LOST)
+        self.browser.reload()
+        self.assertIn("ledger", self.browser.text("#session-name"))
+        self.assertTrue(self.browser.value("document.querySelector('#own').hidden"))
