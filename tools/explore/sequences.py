@@ -21,12 +21,12 @@ SEQUENCE = re.compile(
 # Controls of one byte that stand for ESC and another byte, as a terminal of 8 bits or of UTF-8 has
 # them.
 OF_8_BITS, OF_UTF_8 = re.compile(rb"([\x80-\x9f])"), re.compile(rb"\xc2([\x80-\x9f])")
-# What terminals answer: who and how they are, where the cursor is, which modes, colours and texts
-# they have.
+# What xterm and others answer: who and how they are, where the cursor is, which modes, colours and
+# texts they have. Of the strings, a title, a folder and a link may have a `?`.
 QUERY = re.compile(
     rb"\x05|\x1bZ|\x1b\[([=>]?[\d;]*c|\??[\d;]*n|[\d;]*x|(1[1-8]|19|2[01])[\d;]*t|>[\d;]*q|\?u"
-    rb"|\??[\d;]*\$p|[\d;]*(\*y|\$[uw]|&u|'\||#\|)|\?[\d;]*S)"
-    rb"|\x1b\](.*;)?\?.*|\x1b(P[\d;]*[$+]q|_).*",
+    rb"|\??[\d;]*\$p|[\d;]*(\*y|\$[uw]|&u|['#]\||#R|\"v|\+x)|\?[\d;]*[Sgm])"
+    rb"|\x1b\](?!(0|1|2|7|8);).*\?.*|\x1b\](6[01]\b|1337;Re[pq]).*|\x1b(P[\d;]*([$+][qQ]|p)|_).*",
     re.DOTALL,
 )
 MODES = re.compile(rb"\x1b\[(?P<mark>\??)(?P<numbers>[\d;]*)(?P<how>[hl])")

@@ -33,7 +33,7 @@ QUERIES = [b"\x1b[6n", b"\x1b[?6n", b"\x1b[5n", b"\x1b[c", b"\x1b[0c", b"\x1b[>c
 QUERIES += [b"\x05", b"\x1bZ", b"\x1b[x", b"\x1b[18t", b"\x1b[?25$p", b"\x1b[>q", b"\x1b[?u"]
 QUERIES += [b"\x1b]11;?\a", b"\x1b]4;1;?\x1b\\", b"\x1b]52;c;?\a", b"\x1bP$qm\x1b\\"]
 QUERIES += [b"\x1bP+q544e\x1b\\", b"\x1b_Ga=q;\x1b\\", b"\x1b[?2;1S", b"\x1b[1*y", b"\xc2\x9b6n"]
-QUERIES.append(b"\x1b[?1004h")
+QUERIES += [b"\x1b[?1004h", b"\x1b[?4m", b"\x1b[#R", b"\x1b]21;foreground=?\a", b"\x1b]60\a"]
 
 
 class Sorted(Case):
@@ -56,7 +56,7 @@ class Sorted(Case):
 
     def test_what_is_no_query_goes_on(self) -> None:
         for printed, wanted in (
-            (b"\x1b[8;24;80t\x1b[22;0t\x1b[?1c\x1b]0;a title?\a", None),
+            (b"\x1b[8;24;80t\x1b[22;0t\x1b[?1c\x1b]0;a title;?\a\x1b[?1;2r", None),
             (b"\xc5\x9bcz \xe2\x98\x9bZ \x9b6n", None),  # letters of UTF-8, and a byte that is none
             (b"\x1b[\n6n\x1b[6\rn\x1b[6\x1b[cn", b"\n\rn"),
             (b"\x1b[?1004;1000h", b"\x1b[?1000h"),
