@@ -2,7 +2,7 @@
 from dataclasses import dataclass
 from typing import Optional, Sequence
 
-from .children import Child
+from .children import Child, ProgramEnded
 from .errors import ExploreError
 
 
@@ -18,23 +18,37 @@ class Disassembler:
     """Asks the program disassemble. Without it instructions are shown as `.WORD`."""
 
     def __init__(self, program: Optional[str]):
+        self.program = program
         self.child = Child([program]) if program else None
         self.known: dict[tuple[int, ...], Instruction] = {}
 
     def instruction(self, address: int, words: Sequence[int]) -> Instruction:
         """The instruction at this virtual address, from its word and the two that follow."""
-        if self.child is None:
+        if self.program is None:
             return Instruction(1, f".WORD {words[0]:06o}")
         key = (address, *words)
         if key not in self.known:
-            self.child.send([" ".join(f"{it:06o}" for it in key)])
-            reply = self.child.line()
+            reply = self.reply(self.program, " ".join(f"{it:06o}" for it in key))
             count, _, text = reply.partition(" ")
             if not count.isdigit():
                 raise ExploreError(f"the disassembler answers {key} with '{reply}'")
             self.known[key] = Instruction(int(count), text)
         return self.known[key]
 
+    def reply(self, program: str, line: str) -> str:
+        """The reply to a line. If the program ends, or Ctrl-C comes before the reply, the next line
+        starts it again: otherwise it would get the reply to this one."""
+        self.child = self.child or Child([program])
+        try:
+            self.child.send([line])
+            return self.child.line()
+        except BaseException as error:
+            self.close()
+            if isinstance(error, ProgramEnded):
+                raise ExploreError(f"disassemble: {error}") from error
+            raise
+
     def close(self) -> None:
         if self.child is not None:
             self.child.close()
+            self.child = None

@@ -290,7 +290,8 @@ def list_instructions(explorer: Explorer, arguments: Arguments) -> Iterator[str]
     """Shows C instructions as they are in core before turn N, up to 256. A is an address of core,
     as in `mem`. With `kernel` or `user` before it A is an address as a program of that mode has
     it, and goes through its pages. Without `at` N is the current turn. `list` alone shows the 16
-    instructions from its PC on, in its mode. A listing ends where there is no core."""
+    instructions from its PC on, in its mode. A listing ends where there is no core. Above 177777 an
+    address in the text of an instruction lacks its upper bits."""
     machine, turn = explorer.machine, arguments.decimal("turn", explorer.turn)
     address, count = arguments.octal("address"), arguments.decimal("count", SHOWN_AT_ONCE)
     mode = Mode(arguments.text("mode")) if arguments.optional("mode") else None

@@ -1,12 +1,16 @@
 """What is refused is refused by name, and what people type is known."""
 import subprocess
 import sys
+from unittest import mock
 
+from explore.children import Child
 from explore.compare import parts_of_texts
+from explore.disassembly import Disassembler
+from explore.errors import ExploreError
 from explore.machine import LAST_TURN
 from explore.search import not_found
 
-from .common import SECONDS, Case
+from .common import BUILT, SECONDS, Case
 
 ABOVE = "is above 1000000000"
 LAST = "the turns 5 to 999999999"
@@ -160,6 +164,24 @@ class Messages(Case):
         same, ours, theirs = "\\015" * 30, "a" * 50, "b"
         found = parts_of_texts(f"text 80:{same}{ours}", f"text 31:{same}{theirs}")
         self.assertEqual(found, f"..{same[:80]}{ours[:40]}.. | ..{same[:80]}{theirs}")
+
+    def test_a_listing_ends_with_core(self) -> None:
+        written = self.explore("list 37776 3 at 0\n", "--units", "2")
+        self.assertEqual(written, "037776  000000                HALT\n040000  no core is there\n")
+
+    def test_a_disassembler_that_is_stopped(self) -> None:
+        """A reply that nobody read isn't that to the next line."""
+        disassembler = Disassembler(BUILT.disassembler)
+        self.addCleanup(disassembler.close)
+        with mock.patch.object(Child, "line", side_effect=KeyboardInterrupt):
+            with self.assertRaises(KeyboardInterrupt):
+                disassembler.instruction(0o1000, [0o240, 0, 0])
+        self.assertEqual(disassembler.instruction(0o1000, [0, 0, 0]).text, "HALT")
+        assert disassembler.child
+        disassembler.child.process.kill()
+        with self.assertRaisesRegex(ExploreError, "^disassemble: the program ended with status -9$"):
+            disassembler.instruction(0o1002, [0, 0, 0])
+        self.assertEqual(disassembler.instruction(0o1002, [0, 0, 0]).text, "HALT")
 
     def test_words_that_end(self) -> None:
         for word in ("quit", "q", "exit"):
