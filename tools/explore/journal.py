@@ -5,7 +5,7 @@ import shlex
 import threading
 import time
 from contextlib import contextmanager, suppress
-from dataclasses import dataclass, field, replace
+from dataclasses import dataclass, field
 from pathlib import Path
 from typing import Iterator, Optional, Sequence
 
@@ -44,7 +44,11 @@ class KeptStep:
     def options_before(self, path: Path) -> Optional[Options]:
         """The options before this line, if it changed them. Their paths are absolute."""
         text = option_text(MARK + it[len(OPTIONS_BEFORE) :] for it in self.before)
-        return None if text is None else options_of_words(shlex.split(text), str(path), path.parent)
+        try:
+            words = None if text is None else shlex.split(text)
+        except ValueError as error:
+            raise ExploreError(f"{path} can't be read: {error}") from error
+        return None if words is None else options_of_words(words, str(path), path.parent)
 
 
 @dataclass

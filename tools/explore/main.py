@@ -139,6 +139,7 @@ def resumed(found: argparse.Namespace) -> Path:
     path = Path(found.resume) if found.resume else newest()
     if path is None:
         raise ExploreError(in_use() or "no journal with edits is kept")
+    check_session(path)
     return path
 
 

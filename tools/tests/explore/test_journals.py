@@ -145,7 +145,7 @@ class Journals(AtTerminal):
             self.assertEqual(self.error, said)
         self.end()
         self.explore("", "--resume", str(self.folder), status=1)
-        self.assertIn("Is a directory", self.error)
+        self.assertIn("is a folder", self.error)
         journal.unlink()
         self.explore("", "--resume", status=1)
         self.assertIn("no journal with edits is kept", self.error)
@@ -170,6 +170,16 @@ class Journals(AtTerminal):
         self.explore("", "--resume", "my.session", status=1)
         self.assertIn("my.session:2: no line of a journal", self.error)
         self.assertEqual((self.folder / "my.session").read_text(), "core 1000 5\nregs 5\n")
+
+    def test_a_journal_that_was_changed(self) -> None:
+        """Without the comments each edit is a line; options that can't be read are told."""
+        begin = "#!\n# session none\n# at the prompt\n"
+        (self.folder / "bare").write_text(f"{begin}core 2000 5\ncore 2002 5\n")
+        written = self.explore("undo\nundo\nundo\n", "--resume", "bare").splitlines()
+        self.assertEqual(written[1:3], ["taken back: core 2002 5", "taken back: core 2000 5"])
+        (self.folder / "odd").write_text(f"{begin}# line load it\n#< --disk '\ncore 2000 5\n")
+        self.explore("", "--resume", "odd", status=1)
+        self.assertIn("explore: odd can't be read: No closing quotation", self.error)
 
     def test_some_tens_are_kept(self) -> None:
         folder = self.folder / "state" / "nezdrab"
