@@ -181,9 +181,9 @@ def taken_steps(contents: Contents, path: Path, start: Start) -> list[Step]:
     for kept in reversed(contents.steps):
         options = kept.options_before(path)
         before = start if options is None else replace(start, options=words_of_options(options))
-        steps.insert(0, Step(kept.line, kept.edits, None if options is None else (before, start)))
+        steps.append(Step(kept.line, kept.edits, None if options is None else (before, start)))
         start = before
-    return steps
+    return steps[::-1]
 
 
 def begun(found: argparse.Namespace) -> Explorer:

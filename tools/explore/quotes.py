@@ -9,6 +9,7 @@ from .errors import ExploreError
 PLAIN = r"[^\x20\t\"'\\]*"
 QUOTED = r"""(?:"[^"\\]*(?:\\.[^"\\]*)*"|'[^']*'|\\.)"""
 WORD = rf"(?=[^\x20\t]){PLAIN}(?:{QUOTED}{PLAIN})*"
+LONGEST_FILE = 8_192  # with quotes; a path has half of that at most
 RULE = "a FILE or a TEXT with spaces stands in quotes, 'single' or \"double\""
 
 
@@ -22,6 +23,8 @@ def quote_fault(line: str) -> str:
 
 def file_of(word: str) -> str:
     """The path that a word names, as a shell has it."""
+    if len(word) > LONGEST_FILE:
+        raise ExploreError(f"a FILE of {len(word)} characters is longer than any path")
     words = shlex.shlex(word, posix=True)
     words.whitespace, words.whitespace_split, words.commenters = " \t", True, ""
     path = "".join(words)

@@ -116,6 +116,9 @@ class Depth(Case):
         self.assertTrue(said[0].startswith("at T event: there is no event 'x'"), said)
         self.assertTrue(said[1].startswith("disk D I W: D, a drive, is octal, and '9'"), said)
         self.assertEqual(len(machine.past.events), 30_000)
+        shown = list(COMMANDS["events"].lines(Explorer(machine, Disassembler(None)), ""))
+        self.assertEqual(sum(it.count("\n") + 1 for it in shown), 30_001)
+        self.assertLess(len(shown), 50)  # each is written at once
 
     def test_keys_are_typed_where_they_are_free(self) -> None:
         """Those of a program that waits for a while after each key. The program is asked twice a

@@ -135,3 +135,9 @@ class Many(Case):
             written = self.explore(f"at 5 tick\ntype {text}\nevents\n").splitlines()
             self.assertTrue(written[1].startswith(f"type: {full}"), written[1])
             self.assertEqual(written[2], "1 event")
+
+    def test_a_file_with_a_name_that_is_too_long(self) -> None:
+        for line in ("save {}", "load {} at 5", "import {}", "page {} to 3"):
+            written = self.explore(f"{line.format('=' * 1_000_000)}\n")
+            said = "a FILE of 1000000 characters is longer than any path"
+            self.assertEqual(written, f"{line.split()[0]}: {said}\n")
