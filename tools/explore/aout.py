@@ -116,7 +116,8 @@ def symbols_of(table: bytes, rest: bytes) -> tuple[list[Symbol], list[str]]:
 def entries_of(table: bytes) -> Iterator[tuple[bytes, int, int]]:
     """Name, type and value of the symbols of V6, V7 and the earlier 2BSD."""
     if len(table) % ENTRY.size:
-        raise ExploreError(f"the symbol table has {counted(len(table), 'byte')}, not {ENTRY.size} a symbol")
+        size = counted(len(table), "byte")
+        raise ExploreError(f"the symbol table has {size}, not {ENTRY.size} a symbol")
     for padded, kind, value in ENTRY.iter_unpack(table):
         yield padded.rstrip(b"\0"), kind, value
 

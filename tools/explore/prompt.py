@@ -224,14 +224,18 @@ def typed_paths(before: str, text: str) -> list[str]:
 
 
 def paths_from(text: str) -> list[str]:
-    """The files and folders whose path begins so."""
+    """The files and folders whose path begins so, and has nothing that a terminal doesn't show."""
     folder, name = os.path.split(text)
     try:
         with os.scandir(folder or ".") as entries:
             found = [(it.name, it.is_dir()) for it in entries if it.name.startswith(name)]
     except OSError:
         return []
-    is_shown = [(it, is_folder) for it, is_folder in found if name or not it.startswith(".")]
+    is_shown = [
+        (it, is_folder)
+        for it, is_folder in found
+        if it.isprintable() and (name or not it.startswith("."))
+    ]
     return sorted(os.path.join(folder, it) + "/" * is_folder for it, is_folder in is_shown)
 
 

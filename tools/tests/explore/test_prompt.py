@@ -31,6 +31,7 @@ class Terminal(AtTerminal):
     def test_a_path_with_a_space_is_completed_in_quotes(self) -> None:
         (self.folder / "my folder").mkdir()
         (self.folder / "my folder" / "two words").write_text("HERE 1000\n")
+        (self.folder / "my folder" / "two\x1b[5m").write_text("")  # which is no name to show
         self.begin()
         self.type("symbols my\tt\t\n")
         self.wait_for(b'"my folder/two words"')
