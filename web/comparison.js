@@ -1,6 +1,7 @@
 // How two pasts differ: the first turn in which they part, text, core and disk.
 
 import { coreBytes } from "./options.js";
+import { eventsIn } from "./past.js";
 import { Priority } from "./run.js";
 import { WORDS_AT_ONCE, mustBeTaken, wordsOf } from "./replies.js";
 
@@ -38,20 +39,14 @@ export class Comparison {
 
   /** The turns that the edits differ in, upwards; 0 if patches or delays do. */
   editedTurns() {
-    const [now, old] = [this.run.past, this.old.past];
-    const turns = new Set(now.hasSetupOf(old) ? [] : [0]);
-    const texts = past => {
-      const found = new Map();
-      for (const { turn, text } of past.script) {
-        found.set(turn, `${found.get(turn) ?? ""}${text}\n`);
-      }
-      return found;
-    };
-    const [events, olds] = [now, old].map(texts);
-    for (const turn of [...events.keys(), ...olds.keys()]) {
-      if (events.get(turn) !== olds.get(turn)) turns.add(turn);
-    }
-    return [...turns].sort((a, b) => a - b);
+    const pasts = [this.run.past, this.old.past], [now, old] = pasts;
+    const numbers = pasts.flatMap(it => [...it.touched]);
+    const turns = numbers.flatMap(it => pasts.map(past => past.events.get(it)?.turn));
+    const texts = (past, turn) => eventsIn(past.script, turn, turn).map(it => it.text).join("\n");
+    const edited = [...new Set(turns)].filter(it =>
+      it !== undefined && texts(now, it) !== texts(old, it));
+    const all = now.hasSetupOf(old) ? edited : [0, ...edited.filter(it => it > 0)];
+    return all.sort((a, b) => a - b);
   }
 
   /** The first compared turn before which the registers differ. @returns {Part} */

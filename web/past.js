@@ -52,7 +52,7 @@ export class Past {
     this.events = new Map();
     /** all events, in the order in which they happen */
     this.script = [];
-    /** the numbers of the events that were altered or dropped */
+    /** the numbers of the events that were made, altered or dropped since the session was opened */
     this.touched = new Set();
     this.places = 0;
   }
@@ -74,6 +74,7 @@ export class Past {
       const [turn, text] = [Number(rest[0]), rest.slice(1).join(" ")];
       const event = { number: eventOf(reply), turn, text };
       this.events.set(event.number, event);
+      this.touched.add(event.number);
       this.putLast(event, turn);
       return;
     }

@@ -85,7 +85,8 @@ export class Run {
         this.endIfDone(job);
       } catch (error) {
         // the machine was stopped and goes on: an edit is sent again
-        if (!this.machine.closed && this.isEditNext(job)) continue;
+        const goesOn = error instanceof Stopped && !this.machine.closed;
+        if (goesOn && this.isEditNext(job)) continue;
         this.remove(job);
         job.reject(error);
       }
@@ -241,6 +242,7 @@ export class Run {
    */
   async load(lines) {
     const replies = await this.ask(lines.map(askedAtOnce), Priority.EDIT);
+    this.past.touched.clear();
     const found = lines.map((line, at) => ({ number: at + 1, line, reply: replies[at] }));
     return found.filter(it => isRefused(it.reply));
   }

@@ -221,7 +221,8 @@ export class Timeline {
     const { past, oldPast, view } = this;
     const touched = Array.from(past.touched, it => oldPast.events.get(it));
     return touched.filter(it => it && it.turn >= view.first && it.turn <= view.end)
-      .filter(it => !eventsIn(past.script, it.turn, it.turn).some(now => now.text === it.text));
+      .filter(it => !eventsIn(past.script, it.turn, it.turn).some(now => now.text === it.text))
+      .sort((a, b) => a.turn - b.turn);
   }
 
   ghostMarks() {
