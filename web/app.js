@@ -117,6 +117,7 @@ export class App {
     this.symbols = symbolsOfSession(session);
     element("session-name").textContent = visibleName(session.name);
     element("own").hidden = isOwn(session);
+    element("session-kept").hidden = true;
     this.isStory = isStory(session, run.past);
     element("story").hidden = !this.isStory;
     this.timeline.symbols = this.symbols;
@@ -185,7 +186,9 @@ export class App {
       // files that are added to what is open leave its edits
       const isAdded = session.lines === this.session.lines;
       await this.open(session, {}, isAdded ? this.edits.kept() : undefined);
-      this.attempt(() => keepSession(session));
+      this.attempt(async () => {
+        element("session-kept").hidden = await keepSession(session);
+      });
       history.replaceState(null, "", "#");
       const names = files.map(it => visibleName(it.name)).join(", ");
       const said = element("reply").textContent;

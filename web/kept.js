@@ -10,17 +10,25 @@ import { isEdit } from "./past.js";
  *   saved: string | null}} KeptEdits
  */
 
+/** The bytes of a text, or bytes, as words of 32 bits with their count before them. */
+function wordsOf(part) {
+  const bytes = typeof part === "string" ? new TextEncoder().encode(part) : part;
+  const words = new Uint32Array(1 + (bytes.length + 3 >> 2));
+  words[0] = bytes.length;
+  new Uint8Array(words.buffer).set(bytes, 4);
+  return words;
+}
+
 /** A sum of texts and bytes. That two which differ have the same one is hardly ever so. */
 export function sumOf(...parts) {
   let [one, other] = [0x811c9dc5, 0x41c6ce57];
-  const add = code => {
-    one = Math.imul(one ^ code, 0x01000193);
-    other = Math.imul(other ^ code, 0x5f356495);
-  };
-  for (const part of parts) {
-    const isText = typeof part === "string";
-    add(part.length);
-    for (let at = 0; at < part.length; at++) add(isText ? part.charCodeAt(at) : part[at]);
+  for (const words of parts.map(wordsOf)) {
+    for (let at = 0; at < words.length; at++) {
+      one = Math.imul(one ^ words[at], 0x01000193);
+      one ^= one >>> 15;
+      other = Math.imul(other ^ words[at], 0x5f356495);
+      other ^= other >>> 13;
+    }
   }
   return [one, other].map(it => (it >>> 0).toString(36)).join("-");
 }
@@ -28,10 +36,9 @@ export function sumOf(...parts) {
 const sums = new WeakMap();
 
 function keyOfEdits(session) {
-  const { name, arguments: words, lines, files } = session;
+  const { files, ...texts } = session;
   if (!sums.has(session)) {
-    const texts = [name, JSON.stringify([words, lines])];
-    sums.set(session, sumOf(...texts, ...Object.entries(files).flat()));
+    sums.set(session, sumOf(JSON.stringify(texts), ...Object.entries(files).flat()));
   }
   return `nezdrab edits ${sums.get(session)}`;
 }
@@ -77,9 +84,9 @@ export async function firstSession() {
 
 export const forgetSession = () => keep(keyOfPage(), null);
 
-/** Keeps a session that was opened. One that is too large isn't kept. */
+/** Keeps a session that was opened. Returns whether the browser does so: it may be too large. */
 export async function keepSession(session) {
-  keep(keyOfPage(), await textOfSession(session));
+  return keep(keyOfPage(), await textOfSession(session));
 }
 
 /** The edits of a session that were kept, or null. @returns {KeptEdits | null} */

@@ -15,8 +15,13 @@ async function inflated(base64) {
 
 async function deflated(bytes) {
   const stream = new Blob([bytes]).stream().pipeThrough(new CompressionStream("gzip"));
-  const packed = new Uint8Array(await new Response(stream).arrayBuffer());
-  return btoa(Array.from(packed, it => String.fromCharCode(it)).join(""));
+  const packed = await new Response(stream).blob();
+  const reader = new FileReader();
+  return new Promise((resolve, reject) => {
+    reader.onload = () => resolve(reader.result.replace(/^[^,]*,/, ""));
+    reader.onerror = () => reject(reader.error);
+    reader.readAsDataURL(packed);
+  });
 }
 
 const modules = new Map();

@@ -142,3 +142,11 @@ class Kept(FilesCase):
         self.browser.reload()
         self.assertIn("ledger", self.browser.text("#session-name"))
         self.assertTrue(self.browser.value("document.querySelector('#own').hidden"))
+
+    def test_what_the_browser_does_not_keep_is_told(self) -> None:
+        refuses = "Storage.prototype.setItem = () => { throw new Error('full'); }"
+        self.browser.value(f"{refuses}; null")
+        self.drop(EXAMPLES / "first-run.session")
+        self.browser.wait("!document.querySelector('#session-kept').hidden")
+        self.type_line("at 1 key 101")
+        self.browser.wait("!document.querySelector('#edits-kept').hidden")
