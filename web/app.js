@@ -3,9 +3,9 @@
 import { Comparison } from "./comparison.js";
 import { CursorPanels } from "./cursor.js";
 import { firstSession, forgetSession, isOwn, keepSession, keptEdits } from "./kept.js";
-import { notesOf } from "./lanes.js";
+import { NOTHING_SAMPLED, notesOf } from "./lanes.js";
 import { Ended, Machine, Stopped } from "./machine.js";
-import { Differences, marked } from "./differences.js";
+import { Differences } from "./differences.js";
 import { Edits } from "./edits.js";
 import {
   filesTogether, pageOfPast, saveFile, savedName, sessionOfFiles, textOfPast,
@@ -14,13 +14,14 @@ import { FileError } from "./options.js";
 import { delayed, element, make } from "./page.js";
 import { PictureMaker } from "./picture.js";
 import { keepPlace } from "./place.js";
-import { LAST_TURN, octal, readableText, tailOf, visibleName } from "./replies.js";
-import { Priority, Run } from "./run.js";
+import { LAST_TURN, octal, visibleName } from "./replies.js";
+import { Run } from "./run.js";
 import { lastTurnOf, symbolsOfSession } from "./session.js";
 import { Sight } from "./sight.js";
 import { Sweep } from "./sweep.js";
 import { showRefused } from "./refused.js";
-import { STORY, isStory, verdictOf } from "./story.js";
+import { STORY, isStory } from "./story.js";
+import { ConsoleText } from "./text.js";
 import { Timeline } from "./timeline.js";
 import { Watched } from "./watched.js";
 import { WorkBar } from "./work.js";
@@ -48,6 +49,7 @@ export class App {
     this.sweep = new Sweep(this);
     this.tokens = {};
     this.watched = new Watched(this);
+    this.text = new ConsoleText(this);
     this.waiting = { files: [], missing: [] };
     this.differences = new Differences(element("difference"), turn => this.goTo(turn));
     this.drawLater = delayed(60, () => {
@@ -123,7 +125,7 @@ export class App {
     this.timeline.symbols = this.symbols;
     this.timeline.whole = this.end;
     this.watched.words = this.isStory ? STORY.words : [];
-    this.oldText = undefined;
+    this.text.begin();
     const restored = await this.edits.restore(edits);
     this.say([said, restored].filter(Boolean).join(" "));
     this.timeline.ghost = null;
@@ -237,7 +239,7 @@ export class App {
     this.sweep.pastChanged();
     this.console?.pastChanged();
     this.drawPicture();
-    this.showText();
+    this.text.ask();
     this.showCursor();
     this.compare();
   }
@@ -294,38 +296,10 @@ export class App {
   /** What of the picture is sampled, and what isn't known. */
   showNotes(unknown = "The machine is asked: what is hatched isn't known yet.") {
     const { picture } = this.timeline;
-    const notes = [...this.isAsked ? [unknown] : [], ...picture?.isMade ? notesOf(picture) : []];
+    const sampled = picture?.isMade ? notesOf(picture) : [];
+    const notes = this.isAsked ? [unknown, ...sampled.filter(it => it !== NOTHING_SAMPLED)]
+      : sampled;
     element("notes").textContent = notes.join(" ");
-  }
-
-  // The console's text
-
-  showText() {
-    const { run, end } = this;
-    const token = this.token("text");
-    const priority = run.isNear(end) ? Priority.CURSOR : Priority.TEXT;
-    const ask = it => it.askOne(`text ${end}`, priority, token);
-    this.attempt(async () => {
-      const reply = await ask(run);
-      this.showReply(reply);
-      if (this.oldText !== undefined) return;
-      await this.oldIsLoaded;
-      this.oldText = shownText(await ask(this.old)).text;
-      this.showReply(reply);
-    });
-  }
-
-  showReply(reply) {
-    const { text, bytes, isCut } = shownText(reply);
-    const cut = isCut ? `, its last ${bytes.length} bytes` : "";
-    element("text-turn").textContent = `before turn ${this.end}${cut}`;
-    element("text").replaceChildren(...marked(text, this.oldText ?? text));
-    if (!this.old) this.oldText = text;
-    if (!this.isStory) return;
-    const { balance, verdict, isGood } = verdictOf(text, this.run.changes.length > 0);
-    element("balance").textContent = balance;
-    element("verdict").textContent = verdict;
-    element("outcome").className = isGood ? "good" : "bad";
   }
 
   // Edits
@@ -431,10 +405,4 @@ export class App {
     this.panels.want(this.run, this.timeline.cursor);
     this.keepPlaceLater();
   }
-}
-
-/** The text of a reply of `text`, of a long one its end. */
-function shownText(reply) {
-  const { bytes, isCut } = tailOf(reply, MOST_TEXT);
-  return { text: readableText(bytes), bytes, isCut };
 }

@@ -241,7 +241,8 @@ export function markTurn(place, shown, wanted) {
   else if (shown.run !== wanted.run) place.textContent = "still of the session before";
   else {
     const past = isNow ? "" : ", from before the last edit";
-    place.textContent = `${isStale ? "still " : ""}before turn ${shown.turn}${past}`;
+    const still = isStale ? "still " : "";
+    place.textContent = `${still}before turn ${shown.turn}${shown.more ?? ""}${past}`;
   }
 }
 

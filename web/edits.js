@@ -87,7 +87,7 @@ export class Edits {
       const [reply, text] = await run.ask([tried.now, `text ${end}`], Priority.EDIT);
       mustBeTaken(reply);
       this.app.panels.want(run, this.app.timeline.cursor);
-      if (this.tried === tried) this.app.showReply(text);
+      if (this.tried === tried) this.app.text.show(text);
     }
   }
 

@@ -427,6 +427,8 @@ function heightsOf(values) {
   return word => (word - words[0]) / (words.at(-1) - words[0]);
 }
 
+export const NOTHING_SAMPLED = "Each turn in sight is looked at; nothing is sampled.";
+
 /** What is sampled and what is cut in a picture, in sentences. */
 export function notesOf(picture) {
   const { step, listsAllTurns, disk, text, words } = picture;
@@ -440,5 +442,5 @@ export function notesOf(picture) {
   if (text.each > 1) notes.push(`Console: one of each ${text.each} bytes.`);
   const sampled = words.filter(it => it.values && !it.isWhole).map(it => it.name);
   if (sampled.length) notes.push(`Sampled once each ${step} turns, dotted: ${sampled.join(", ")}.`);
-  return notes.length ? notes : ["Each turn in sight is looked at; nothing is sampled."];
+  return notes.length ? notes : [NOTHING_SAMPLED];
 }

@@ -71,6 +71,46 @@ class Stopping(PageCase):
         self.assertNotIn("hatched", self.browser.text("#notes"))
 
 
+class Texts(PageCase):
+    """A session that prints without an end."""
+
+    def setUp(self) -> None:
+        super().setUp()
+        # MOVB #101,@#TPB and a branch back to it
+        words = ("112737", "101", "177566", "774")
+        lines = [f"core {0o1000 + 2 * at:o} {word}" for at, word in enumerate(words)]
+        path = self.folder() / "prints.session"
+        path.write_text("\n".join([*lines, "regs 100", ""]))
+        self.give(path)
+
+    def run_on(self) -> None:
+        """Runs the machine from the cursor on for a moment."""
+        self.browser.click("#terminal-run")
+        self.wait_text("#terminal", "AAAA")
+        self.browser.value("document.activeElement.blur()")
+        self.wait_still()
+
+    def test_what_runs_on_is_not_marked_as_changed(self) -> None:
+        self.type_line("at 5 switches 1")
+        self.run_on()
+        end = self.turn()
+        self.assertGreater(end, 100)
+        self.type_line("at 6 switches 2")
+        self.wait_text("#text-turn", f"before turn {end}")
+        self.wait_still()
+        self.assertNotIn("still", self.browser.text("#text-turn"))
+        self.assertEqual(self.browser.value("document.querySelectorAll('#text ins').length"), 0)
+
+    def test_the_console_keeps_no_text_that_was_undone(self) -> None:
+        self.type_line("at 5 switches 1")
+        self.run_on()
+        self.assertIn("AAAA", self.browser.text("#terminal"))
+        self.browser.click("#undo")
+        self.browser.wait("document.querySelectorAll('#edits li').length === 0")
+        self.wait_still()
+        self.assertEqual(self.browser.text("#terminal"), "")
+
+
 class Comparing(PageCase):
     def test_a_difference_that_is_gone_at_the_end(self) -> None:
         """An edit of the setup, which is as of turn 0, and a key that is moved far after it."""
@@ -84,6 +124,12 @@ class Comparing(PageCase):
         replies = replies_of([*ledger_lines()[:-2], *asked, *edits, *asked])
         self.assertEqual(replies[-6], replies[-2])
         self.assertNotEqual(replies[-5], replies[-1])
+
+
+class Story(PageCase):
+    def test_other_deposits_have_no_verdict(self) -> None:
+        self.type_line("disk 0 200")
+        self.wait_text("#verdict", "not of the same day")
 
 
 class ManyEvents(PageCase):

@@ -181,8 +181,9 @@ export function test_the_balance() {
   const text = "=000100\nA2 =000110\n=000124\nB5 =000137\n";
   equal(fourthBalance(text), "137");
   equal(fourthBalance("=000100\n"), null);
-  equal(verdictOf(text.replace("137", "145"), true).isGood, true);
-  equal(verdictOf(text, false).isGood, false);
+  const looks = [verdictOf(text.replace("137", "145"), true), verdictOf(text, false),
+    verdictOf(text.replace("137", "145"), true, true)].map(it => it.look);
+  equal(looks, ["good", "bad", ""]);
 }
 
 /** A run whose registers before a turn are these. */
