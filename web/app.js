@@ -335,6 +335,7 @@ export class App {
       this.differences.showNone();
       return;
     }
+    this.differences.showAtWork();
     this.attempt(async () => {
       await this.oldIsLoaded;
       const comparison = new Comparison(run, old, token);

@@ -16,6 +16,10 @@ export class Differences {
       make("p", { class: "faint" }, "Once you make an edit, this says what it changed."));
   }
 
+  showAtWork() {
+    this.place.replaceChildren(atWork());
+  }
+
   /** What was being compared isn't known. */
   showStopped() {
     this.place.querySelector(".at-work")?.replaceWith(
@@ -24,7 +28,6 @@ export class Differences {
 
   /** Shows the first turn in which the pasts part; returns it for the timeline, or null. */
   async show(comparison, end) {
-    this.place.replaceChildren(atWork());
     const part = await comparison.part(end);
     this.place.replaceChildren(this.partLine(part, end), atWork());
     return part.turn === null ? null : { turn: part.turn, isExact: !part.later };
