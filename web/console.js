@@ -42,14 +42,14 @@ export class Console {
     this.pane.addEventListener("keydown", event => this.strike(event));
   }
 
-  /** A key goes to the machine if it runs; otherwise Enter begins. */
+  /** A key goes to the machine if it runs; otherwise Enter begins. Enter isn't repeated. */
   strike(event) {
-    const byte = byteOfKey(event);
-    if (byte === null || !this.running && event.key !== "Enter") return;
+    const byte = byteOfKey(event), isEnter = event.key === "Enter";
+    if (byte === null || !this.running && !isEnter) return;
     event.preventDefault();
     event.stopPropagation();
-    if (this.running) this.keys.push(byte);
-    else this.begin();
+    if (!this.running) this.begin();
+    else if (!isEnter || !event.repeat) this.keys.push(byte);
   }
 
   begin() {

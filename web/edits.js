@@ -134,7 +134,7 @@ export class Edits {
       app.run.undone = kept.changes.reverse();
       while (app.run.undone.length) await app.run.redo();
     });
-    return "Its edits are made again: Undo takes them back.";
+    return "The edits that this tab kept are made again: Undo takes them back.";
   }
 
   /** The edits as they are kept. */
@@ -150,7 +150,7 @@ export class Edits {
   }
 
   sum() {
-    return sumOf(...this.app.run.past.lines());
+    return sumOf(this.app.run.past.lines().join("\n"));
   }
 
   /** Whether something would be lost if the page were left now. */

@@ -94,7 +94,8 @@ export function keptEdits(session) {
   try {
     const kept = JSON.parse(read(keyOfEdits(session)));
     const isLine = ({ line }) => isEdit(line) && !/[\r\n]/.test(line);
-    return kept?.changes.every(it => it.every(isLine)) ? kept : null;
+    const areEdits = kept?.changes.every(it => it.every(isLine));
+    return areEdits && Number.isSafeInteger(kept.end) ? kept : null;
   } catch {
     return null;
   }

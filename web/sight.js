@@ -113,9 +113,9 @@ export class Sight {
   }
 
   sentences(left) {
-    const { picture, ghost, view } = this.timeline;
+    const { picture, ghost, view, past, oldPast } = this.timeline;
     const isMade = picture?.isMade && picture.first <= view.first && picture.end >= view.end;
-    const isAll = isMade && (!ghost || isBeside(picture, ghost));
+    const isAll = isMade && (past === oldPast || isBeside(picture, ghost));
     const found = isMade ? [othersOf(picture)] : [];
     if (!isAll) found.push("Not all of it is known yet.");
     if (left.length) found.push(`Left out are ${left.join(", ")}: zoom in for them.`);

@@ -125,7 +125,7 @@ class Kept(FilesCase):
         self.wait_text("#session-name", name)
         self.type_line("disk 0 101")
         self.drop(EXAMPLES / "ledger" / "kernel.sym")
-        self.wait_text("#reply", "Its edits are made again: ")
+        self.wait_text("#reply", "are made again: ")
         self.assertEqual(self.edits(), ["disk 0 101"])
         before = self.type_line("dsk 1 0 2")
         self.saved("#save")
