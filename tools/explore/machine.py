@@ -11,6 +11,7 @@ from .errors import ExploreError
 from .interrupts import INTERRUPTS
 from .journal import Journal
 from .language import is_edit
+from .options import faults_of, options_of_words
 from .past import Past
 from .program import Program
 from .replies import Devices, LastWrite, Pages, Registers, Turn, text_of, turns_of, words_of
@@ -102,9 +103,13 @@ class Machine:
             for line, before, now in zip(self.journal, self.replies, replies):
                 if before != now:
                     raise ExploreError(f"{line}: was answered {before}, and now {now}")
-        except BaseException:
+        except BaseException as error:
             if program is not None:
                 program.close()
+            if isinstance(error, ProgramEnded):
+                options = options_of_words(self.start.options, "explore", self.start.folder)
+                faults = faults_of(options).values()
+                raise ProgramEnded("; ".join([str(error), *faults])) from error
             raise
         return program
 

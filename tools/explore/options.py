@@ -111,13 +111,17 @@ def fault_of_option(name: str, options: Options) -> str:
     )
 
 
+def faults_of(options: Options) -> dict[str, str]:
+    """What is wrong with each option that the program would refuse."""
+    faults = {name: fault_of_option(name, options) for name in options}
+    return {name: f"--{name} {options[name]}: {it}" for name, it in faults.items() if it}
+
+
 def check_options(options: Options, found: argparse.Namespace, session: Optional[Path]) -> None:
     """An error if the program would refuse an option, given or of the session."""
-    for name, value in options.items():
-        wrong = fault_of_option(name, options)
-        if wrong:
-            where = "" if getattr(found, name) is not None else f"{session}: "
-            raise ExploreError(f"{where}--{name} {value}: {wrong}")
+    for name, wrong in faults_of(options).items():
+        where = "" if getattr(found, name) is not None else f"{session}: "
+        raise ExploreError(f"{where}{wrong}")
 
 
 def words_of_options(options: Options) -> list[str]:

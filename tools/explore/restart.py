@@ -7,7 +7,7 @@ from .commands import Explorer
 from .errors import ExploreError
 from .interrupts import INTERRUPTS
 from .machine import Machine, Start, is_refused
-from .options import Options, fault_of_option, option_lines, options_of_words, words_of_options
+from .options import Options, faults_of, option_lines, options_of_words, words_of_options
 
 FIRST_START = "1000"
 
@@ -51,10 +51,8 @@ def make(
     as_now = {"start": FIRST_START, **now}
     is_other = any(as_now.get(name) != value for name, value in options.items())
     then = {**now, **options}
-    for name, value in options.items():
-        wrong = fault_of_option(name, then)
-        if wrong:
-            raise ExploreError(f"--{name} {value}: {wrong}")
+    for wrong in faults_of(then).values():
+        raise ExploreError(wrong)
     with INTERRUPTS.held():
         if is_other:
             begin_as(machine, replace(before, options=words_of_options(then)))

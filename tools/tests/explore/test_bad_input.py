@@ -3,6 +3,7 @@ import os
 import signal
 import subprocess
 import sys
+import threading
 from pathlib import Path
 
 from explore.options import NUMBERS, fault_of_option
@@ -65,6 +66,23 @@ class BadInput(Case):
         said = "explore: my.session: --units 40: N is 1 to 31, units of 4096 words of core\n"
         self.fails(said, "--disk", "disk", "my.session")
         self.explore("", "--disk", "disk", "--units", "31", "my.session")
+
+    def test_an_image_that_goes_away(self) -> None:
+        """The program that is started again refuses it."""
+        disk, pipe = self.folder / "disk", self.folder / "pipe"
+        disk.write_bytes(b"\7\0")
+        os.mkfifo(pipe)
+
+        def remove() -> None:
+            with open(pipe, "w"):
+                disk.unlink()
+
+        thread = threading.Thread(target=remove)
+        thread.start()
+        written = self.explore("core 2000 5\nsymbols pipe\nundo\nregs 0\n", "--disk", "disk")
+        thread.join(SECONDS)
+        said = f"regs: the program ended with status 3: search: input or output; --disk {disk}: No "
+        self.assertIn(said, written)
 
     def test_numbers_of_options(self) -> None:
         """What explore refuses the program refuses, and nothing else."""
