@@ -231,12 +231,14 @@ export class LanesDrawing {
   // PC of one mode
 
   drawCounter(lane, picture, ghost) {
-    const inMode = it => it.mode === lane.mode && it.state === "run";
-    const looksOf = it => it?.looks.filter(inMode) ?? [];
+    const { view } = this;
+    const looksOf = it => it?.looks.filter(({ turn, mode, state }) => mode === lane.mode
+      && state === "run" && turn + it.step > view.first && turn < view.end) ?? [];
     if (picture?.looks.length && !looksOf(picture).length) {
       const how = picture.isMade && picture.step === 1 ? "doesn't run" : "not seen to run";
-      const x = Math.max(this.view.left, this.view.x(picture.first)) + 6;
-      this.label(x, lane.top + 18, `${how} in ${lane.mode} mode`, "faint");
+      const x = Math.max(view.left, view.x(picture.first)) + 6;
+      const label = () => this.label(x, lane.top + 18, `${how} in ${lane.mode} mode`, "faint");
+      this.clipped(lane, label, knownTurns(lane, picture));
     }
     const counters = [...looksOf(picture), ...looksOf(ghost)].map(it => it.pc);
     if (!counters.length) return;

@@ -2,8 +2,8 @@
 
 import { sumOf } from "./kept.js";
 
-// What examples/ledger/ledger.session gives.
-const SUM = "1p7c0mq-y5pam2";
+// sumOfPast of examples/ledger/ledger.session: another sumOf gives another one.
+const SUM = "156j9el-bfn795";
 export const STORY = { first: 126_300, span: 2_600, cursor: 126_967, wanted: "145",
   sweep: { event: 15, from: 126_600, to: 127_400 },
   words: [
