@@ -150,7 +150,7 @@ export class Edits {
   }
 
   sum() {
-    return sumOf(this.app.run.past.lines().join("\n"));
+    return sumOf([this.app.run.past.lines().join("\n")]);
   }
 
   /** Whether something would be lost if the page were left now. */

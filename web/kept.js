@@ -19,8 +19,8 @@ function wordsOf(part) {
   return words;
 }
 
-/** A sum of texts and bytes. That two which differ have the same one is hardly ever so. */
-export function sumOf(...parts) {
+/** A sum of parts, texts and bytes. That two which differ have the same one is hardly ever so. */
+export function sumOf(parts) {
   let [one, other] = [0x811c9dc5, 0x41c6ce57];
   for (const words of parts.map(wordsOf)) {
     for (let at = 0; at < words.length; at++) {
@@ -38,12 +38,12 @@ const sums = new WeakMap();
 function keyOfEdits(session) {
   const { files, ...texts } = session;
   if (!sums.has(session)) {
-    sums.set(session, sumOf(JSON.stringify(texts), ...Object.entries(files).flat()));
+    sums.set(session, sumOf([JSON.stringify(texts), ...Object.entries(files).flat()]));
   }
   return `nezdrab edits ${sums.get(session)}`;
 }
 
-const keyOfPage = () => `nezdrab session ${location.pathname} ${sumOf(packedText())}`;
+const keyOfPage = () => `nezdrab session ${location.pathname} ${sumOf([packedText()])}`;
 
 function read(key) {
   try {

@@ -3,7 +3,7 @@
 import { sumOf } from "./kept.js";
 
 // sumOfPast of examples/ledger/ledger.session: another sumOf gives another one.
-const SUM = "156j9el-bfn795";
+const SUM = "pd79pa-62k3c4";
 export const STORY = { first: 126_300, span: 2_600, cursor: 126_967, wanted: "145",
   sweep: { event: 15, from: 126_600, to: 127_400 },
   words: [
@@ -13,7 +13,7 @@ export const STORY = { first: 126_300, span: 2_600, cursor: 126_967, wanted: "14
 
 /** A sum of what a past has, with the numbers of its events. */
 export const sumOfPast = past =>
-  sumOf(...past.lines(), ...past.script.map(it => String(it.number)));
+  sumOf([past.lines().join("\n"), past.script.map(it => it.number).join(" ")]);
 
 /** The deposits of a past, and all else that isn't the turn of one. */
 export function depositsOf(past) {
