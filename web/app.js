@@ -309,7 +309,7 @@ export class App {
     if (this.old) return;
     this.old = this.newRun("old");
     this.timeline.ghost = this.timeline.picture;
-    this.oldIsLoaded = this.old.load(this.begun).then(() => this.timeline.draw());
+    this.oldIsLoaded = this.old.takeUp(this.begun).then(() => this.timeline.draw());
     this.attempt(() => this.oldIsLoaded);
   }
 

@@ -156,7 +156,7 @@ export class CursorPanels {
   async nextInstructions(ask, machine) {
     const { turn, registers: { mode, pc } } = machine;
     const places = CursorPanels.places(machine, mode, pc, WORDS_OF_INSTRUCTIONS);
-    if (!places.length) return [{ mode, pc, text: "can't be fetched", symbol: "" }];
+    if (!places.length) return [{ mode, pc, text: "(can't be fetched)", symbol: "" }];
     const replies = await ask(places.map(it => `mem ${turn} ${it.toString(8)} 1`));
     const words = replies.map(it => wordsOf(it)[0]);
     const texts = await this.texts(words.map((_, at) => (
@@ -177,9 +177,10 @@ export class CursorPanels {
     const lines = asked.map(({ pc, words }) =>
       [pc, ...words, 0, 0].slice(0, 4).map(it => octal(it)).join(" "));
     const replies = await this.disassembler.ask(lines);
-    return replies.map(reply => {
-      const [words, ...text] = reply.trimEnd().split(" ");
-      return { words: Number(words) || 1, text: text.join(" ") };
+    return replies.map((reply, at) => {
+      const [count, ...text] = reply.trimEnd().split(" ");
+      const words = Number(count) || 1, isWhole = words <= asked[at].words.length;
+      return { words, text: isWhole ? text.join(" ") : "(its operands can't be fetched)" };
     });
   }
 

@@ -247,6 +247,11 @@ export class Run {
     return found.filter(it => isRefused(it.reply));
   }
 
+  /** Takes up edits that a machine took before. */
+  async takeUp(lines) {
+    (await this.ask(lines, Priority.EDIT)).forEach(mustBeTaken);
+  }
+
   /** An edit was taken: what is known of the turns that it may change no longer holds. */
   take(line, reply) {
     this.pasts += 1;
@@ -360,7 +365,7 @@ export class Run {
     const lines = this.taken;
     this.taken = [];
     this.past = new Past();
-    (await this.ask(lines, Priority.EDIT)).forEach(mustBeTaken);
+    await this.takeUp(lines);
   }
 
   end() {

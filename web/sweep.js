@@ -117,11 +117,11 @@ export class Sweep {
     const run = app.newRun("sweep");
     this.run = run;
     Object.assign(this, { outcomes: new Map(), replies: [], numbers: new Map(), shown: 0 });
-    Object.assign(this, { event: { ...event }, past: app.run.past, taken: app.run.taken.length });
+    Object.assign(this, { question, event: { ...event }, past: app.run.past, taken: app.run.taken.length });
     const turns = spreadTurns(Number(from), Number(to));
     // at once: what the outcomes take of the page doesn't move the button later
     this.show(turns.length);
-    await run.load(app.run.taken);
+    await run.takeUp(app.run.taken);
     const refusal = await run.refusalOf(question);
     if (refusal) this.refuse(question, refusal);
     for (let at = 0; at < turns.length && this.run === run; at += TURNS_AT_ONCE) {
@@ -160,7 +160,8 @@ export class Sweep {
     this.shown = now;
     const runs = runsOf(this.outcomes);
     const state = known === all ? "each was tried" : "tried so far; between them isn't known";
-    this.say(`${known} of ${all} turns: ${state}. ${this.replies.length} outcomes.`);
+    const outcomes = `Outcomes of ${this.question}: ${this.replies.length}.`;
+    this.say(`${known} of ${all} turns: ${state}. ${outcomes}`);
     this.app.timeline.sweep = { runs, isWhole: known === all };
     this.app.timeline.draw();
     const rows = runs.slice(0, MOST_ROWS).map(it => this.row(it));
@@ -188,6 +189,7 @@ export class Sweep {
     let at = 0;
     while (at < reply.length && reply[at] === other[at]) at++;
     const begin = reply.length > 60 ? Math.max(0, at - 12) : 0;
-    return `${begin ? ".. " : ""}${reply.slice(begin, begin + 60)}`;
+    const end = begin + 60 < reply.length ? " .." : "";
+    return `${begin ? ".. " : ""}${reply.slice(begin, begin + 60)}${end}`;
   }
 }

@@ -41,7 +41,11 @@ class Words(PageCase):
         path = self.folder() / "small.session"
         path.write_text("#! --units 1 --start 20000\nregs 1\n")
         self.give(path)
-        self.wait_text("#instructions", "can't be fetched")
+        self.wait_text("#instructions", "(can't be fetched)")
+        # MOV #N,R0 as the last word of core: N would come from the I/O page
+        path.write_text("#! --start 157776\ncore 157776 12700\nregs 1\n")
+        self.give(path)
+        self.wait_text("#instructions", "(its operands can't be fetched)")
 
 
 class Stopping(PageCase):

@@ -85,7 +85,8 @@ class TheSweep(PageCase):
     def test_turns_with_equal_outcomes(self) -> None:
         """As `sweep 15 from 126820 to 126840` of explore has them."""
         self.sweep(126_820, 126_840)
-        self.wait_text("#sweep-status", "21 of 21 turns: each was tried.")
+        said = self.wait_text("#sweep-status", "21 of 21 turns: each was tried.")
+        self.assertIn("Outcomes of dsk 238614 0 1: 2.", said)
         rows = self.browser.value(
             "[...document.querySelectorAll('#outcomes tbody tr')].map(it =>"
             "[...it.cells].map(cell => cell.textContent))"
