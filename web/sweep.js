@@ -117,7 +117,8 @@ export class Sweep {
     const run = app.newRun("sweep");
     this.run = run;
     Object.assign(this, { outcomes: new Map(), replies: [], numbers: new Map(), shown: 0 });
-    Object.assign(this, { question, event: { ...event }, past: app.run.past, taken: app.run.taken.length });
+    const { past, taken } = app.run;
+    Object.assign(this, { question, event: { ...event }, past, taken: taken.length });
     const turns = spreadTurns(Number(from), Number(to));
     // at once: what the outcomes take of the page doesn't move the button later
     this.show(turns.length);
