@@ -288,15 +288,14 @@ export class App {
     const { timeline } = this;
     if (picture.isMade || !timeline[place]?.isMade) timeline[place] = picture;
     timeline.draw();
-    if (place !== "picture") return;
-    this.isAsked = !picture.isMade;
+    if (place === "picture") this.isAsked = !picture.isMade;
     this.showNotes();
   }
 
   /** What of the picture is sampled, and what isn't known. */
   showNotes(unknown = "The machine is asked: what is hatched isn't known yet.") {
-    const { picture } = this.timeline;
-    const sampled = picture?.isMade ? notesOf(picture) : [];
+    const { picture, ghost } = this.timeline;
+    const sampled = picture?.isMade ? notesOf(picture, ghost) : [];
     const notes = this.isAsked ? [unknown, ...sampled.filter(it => it !== NOTHING_SAMPLED)]
       : sampled;
     element("notes").textContent = notes.join(" ");

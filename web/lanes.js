@@ -431,9 +431,12 @@ function heightsOf(values) {
 
 export const NOTHING_SAMPLED = "Each turn in sight is looked at; nothing is sampled.";
 
-/** What is sampled and what is cut in a picture, in sentences. */
-export function notesOf(picture) {
-  const { step, listsAllTurns, disk, text, words } = picture;
+const sampledWords = picture =>
+  picture?.words.filter(it => it.values && !it.isWhole).map(it => it.name) ?? [];
+
+/** What is sampled and what is cut in a picture and in that of the old past, in sentences. */
+export function notesOf(picture, ghost = null) {
+  const { step, listsAllTurns, disk, text } = picture;
   const notes = [];
   if (step > 1) notes.push(`PC and mode: the first of each ${step} turns.`);
   if (!listsAllTurns) notes.push(`Interrupts: of the first 64 of each ${step} turns.`);
@@ -442,7 +445,9 @@ export function notesOf(picture) {
     notes.push(`Disk: functions less than ${step} turns apart may be drawn as one.`);
   }
   if (text.each > 1) notes.push(`Console: one of each ${text.each} bytes.`);
-  const sampled = words.filter(it => it.values && !it.isWhole).map(it => it.name);
+  const sampled = sampledWords(picture);
   if (sampled.length) notes.push(`Sampled once each ${step} turns, dotted: ${sampled.join(", ")}.`);
+  const olds = sampledWords(ghost).filter(it => !sampled.includes(it));
+  if (olds.length) notes.push(`Of the old past sampled: ${olds.join(", ")}.`);
   return notes.length ? notes : [NOTHING_SAMPLED];
 }

@@ -148,6 +148,8 @@ export function test_notes_say_what_is_sampled() {
     words: [{ name: "core 002000", values: [], isWhole: false }],
   };
   equal(notesOf(picture).length, 5);
+  const words = [{ ...picture.words[0], name: "core 004000" }];
+  equal(notesOf(picture, { words }).at(-1), "Of the old past sampled: core 004000.");
   const whole = { ...picture, step: 1, listsAllTurns: true, disk: { isWhole: true } };
   Object.assign(whole, { text: { each: 1 }, words: [] });
   equal(notesOf(whole), ["Each turn in sight is looked at; nothing is sampled."]);
