@@ -3,6 +3,7 @@
 import { Comparison } from "/comparison.js";
 import { byteOfKey } from "/console.js";
 import { marked } from "/differences.js";
+import { sumOf } from "/kept.js";
 import { LanesDrawing, View, lanesOf, notesOf, ticksOf } from "/lanes.js";
 import { optionLines, optionText, shellWords } from "/options.js";
 import { Past, eventLabel, eventsIn, isEdit } from "/past.js";
@@ -16,7 +17,7 @@ import {
 import { Priority, Run } from "/run.js";
 import { boundedRows, rowsOf } from "/sight.js";
 import { kindOfFile, lastTurnOf, symbolNear, symbolsOf, withFile } from "/session.js";
-import { fourthBalance, verdictOf } from "/story.js";
+import { fourthBalance, isStory, verdictOf } from "/story.js";
 import { runsOf, spreadTurns } from "/sweep.js";
 
 function equal(found, wanted) {
@@ -172,6 +173,17 @@ export function test_the_table_says_what_it_leaves_out() {
   const lanes = ghost => rows(ghost).shown.map(it => it.lane);
   equal([lanes(old).at(-1), lanes({ ...old, isMade: false }).at(-1)],
     ["interrupt, old past", "interrupt"]);
+}
+
+export function test_sums_of_sessions() {
+  const [low, high] = [[1, 0, 0, 0, 1, 0, 0, 0], [1, 0, 0, 128, 1, 0, 0, 128]];
+  const sums = [[low], [high], [[...low, 0]], ["a", "b"], ["ab"]].map(it =>
+    sumOf(it.map(part => typeof part === "string" ? part : Uint8Array.from(part))));
+  equal(new Set(sums).size, sums.length);
+  const past = new Past();
+  for (let at = 0; at < 65_536; at++) past.apply(`at ${at} tick`, `event ${at + 1}`);
+  for (let at = 0; at < 65_536; at++) past.apply(`core ${(2 * at).toString(8)} 1`, "ok");
+  equal(isStory({ arguments: [] }, past), false);
 }
 
 export function test_differences_are_marked() {
