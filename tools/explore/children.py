@@ -1,7 +1,7 @@
 """Programs that read lines from a pipe and write lines to one."""
 import subprocess
 from pathlib import Path
-from typing import Iterable, Optional, Sequence
+from typing import Optional, Sequence
 
 from .errors import ExploreError
 
@@ -24,21 +24,6 @@ class Child:
         assert self.process.stdin and self.process.stdout and self.process.stderr
         self.given, self.written = self.process.stdin, self.process.stdout
         self.said = self.process.stderr
-
-    def send(self, lines: Iterable[str]) -> None:
-        try:
-            text = "".join(f"{it}\n" for it in lines)
-            self.given.write(text.encode(errors="surrogateescape"))
-            self.given.flush()
-        except OSError as error:
-            raise self.ended() from error
-
-    def line(self) -> str:
-        """The next line that the program writes."""
-        line = self.written.readline()
-        if not line.endswith(b"\n"):
-            raise self.ended()
-        return line[:-1].decode("ascii")
 
     def ended(self) -> ProgramEnded:
         """How the program ended, and what it said."""

@@ -14,12 +14,27 @@ class Instruction:
     text: str
 
 
+class Disassemble(Child):
+    """A running disassemble."""
+
+    def reply(self, line: str) -> str:
+        try:
+            self.given.write(f"{line}\n".encode())
+            self.given.flush()
+        except OSError as error:
+            raise self.ended() from error
+        reply = self.written.readline()
+        if not reply.endswith(b"\n"):
+            raise self.ended()
+        return reply[:-1].decode("ascii", "backslashreplace")
+
+
 class Disassembler:
     """Asks the program disassemble. Without it instructions are shown as `.WORD`."""
 
     def __init__(self, program: Optional[str]):
         self.program = program
-        self.child = Child([program]) if program else None
+        self.child = Disassemble([program]) if program else None
         self.known: dict[tuple[int, ...], Instruction] = {}
 
     def instruction(self, address: int, words: Sequence[int]) -> Instruction:
@@ -38,10 +53,9 @@ class Disassembler:
     def reply(self, program: str, line: str) -> str:
         """The reply to a line. If the program ends, or Ctrl-C comes before the reply, the next line
         starts it again: otherwise it would get the reply to this one."""
-        self.child = self.child or Child([program])
+        self.child = self.child or Disassemble([program])
         try:
-            self.child.send([line])
-            return self.child.line()
+            return self.child.reply(line)
         except BaseException as error:
             self.close()
             if isinstance(error, ProgramEnded):

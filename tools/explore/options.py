@@ -162,7 +162,7 @@ def option_text(lines: Iterable[str]) -> Optional[str]:
     first line that is no comment."""
     text, goes_on, is_there = "", False, False
     for line in lines:
-        if not line.startswith("#") and line.strip():
+        if not line.startswith("#") and line.strip(" \t"):
             break
         match = re.fullmatch(rf"{MARK}( -.*|)" if not goes_on else rf"{MARK} (.*)", line)
         if match is None:
