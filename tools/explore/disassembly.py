@@ -17,16 +17,19 @@ class Instruction:
 class Disassemble(Child):
     """A running disassemble."""
 
-    def reply(self, line: str) -> str:
+    def send(self, line: str) -> None:
         try:
             self.given.write(f"{line}\n".encode())
             self.given.flush()
         except OSError as error:
             raise self.ended() from error
-        reply = self.written.readline()
-        if not reply.endswith(b"\n"):
+
+    def line(self) -> str:
+        """The next line that the program writes."""
+        line = self.written.readline()
+        if not line.endswith(b"\n"):
             raise self.ended()
-        return reply[:-1].decode("ascii", "backslashreplace")
+        return line[:-1].decode("ascii", "backslashreplace")
 
 
 class Disassembler:
@@ -55,7 +58,8 @@ class Disassembler:
         starts it again: otherwise it would get the reply to this one."""
         self.child = self.child or Disassemble([program])
         try:
-            return self.child.reply(line)
+            self.child.send(line)
+            return self.child.line()
         except BaseException as error:
             self.close()
             if isinstance(error, ProgramEnded):

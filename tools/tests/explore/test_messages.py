@@ -3,9 +3,8 @@ import subprocess
 import sys
 from unittest import mock
 
-from explore.children import Child
 from explore.compare import parts_of_texts
-from explore.disassembly import Disassembler
+from explore.disassembly import Disassemble, Disassembler
 from explore.errors import ExploreError
 from explore.machine import LAST_TURN
 from explore.search import not_found
@@ -173,7 +172,7 @@ class Messages(Case):
         """A reply that nobody read isn't that to the next line."""
         disassembler = Disassembler(BUILT.disassembler)
         self.addCleanup(disassembler.close)
-        with mock.patch.object(Child, "line", side_effect=KeyboardInterrupt):
+        with mock.patch.object(Disassemble, "line", side_effect=KeyboardInterrupt):
             with self.assertRaises(KeyboardInterrupt):
                 disassembler.instruction(0o1000, [0o240, 0, 0])
         self.assertEqual(disassembler.instruction(0o1000, [0, 0, 0]).text, "HALT")
