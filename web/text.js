@@ -48,8 +48,12 @@ export class ConsoleText {
 
   /** Says of which turn and past the text is. */
   mark() {
-    const { run, end } = this.app;
-    markTurn(element("text-turn"), this.shown, stateOf(run, end));
+    const { run, end, isStory } = this.app;
+    const place = element("text-turn");
+    markTurn(place, this.shown, stateOf(run, end));
+    if (!isStory || !this.shown || !place.classList.contains("stale")) return;
+    element("verdict").textContent = "still from before the last edit";
+    element("outcome").className = "";
   }
 
   show(reply) {

@@ -131,6 +131,17 @@ class Comparing(PageCase):
 
 
 class Story(PageCase):
+    def test_a_balance_of_before_an_edit_has_no_verdict(self) -> None:
+        verdicts = "window.verdicts"
+        self.browser.value(
+            f"(() => {{ {verdicts} = []; new MutationObserver(() => {verdicts}.push("
+            "document.querySelector('#verdict').textContent)).observe("
+            "document.querySelector('#verdict'), {childList: true}); })()"
+        )
+        self.type_line("alter 15 127165 key 66")
+        self.wait_text("#verdict", "nothing is lost")
+        self.assertEqual(self.browser.value(f"{verdicts}[0]"), "still from before the last edit")
+
     def test_other_deposits_have_no_verdict(self) -> None:
         self.type_line("disk 0 200")
         self.wait_text("#verdict", "not of the same day")
