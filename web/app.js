@@ -208,11 +208,13 @@ export class App {
   }
 
   saveSession() {
-    const { session, run, end } = this;
-    saveFile(savedName(session, ".session"), textOfPast(session, run.past, end), "text/plain");
-    this.edits.noteSaved();
-    const files = Object.keys(session.files).map(visibleName).join(", ");
-    this.say(files ? `Saved. It is opened with its files: ${files}` : "Saved.");
+    return this.attempt(async () => {
+      const { session, run, end } = this;
+      saveFile(savedName(session, ".session"), textOfPast(session, run.past, end), "text/plain");
+      this.edits.noteSaved();
+      const files = Object.keys(session.files).map(visibleName).join(", ");
+      this.say(files ? `Saved. It is opened with its files: ${files}` : "Saved.");
+    });
   }
 
   async savePage() {

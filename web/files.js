@@ -64,7 +64,8 @@ export async function sessionOfFiles(open, lines, files) {
     else session = { ...session, files: { ...session.files, [name]: bytes } };
   }
   const named = [...optionsOf(session.arguments, session.name)];
-  const missing = named.filter(([option, it]) => namesFile(option) && !(it in session.files));
+  const missing = named.filter(([option, it]) =>
+    namesFile(option) && !Object.hasOwn(session.files, it));
   return { session, notes, missing: missing.map(([, name]) => name) };
 }
 
@@ -99,7 +100,7 @@ function withOptions(session, words, left, take) {
   const options = optionsOf(words, where), files = { ...session.files }, paths = new Map();
   for (const [option, path] of options) {
     if (!namesFile(option)) continue;
-    const name = path.split(/[/\\]/).at(-1);
+    const name = path.split("/").at(-1);
     if (paths.has(name) && paths.get(name) !== path) {
       throw new FileError(`${where}: two of its files are called ${visibleName(name)}.`);
     }

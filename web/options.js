@@ -79,6 +79,9 @@ const quoted = word =>
 /** The options as comment lines. One that is too long goes on in the next line. */
 export function optionLines(words) {
   if (!words.length) return [];
+  if (words.join("").includes("\n")) {
+    throw new FileError("A file whose name has a line feed can't be named in a session.");
+  }
   const parts = [""], encoder = new TextEncoder();
   for (const character of words.map(quoted).join(" ")) {
     const longer = parts.at(-1) + character;

@@ -89,6 +89,10 @@ class Options(PageCase):
         self.give(saved, path.with_name("my disk.0"))
         self.boots()
 
+    def test_a_name_that_all_objects_have(self) -> None:
+        self.browser.give_files("#files", [str(self.session("constructor"))])
+        self.assertIn("constructor", self.wait_text("#reply", "isn't open yet"))
+
     def test_options_that_are_wrong(self) -> None:
         for text, why in (
             ("#! --start 2000 --start 1000", "--start stands there twice"),
