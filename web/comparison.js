@@ -5,8 +5,8 @@ import { eventsIn } from "./past.js";
 import { Priority } from "./run.js";
 import { WORDS_AT_ONCE, mustBeTaken, wordsOf } from "./replies.js";
 
-// So many turns are compared one by one: after the first edit, and then after each further one.
-const [SINGLE_TURNS, TURNS_AFTER_AN_EDIT, MOST_SINGLE_TURNS] = [65_536, 4_096, 262_144];
+// So many turns are compared one by one: after the first edit, after each further one, in all.
+const [SINGLE_TURNS, TURNS_AFTER_AN_EDIT, MOST_SINGLE_TURNS] = [65_536, 4_096, 150_000];
 const MOST_SAMPLES = 2_048;
 const TURNS_OF_A_PART = 1_024;
 const MOST_SHOWN = 64;
@@ -164,15 +164,21 @@ export function stretchesOf(edited, end) {
   return withSamples(singles, end, left);
 }
 
-/** The stretches with what lies between them and up to `end`: turn by turn if enough are left. */
+/** The stretches with what lies between them and up to `end`: turn by turn as far as enough are
+    left, from the first on, and otherwise samples. */
 function withSamples(singles, end, left) {
-  const gaps = singles.map(({ first, count }, at) =>
-    ({ first: first + count, end: singles[at + 1]?.first ?? end + 1 }));
-  const all = gaps.reduce((sum, it) => sum + it.end - it.first, 0);
-  const step = all <= left ? 1 : Math.ceil(all / MOST_SAMPLES);
+  const gaps = singles.map(({ first, count }, at) => {
+    const begin = first + count, length = (singles[at + 1]?.first ?? end + 1) - begin;
+    const isSingle = length <= left;
+    if (isSingle) left -= length;
+    return { begin, length, isSingle };
+  });
+  const all = gaps.reduce((sum, it) => sum + (it.isSingle ? 0 : it.length), 0);
   return singles.flatMap((single, at) => {
-    const { first, end: last } = gaps[at];
-    const count = Math.ceil((last - first) / step);
-    return count ? [single, { first: last - 1 - (count - 1) * step, count, step }] : [single];
+    const { begin, length, isSingle } = gaps[at];
+    const step = isSingle ? 1 : Math.ceil(all / MOST_SAMPLES);
+    const count = Math.ceil(length / step);
+    const first = begin + length - 1 - (count - 1) * step;
+    return count ? [single, { first, count, step }] : [single];
   });
 }
