@@ -5,26 +5,32 @@ from functools import lru_cache
 from typing import Iterator
 
 LONGEST = 65_536  # of a sequence that isn't whole yet
-# A control of one byte does inside a sequence what it does outside. CAN, SUB and ESC end it.
+# A control of one byte does inside a sequence what it does outside. CAN, SUB and ESC end the
+# sequence.
 CONTROL = rb"\0-\x17\x19\x1c-\x1f\x7f"
 CONTROLS = re.compile(rb"[%b]+" % CONTROL)
+# ESC; then `[` and its parameters, or a string, or other bytes before the last one.
 BEGIN = rb"\x1b[%b]*" % CONTROL
 PARAMETERS = rb"\[[ -?%b]*" % CONTROL
 STRING = rb"[\]P^_X][^\a\x18\x1a\x1b]*"
 OTHERS = rb"[ -/][ -/%b]*" % CONTROL
 SEQUENCE = re.compile(
-    rb"(?P<whole>%b(?:%b[@-~]|%b(?:\a|\x1b\\)|(?:%b)?[0-OQ-WYZ\\`-~])|\x05|\x0e)"
-    rb"|(?P<part>(?:%b(?:%b|%b\x1b?|%b)?|\xc2)\Z)"
+    rb"(?P<whole>%b(?:%b[@-~]|%b(?:\a|\x1b\\)|%b[0-~]|[0-OQ-WYZ\\`-~]))"
+    rb"|(?P<part>(?:%b(?:%b|%b\x1b?|%b)?|\xc2+)\Z)"
     rb"|%b(?:%b|%b|%b)?"
     % ((BEGIN, PARAMETERS, STRING, OTHERS) * 3)
 )
 # Controls of one byte that stand for ESC and another byte, as a terminal of 8 bits or of UTF-8 has
 # them.
 OF_8_BITS, OF_UTF_8 = re.compile(rb"([\x80-\x9f])"), re.compile(rb"\xc2([\x80-\x9f])")
+# The first byte of such a control without the second: behind a sequence that goes nowhere there may
+# be one.
+CUT_OF_UTF_8 = re.compile(rb"\xc2+(?=\x1b)")
 # What xterm and others answer: who and how they are, where the cursor is, which modes, colours and
 # texts they have. Of the strings, a title, a folder and a link may have a `?`.
+ENQUIRY = b"\x05"
 QUERY = re.compile(
-    rb"\x05|\x1bZ|\x1b\[([=>]?[\d;]*c|\??[\d;]*n|[\d;]*x|(1[1-8]|19|2[01])[\d;]*t|>[\d;]*q|\?u"
+    rb"\x1bZ|\x1b\[([=>]?[\d;]*c|\??[\d;]*n|[\d;]*x|(1[1-8]|19|2[01])[\d;]*t|>[\d;]*q|\?u"
     rb"|\??[\d;]*\$p|[\d;]*(\*y|\$[uw]|&u|['#]\||#R|\"v|\+x)|\?[\d;]*[Sgm])"
     rb"|\x1b\](?!(0|1|2|7|8);).*\?.*|\x1b\](6[01]\b|1337;Re[pq]).*|\x1b(P[\d;]*([$+][qQ]|p)|_).*",
     re.DOTALL,
@@ -41,12 +47,12 @@ SET_ANEW, WHOLE_REGION, LAST_LINE = b"\x1bc", b"\x1b[r", b"\x1b[999;1H\r\n"
 # What puts the cursor anywhere, or leaves it anywhere when it is set back.
 ADDRESSES = re.compile(rb"\x1b\[((?!1?(;1?)?[Hf])[\d;]*[Hf]|[\d;]*r)")
 ORIGIN = b"?6"
-STRING_END = b"\x1b\\"
+STRING_END, SHIFT_OUT, SHIFT_IN = b"\x1b\\", b"\x0e", b"\x0f"
 # Other sequences that set something, and what sets it back.
 SETTINGS = [
     (re.compile(rb"\x1b\[[\d;:]*m"), b"\x1b[m"),  # colours
     (re.compile(rb"\x1b[()*+./-].*"), b"\x1b(B\x1b)B\x1b*B\x1b+B"),  # character sets
-    (re.compile(rb"\x0e|\x1b[no|}~]"), b"\x0f"),
+    (re.compile(rb"\x1b[no|}~]"), SHIFT_IN),
     (re.compile(rb"\x1b%@"), b"\x1b%G"),
     (re.compile(rb"\x1b="), b"\x1b>"),  # the keypad
     (re.compile(rb"\x1b\[>[\d;]*m"), b"\x1b[>m"),  # what keys send
@@ -69,7 +75,7 @@ def controls_in(sequence: bytes, bare: bytes) -> bytes:
     """The controls of one byte that do what they do although the sequence goes nowhere. In a string
     there are none."""
     is_string = bare[1:2] in {b"]", b"P", b"^", b"_", b"X"}
-    return b"" if is_string or len(sequence) == 1 else b"".join(CONTROLS.findall(sequence))
+    return b"" if is_string else b"".join(CONTROLS.findall(sequence))
 
 
 @lru_cache(maxsize=4096)
@@ -83,7 +89,7 @@ class Sequences:
     that is cut by another or too long goes nowhere. Queries go on if the program gets answers."""
 
     def __init__(self, is_utf_8: bool, has_answers: bool):
-        self.of_8_bits = OF_UTF_8 if is_utf_8 else OF_8_BITS
+        self.is_utf_8 = is_utf_8
         self.has_answers, self.withheld = has_answers, 0
         self.held = b""
         self._forget()
@@ -96,7 +102,16 @@ class Sequences:
 
     def passed(self, data: bytes) -> bytes:
         """What of these bytes goes to the terminal now."""
-        data, self.held = self.of_8_bits.sub(escape_of, self.held + data), b""
+        if not self.has_answers:
+            self.withheld += data.count(ENQUIRY)
+            data = data.replace(ENQUIRY, b"")
+        if SHIFT_OUT in data:
+            self.used.add(SHIFT_IN)
+        data, self.held = self.held + data, b""
+        if self.is_utf_8:
+            data = CUT_OF_UTF_8.sub(b"", OF_UTF_8.sub(escape_of, data))
+        else:
+            data = OF_8_BITS.sub(escape_of, data)
         return SEQUENCE.sub(self._passed_sequence, data)
 
     def _passed_sequence(self, found: "re.Match[bytes]") -> bytes:
@@ -104,7 +119,7 @@ class Sequences:
         if part is not None and len(part) <= LONGEST:
             self.held = part
             return b""
-        bare = sequence if len(sequence) == 1 else CONTROLS.sub(b"", sequence)
+        bare = CONTROLS.sub(b"", sequence)
         if found["whole"] is None:
             return controls_in(sequence, bare)
         if QUERY.fullmatch(bare) and not self.has_answers:

@@ -56,11 +56,13 @@ class Sorted(Case):
 
     def test_what_is_no_query_goes_on(self) -> None:
         for printed, wanted in (
-            (b"\x1b[8;24;80t\x1b[22;0t\x1b[?1c\x1b]0;a title;?\a\x1b[?1;2r", None),
+            (b"\x1b[8;24;80t\x1b[22;0t\x1b[?1c\x1b]0;a title;?\a\x1b[?1;2r\x1b(PX", None),
             (b"\xc5\x9bcz \xe2\x98\x9bZ \x9b6n", None),  # letters of UTF-8, and a byte that is none
             (b"\x1b[\n6n\x1b[6\rn\x1b[6\x1b[cn", b"\n\rn"),
             (b"\x1b[?1004;1000h", b"\x1b[?1000h"),
             (b"\x1b[6\x18n\x1b]x\x18y", b"\x18n\x18y"),
+            (b"\xc2\x1b[6n\x9b6n", b"\x9b6n"),
+            (b"\x1b[\x053\n1m\x1b\x05\x1b[m", b"\x1b[3\n1m\x1b[m"),
             (b"\x1b]" + b"x" * 70_000 + b"\x1b[m", b"\x1b[m"),
         ):
             shown = Sequences(is_utf_8=True, has_answers=False)
