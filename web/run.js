@@ -12,7 +12,7 @@ const [FEWEST_TURNS, FIRST_TURNS, MOST_TURNS] = [100_000, 1_000_000, 4_000_000];
 const [QUICK, SLOW] = [25, 80];
 // What a line takes beside its turns, as turns.
 const TURNS_OF_A_LINE = 10_000;
-const MOST_LINES = 512;
+const [MOST_LINES, MOST_EDITS] = [512, 4_096];
 // Checkpoints are so many turns apart at first. Twice as many if there would be too many of them.
 const [FIRST_STRIDE, MOST_CHECKPOINTS] = [10_000, 256];
 
@@ -113,6 +113,7 @@ export class Run {
 
   /** Asks some of the job's lines, or goes on towards the turns that the next one is about. */
   async askPart(job) {
+    if (this.isEditNext(job)) return this.sendEdits(job);
     const line = job.lines[job.replies.length];
     const [turn] = turnsAsked(line), byte = byteAsked(line);
     const left = this.turnsToRun(this.at, turn) - this.turnsAtOnce;
@@ -120,6 +121,15 @@ export class Run {
     else if (byte !== null && byte >= this.printed) await this.goOnToByte(job, byte);
     else if (job.search ??= searchOf(line)) await this.searchOn(job);
     else await this.askLines(job);
+    return undefined;
+  }
+
+  /** Sends the job's next edits. They run nothing. */
+  async sendEdits(job) {
+    const next = job.lines.slice(job.replies.length, job.replies.length + MOST_EDITS);
+    const count = next.findIndex(it => !isEdit(it));
+    this.onProgress({ done: job.replies.length, all: job.lines.length, what: "edits" });
+    for (const it of await this.send(count < 0 ? next : next.slice(0, count))) job.replies.push(it);
   }
 
   /** About how many turns the program runs from one to another, by its checkpoints. */
@@ -172,11 +182,11 @@ export class Run {
     job.replies.push(...await this.timed(lines, cost));
   }
 
-  /** The job's next lines, edits or questions, as far as they take no longer than a part. */
+  /** The job's next questions, as far as they take no longer than a part. */
   nextLines({ lines, replies }) {
-    const begin = replies.length, areEdits = isEdit(lines[begin]);
+    const begin = replies.length;
     let { at } = this, cost = 0, end = begin;
-    while (end < lines.length && end - begin < MOST_LINES && isEdit(lines[end]) === areEdits) {
+    while (end < lines.length && end - begin < MOST_LINES && !isEdit(lines[end])) {
       const [turn] = turnsAsked(lines[end]);
       const more = TURNS_OF_A_LINE + this.turnsToRun(at, turn);
       if (end > begin && (cost + more > this.turnsAtOnce || !this.isPlain(lines[end]))) break;
