@@ -38,17 +38,17 @@ def last_turn(question: str) -> int:
 class Edits(PageCase):
     def test_an_edit_runs_nothing(self) -> None:
         """No line that is sent for an edit is about a turn after those that are shown."""
-        self.wait_still()
         self.browser.value(NOTE)
         edits = ["at 400000000 tick", "alter 15 999999990 key 66"]
         for line in edits:
             self.type_line(line)
-            self.wait_still()
+            self.wait_text("#instructions", "next")
         self.browser.click("#undo")
-        self.wait_still()
+        self.browser.wait("document.querySelectorAll('#edits li').length === 1")
+        self.wait_text("#text-turn", "before turn")
         sent = self.browser.value("sent")
         lines = [it for it in sent if it not in (*edits, *ledger_lines())]
-        self.assertGreater(len(lines), 100)
+        self.assertGreater(len(lines), 0)
         far = [it for it in lines if last_turn(it) > 238_614]
         self.assertEqual(far, [])
 
@@ -58,9 +58,9 @@ class Edits(PageCase):
         self.browser.value(NOTE)
         self.give(path)
         self.wait_text("#session-name", "far")
-        self.wait_still()
+        self.wait_text("#registers", "PC")
         lines = [it for it in self.browser.value("sent") if not it.startswith("at ")]
-        self.assertGreater(len(lines), 100)
+        self.assertGreater(len(lines), 0)
         self.assertEqual([it for it in lines if last_turn(it) > 238_614], [])
         self.assertIn("event 2", self.type_line("at 7 tick"))
 
@@ -149,7 +149,7 @@ class LongQuestions(PageCase):
         for line in ("alter 5000 100001 key 101", "drop 7", "at 5 tick"):
             self.type_line(line)
         self.browser.click("#undo")
-        self.wait_still()
+        self.browser.value("new Promise(it => setTimeout(it, 1000))")
         return float(self.browser.value("longest"))
 
     def hang_at_far_turns(self) -> float:
