@@ -85,8 +85,8 @@ export class Run {
         this.endIfDone(job);
       } catch (error) {
         // the machine was stopped and goes on: an edit is sent again
-        const goesOn = error instanceof Stopped && !this.machine.closed;
-        if (goesOn && this.isEditNext(job)) continue;
+        const isGivenUp = job.token?.isStopped || this.machine.closed;
+        if (error instanceof Stopped && !isGivenUp && this.isEditNext(job)) continue;
         this.remove(job);
         job.reject(error);
       }

@@ -8,7 +8,7 @@ import { LanesDrawing, View, lanesOf, notesOf, ticksOf } from "/lanes.js";
 import { optionLines, optionText, shellWords } from "/options.js";
 import { Past, eventLabel, eventsIn, isEdit } from "/past.js";
 import { fragmentOf, placeOf } from "/place.js";
-import { searchOf, turnsAsked } from "/questions.js";
+import { turnsAsked } from "/questions.js";
 import {
   WrongReply, bytesOf, devicesOf, eventOf, functionInWords, interruptsOf, keyName, lastOf, lengthOf,
   pageInWords, pagesOf, physicalOf, readableText, registersOf, statusInWords, tailOf, turnOf,
