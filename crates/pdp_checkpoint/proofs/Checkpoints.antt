@@ -101,6 +101,17 @@ checkpoints_cut l n checkpoints more =
       within = omega (arith, checkpoints.within);
     }
 
+-- the states between the checkpoints are no matter of these
+pub checkpoints_beside : (l : LadderData) (near : List Checkpoint) → AreCheckpoints l → AreCheckpoints (record l { near = near })
+checkpoints_beside l near checkpoints = record {
+  turns = checkpoints.turns;
+  some = checkpoints.some;
+  few = checkpoints.few;
+  positive = checkpoints.positive;
+  widest = checkpoints.widest;
+  within = checkpoints.within;
+}
+
 -- how a ladder is after one more state was kept
 pub record IsTaken (before : LadderData) (c : Checkpoint) (after : LadderData) : Type 0 where
   pub is : after ≡ kept_with before c
@@ -110,8 +121,9 @@ pub record IsTaken (before : LadderData) (c : Checkpoint) (after : LadderData) :
 longer : (l : LadderData) (c : Checkpoint) → length (l.kept ++ c ∷ []) ≡ length l.kept + 1
 longer l c = length-append l.kept (c ∷ []) ∙ omega arith
 
-pub first_checkpoint : (c : Checkpoint) (stride : ℕ) → c.turn ≡ 0 → 0 < stride → stride ≤ 2000000000 → AreCheckpoints (record { kept = c ∷ []; stride = stride })
-first_checkpoint c stride start positive widest = record {
+pub first_checkpoint : (c : Checkpoint) (stride : ℕ) (near : List Checkpoint) → c.turn ≡ 0 → 0 < stride → stride ≤ 2000000000
+    → AreCheckpoints (record { kept = c ∷ []; stride = stride; near = near })
+first_checkpoint c stride near start positive widest = record {
   turns = from_parts stride 0 c [] start (no_steps stride (0 + stride));
   some = omega arith;
   few = omega arith;
@@ -184,9 +196,10 @@ pub record IsPushed (before : LadderData) (m : MachineState) (after : LadderData
   pub saved_is : saved ≡ saved_machine m
   pub kept : after.kept ≡ before.kept ++ record { turn = turn; saved = saved } ∷ []
   pub stride : after.stride ≡ before.stride
+  pub near : after.near ≡ before.near
 
-abbrev ladder_of : List Checkpoint → ℕ → LadderData
-ladder_of kept stride = record { kept = kept; stride = stride }
+abbrev ladder_of : List Checkpoint → ℕ → List Checkpoint → LadderData
+ladder_of kept stride near = record { kept = kept; stride = stride; near = near }
 
 pushed_is : (l : LadderData) (m : MachineState) (now : LadderData) (turn : ℕ) (saved : SavedMachineData)
     → IsPushed l m now turn saved → now ≡ with_last l (checkpoint_of m)
@@ -194,7 +207,9 @@ pushed_is l m now turn saved pushed =
     let turn_is : turn ≡ m.turn = pushed.turn_is ∙ sym pushed.next in
     let saved_is = pushed.saved_is in
     let kept : now.kept ≡ l.kept ++ checkpoint_of m ∷ [] = pushed.kept ∙ rw (turn_is, saved_is) refl in
-    ap (λ k. ladder_of k now.stride) kept ∙ ap (λ s. ladder_of (l.kept ++ checkpoint_of m ∷ []) s) pushed.stride
+    ap (λ k. ladder_of k now.stride now.near) kept
+    ∙ ap (λ s. ladder_of (l.kept ++ checkpoint_of m ∷ []) s now.near) pushed.stride
+    ∙ ap (λ n. ladder_of (l.kept ++ checkpoint_of m ∷ []) l.stride n) pushed.near
 
 pub pushed_in_room : (l : LadderData) (m : MachineState) (now : LadderData) (turn : ℕ) (saved : SavedMachineData)
     → IsPushed l m now turn saved → length now.kept ≤ most_kept → IsTaken l (checkpoint_of m) now

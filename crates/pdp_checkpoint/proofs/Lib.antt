@@ -1,5 +1,6 @@
 pub mod Steps
 pub mod Checkpoints
+pub mod Closest
 pub mod Changed
 pub mod PatchedCheckpoints
 pub mod DelayedCheckpoints

@@ -1,5 +1,5 @@
 -- What checkpoints with another value in a word keep of those before.
-use Rattle.std.proofs.Common.{◌≡◌, ℕ, ◌+◌, ◌/◌, min, nat_le, List, length, map, take, refl, sym, ◌∙◌, arith}
+use Rattle.std.proofs.Common.{◌≡◌, ℕ, ◌+◌, ◌/◌, min, nat_le, List, [], length, map, take, refl, sym, ◌∙◌, arith}
 use Rattle.std.specs.List.{filter}
 use Rattle.std.proofs.lemmas.List.{take_min}
 use Rattle.pdp_store.specs.declared.part.WordAt.{WordAt}
@@ -9,7 +9,7 @@ use Rattle.pdp_checkpoint.specs.declared.checkpoint.Checkpoint.{Checkpoint}
 use Rattle.pdp_checkpoint.specs.Ladder.{LadderData, AreCheckpoints}
 use Rattle.pdp_checkpoint.specs.Patched.{checkpoint_with_word, patched_to}
 use Rattle.pdp_checkpoint.proofs.Changed.{checkpoints_changed}
-use Rattle.pdp_checkpoint.proofs.Checkpoints.{below_is_first, checkpoints_cut}
+use Rattle.pdp_checkpoint.proofs.Checkpoints.{below_is_first, checkpoints_beside, checkpoints_cut}
 
 -- how a ladder is after its first states got another value in a word
 pub record IsPatchedTo (turn : ℕ) (at : WordAt) (value : ℕ) (before after : LadderData) : Type 0 where
@@ -23,14 +23,15 @@ first_are_low l turn first checkpoints is = is ∙ take_min (turn / l.stride + 1
 
 pub is_patched_to : (l : LadderData) (turn : ℕ) (at : WordAt) (value : ℕ) (first now : List Checkpoint)
     → AreCheckpoints l → first ≡ take (min (turn / l.stride + 1) (length l.kept)) l.kept → now ≡ map (checkpoint_with_word at value) first
-    → IsPatchedTo turn at value l (record l { kept = now })
+    → IsPatchedTo turn at value l (record l { kept = now; near = [] })
 is_patched_to l turn at value first now checkpoints first_is now_is =
     let low : first ≡ take (turn / l.stride + 1) l.kept = first_is ∙ take_min (turn / l.stride + 1) l.kept in
     let below = first_are_low l turn first checkpoints first_is in
     let cut : AreCheckpoints (record l { kept = first }) = rw low (checkpoints_cut l (turn / l.stride + 1) checkpoints (omega arith)) in
     record {
       is = rw (now_is, below) refl;
-      checkpoints = rw now_is (checkpoints_changed (record l { kept = first }) (checkpoint_with_word at value) (λ c. refl) cut);
+      checkpoints = rw now_is (checkpoints_beside (record l { kept = map (checkpoint_with_word at value) first }) []
+          (checkpoints_changed (record l { kept = first }) (checkpoint_with_word at value) (λ c. refl) cut));
     }
 
 -- a page for a word is put into states as the word is

@@ -1,5 +1,5 @@
 -- The checkpoint of turn 0 with other delays of the devices [P].
-use Rattle.std.specs.Prelude.{nat_le, map}
+use Rattle.std.specs.Prelude.{[], nat_le, map}
 use Rattle.std.specs.List.{filter}
 use Rattle.pdp_unibus.specs.declared.delays.Delays.{Delays}
 use Rattle.pdp_cpu.specs.Saved.{saved_machine_with_delays}
@@ -10,9 +10,10 @@ use Rattle.pdp_checkpoint.specs.Ladder.{LadderData}
 abbrev pub checkpoint_with_delays : Delays → Checkpoint → Checkpoint
 checkpoint_with_delays delays c = record c { saved = saved_machine_with_delays delays c.saved }
 
--- the states of turn 0 alone, each with these delays
+-- the states of turn 0 alone, each with these delays, and none between
 abbrev pub ladder_with_delays : Delays → LadderData → LadderData
 ladder_with_delays delays l = record l {
   kept = map (checkpoint_with_delays delays) (filter
       (λ c. nat_le c.turn 0) l.kept);
+  near = [];
 }

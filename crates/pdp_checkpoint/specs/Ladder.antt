@@ -1,7 +1,7 @@
 -- The checkpoints of a machine, at the multiples of a stride of turns [P].
 use Rattle.std.specs.Prelude.{ℕ, zero, suc, ◌≡◌, ◌+◌, ◌*◌, ◌/◌, ◌%◌, ◌-◌, ◌<◌, ◌≤◌, ◌==◌, min}
-use Rattle.std.specs.Prelude.{nat_lt, if◌then◌else◌, List, [], ◌∷◌, ◌++◌, length, map}
-use Rattle.std.specs.List.{filter}
+use Rattle.std.specs.Prelude.{nat_lt, if◌then◌else◌, List, [], ◌∷◌, ◌++◌, Some, drop, length, map, slice_get}
+use Rattle.std.specs.List.{All, filter}
 use Rattle.pdp_unibus.specs.LastTurn.{last_turn}
 use Rattle.pdp_cpu.specs.Turns.MachineState.{MachineState}
 use Rattle.pdp_cpu.specs.Saved.{saved_machine}
@@ -13,10 +13,16 @@ widest_stride = 2000000000
 abbrev pub most_kept : ℕ
 most_kept = 256
 
--- the checkpoints, the earliest first, and how many turns lie between two of them
+-- how many states are kept at most between the checkpoints
+abbrev pub most_near : ℕ
+most_near = 96
+
+-- the checkpoints, the earliest first, and how many turns lie between two of them; and states near
+-- the turns that were asked about last, in the order in which they were kept
 pub record LadderData : Type 0 where
   pub kept : List Checkpoint
   pub stride : ℕ
+  pub near : List Checkpoint
 
 -- the state of a machine, with its turn
 abbrev pub checkpoint_of : MachineState → Checkpoint
@@ -55,7 +61,20 @@ with_last l c = record l { kept = l.kept ++ c ∷ [] }
 
 -- with twice the stride, and the states at its multiples
 abbrev pub ladder_doubled : LadderData → LadderData
-ladder_doubled l = record { kept = at_multiples (l.stride * 2) l.kept; stride = l.stride * 2 }
+ladder_doubled l = record l { kept = at_multiples (l.stride * 2) l.kept; stride = l.stride * 2 }
+
+-- the states near a turn, with one more; if that makes more than 96, the one that was kept first
+-- goes
+abbrev pub near_with : List Checkpoint → Checkpoint → List Checkpoint
+near_with near c = (if nat_lt most_near (length near + 1) then drop 1 (near ++ c ∷ []) else near
+    ++ c ∷ [])
+
+-- of these states, one of a turn that is not above this one, and no other is closer to it
+pub record IsClosest (states : List Checkpoint) (turn : ℕ) (c : Checkpoint) : Type 0 where
+  pub place : ℕ
+  pub state : slice_get states place ≡ Some c
+  pub below : c.turn ≤ turn
+  pub greatest : All (λ d. d.turn ≤ turn → d.turn ≤ c.turn) states
 
 -- with one more state; if that makes more than 256, at twice the stride
 unfoldable pub kept_with : LadderData → Checkpoint → LadderData

@@ -1,5 +1,5 @@
 -- Checkpoints with another value in a word [P].
-use Rattle.std.specs.Prelude.{ℕ, ◌≡◌, ◌<◌, List, nat_le, length, map, slice_index_or}
+use Rattle.std.specs.Prelude.{ℕ, ◌≡◌, ◌<◌, List, [], nat_le, length, map, slice_index_or}
 use Rattle.std.specs.List.{All, filter}
 use Rattle.pdp_store.specs.declared.part.WordAt.{WordAt}
 use Rattle.pdp_unibus.specs.SavedBusData.{SavedBusData}
@@ -14,10 +14,12 @@ use Rattle.pdp_checkpoint.specs.Ladder.{LadderData}
 abbrev pub checkpoint_with_word : WordAt → ℕ → Checkpoint → Checkpoint
 checkpoint_with_word at value c = record c { saved = saved_machine_with_word at value c.saved }
 
--- the states of turns that are not above this one, each with this value in the word
+-- the checkpoints of turns that are not above this one, each with this value in the word, and no
+-- state between them
 abbrev pub patched_to : ℕ → WordAt → ℕ → LadderData → LadderData
 patched_to turn at value l = record l {
   kept = map (checkpoint_with_word at value) (filter (λ c. nat_le c.turn turn) l.kept);
+  near = [];
 }
 
 -- these states have the page of this word alike: there each has the words of one saved bus, and in

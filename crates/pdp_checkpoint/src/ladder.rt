@@ -1,4 +1,4 @@
-ghost use Rattle.std.specs.Prelude.{◌≡◌, ◌+◌, ◌*◌, ◌/◌, ◌<◌, ◌≤◌, min, nat_le, Some, [], ◌∷◌};
+ghost use Rattle.std.specs.Prelude.{◌≡◌, ◌+◌, ◌*◌, ◌/◌, ◌<◌, ◌≤◌, ◌++◌, min, nat_le, Some, [], ◌∷◌};
 ghost use Rattle.std.specs.Prelude.{length, slice_get, IfOk, OnOk, OnErr};
 ghost use Rattle.std.specs.List.{All, filter};
 ghost use Rattle.pdp_store.specs.Parts.{part_of, word_at};
@@ -7,11 +7,11 @@ ghost use Rattle.pdp_checkpoint.specs.Delayed.{ladder_with_delays};
 ghost use Rattle.pdp_checkpoint.specs.Patched.{HavePageAlike, patched_to};
 ghost use Rattle.pdp_cpu.specs.Saved.{HasWord};
 ghost use Rattle.pdp_checkpoint.specs.Ladder.{widest_stride, checkpoint_of, next_of, best_of};
-ghost use Rattle.pdp_checkpoint.specs.Ladder.{kept_with, AreCheckpoints};
+ghost use Rattle.pdp_checkpoint.specs.Ladder.{kept_with, near_with, AreCheckpoints, IsClosest};
 
 use crate::checkpoint::Checkpoint;
 use crate::patched::ReadyPatch;
-use crate::thin::thin;
+use crate::thin::{cut_near, thin};
 use pdp_cpu::PagedMachine;
 use pdp_store::{Part, WordAt};
 use pdp_unibus::Delays;
@@ -25,12 +25,17 @@ pub const MOST_KEPT: usize = 256;
 /// The widest stride of a ladder, in turns [P].
 pub const WIDEST_STRIDE: u32 = 2_000_000_000;
 
-/// Checkpoints of a machine, at most 256, at the multiples of a stride from turn 0 on [P]. A
-/// contract sees the list of them, the earliest first, and the stride.
+/// How many states a ladder keeps at most between its checkpoints [P].
+pub const MOST_NEAR: usize = 96;
+
+/// Checkpoints of a machine, at most 256, at the multiples of a stride from turn 0 on, and beside
+/// them at most 96 states near the turns that were asked about last [P]. A contract sees the list
+/// of the checkpoints, the earliest first, the stride, and the list of the other states.
 #[derive(Drop)]
 pub struct Ladder {
     kept: Vec<Checkpoint>,
     stride: u32,
+    near: Vec<Checkpoint>,
 }
 
 impl Model for Ladder {
@@ -40,9 +45,17 @@ impl Model for Ladder {
 
     ghost use Rattle.pdp_checkpoint.specs.Ladder.{AreCheckpoints};
 
-    ghost view = { λ l. record { kept = l.kept.items; stride = l.stride } };
+    ghost view = { λ l. record {
+      kept = l.kept.items;
+      stride = l.stride;
+      near = l.near.items;
+    } };
 
-    ghost invariant = { λ l. AreCheckpoints (record { kept = l.kept.items; stride = l.stride }) };
+    ghost invariant = { λ l. AreCheckpoints (record {
+      kept = l.kept.items;
+      stride = l.stride;
+      near = l.near.items;
+    }) };
 }
 
 impl Ladder {
@@ -59,12 +72,14 @@ impl Ladder {
         ensures machine { machine.new ≡ machine.old }
         ensures kept { IfOk result (λ ladder. ladder.kept ≡ checkpoint_of machine.old.state ∷ []) }
         ensures stride { IfOk result (λ ladder. ladder.stride ≡ stride) }
+        ensures near { IfOk result (λ ladder. ladder.near ≡ []) }
         ensures checkpoints { IfOk result AreCheckpoints }
     {
         let saved = machine.save(alloc)?;
         let mut kept = Vec::new(alloc);
         kept.push(Checkpoint { turn: 0, saved })?;
-        Ok(Ladder { kept, stride })
+        let near = Vec::new(alloc);
+        Ok(Ladder { kept, stride, near })
     }
 
     /// How many turns lie between two checkpoints. It takes no memory.
@@ -100,6 +115,23 @@ impl Ladder {
         &self.kept[place]
     }
 
+    /// The state of the greatest turn that is not above `turn`, of the checkpoints and of the
+    /// states between them.
+    pub fn closest(&self, turn: u32) -> &Checkpoint
+        ensures closest { IsClosest (self.now.kept ++ self.now.near) turn result.now }
+        ensures later { best_of self.now turn * self.now.stride ≤ result.now.turn }
+        ensures near { turn < next_of self.now → turn < result.now.turn + self.now.stride }
+        ensures checkpoints { AreCheckpoints self.now }
+    {
+        let mut closest = self.best(turn);
+        for state in &self.near {
+            if closest.turn < state.turn && state.turn <= turn {
+                closest = state;
+            }
+        }
+        closest
+    }
+
     /// Keeps the state of this machine, which is at the turn of `next`. If that is the 257th, the
     /// stride doubles and the states at odd multiples of the old one go. The machine is left as it
     /// is.
@@ -127,30 +159,65 @@ impl Ladder {
         Ok(())
     }
 
+    /// Keeps the state of this machine beside the checkpoints. If that is the 97th of these states,
+    /// the one that was kept first goes. The machine is left as it is.
+    ///
+    /// # Errors
+    ///
+    /// `NoMemory` if memory was refused. The ladder is then as it was.
+    pub fn take_near(
+        &mut self,
+        alloc: Global,
+        machine: &mut PagedMachine,
+    ) -> Result<(), NoMemory>
+        ensures machine { machine.new ≡ machine.old }
+        ensures kept { OnOk result (self.new ≡ record self.old {
+            near = near_with self.old.near (checkpoint_of machine.old.state) }) }
+        ensures refused { OnErr result (self.new ≡ self.old) }
+    {
+        let turn = machine.turns();
+        let saved = machine.save(alloc)?;
+        self.near.push(Checkpoint { turn, saved })?;
+        if self.near.len() > MOST_NEAR {
+            self.near.remove(0);
+        }
+        Ok(())
+    }
+
+    /// Drops the states between the checkpoints. It takes no memory.
+    pub fn drop_near(&mut self)
+        ensures { self.new ≡ record self.old { near = [] } }
+    {
+        self.near.clear();
+    }
+
     /// Drops the states of turns above `turn`. It takes no memory.
     pub fn cut(&mut self, turn: u32)
         ensures kept { self.new.kept ≡ filter (λ c. nat_le c.turn turn) self.old.kept }
+        ensures near { self.new.near ≡ filter (λ c. nat_le c.turn turn) self.old.near }
         ensures stride { self.new.stride ≡ self.old.stride }
         ensures count { length self.new.kept
             ≡ min (length self.old.kept) (turn / self.old.stride + 1) }
         ensures checkpoints { AreCheckpoints self.new }
     {
         self.kept.truncate((turn / self.stride) as usize + 1);
+        cut_near(&mut self.near, turn);
     }
 
     /// Makes these the delays (turns) of the devices in the checkpoint of turn 0, and drops the
-    /// states of later turns. It takes no memory. [P]
+    /// other states. It takes no memory. [P]
     pub fn set_delays(&mut self, delays: Delays)
         ensures kept { self.new ≡ ladder_with_delays delays self.old }
         ensures count { length self.new.kept ≡ 1 }
         ensures checkpoints { AreCheckpoints self.new }
     {
+        self.near.clear();
         self.kept.truncate(1);
         self.kept[0].saved.set_delays(delays);
     }
 
     /// Gives a word of core, or of this drive, this value in the checkpoints up to `turn`, and
-    /// drops those of turns above it. The states up to `turn` have the page of the word alike: they
+    /// drops those of turns above it and the states between. The states up to `turn` have the page of the word alike: they
     /// share the one page that is made. All that is needed for the new states is there before the
     /// first is changed. The machine numbers the new page, and is left as it is. [P]
     ///
@@ -183,6 +250,7 @@ impl Ladder {
             number: word,
         };
         let patch = ReadyPatch::new(alloc, machine, &self.kept[..count], at, value)?;
+        self.near.clear();
         self.kept.truncate(count);
         patch.put(&mut self.kept);
         Ok(())

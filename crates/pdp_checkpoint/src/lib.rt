@@ -6,11 +6,14 @@
 //! - Checkpoints are taken at turn 0 and at each further multiple of the stride. A 257th doubles
 //!   the stride, and those at odd multiples of the old one go (`Ladder::new`, `take`, `stride`,
 //!   `next`).
-//! - The best state for a turn is the last at or before it (`best`).
+//! - The best checkpoint for a turn is the last at or before it (`best`).
+//! - At most 96 further states are kept, of turns near those asked about last (`take_near`,
+//!   `drop_near`). The closest state to a turn, of all, is the last at or before it (`closest`).
 //! - A cut drops those above a turn, and no other (`cut`).
-//! - Other delays are put into the state of turn 0, and the later ones go (`set_delays`).
-//! - A patch changes a word in each state up to a turn and drops the others, or is refused and
-//!   changes nothing. It asks that these states have the page of the word alike (`patch`).
+//! - Other delays are put into the state of turn 0, and the others go (`set_delays`).
+//! - A patch changes a word in each checkpoint up to a turn and drops the other states, or is
+//!   refused and changes nothing. It asks that these checkpoints have the page of the word alike
+//!   (`patch`).
 //!
 //! How a machine runs from one state to the next is left to pdp_cpu, which turns are wanted to
 //! pdp_replay.
@@ -22,4 +25,4 @@ mod patched;
 mod thin;
 
 pub use checkpoint::Checkpoint;
-pub use ladder::{Ladder, MOST_KEPT, WIDEST_STRIDE};
+pub use ladder::{Ladder, MOST_KEPT, MOST_NEAR, WIDEST_STRIDE};

@@ -2,7 +2,9 @@
 
 mod changes;
 mod kept_run;
+mod pauses;
 mod turns;
 
 pub(crate) use kept_run::KeptRun;
+pub(crate) use pauses::next_pause;
 pub(crate) use turns::{quiet_until, run_part};

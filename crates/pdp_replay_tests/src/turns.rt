@@ -132,3 +132,24 @@ fn known_turns_of_patches_of_the_drive(rt: HostRuntime) -> Result<(), Fail> {
     let mut engine = engine_of(rt.alloc(), &READS_DISK_OVER_ITSELF, 1)?;
     follow(&rt, rt.alloc(), &mut engine, 1, &PATCHES_OF_THE_DRIVE)
 }
+
+// On the way to a turn far off states are kept each 16,384 turns. They are dropped as what is known
+// is, so that no question goes on from a state of another past.
+const STATES_NEAR_A_TURN: [Step; 10] = [
+    Step::Ran(Question::Regs(90_000), 90_000, 90_000),
+    Step::Ran(Question::Regs(89_999), 8_079, 90_000),
+    Step::Ran(Question::Regs(81_920), 0, 90_000),
+    Step::Ran(Question::Regs(20_000), 3_616, 90_000),
+    Step::Edit(Edit::Insert(50_000, Event::Tick), Ok(1)),
+    Step::Ran(Question::Regs(60_000), 10_848, 60_000),
+    Step::Ran(Question::Regs(49_152), 0, 60_000),
+    Step::Edit(Edit::Patch(0o4000, 7), Ok(0)),
+    Step::Ran(Question::Core(49_152, 0o4000, 1), 49_152, 60_000),
+    Step::Ran(Question::Regs(33_000), 232, 60_000),
+];
+
+#[test]
+fn states_near_a_turn(rt: HostRuntime) -> Result<(), Fail> {
+    let mut engine = engine_of(rt.alloc(), &BRANCH, 100_000)?;
+    follow(&rt, rt.alloc(), &mut engine, 100_000, &STATES_NEAR_A_TURN)
+}

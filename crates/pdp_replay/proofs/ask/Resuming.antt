@@ -1,5 +1,6 @@
 -- Where a run goes on from: the machine, or the best checkpoint.
 use Rattle.std.proofs.Common.{◌≡◌, ℕ, ◌+◌, ◌-◌, ◌*◌, ◌/◌, ◌<◌, ◌≤◌, ◌&&◌, if◌then◌else◌, Bool, ap, arith, false, ltb-false, ltb-true, max, min, nat_le, nat_lt, refl, subst, sym, true}
+use Rattle.std.proofs.lemmas.Bool.{leb-false}
 use Rattle.pdp_checkpoint.specs.Ladder.{best_of, next_of}
 use Rattle.pdp_replay.specs.Run.KeptRuns.{Advances, ComesTo, IsSomeRun, is_current_by, resumed_at, resumed_turn}
 use Rattle.pdp_replay.specs.Run.Checkpoints.{AreStatesOf}
@@ -16,12 +17,30 @@ use Rattle.pdp_replay.proofs.run.OnWay.{known_below_next}
 abbrev pub says_between : KeptRun → ℕ → ℕ → Bool
 says_between r first last = nat_le first r.machine.state.turn && is_current_by r last
 
--- otherwise a run goes on from the checkpoint
-pub resumed_kept : (r : KeptRun) (to kept : ℕ) → kept ≡ best_of r.ladder (min to r.known) * r.ladder.stride → says_between r kept to ≡ false
-    → kept ≡ resumed_turn r to
-resumed_kept r to kept is earlier =
-    let now : says_between r (best_of r.ladder (min to r.known) * r.ladder.stride) to ≡ false = rw (← is) earlier in
-    rw now is
+both_hold : (a b : Bool) → a ≡ true → b ≡ true → (a && b) ≡ false → ⊥
+both_hold true true first second is = cc is
+both_hold true false first second is = cc second
+both_hold false b first second is = cc first
+
+-- otherwise a run goes on from a state that is kept, of the turn of the best checkpoint or a later
+-- one
+pub resumed_kept : (r : KeptRun) (to kept : ℕ) → best_of r.ladder (min to r.known) * r.ladder.stride ≤ kept → says_between r kept to ≡ false
+    → resumed_turn r to ≤ kept
+resumed_kept r to kept least earlier = by (nat_le best turn) (is_current_by r to) refl refl
+  where
+    best : ℕ
+    best = best_of r.ladder (min to r.known) * r.ladder.stride
+    turn : ℕ
+    turn = r.machine.state.turn
+    by : (above stays : Bool) → nat_le best turn ≡ above → is_current_by r to ≡ stays → (if above && stays then turn else best) ≤ kept
+    by true true above stays = late (nat_le kept turn) refl
+      where
+        late : (reaches : Bool) → nat_le kept turn ≡ reaches → turn ≤ kept
+        late true reaches = absurd (both_hold (nat_le kept turn) (is_current_by r to) reaches stays earlier)
+        late false reaches = let below = leb-false kept turn reaches in omega (arith, below)
+    by true false above stays = least
+    by false true above stays = least
+    by false false above stays = least
 
 -- the known turn is below the next one whose state is to be kept
 pub known_is_below : (r : KeptRun) → IsSomeRun r → r.known < next_of r.ladder

@@ -1,5 +1,5 @@
 -- An engine after a word of its setup got a patch, or lost one.
-use Rattle.std.proofs.Common.{◌≡◌, ◌∙◌, ℕ, zero, suc, ◌+◌, ◌/◌, ◌<◌, ◌≤◌, List, [], None, Some, ap, ap₂, arith, false, true, is_some, Ok, Result, length, min, nat_le, refl, replicate, subst, sym}
+use Rattle.std.proofs.Common.{◌≡◌, ◌∙◌, ℕ, zero, suc, ◌+◌, ◌/◌, ◌<◌, ◌≤◌, List, [], None, ap, ap₂, arith, false, true, is_some, Ok, Result, length, min, nat_le, refl, replicate, subst, sym}
 use Rattle.std.specs.Prelude.{slice_index, slice_index_or}
 use Rattle.std.specs.List.{All, filter}
 use Rattle.std.proofs.lemmas.List.{length-replicate}

@@ -1,9 +1,10 @@
 -- How far a run came: nowhere yet, and one part after another.
-use Rattle.std.proofs.Common.{◌≡◌, ◌∙◌, Bool, ℕ, ◌+◌, ◌-◌, ◌<◌, ◌≤◌, ap, arith, max, min, nat_lt, refl, subst, sym, true}
+use Rattle.std.proofs.Common.{◌≡◌, ◌∙◌, Bool, List, ℕ, ◌+◌, ◌-◌, ◌<◌, ◌≤◌, ap, arith, max, min, nat_lt, refl, subst, sym, true}
 use Rattle.std.proofs.lemmas.Bool.{lt-ltb}
 use Rattle.pdp_checkpoint.specs.Ladder.{LadderData, next_of}
+use Rattle.pdp_checkpoint.specs.declared.checkpoint.Checkpoint.{Checkpoint}
 use Rattle.pdp_cpu.specs.Turns.MachineState.{MachineWithTexts}
-use Rattle.pdp_replay.specs.Run.KeptRuns.{Advances, ArrivesAt, CanGoOn, ComesTo, KeepsStride}
+use Rattle.pdp_replay.specs.Run.KeptRuns.{Advances, ArrivesAt, CanGoOn, ComesTo, KeepsStride, with_near}
 use Rattle.pdp_replay.specs.Run.Strides.{IsStride}
 use Rattle.pdp_replay.specs.declared.run.kept_run.KeptRun.{KeptRun}
 
@@ -177,3 +178,21 @@ advances_settled before after same meter known short ahead current stride =
       ran = omega (arith, turn, meter);
       counted = omega (arith, meter);
     }
+
+-- states that are kept between the checkpoints are no matter of how far a run came
+pub advances_near : (from to : ℕ) (near : List Checkpoint) (before r after : KeptRun) → after ≡ with_near near r → Advances from to before r
+    → Advances from to before after
+advances_near from to near before r after is on =
+    let come = on.come in
+    rw is (record {
+      come = record { within = come.within; known = come.known; ahead = come.ahead; current = come.current };
+      turn_most = on.turn_most;
+      known_least = on.known_least;
+      known_most = on.known_most;
+      stride = on.stride;
+      ran = on.ran;
+      counted = on.counted;
+    })
+
+pub arrives_near : (to : ℕ) (near : List Checkpoint) (before r after : KeptRun) → after ≡ with_near near r → ArrivesAt to before r → ArrivesAt to before after
+arrives_near to near before r after is there = rw is (record { turn = there.turn; short = there.short; known = there.known })

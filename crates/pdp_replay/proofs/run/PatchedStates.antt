@@ -18,7 +18,7 @@ use Rattle.pdp_cpu.specs.Saved.{SavedMachineData, saved_machine_with_word, saved
 use Rattle.pdp_cpu.specs.Turns.MachineState.{MachineWithTexts}
 use Rattle.pdp_replay.specs.Run.FirstTouches.{first_touch, untouched_all, world_changed}
 use Rattle.pdp_store.specs.FirstTouches.{all_first_touches_before, first_touches_after, never}
-use Rattle.pdp_replay.specs.Run.Checkpoints.{AreStatesOf, KeepsTexts}
+use Rattle.pdp_replay.specs.Run.Checkpoints.{AreStatesOf, IsKeptState, KeepsTexts}
 use Rattle.pdp_replay.specs.Past.{Past, with_setup}
 use Rattle.pdp_replay.specs.Past.Setup.{SetupData}
 use Rattle.pdp_replay.specs.Run.States.{at, power, punched_at, state_at, text_at}
@@ -94,6 +94,7 @@ states_patched part i word p s known k l now powers are le low is long checkpoin
           l.kept are.states);
       checkpoints = checkpoints;
       count = count ∙ ap (λ n. k / n + 1) (sym stride);
+      near = subst (All (IsKeptState (with_setup p s) k)) (sym (ap (λ (x : LadderData). x.near) is)) (All-nil (IsKeptState (with_setup p s) k));
     }
 
 pub texts_patched : (part : Part) (i word : ℕ) (p : Past) (s : SetupData) (known k : ℕ) (m now : MachineWithTexts) → PowersWith part i word p.setup s

@@ -40,7 +40,7 @@ pub settled_taken : (p : Past) (known : ℕ) (m : MachineWithTexts) (l now : Lad
 settled_taken p known m l now are way turn is checkpoints next =
     let short = known_is_short p known l are in
     let reached : m.state.turn ≡ max known m.state.turn = omega (arith, short, turn) in
-    let states : AreStatesOf p m.state.turn now = states_taken p known m.state.turn m.state l now are way.here turn is checkpoints next in
+    let states : AreStatesOf p m.state.turn now = states_taken p known m.state.turn m.state l now are way.here (omega (arith, short, turn)) turn is checkpoints next in
     kept_on_way p known (max known m.state.turn) m now (subst (λ k. AreStatesOf p k now) reached states) way refl
 
 -- there was no memory for it: what was known before this turn stays

@@ -4,6 +4,7 @@ use Rattle.std.specs.Prelude.{ℕ, zero, suc, ◌≡◌, ◌≤◌, ◌+◌, ◌
 use Rattle.std.specs.Prelude.{replicate}
 use Rattle.std.specs.List.{All}
 use Rattle.pdp_checkpoint.specs.Ladder.{AreCheckpoints, LadderData}
+use Rattle.pdp_checkpoint.specs.declared.checkpoint.Checkpoint.{Checkpoint}
 use Rattle.pdp_cpu.specs.Saved.{saved_machine}
 use Rattle.pdp_cpu.specs.KeptTexts.{without_turns}
 use Rattle.pdp_cpu.specs.Turns.MachineState.{MachineWithTexts}
@@ -56,12 +57,18 @@ pub record IsInRun (p : Past) (known : ℕ) (m : MachineWithTexts) : Type 0 wher
   pub here : m.state ≡ at p m.state.turn
   pub reached : m.state.turn ≤ known
 
+-- a state that is kept is the run's of its turn, which is not above the known one
+pub record IsKeptState (p : Past) (known : ℕ) (c : Checkpoint) : Type 0 where
+  pub saved : c.saved ≡ saved_machine (at p c.turn)
+  pub within : c.turn ≤ known
+
 -- the checkpoints are those of the run at turn 0 and at each multiple of the stride up to the known
--- turn
+-- turn, and the states between them are the run's too
 pub record AreStatesOf (p : Past) (known : ℕ) (l : LadderData) : Type 0 where
   pub states : All (λ c. c.saved ≡ saved_machine (at p c.turn)) l.kept
   pub checkpoints : AreCheckpoints l
   pub count : length l.kept ≡ known / l.stride + 1
+  pub near : All (IsKeptState p known) l.near
 
 -- what an engine keeps of a run up to the known turn: states, texts, and what no turn changes
 pub record AreKept (p : Past) (known : ℕ) (m : MachineWithTexts) (l : LadderData) : Type 0 where

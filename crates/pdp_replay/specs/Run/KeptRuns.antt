@@ -1,11 +1,12 @@
 -- The run that an engine keeps, between its calls and on the way [P].
-use Rattle.std.specs.Prelude.{ℕ, ◌≡◌, ◌+◌, ◌*◌, ◌-◌, ◌/◌, ◌<◌, ◌≤◌, ◌&&◌, Bool, true, false, Option}
-use Rattle.std.specs.Prelude.{Some, None, ◌++◌, List, [], ◌∷◌, length, max, min, nat_le, nat_lt}
+use Rattle.std.specs.Prelude.{ℕ, ◌≡◌, ◌+◌, ◌*◌, ◌-◌, ◌/◌, ◌<◌, ◌≤◌, ◌&&◌, Bool, true, false}
+use Rattle.std.specs.Prelude.{◌++◌, List, [], ◌∷◌, length, max, min, nat_le, nat_lt}
 use Rattle.std.specs.Prelude.{if◌then◌else◌}
 use Rattle.std.specs.List.{filter}
 use Rattle.pdp_store.specs.FirstTouches.{FirstTouches, all_first_touches_before, first_touches_of, never}
 use Rattle.pdp_checkpoint.specs.Ladder.{AreCheckpoints, LadderData, best_of, checkpoint_of, next_of}
 use Rattle.pdp_checkpoint.specs.Patched.{patched_to}
+use Rattle.pdp_checkpoint.specs.declared.checkpoint.Checkpoint.{Checkpoint}
 use Rattle.pdp_cpu.specs.Drives.{state_with_drives}
 use Rattle.pdp_cpu.specs.KeptTexts.{kept_before}
 use Rattle.pdp_cpu.specs.Saved.{state_cut}
@@ -89,10 +90,11 @@ abbrev pub resumed_turn : KeptRun → ℕ → ℕ
 resumed_turn r to = resumed_at r.is_current r.machine.state.turn (best_of r.ladder
     (min to r.known) * r.ladder.stride) to
 
--- the machine was taken to where a run goes on from, to this turn, which is less than one stride
--- before the turn or the known one; what is kept and known and the count of turns stay
+-- the machine was taken to where a run goes on from, to this turn, or to a state that is kept
+-- between there and this turn. That is less than one stride before the turn or the known one. What
+-- is kept and known and the count of turns stay
 pub record IsResumed (to : ℕ) (before after : KeptRun) : Type 0 where
-  pub turn : after.machine.state.turn ≡ resumed_turn before to
+  pub turn : resumed_turn before to ≤ after.machine.state.turn
   pub most : after.machine.state.turn ≤ to
   pub near : min to before.known < after.machine.state.turn + before.ladder.stride
   pub ladder : after.ladder ≡ before.ladder
@@ -165,7 +167,11 @@ pub record IsPatchedRun (at : WordAt) (word : ℕ) (before after : KeptRun) : Ty
 
 -- the state of turn 0 alone
 abbrev pub cut_to_first : LadderData → LadderData
-cut_to_first l = record l { kept = filter (λ c. nat_le c.turn 0) l.kept }
+cut_to_first l = record l { kept = filter (λ c. nat_le c.turn 0) l.kept; near = [] }
+
+-- a run with these states between its checkpoints
+abbrev pub with_near : List Checkpoint → KeptRun → KeptRun
+with_near near r = record r { ladder = record r.ladder { near = near } }
 
 -- the state with these drives behind those that are there
 abbrev pub with_more_drives : List (List ℕ) → MachineState → MachineState
@@ -179,6 +185,7 @@ with_more_first_touches more f = first_touches_of f.core (f.drives ++ more)
 -- alone is kept, all that came out and all touches were dropped, and nothing is known
 pub record BeginsAnew (drives touches : List (List ℕ)) (before after : KeptRun) : Type 0 where
   pub kept : after.ladder.kept ≡ checkpoint_of (with_more_drives drives before.machine.state) ∷ []
+  pub near : after.ladder.near ≡ []
   pub checkpoints : AreCheckpoints after.ladder
   pub state : after.machine.state
       ≡ state_cut (length after.machine.kept_text) (length after.machine.kept_punched)

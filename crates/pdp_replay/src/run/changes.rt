@@ -142,6 +142,7 @@ impl KeptRun {
             (bus_with_tape self.old.machine.state.world.bus tape.items) }
     {
         self.ladder.cut(0);
+        self.ladder.drop_near();
         self.machine.set_tape(tape);
         self.forget_from(0);
         self.is_current = false;

@@ -7,7 +7,7 @@ ghost use Rattle.pdp_script.specs.Entries.{events_at};
 ghost use Rattle.pdp_replay.specs.Run.KeptRuns.{is_current_by, resumed_turn, Advances, ArrivesAt};
 ghost use Rattle.pdp_replay.specs.Run.KeptRuns.{CanGoOn, GoesOn, IsKeptRun, IsOnWay, IsResumed};
 ghost use Rattle.pdp_replay.specs.Run.KeptRuns.{IsRunOf, IsSomeRun, IsUnderWay, KeepsRun};
-ghost use Rattle.pdp_replay.specs.Run.KeptRuns.{LeavesKept};
+ghost use Rattle.pdp_replay.specs.Run.KeptRuns.{LeavesKept, with_near};
 ghost use Rattle.pdp_replay.specs.Run.Checkpoints.{AreStatesOf};
 ghost use Rattle.pdp_replay.specs.Past.{Past, past_without_events};
 ghost use Rattle.pdp_replay.specs.Past.Setup.{first_setup, IsGood};
@@ -16,7 +16,7 @@ ghost use Rattle.pdp_replay.specs.Run.FirstTouches.{untouched_all};
 ghost use Rattle.pdp_replay.specs.Run.States.{at};
 
 use crate::past::{BaseSetup, core_store, drive_store};
-use crate::run::run_part;
+use crate::run::{next_pause, run_part};
 use pdp_checkpoint::Ladder;
 use pdp_cpu::{Act, Machine, Meter, PagedMachine, WordTable};
 use pdp_icache::Lines;
@@ -98,8 +98,9 @@ impl KeptRun {
         self.forward(alloc, script, turn)
     }
 
-    /// Makes the machine the best checkpoint of the lesser of this turn and the known one. If the
-    /// machine is in a later state of the run that is not above this turn, it stays there.
+    /// Makes the machine the closest state that is kept to the lesser of this turn and the known
+    /// one. If the machine is in a later state of the run that is not above this turn, it stays
+    /// there.
     pub(crate) fn resume(&mut self, turn: u32)
         requires run { IsSomeRun self.old }
         ensures way { (p : Past) → IsKeptRun p self.old → IsOnWay p self.new }
@@ -108,11 +109,11 @@ impl KeptRun {
     {
         let stays = self.is_current_by(turn);
         let here = self.machine.turns();
-        let best = self.ladder.best(turn.min(self.known));
-        if is_later(stays, here, best.turn) {
+        let closest = self.ladder.closest(turn.min(self.known));
+        if is_later(stays, here, closest.turn) {
             return;
         }
-        self.machine.load(&best.saved);
+        self.machine.load(&closest.saved);
         self.is_current = true;
     }
 
@@ -136,9 +137,41 @@ impl KeptRun {
         ensures advances { Advances self.old.machine.state.turn to self.old self.new }
     {
         while self.machine.turns() < to {
-            self.leg(alloc, script, to)?;
+            self.part(alloc, script, to)?;
         }
         Ok(())
+    }
+
+    /// Runs the machine towards this turn, to where the run pauses (`next_pause`), but not beyond
+    /// the next turn whose state is to be kept. If it pauses before this turn, the state there is
+    /// kept beside the checkpoints.
+    ///
+    /// Err if memory was refused; what was kept until then stays.
+    fn part(&mut self, alloc: Global, script: &Script, to: u32) -> Result<(), NoMemory>
+        requires ready { CanGoOn self.old }
+        requires forward { self.old.machine.state.turn < to }
+        requires limit { to ≤ LAST_TURN }
+        ensures kept { LeavesKept script.now self.old self.new }
+        ensures way { OnOk result (GoesOn script.now self.old self.new) }
+        ensures on { OnOk result (self.old.machine.state.turn < self.new.machine.state.turn) }
+        ensures arrives { OnOk result (ArrivesAt self.new.machine.state.turn self.old self.new) }
+        ensures advances { Advances self.old.machine.state.turn to self.old self.new }
+    {
+        let pause = next_pause(self.machine.turns(), to, self.ladder.stride());
+        self.leg(alloc, script, pause)?;
+        self.keep_near(alloc, pause, to);
+        Ok(())
+    }
+
+    // Keeps the state of the machine beside the checkpoints, if it paused at turn `pause` on its way
+    // to a later one, `to`, and if there is memory for it: no answer depends on it.
+    fn keep_near(&mut self, alloc: Global, pause: u32, to: u32)
+        ensures same { self.new ≡ with_near self.new.ladder.near self.old }
+        ensures way { (p : Past) → IsOnWay p self.old → IsOnWay p self.new }
+    {
+        if pause < to && self.machine.turns() == pause {
+            let _ = self.ladder.take_near(alloc, &mut self.machine);
+        }
     }
 
     /// Runs the machine to this turn, but not beyond the next turn whose state is to be kept, and

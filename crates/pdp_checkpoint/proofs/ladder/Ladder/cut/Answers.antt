@@ -1,16 +1,17 @@
 use Rattle.std.proofs.Common.{◌+◌, ◌/◌, arith, sym, ◌∙◌}
 use Rattle.pdp_checkpoint.specs.Ladder.{LadderData}
-use Rattle.pdp_checkpoint.proofs.Checkpoints.{checkpoints_cut, below_is_first}
+use Rattle.pdp_checkpoint.proofs.Checkpoints.{below_is_first, checkpoints_beside, checkpoints_cut}
 use Rattle.pdp_checkpoint.proofs.ladder.Ladder.cut.Goals as goal
 
 pub invariant_of-self : goal.invariant_of-self
 invariant_of-self c =
-    let l : LadderData = record { kept = c.self.inside.kept.items; stride = c.self.inside.stride } in
-    rw c.truncate.ensures.items (checkpoints_cut l (c.args.turn / l.stride + 1) c.self.invariant (omega arith))
+    let l : LadderData = record { kept = c.self.inside.kept.items; stride = c.self.inside.stride; near = c.self.inside.near.items } in
+    let cut = checkpoints_cut l (c.args.turn / l.stride + 1) c.self.invariant (omega arith) in
+    rw c.truncate.ensures.items (checkpoints_beside _ c.cut_near.new.near.items cut)
 
 pub returns-clause-kept : goal.returns-clause-kept
 returns-clause-kept c =
-    let l : LadderData = record { kept = c.self.inside.kept.items; stride = c.self.inside.stride } in
+    let l : LadderData = record { kept = c.self.inside.kept.items; stride = c.self.inside.stride; near = c.self.inside.near.items } in
     rw (← c.self.view_is) (c.truncate.ensures.items ∙ sym (below_is_first l c.args.turn c.self.invariant))
 
 pub returns-clause-checkpoints : goal.returns-clause-checkpoints

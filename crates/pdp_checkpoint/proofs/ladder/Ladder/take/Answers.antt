@@ -4,9 +4,9 @@ use Rattle.pdp_checkpoint.proofs.Checkpoints.{IsPushed, IsTaken, pushed_in_room,
 use Rattle.pdp_checkpoint.proofs.ladder.Ladder.take.Goals as goal
 
 in_room : (c : goal.Else-len-gt-MOST_KEPT)
-    → IsTaken c.args.self.now (checkpoint_of c.args.machine.now.state) (record { kept = c.push.new.self.items; stride = c.self.inside.stride })
+    → IsTaken c.args.self.now (checkpoint_of c.args.machine.now.state) (record { kept = c.push.new.self.items; stride = c.self.inside.stride; near = c.self.inside.near.items })
 in_room c =
-    let now : LadderData = record { kept = c.push.new.self.items; stride = c.self.inside.stride } in
+    let now : LadderData = record { kept = c.push.new.self.items; stride = c.self.inside.stride; near = c.self.inside.near.items } in
     let pushed : IsPushed c.args.self.now c.args.machine.now.state now c.next-turn.result c.in_ok-saved.saved = record {
       checkpoints = c.next-turn.ensures.checkpoints;
       next = c.requires.next;
@@ -15,13 +15,14 @@ in_room c =
       saved_is = c.in_ok-saved.ensures.saved;
       kept = rw (← c.self.view_is) c.in_ok-push.ensures.items;
       stride = ap (λ l. l.stride) c.self.view_is;
+      near = ap (λ l. l.near) c.self.view_is;
     } in
     pushed_in_room c.args.self.now c.args.machine.now.state now c.next-turn.result c.in_ok-saved.saved pushed (omega arith)
 
 at_full : (c : goal.After-thin)
-    → IsTaken c.args.self.now (checkpoint_of c.args.machine.now.state) (record { kept = c.thin.new.kept.items; stride = c.self.inside.stride * 2 })
+    → IsTaken c.args.self.now (checkpoint_of c.args.machine.now.state) (record { kept = c.thin.new.kept.items; stride = c.self.inside.stride * 2; near = c.self.inside.near.items })
 at_full c =
-    let now : LadderData = record { kept = c.push.new.self.items; stride = c.self.inside.stride } in
+    let now : LadderData = record { kept = c.push.new.self.items; stride = c.self.inside.stride; near = c.self.inside.near.items } in
     let pushed : IsPushed c.args.self.now c.args.machine.now.state now c.next-turn.result c.in_ok-saved.saved = record {
       checkpoints = c.next-turn.ensures.checkpoints;
       next = c.requires.next;
@@ -30,6 +31,7 @@ at_full c =
       saved_is = c.in_ok-saved.ensures.saved;
       kept = rw (← c.self.view_is) c.in_ok-push.ensures.items;
       stride = ap (λ l. l.stride) c.self.view_is;
+      near = ap (λ l. l.near) c.self.view_is;
     } in
     rw c.thin.ensures (pushed_at_full c.args.self.now c.args.machine.now.state now c.next-turn.result c.in_ok-saved.saved pushed (omega arith))
 

@@ -1,11 +1,28 @@
-use Rattle.std.proofs.Common.{◌≡◌, ◌∙◌, ℕ, ap, arith, min, subst, sym, unwrap_or}
+use Rattle.std.proofs.Common.{◌≡◌, ◌∙◌, ℕ, Err, Ok, Result, ap, arith, false, min, refl, subst, sym, unwrap_or}
 use Rattle.pdp_operand.specs.Phases.World.{World}
 use Rattle.pdp_script.specs.Entries.{entry_of}
+use Rattle.pdp_script.specs.Refusal.{edit_answer, past_left}
+use Rattle.pdp_script.specs.Script.{ScriptData}
+use Rattle.pdp_script.specs.declared.faults.Fault.{Fault}
 use Rattle.pdp_replay.specs.Past.{Past, past_from}
 use Rattle.pdp_replay.specs.Past.Setup.{setup_from}
+use Rattle.pdp_replay.specs.Timeline.{IsEngine}
 use Rattle.pdp_replay.proofs.past.EditedEngines.{engine_edited}
 use Rattle.pdp_replay.proofs.past.EditedStates.{SameBefore, same_before_alteration, turn_or}
 use Rattle.pdp_replay.proofs.engine.Engine.alter.Goals as goal
+
+-- a refused edit leaves the script
+refused_left : (due : Result ScriptData Fault) (old : ScriptData) (result : Result (Unit {0}) Fault) (fault : Fault) → result ≡ edit_answer due false tt
+    → result ≡ Err fault → past_left due false old ≡ old
+refused_left (Err other) old result fault answer is = refl
+refused_left (Ok new) old result fault answer is = absurd (cc (answer, is))
+
+pub invariant_of-self : goal.invariant_of-self
+invariant_of-self c =
+    let old = c.self.inside in
+    let left = c.alter.ensures.after ∙ refused_left _ old.script c.alter.result _ c.alter.ensures.answer c.in_err-alter.was in
+    subst (λ script. IsEngine (past_from old.base_setup old.run.machine.state.world.bus.tape old.delays old.patches script) old.highest old.run)
+    (sym left) c.self.invariant
 
 pub invariant_of-self-2 : goal.invariant_of-self-2
 invariant_of-self-2 c =

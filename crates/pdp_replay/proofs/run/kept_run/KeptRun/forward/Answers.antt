@@ -10,28 +10,28 @@ loop-alloc-init c = record {
   on = advances_nowhere c.args.self.now c.args.to c.requires.ready c.requires.forward;
 }
 
-pub leg-requires-clause-ready : goal.leg-requires-clause-ready
-leg-requires-clause-ready c =
+pub part-requires-clause-ready : goal.part-requires-clause-ready
+part-requires-clause-ready c =
     let before = c.loop-alloc.invariant in
     can_go_on _ _ _ c.args.self.now c.loop-alloc.self before.on before.there
 
 pub loop-alloc-preserved : goal.loop-alloc-preserved
 loop-alloc-preserved c =
     let before = c.loop-alloc.invariant in
-    let on = c.in_ok-leg.ensures.on in
+    let on = c.in_ok-part.ensures.on in
     record {
-      way = λ p same on. c.in_ok-leg.ensures.way p same (before.way p same on);
-      there = arrives_on _ _ c.args.self.now c.loop-alloc.self c.leg.new.self before.there c.in_ok-leg.ensures.arrives (omega (arith, on));
-      on = advances_on _ _ _ _ c.args.self.now c.loop-alloc.self c.leg.new.self before.on before.there c.leg.ensures.advances;
+      way = λ p same on. c.in_ok-part.ensures.way p same (before.way p same on);
+      there = arrives_on _ _ c.args.self.now c.loop-alloc.self c.part.new.self before.there c.in_ok-part.ensures.arrives (omega (arith, on));
+      on = advances_on _ _ _ _ c.args.self.now c.loop-alloc.self c.part.new.self before.on before.there c.part.ensures.advances;
     }
 
-pub returns-in_err-leg-clause-kept : goal.returns-in_err-leg-clause-kept
-returns-in_err-leg-clause-kept c = λ p same on. c.leg.ensures.kept p same (c.loop-alloc.invariant.way p same on)
+pub returns-in_err-part-clause-kept : goal.returns-in_err-part-clause-kept
+returns-in_err-part-clause-kept c = λ p same on. c.part.ensures.kept p same (c.loop-alloc.invariant.way p same on)
 
-pub returns-in_err-leg-clause-advances : goal.returns-in_err-leg-clause-advances
-returns-in_err-leg-clause-advances c =
+pub returns-in_err-part-clause-advances : goal.returns-in_err-part-clause-advances
+returns-in_err-part-clause-advances c =
     let before = c.loop-alloc.invariant in
-    advances_on _ _ _ _ c.args.self.now c.loop-alloc.self c.leg.new.self before.on before.there c.leg.ensures.advances
+    advances_on _ _ _ _ c.args.self.now c.loop-alloc.self c.part.new.self before.on before.there c.part.ensures.advances
 
 pub returns-clause-arrives : goal.returns-clause-arrives
 returns-clause-arrives c =

@@ -3,7 +3,6 @@ use Rattle.pdp_cpu.specs.KeptTexts.{kept_before}
 use Rattle.pdp_cpu.specs.Saved.{state_cut}
 use Rattle.pdp_store.specs.FirstTouches.{all_first_touches_before}
 use Rattle.pdp_cpu.specs.Turns.MachineState.{MachineState}
-use Rattle.pdp_checkpoint.specs.Ladder.{LadderData}
 use Rattle.pdp_replay.specs.declared.run.kept_run.KeptRun.{KeptRun}
 use Rattle.pdp_replay.proofs.run.Checkpoints.{states_cut}
 use Rattle.pdp_replay.proofs.run.Lowered.{built_stays, in_run_lowered, texts_cut}
@@ -32,7 +31,7 @@ returns-clause-run c = λ p run.
     let texts = texts_cut p r.known to r.machine now kept.texts le (omega (arith, c.ranges.turn.fits, c.min-known.ensures)) text punched first_touches in
     rw (known, ladder) (record {
       kept = record {
-        states = states_cut p r.known to r.ladder c.cut.new.self kept.states le cut.kept cut.stride cut.count cut.checkpoints;
+        states = states_cut p r.known to r.ladder c.cut.new.self kept.states le cut.kept cut.near cut.stride cut.count cut.checkpoints;
         texts = texts;
         built = built_stays p.setup r.machine now kept.built (ap (λ (s : MachineState). s.world) state);
       };
