@@ -165,14 +165,11 @@ impl Ladder {
     /// # Errors
     ///
     /// `NoMemory` if memory was refused. The ladder is then as it was.
-    pub fn take_near(
-        &mut self,
-        alloc: Global,
-        machine: &mut PagedMachine,
-    ) -> Result<(), NoMemory>
+    pub fn take_near(&mut self, alloc: Global, machine: &mut PagedMachine) -> Result<(), NoMemory>
         ensures machine { machine.new ≡ machine.old }
         ensures kept { OnOk result (self.new ≡ record self.old {
-            near = near_with self.old.near (checkpoint_of machine.old.state) }) }
+          near = near_with self.old.near (checkpoint_of machine.old.state);
+        }) }
         ensures refused { OnErr result (self.new ≡ self.old) }
     {
         let turn = machine.turns();

@@ -30,8 +30,10 @@ resumed_kept r to kept least earlier = by (nat_le best turn) (is_current_by r to
   where
     best : ℕ
     best = best_of r.ladder (min to r.known) * r.ladder.stride
+
     turn : ℕ
     turn = r.machine.state.turn
+
     by : (above stays : Bool) → nat_le best turn ≡ above → is_current_by r to ≡ stays → (if above && stays then turn else best) ≤ kept
     by true true above stays = late (nat_le kept turn) refl
       where

@@ -174,6 +174,7 @@ near_taken_on p known near c are is = by (nat_lt most_near (length near + 1))
   where
     all : All (IsKeptState p known) (near ++ c ∷ [])
     all = All-push (IsKeptState p known) near c are is
+
     by : (b : Bool) → All (IsKeptState p known) (if b then drop 1 (near ++ c ∷ []) else near ++ c ∷ [])
     by true = All-drop (IsKeptState p known) 1 (near ++ c ∷ []) all
     by false = all

@@ -5,9 +5,10 @@ ghost use Rattle.std.specs.Prelude.{◌<◌, ◌≤◌};
 /// Fewer turns than these are run in about the time in which a state is kept and loaded.
 const LEAST_PAUSE: u32 = 16_384;
 
-/// Into how many parts the pauses divide the last stride before the turn, and then the last of
-/// these parts.
+/// Into how many parts the pauses divide the last stride before the turn.
 const PARTS: u32 = 64;
+
+/// Into how many they divide the last of these parts.
 const PARTS_OF_THE_LAST: u32 = 8;
 
 /// Where a run from turn `here` to turn `to` pauses next: at `to`, if that is more than a stride
