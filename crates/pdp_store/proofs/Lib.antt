@@ -9,4 +9,8 @@ pub mod PagedTakes
 pub mod SerialLaws
 pub mod PageLists
 pub mod BlankDrives
+pub mod Overlays
+pub mod ComparedPages
+pub mod OverlayLaws
+pub mod Stamps
 pub mod Rules

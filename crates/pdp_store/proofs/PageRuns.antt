@@ -79,19 +79,19 @@ put_all f pages n at before now here items all past =
     ∙ ap (λ xs. flat_map f pages ++ xs) (drop_all at before (omega arith))
     ∙ append-nil (flat_map f pages)
 
-set_here : {X : Type 0} (xs : List X) (k : ℕ) (x y : X) → slice_get (slice_set xs k x) k ≡ Some y → y ≡ x
+pub set_here : {X : Type 0} (xs : List X) (k : ℕ) (x y : X) → slice_get (slice_set xs k x) k ≡ Some y → y ≡ x
 set_here [] k x y is = absurd (cc)
 set_here (z ∷ xs) zero x y is = cc
 set_here (z ∷ xs) (suc k) x y is = set_here xs k x y is
 
-set_there : {X : Type 0} (xs : List X) (k j : ℕ) (x : X) → j ≢ k → slice_get (slice_set xs k x) j ≡ slice_get xs j
+pub set_there : {X : Type 0} (xs : List X) (k j : ℕ) (x : X) → j ≢ k → slice_get (slice_set xs k x) j ≡ slice_get xs j
 set_there [] k j x other = refl
 set_there (z ∷ xs) zero zero x other = absurd (other refl)
 set_there (z ∷ xs) zero (suc j) x other = refl
 set_there (z ∷ xs) (suc k) zero x other = refl
 set_there (z ∷ xs) (suc k) (suc j) x other = set_there xs k j x (λ e. other (omega arith))
 
-set_within : {X : Type 0} (xs : List X) (k : ℕ) (x : X) → k < length xs → slice_get (slice_set xs k x) k ≡ Some x
+pub set_within : {X : Type 0} (xs : List X) (k : ℕ) (x : X) → k < length xs → slice_get (slice_set xs k x) k ≡ Some x
 set_within [] k x below = absurd (omega arith)
 set_within (z ∷ xs) zero x below = refl
 set_within (z ∷ xs) (suc k) x below = set_within xs k x (omega arith)

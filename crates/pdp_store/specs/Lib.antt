@@ -9,3 +9,5 @@ pub mod DriveBackings
 pub mod PageLaws
 pub mod PageLists
 pub mod Unchanged
+pub mod Stamps
+pub mod Overlays

@@ -17,6 +17,11 @@
 //!   and is taken again under its serial. Each other place is taken under a serial that was not
 //!   given before, no two of them the same, while there are serials enough
 //!   (`serials_are_given_once`).
+//! - Pages can be loaded so that their last stamps of some turn and of later turns are laid over
+//!   those of the store ([`Paged::load_pages_over`], `overlays_are_flat`). A store says whether it
+//!   has the words of pages, exactly ([`Paged::has_words`], [`SharedPaging::has_words`]).
+//! - The stamps that a trace of accesses leaves are those of its last writes
+//!   (`traces_leave_last_writes`).
 //! - A page with one word changed has the next serial and keeps its stamps (`page_with_word`). It
 //!   is put into a list of pages at one place, and every other page stays (`with_page`).
 //!
@@ -36,6 +41,7 @@ ghost use Rattle.pdp_store.specs.FirstTouches.{first_touches_before, never, firs
 mod base;
 mod flat_store;
 mod laws;
+mod overlay;
 mod page;
 mod page_lists;
 mod page_runs;
@@ -46,7 +52,7 @@ mod part;
 mod touches;
 
 pub use flat_store::Flat;
-pub use laws::serials_are_given_once;
+pub use laws::{overlays_are_flat, serials_are_given_once, traces_leave_last_writes};
 pub use page::{PAGE_WORDS, Page, Pages};
 pub use page_lists::{page_with_word, with_page};
 pub use paged_drive::PagedDrive;

@@ -1,6 +1,6 @@
 //! Pages in a row, and the arrays that they are taken from and put into.
 
-ghost use Rattle.std.specs.Prelude.{◌≡◌, ◌<◌, ◌≤◌, ◌+◌, ◌*◌, length};
+ghost use Rattle.std.specs.Prelude.{◌≡◌, ◌<◌, ◌≤◌, ◌+◌, ◌*◌, ◌↔◌, length, true};
 ghost use Rattle.pdp_store.specs.Bases.{AreBases};
 ghost use Rattle.pdp_store.specs.Pages.{stamps_of, page_stamps, page_words, words_of};
 ghost use Rattle.pdp_store.specs.Pieces.{piece, with_items_at};
@@ -51,7 +51,7 @@ pub(crate) fn put_stamps(stamps: &mut [Option<Stamp>], pages: &[Rc<Page>])
 
 // The words of a page.
 #[inline(always)]
-fn words_in(page: &Rc<Page>) -> &[u16]
+pub(crate) fn words_in(page: &Rc<Page>) -> &[u16]
     ensures { result.now ≡ page_words page.now }
 {
     &page.words
@@ -59,7 +59,7 @@ fn words_in(page: &Rc<Page>) -> &[u16]
 
 // The last stamps of a page.
 #[inline(always)]
-fn stamps_in(page: &Rc<Page>) -> &[Option<Stamp>]
+pub(crate) fn stamps_in(page: &Rc<Page>) -> &[Option<Stamp>]
     ensures { result.now ≡ page_stamps page.now }
 {
     &page.stamps
@@ -86,4 +86,24 @@ pub(crate) fn put_bases(bases: &mut Vec<Base>, written: &mut Vec<bool>, pages: &
         bases[place] = Base::of(&pages[place]);
         written[place] = false;
     }
+}
+
+// Whether these are the words of these pages.
+pub(crate) fn have_words(words: &[u16], pages: &[Rc<Page>]) -> bool
+    requires { length (words_of pages.now) ≡ length words.now }
+    ensures { (result ≡ true) ↔ (words.now ≡ words_of pages.now) }
+{
+    for place in 0..pages.len() {
+        if !are_same_words(piece_at(words, place), words_in(&pages[place])) {
+            return false;
+        }
+    }
+    true
+}
+
+// Whether two runs of words are the same.
+pub(crate) fn are_same_words(some: &[u16], others: &[u16]) -> bool
+    ensures { (result ≡ true) ↔ (some.now ≡ others.now) }
+{
+    some == others
 }

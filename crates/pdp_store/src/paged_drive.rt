@@ -16,6 +16,7 @@ ghost use Rattle.pdp_store.specs.FirstTouches.{first_touches_before, touch_page}
 
 use crate::base::new_page;
 use crate::page::{PAGE_WORDS, Page, Pages};
+use crate::page_runs::{are_same_words, words_in};
 use crate::paging::{Paging, SharedPaging};
 use crate::touches::StoreTouches;
 use crate::{Stamp, Store};
@@ -301,6 +302,15 @@ impl SharedPaging for PagedDrive {
             Err(_) => self.copy_all(pages),
         }
     }
+
+    fn has_words(&self, pages: &Pages) -> bool {
+        for place in 0..self.count() {
+            if !are_same_words(self.words_at(place), words_in(&pages[place])) {
+                return false;
+            }
+        }
+        true
+    }
 }
 
 impl PagedDrive {
@@ -361,6 +371,17 @@ impl PagedDrive {
             return Ok(page);
         }
         new_page(alloc, serial_for(held, given), part(&self.own, place), &[])
+    }
+
+    // The words of this place.
+    fn words_at(&self, place: usize) -> &[u16]
+        requires { place < length self.now.bases }
+        ensures { result.now ≡ piece place self.now.words }
+    {
+        if let Backing::Shared = self.backings[place] {
+            return &self.pages[place].words;
+        }
+        part(&self.own, place)
     }
 
     // How many serials are given after this place, with `given` serials given before it.

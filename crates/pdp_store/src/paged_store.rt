@@ -1,18 +1,20 @@
 //! A store in flat arrays, with the base of each place of 256 words beside them.
 
-ghost use Rattle.std.specs.Prelude.{◌≡◌, ◌<◌, ◌≤◌, ◌*◌, ◌/◌, ◌+◌, Some, None, length, map, min};
-ghost use Rattle.std.specs.Prelude.{replicate, slice_get, slice_set, slice_index_or, true, []};
+ghost use Rattle.std.specs.Prelude.{◌≡◌, ◌<◌, ◌≤◌, ◌*◌, ◌/◌, ◌+◌, ◌↔◌, Some, None, length, map};
+ghost use Rattle.std.specs.Prelude.{min, replicate, slice_get, slice_set, slice_index_or, true, []};
 ghost use Rattle.std.specs.Prelude.{IfOk, OnErr, is_ok, if◌then◌else◌};
 ghost use Rattle.pdp_store.specs.Stored.{HasLastOfEachOrNone};
 ghost use Rattle.pdp_store.specs.FirstTouches.{first_touches_before, touch_page};
 ghost use Rattle.pdp_store.specs.Pages.{blank_paged, stamps_of, next_given, next_serial, serials};
 ghost use Rattle.pdp_store.specs.Pages.{without_base, words_of};
 ghost use Rattle.pdp_store.specs.Bases.{AreAllTaken, IsPageOf, given_there, serial_there};
+ghost use Rattle.pdp_store.specs.Overlays.{stamps_over};
 ghost use Rattle.pdp_store.specs.Pieces.{piece};
 
 use crate::base::{Base, new_page};
+use crate::overlay::{lay_over, put_bases_over};
 use crate::page::{PAGE_WORDS, Page};
-use crate::page_runs::{piece_at, put_bases, put_stamps, put_words};
+use crate::page_runs::{have_words, piece_at, put_bases, put_stamps, put_words};
 use crate::touches::StoreTouches;
 use crate::{Paging, Stamp, Store};
 use pdp_word::NoMemory;
@@ -329,6 +331,36 @@ impl Paged {
         put_words(&mut self.words, pages);
         put_stamps(&mut self.stamps, pages);
         put_bases(&mut self.bases, &mut self.written, pages);
+    }
+}
+
+impl Paged {
+    /// Makes the words equal to those of these pages, which were taken of a store of as many words,
+    /// with stamps or without as this one. Of their last stamps those of turn `turn` and of later
+    /// turns are laid over those that the store has. Takes no memory.
+    ///
+    /// A page becomes the base of its place if the place then has its stamps.
+    pub fn load_pages_over(&mut self, pages: &[Rc<Page>], turn: u32)
+        requires words { length (words_of pages.now) ≡ length self.old.words }
+        requires stamps { length (stamps_of pages.now) ≡ length self.old.stamps }
+        ensures words { self.new.words ≡ words_of pages.now }
+        ensures stamps { self.new.stamps
+            ≡ stamps_over turn self.old.stamps (stamps_of pages.now) }
+        ensures given { self.new.given ≡ self.old.given }
+        ensures first_touches { self.new.first_touches ≡ self.old.first_touches }
+    {
+        put_words(&mut self.words, pages);
+        lay_over(&mut self.stamps, pages, turn);
+        put_bases_over(&mut self.bases, &mut self.written, &self.stamps, pages);
+    }
+
+    /// Whether the words are those of these pages, which were taken of a store of as many words.
+    /// Their stamps count for nothing.
+    pub fn has_words(&self, pages: &[Rc<Page>]) -> bool
+        requires { length (words_of pages.now) ≡ length self.now.words }
+        ensures { (result ≡ true) ↔ (self.now.words ≡ words_of pages.now) }
+    {
+        have_words(&self.words, pages)
     }
 }
 

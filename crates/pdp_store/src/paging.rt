@@ -1,6 +1,7 @@
 //! Stores whose words can be taken as shared pages, and loaded from them.
 
-ghost use Rattle.std.specs.Prelude.{◌≡◌, ◌<◌, Some, length, map, IfOk, IsErr, is_ok, if◌then◌else◌};
+ghost use Rattle.std.specs.Prelude.{◌≡◌, ◌<◌, ◌↔◌, Some, length, map, true, IfOk, IsErr, is_ok};
+ghost use Rattle.std.specs.Prelude.{if◌then◌else◌};
 ghost use Rattle.pdp_store.specs.Pages.{IsPatched, given_after, stamps_of, next_given, serials};
 ghost use Rattle.pdp_store.specs.Pages.{serials_taken, words_of};
 ghost use Rattle.pdp_store.specs.Unchanged.{SameStored};
@@ -78,4 +79,10 @@ pub trait SharedPaging: Paging {
         ensures bases { Self.bases self.new ≡ map Some (serials pages.now.value.items) }
         ensures given { Self.given self.new ≡ Self.given self.old }
         ensures first_touches { Self.first_touches self.new ≡ Self.first_touches self.old };
+
+    /// Whether the words are those of these pages, which were taken of a store of as many words.
+    /// Their stamps count for nothing.
+    fn has_words(&self, pages: &Pages) -> bool
+        requires { length (words_of pages.now.value.items) ≡ length (Self.words self.now) }
+        ensures { (result ≡ true) ↔ (Self.words self.now ≡ words_of pages.now.value.items) };
 }
