@@ -17,3 +17,4 @@ pub mod Readiness
 pub mod Rules
 pub mod StatusLaws
 pub mod WriteLaws
+pub mod DiskStamps

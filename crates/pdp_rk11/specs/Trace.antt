@@ -3,9 +3,11 @@ use Rattle.std.specs.Prelude.{ℕ, ◌≡◌, ◌<◌, zero, suc, ◌+◌, true,
 use Rattle.std.specs.Prelude.{Some, None, length, map, if◌then◌else◌}
 use Rattle.pdp_device.specs.Operation.{is_under_way}
 use Rattle.pdp_store.specs.Parts.{AlikeWords, core_with, drives_with, words_in}
+use Rattle.pdp_store.specs.Stamps.{stamps_after_trace}
 use Rattle.pdp_store.specs.TracedAccess.{TracedAccess}
 use Rattle.pdp_store.specs.declared.part.Part.{Part}
 use Rattle.pdp_store.specs.declared.part.Part.TheVariants.{Core, Drive}
+use Rattle.pdp_store.specs.declared.Stamp.{Stamp}
 use Rattle.pdp_store.specs.declared.Agent.TheVariants.{Disk}
 use Rattle.pdp_rk11.specs.Completion.{DiskWorld, rk_completed, drive_of, refusal, transfer_of}
 use Rattle.pdp_rk11.specs.Geometry.{drive_in}
@@ -83,6 +85,10 @@ disk_world_with_words part words w = record w {
   drives = drives_with part words w.drives;
 }
 
+-- the same world with other last stamps of core
+abbrev pub disk_world_with_stamps : DiskWorld → List (Option Stamp) → DiskWorld
+disk_world_with_stamps w stamps = record w { stamps = stamps }
+
 -- a touch by the disk in this turn; in core, of one of its first so many words
 pub record IsOfCompletion (turn words : ℕ) (x : TracedAccess) : Type 0 where
   pub turn_is : x.turn ≡ turn
@@ -106,3 +112,17 @@ pub record AlikeCompletions (part : Part) (page turn : ℕ) (w : DiskWorld)
       (rk_completed turn w).drives) left
   pub trace : completion_touches turn (disk_world_with_words part words w)
       ≡ completion_touches turn w
+
+-- a completion, and one over other last stamps of core: the writes of the trace leave their stamps
+-- on these, the rest ends in the same way, and the trace is the same
+pub record RestampedCompletion (turn : ℕ) (w : DiskWorld)
+    (stamps : List (Option Stamp)) : Type 0 where
+  pub is : rk_completed turn (disk_world_with_stamps w stamps) ≡ disk_world_with_stamps
+      (rk_completed turn w) (stamps_after_trace (completion_touches turn w) stamps)
+  pub trace : completion_touches turn (disk_world_with_stamps w stamps)
+      ≡ completion_touches turn w
+
+-- the last stamps of core have no part in a completion
+abbrev pub StampsDisturbNoCompletion : Type 0
+StampsDisturbNoCompletion =
+    (turn : ℕ) (w : DiskWorld) (stamps : List (Option Stamp)) → RestampedCompletion turn w stamps

@@ -2,6 +2,7 @@ ghost use Rattle.pdp_rk11.specs.Laws.{ChecksChangeNoWord, CompletionsSetReady, E
 ghost use Rattle.pdp_rk11.specs.Laws.{HardErrorsAreTold};
 ghost use Rattle.pdp_rk11.specs.Laws.{ReadsLeaveTheLastMove, WritesFillWithZeros};
 ghost use Rattle.pdp_rk11.specs.Laws.{WrittenWordsAreReadBack};
+ghost use Rattle.pdp_rk11.specs.Trace.{StampsDisturbNoCompletion};
 
 /// A law and no code: after a read that nothing forbids, each word of core to which a move goes has
 /// the drive's word of the last move to it, and every other word of core is as it was; so are the
@@ -48,4 +49,10 @@ pub fn the_control_register_tells_the_end()
     ensures ready { CompletionsSetReady }
     ensures error { ErrorsAreTold }
     ensures hard_error { HardErrorsAreTold }
+{}
+
+/// A law and no code: a completion does the same whatever last stamps core has. The writes of its
+/// trace leave their stamps on these, and nothing else differs. [P]
+pub fn stamps_disturb_no_completion()
+    ensures { StampsDisturbNoCompletion }
 {}

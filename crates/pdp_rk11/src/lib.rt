@@ -35,7 +35,8 @@ pub use failure::Failure;
 pub use function::Function;
 pub use laws::{
     a_check_changes_no_word, a_read_leaves_the_last_move, a_write_fills_with_zeros,
-    the_control_register_tells_the_end, what_is_written_and_read_back_is_the_same,
+    stamps_disturb_no_completion, the_control_register_tells_the_end,
+    what_is_written_and_read_back_is_the_same,
 };
 pub use register::RkRegister;
 pub use rk::Rk;
