@@ -16,6 +16,7 @@
 //! - `Rk::complete` touches exactly the words of its trace, in its own turn: each word of core and
 //!   of the drive that a read, a write or a write check moves or compares, each word of the drive
 //!   that a read check reads, and each word of the zero fill. A refused function touches none.
+//! - A completion does the same whatever last stamps core has (`stamps_disturb_no_completion`).
 //!
 //! The drives themselves, addresses, how a byte is written to a register, when a function
 //! completes, and which request is served are left to pdp_unibus.

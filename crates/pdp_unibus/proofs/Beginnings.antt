@@ -7,7 +7,7 @@ use Rattle.pdp_store.specs.declared.part.Part.{Part}
 use Rattle.pdp_rk11.proofs.Readiness.{completed_idle}
 use Rattle.pdp_unibus.specs.BusWorld.{BusWorld, disk_world_of, is_disk_busy, with_disk_world, with_first_touches}
 use Rattle.pdp_rk11.proofs.FirstTouches.{not_under_way}
-use Rattle.pdp_store.specs.FirstTouches.{FirstTouches}
+use Rattle.pdp_unibus.proofs.AccessNotes.{AccessNotes, with_notes}
 use Rattle.pdp_unibus.specs.Page.{bus_with_words}
 use Rattle.pdp_unibus.specs.declared.io_page.IoPage.{IoPage}
 use Rattle.pdp_unibus.specs.declared.event.Event.{Event}
@@ -27,15 +27,15 @@ after_more_events es i d p below = rw add-one (one_more es i d p below)
 abbrev pub over : Part → List ℕ → Progress → Progress
 over part words p = record p { bus = bus_with_words part words p.bus }
 
--- the same with other first touches
-abbrev pub holding : Progress → FirstTouches → Progress
-holding p first_touches = record p { bus = with_first_touches p.bus first_touches }
+-- the same with other notes of accesses
+abbrev pub holding : Progress → AccessNotes → Progress
+holding p notes = record p { bus = with_notes p.bus notes }
 
 -- a step that does the same whatever core and the drives hold, and leaves them, the stamps, the turn, the program status
 -- and the mapping registers
 pub record Quiet (step : Progress → Progress) : Type 0 where
   pub commutes : (part : Part) (words : List ℕ) (p : Progress) → step (over part words p) ≡ over part words (step p)
-  pub holds : (first_touches : FirstTouches) (p : Progress) → step (holding p first_touches) ≡ holding (step p) first_touches
+  pub holds : (notes : AccessNotes) (p : Progress) → step (holding p notes) ≡ holding (step p) notes
   pub leaves : (p : Progress) → (step p).bus ≡ record p.bus { io_page = (step p).bus.io_page; bytes_read = (step p).bus.bytes_read }
   pub status : (p : Progress) → (step p).bus.io_page.status ≡ p.bus.io_page.status
   pub mapping : (p : Progress) → (step p).bus.io_page.mapping ≡ p.bus.io_page.mapping
@@ -45,7 +45,7 @@ pub event_is_quiet : (e : Event) → e ≢ DiskDone → Quiet (after_event e)
 event_is_quiet DiskDone other = absurd (other refl)
 event_is_quiet _ other = record {
   commutes = λ part words p. refl;
-  holds = λ first_touches p. refl;
+  holds = λ notes p. refl;
   leaves = λ p. refl;
   status = λ p. refl;
   mapping = λ p. refl;
@@ -56,7 +56,7 @@ event_is_quiet _ other = record {
 both : (f g : Progress → Progress) → Quiet f → Quiet g → Quiet (λ p. g (f p))
 both f g first second = record {
   commutes = λ part words p. ap g (first.commutes part words p) ∙ second.commutes part words (f p);
-  holds = λ first_touches p. ap g (first.holds first_touches p) ∙ second.holds first_touches (f p);
+  holds = λ notes p. ap g (first.holds notes p) ∙ second.holds notes (f p);
   leaves = λ p. second.leaves (f p) ∙ ap {A = BusWorld} (λ bus. record bus { io_page = (g (f p)).bus.io_page; bytes_read = (g (f p)).bus.bytes_read }) (first.leaves p);
   status = λ p. second.status (f p) ∙ first.status p;
   mapping = λ p. second.mapping (f p) ∙ first.mapping p;
@@ -68,7 +68,7 @@ where_due_is_quiet : (due : ℕ → IoPage → Bool) (f : Progress → Progress)
     → Quiet (λ p. where_due (due p.bus.turn p.bus.io_page) f p)
 where_due_is_quiet due f quiet = record {
   commutes = λ part words p. commuted part words p (due p.bus.turn p.bus.io_page);
-  holds = λ first_touches p. held first_touches p (due p.bus.turn p.bus.io_page);
+  holds = λ notes p. held notes p (due p.bus.turn p.bus.io_page);
   leaves = λ p. left p (due p.bus.turn p.bus.io_page);
   status = λ p. kept (λ io_page. io_page.status) p (quiet.status p) (due p.bus.turn p.bus.io_page);
   mapping = λ p. kept (λ io_page. io_page.mapping) p (quiet.mapping p) (due p.bus.turn p.bus.io_page);
@@ -79,9 +79,9 @@ where_due_is_quiet due f quiet = record {
   commuted part words p true = quiet.commutes part words p
   commuted part words p false = refl
 
-  held : (first_touches : FirstTouches) (p : Progress) (holds : Bool) → where_due holds f (holding p first_touches) ≡ holding (where_due holds f p) first_touches
-  held first_touches p true = quiet.holds first_touches p
-  held first_touches p false = refl
+  held : (notes : AccessNotes) (p : Progress) (holds : Bool) → where_due holds f (holding p notes) ≡ holding (where_due holds f p) notes
+  held notes p true = quiet.holds notes p
+  held notes p false = refl
 
   left : (p : Progress) (holds : Bool)
       → (where_due holds f p).bus ≡ record p.bus { io_page = (where_due holds f p).bus.io_page; bytes_read = (where_due holds f p).bus.bytes_read }

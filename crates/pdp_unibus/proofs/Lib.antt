@@ -1,3 +1,4 @@
+pub mod AccessNotes
 pub mod Beginnings
 pub mod Carried
 pub mod CompletionLaws

@@ -77,6 +77,10 @@ bus_at_power_up words stamps drives tape delays =
 abbrev pub with_first_touches : BusWorld → FirstTouches → BusWorld
 with_first_touches w first_touches = record w { first_touches = first_touches }
 
+-- the bus with these last stamps of core
+abbrev pub with_stamps : BusWorld → List (Option Stamp) → BusWorld
+with_stamps w stamps = record w { stamps = stamps }
+
 abbrev pub with_io_page : BusWorld → IoPage → BusWorld
 with_io_page w io_page = record w { io_page = io_page }
 
