@@ -1,18 +1,19 @@
 -- Stamps laid over others, one after the other.
-use Rattle.std.proofs.Common.{◌≡◌, ◌≢◌, ◌⊎◌, inl, inr, subst, length-set, ◌∙◌, ℕ, suc, zero, ◌+◌, ◌*◌, ◌/◌, ◌%◌, ◌<◌, ◌≤◌, Bool, true, false, List, [], ◌∷◌, ◌++◌, Option, Some, None, length, take, drop, get_or, replicate, slice_get, slice_set, refl, sym, ap, arith}
+use Rattle.std.proofs.Common.{◌≡◌, ◌≢◌, ◌⊎◌, inl, inr, subst, length-set, ◌∙◌, ℕ, suc, zero, ◌+◌, ◌-◌, ◌*◌, ◌/◌, ◌%◌, ◌<◌, ◌≤◌, Bool, false, List, [], ◌∷◌, ◌++◌, Option, Some, None, length, min, take, drop, get_or, slice_get, slice_set, refl, sym, ap, arith}
 use Rattle.std.proofs.Math.Nat.{div-mul-le_self}
-use Rattle.std.proofs.lemmas.List.{append-nil, drop_all, get_or-drop, get_or-take, take_all}
+use Rattle.std.proofs.lemmas.List.{append-nil, drop_all, length-drop, length-take, take_more, get_or-drop, get_or-take, take_all}
 use Rattle.std.proofs.lemmas.Nat.{div-add-mod'}
 use Rattle.std.proofs.lemmas.Bool.{cases_eq}
 use Rattle.std.proofs.lemmas.Option.{slice_get_read, slice_get_within}
 use Rattle.pdp_store.specs.declared.Stamp.{Stamp}
 use Rattle.pdp_store.specs.declared.base.Base.{Base}
-use Rattle.pdp_store.specs.Bases.{AreFields, Holds, IsBaseOf, bases_of}
+use Rattle.pdp_store.specs.Bases.{AreFields, Holds, IsBaseOf}
 use Rattle.pdp_store.specs.declared.page.Page.{Page}
 use Rattle.pdp_store.specs.Overlays.{stamp_over, stamps_over}
 use Rattle.pdp_store.specs.Pages.{SharedPage, page_stamps, stamps_of, words_of}
 use Rattle.pdp_store.specs.Pieces.{piece}
 use Rattle.pdp_store.proofs.PageRuns.{length-piece, set_here, set_there}
+use Rattle.pdp_store.proofs.PagedTakes.{as_stamped}
 use Rattle.pdp_store.proofs.Pages.{length-words_of, piece-stamps_of, piece-words_of}
 
 pub laid_more : (turn : ℕ) (under over : List (Option Stamp)) (k : ℕ) (d e : Option Stamp) → k < length under → length over ≡ length under
@@ -70,41 +71,94 @@ stamp_there pages k page d whole within is =
     ∙ get_or-drop (k / 256 * 256) (stamps_of pages) (k % 256) d
     ∙ ap (λ n. get_or (stamps_of pages) n d) there
 
--- fields whose places are all marked
-none_unmarked : (n k : ℕ) → slice_get (replicate n true) k ≡ Some false → ⊥
-none_unmarked zero k is = cc is
-none_unmarked (suc n) zero is = cc is
-none_unmarked (suc n) (suc k) is = none_unmarked n k is
+-- stamps of one place
+get_or-stamps_over : (turn : ℕ) (under over : List (Option Stamp)) (k : ℕ) (d e f : Option Stamp) → k < length under → length over ≡ length under
+    → get_or (stamps_over turn under over) k d ≡ stamp_over turn (get_or under k e) (get_or over k f)
+get_or-stamps_over turn [] over k d e f below same = absurd (omega arith)
+get_or-stamps_over turn (x ∷ under) [] k d e f below same = absurd (omega arith)
+get_or-stamps_over turn (x ∷ under) (y ∷ over) zero d e f below same = refl
+get_or-stamps_over turn (x ∷ under) (y ∷ over) (suc k) d e f below same = get_or-stamps_over turn under over k d e f (omega arith) (omega arith)
 
-pub marked_fields : (words : List ℕ) (stamps : List (Option Stamp)) (bases : List Base) (n : ℕ) → n ≡ length bases → length words ≡ length bases * 256
-    → (0 < length stamps → length stamps ≡ length words) → AreFields words stamps bases (replicate n true)
-marked_fields words stamps bases n same all stamped = record {
-  places = many n ∙ same;
-  all_words = all;
-  all_stamps = stamped;
-  held = λ k base unmarked. absurd (none_unmarked n k unmarked);
-} where
-  many : (n : ℕ) → length (replicate n true) ≡ n
-  many zero = refl
-  many (suc n) = ap suc (many n)
+over_none : (turn : ℕ) (under : List (Option Stamp)) → stamps_over turn under [] ≡ []
+over_none turn [] = refl
+over_none turn (x ∷ under) = refl
 
-pub no_bases : (bases : List Base) (n : ℕ) → n ≡ length bases → bases_of (replicate n true) bases ≡ replicate n None
-unfolding bases_of
-no_bases [] zero same = refl
-no_bases [] (suc n) same = absurd (omega arith)
-no_bases (base ∷ bases) zero same = absurd (omega arith)
-no_bases (base ∷ bases) (suc n) same = ap (λ xs. None ∷ xs) (no_bases bases n (omega arith))
+take-stamps_over : (turn n : ℕ) (under over : List (Option Stamp)) → take n (stamps_over turn under over) ≡ stamps_over turn (take n under) (take n over)
+take-stamps_over turn zero under over = refl
+take-stamps_over turn (suc n) [] over = refl
+take-stamps_over turn (suc n) (x ∷ under) [] = refl
+take-stamps_over turn (suc n) (x ∷ under) (y ∷ over) = ap (λ zs. stamp_over turn x y ∷ zs) (take-stamps_over turn n under over)
 
--- the first places have their bases: a page is one only where the place has its stamps
-pub record AreFieldsBelow (n : ℕ) (pages : List SharedPage) (stamps : List (Option Stamp)) (bases : List Base) (marks : List Bool) : Type 0 where
+drop-stamps_over : (turn n : ℕ) (under over : List (Option Stamp)) → drop n (stamps_over turn under over) ≡ stamps_over turn (drop n under) (drop n over)
+drop-stamps_over turn zero under over = refl
+drop-stamps_over turn (suc n) [] over = refl
+drop-stamps_over turn (suc n) (x ∷ under) [] = sym (over_none turn (drop n under))
+drop-stamps_over turn (suc n) (x ∷ under) (y ∷ over) = drop-stamps_over turn n under over
+
+pub piece-stamps_over : (turn k : ℕ) (under over : List (Option Stamp)) → piece k (stamps_over turn under over) ≡ stamps_over turn (piece k under) (piece k over)
+unfolding piece
+piece-stamps_over turn k under over =
+    ap (take 256) (drop-stamps_over turn (k * 256) under over) ∙ take-stamps_over turn 256 (drop (k * 256) under) (drop (k * 256) over)
+
+-- one stamp more comes to what it should
+pub one_laid_more : (turn k : ℕ) (under over these : List (Option Stamp)) (d e f : Option Stamp) → k < length under → length over ≡ length under → length these ≡ length under
+    → take k (stamps_over turn under over) ≡ take k these → stamp_over turn (get_or under k d) (get_or over k e) ≡ get_or these k f
+    → take (k + 1) (stamps_over turn under over) ≡ take (k + 1) these
+one_laid_more turn k under over these d e f below same count before here =
+    let size = length-stamps_over turn under over same in
+    take_more (stamps_over turn under over) k None (omega (arith, size))
+    ∙ ap (λ xs. xs ++ get_or (stamps_over turn under over) k None ∷ []) before
+    ∙ ap (λ x. take k these ++ x ∷ []) (get_or-stamps_over turn under over k None d e below same ∙ here)
+    ∙ sym (take_more these k f (omega arith))
+
+pub all_laid_so : (turn k : ℕ) (under over these : List (Option Stamp)) → length under ≤ k → length over ≡ length under → length these ≡ length under
+    → take k (stamps_over turn under over) ≡ take k these → stamps_over turn under over ≡ these
+all_laid_so turn k under over these past same count before =
+    let size = length-stamps_over turn under over same in
+    sym (take_all k (stamps_over turn under over) (omega (arith, size))) ∙ before ∙ take_all k these (omega arith)
+
+-- the first places have their bases of what the store comes to, the others still those of what it had
+pub record AreFieldsSoFar (n : ℕ) (words : List ℕ) (before : List (Option Stamp)) (pages : List SharedPage) (stamps : List (Option Stamp))
+    (bases : List Base) (marks : List Bool) : Type 0 where
   pub count : length bases ≡ length pages
   pub places : length marks ≡ length pages
   pub held : (k : ℕ) (base : Base) → k < n → slice_get marks k ≡ Some false → slice_get bases k ≡ Some base
       → Holds base (piece k (words_of pages)) (piece k stamps)
+  pub rest : (k : ℕ) (base : Base) → n ≤ k → slice_get marks k ≡ Some false → slice_get bases k ≡ Some base
+      → Holds base (piece k words) (piece k before)
 
-pub no_fields_below : (pages : List SharedPage) (stamps : List (Option Stamp)) (bases : List Base) (marks : List Bool) → length bases ≡ length pages → length marks ≡ length pages
-    → AreFieldsBelow 0 pages stamps bases marks
-no_fields_below pages stamps bases marks count places = record { count = count; places = places; held = λ k base below. absurd (omega arith) }
+pub none_so_far : (words : List ℕ) (before : List (Option Stamp)) (pages : List SharedPage) (stamps : List (Option Stamp)) (bases : List Base) (marks : List Bool)
+    → length (words_of pages) ≡ length words → AreFields words before bases marks → AreFieldsSoFar 0 words before pages stamps bases marks
+none_so_far words before pages stamps bases marks same fields =
+    let many = length-words_of pages in
+    let all = fields.all_words in
+    let places = fields.places in
+    record {
+      count = omega (arith, many, all, same);
+      places = places ∙ omega (arith, many, all, same);
+      held = λ k base below. absurd (omega arith);
+      rest = λ k base from unmarked there. fields.held k base unmarked there;
+    }
+
+-- a place keeps its base
+pub one_kept_more : (words : List ℕ) (before : List (Option Stamp)) (pages : List SharedPage) (stamps : List (Option Stamp)) (bases : List Base) (marks : List Bool) (n : ℕ)
+    → AreFieldsSoFar n words before pages stamps bases marks → piece n words ≡ piece n (words_of pages) → piece n before ≡ piece n stamps
+    → AreFieldsSoFar (n + 1) words before pages stamps bases marks
+one_kept_more words before pages stamps bases marks n so same_words same_stamps = record {
+  count = so.count;
+  places = so.places;
+  held = λ k base below unmarked there. held k base below unmarked there (cases_eq k n);
+  rest = λ k base from unmarked there. so.rest k base (omega arith) unmarked there;
+}
+  where
+    held : (k : ℕ) (base : Base) → k < n + 1 → slice_get marks k ≡ Some false → slice_get bases k ≡ Some base → (k ≡ n) ⊎ (k ≢ n)
+        → Holds base (piece k (words_of pages)) (piece k stamps)
+    held k base below unmarked there (inl here) =
+        let old = so.rest k base (omega (arith, here)) unmarked there in
+        let words_are : piece k words ≡ piece k (words_of pages) = subst (λ j. piece j words ≡ piece j (words_of pages)) (sym here) same_words in
+        let stamps_are : piece k before ≡ piece k stamps = subst (λ j. piece j before ≡ piece j stamps) (sym here) same_stamps in
+        λ page is. ((old page is).0 ∙ words_are, (old page is).1 ∙ stamps_are)
+    held k base below unmarked there (inr other) = so.held k base (omega arith) unmarked there
 
 held_here : (pages : List SharedPage) (stamps : List (Option Stamp)) (n : ℕ) (base : Base) (page : SharedPage) → IsBaseOf base page → slice_get pages n ≡ Some page
     → piece n stamps ≡ page_stamps page → Holds base (piece n (words_of pages)) (piece n stamps)
@@ -112,14 +166,18 @@ held_here pages stamps n base page is at stamped = λ other there.
     let same = is.same other there in
     (ap (λ (p : Page). p.words.items) same ∙ sym (piece-words_of pages n page at), ap (λ (p : Page). p.stamps.value.items) same ∙ sym stamped)
 
-pub one_field_more : (pages : List SharedPage) (stamps : List (Option Stamp)) (bases : List Base) (marks : List Bool) (n : ℕ) (base : Base) (page : SharedPage) (mark : Bool)
-    → AreFieldsBelow n pages stamps bases marks → n < length pages → slice_get pages n ≡ Some page → IsBaseOf base page
+-- a place has its page as its base, or is marked
+pub one_put_more : (words : List ℕ) (before : List (Option Stamp)) (pages : List SharedPage) (stamps : List (Option Stamp)) (bases : List Base) (marks : List Bool)
+    (n : ℕ) (base : Base) (page : SharedPage) (mark : Bool) → AreFieldsSoFar n words before pages stamps bases marks → slice_get pages n ≡ Some page → IsBaseOf base page
     → (mark ≡ false → piece n stamps ≡ page_stamps page)
-    → AreFieldsBelow (n + 1) pages stamps (slice_set bases n base) (slice_set marks n mark)
-one_field_more pages stamps bases marks n base page mark before below is new same = record {
-  count = length-set bases n base ∙ before.count;
-  places = length-set marks n mark ∙ before.places;
+    → AreFieldsSoFar (n + 1) words before pages stamps (slice_set bases n base) (slice_set marks n mark)
+one_put_more words before pages stamps bases marks n base page mark so is new same = record {
+  count = length-set bases n base ∙ so.count;
+  places = length-set marks n mark ∙ so.places;
   held = λ k other k_below unmarked there. held k other k_below unmarked there (cases_eq k n);
+  rest = λ k other from unmarked there.
+      let apart : k ≢ n = λ equal. absurd (omega (arith, from, equal)) in
+      so.rest k other (omega arith) (sym (set_there marks n k mark apart) ∙ unmarked) (sym (set_there bases n k base apart) ∙ there);
 }
   where
     held : (k : ℕ) (other : Base) → k < n + 1 → slice_get (slice_set marks n mark) k ≡ Some false → slice_get (slice_set bases n base) k ≡ Some other → (k ≡ n) ⊎ (k ≢ n)
@@ -132,22 +190,38 @@ one_field_more pages stamps bases marks n base page mark before below is new sam
         subst (λ j. Holds other (piece j (words_of pages)) (piece j stamps)) (sym here)
         (subst (λ b. Holds b (piece n (words_of pages)) (piece n stamps)) (sym one) (held_here pages stamps n base page new is (same (sym no))))
     held k other k_below unmarked there (inr else) =
-        before.held k other (omega arith) (sym (set_there marks n k mark else) ∙ unmarked) (sym (set_there bases n k base else) ∙ there)
+        so.held k other (omega arith) (sym (set_there marks n k mark else) ∙ unmarked) (sym (set_there bases n k base else) ∙ there)
 
-pub all_fields : (pages : List SharedPage) (stamps : List (Option Stamp)) (bases : List Base) (marks : List Bool) → (0 < length stamps → length stamps ≡ length (words_of pages))
-    → AreFieldsBelow (length pages) pages stamps bases marks → AreFields (words_of pages) stamps bases marks
-all_fields pages stamps bases marks stamped below =
+pub all_so_far : (words : List ℕ) (before : List (Option Stamp)) (pages : List SharedPage) (stamps : List (Option Stamp)) (bases : List Base) (marks : List Bool)
+    → (0 < length stamps → length stamps ≡ length (words_of pages)) → AreFieldsSoFar (length pages) words before pages stamps bases marks
+    → AreFields (words_of pages) stamps bases marks
+all_so_far words before pages stamps bases marks stamped so =
     let many = length-words_of pages in
-    let count = below.count in
-    let places = below.places in
+    let count = so.count in
+    let places = so.places in
     record {
       places = places ∙ sym count;
       all_words = many ∙ ap (λ n. n * 256) (sym count);
       all_stamps = stamped;
       held = λ k base unmarked there.
           let inside : k < length bases = slice_get_within bases k base there in
-          below.held k base (omega (arith, inside, count)) unmarked there;
+          so.held k base (omega (arith, inside, count)) unmarked there;
     }
+
+-- pieces of lists that are as long
+pub as_long : {X Y : Type 0} (k : ℕ) (xs : List X) (ys : List Y) → length xs ≡ length ys → length (piece k xs) ≡ length (piece k ys)
+unfolding piece
+as_long k xs ys same =
+    length-take 256 (drop (k * 256) xs) ∙ ap (min 256) (length-drop (k * 256) xs ∙ ap (λ n. n - k * 256) same ∙ sym (length-drop (k * 256) ys))
+    ∙ sym (length-take 256 (drop (k * 256) ys))
+
+-- a page's stamps are those of its place, if there are as many as a store has that has them right
+pub stamps_here : (words : List ℕ) (before : List (Option Stamp)) (pages : List SharedPage) (bases : List Base) (marks : List Bool) (place : ℕ) (page : SharedPage)
+    → AreFields words before bases marks → length (words_of pages) ≡ length words → length (stamps_of pages) ≡ length before
+    → place < length pages → page ≡ get_or pages place page → piece place (stamps_of pages) ≡ page_stamps page
+stamps_here words before pages bases marks place page fields same_words same_stamps below is =
+    piece-stamps_of pages place page (as_stamped (length (stamps_of pages)) (length (words_of pages)) (length before) (length words) same_stamps same_words fields.all_stamps)
+    (slice_get_read pages (length pages) place page refl below is)
 
 pub room_for_place : (pages : List SharedPage) (many place : ℕ) → many ≡ length (words_of pages) → place < length pages → place * 256 + 256 ≤ many
 room_for_place pages many place same below =

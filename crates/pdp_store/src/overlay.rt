@@ -3,12 +3,12 @@
 ghost use Rattle.std.specs.Prelude.{◌≡◌, ◌<◌, None, length, slice_index_or, true};
 ghost use Rattle.pdp_store.specs.Bases.{AreFields};
 ghost use Rattle.pdp_store.specs.Overlays.{stamp_over, stamps_over};
-ghost use Rattle.pdp_store.specs.Pages.{stamps_of, words_of};
+ghost use Rattle.pdp_store.specs.Pages.{page_stamps, page_words, stamps_of, words_of};
 
 use crate::Stamp;
 use crate::base::Base;
 use crate::page::{PAGE_WORDS, Page};
-use crate::page_runs::{piece_at, stamps_in};
+use crate::page_runs::{are_same_words, piece_at, stamps_in, words_in};
 use std::rc::Rc;
 
 // A last stamp of this turn or a later one; otherwise the one under it.
@@ -43,35 +43,66 @@ pub(crate) fn lay_over(stamps: &mut [Option<Stamp>], pages: &[Rc<Page>], turn: u
     }
 }
 
-// Makes each page the base of its place, if the place has its stamps; any other place is marked as
-// written since.
+// Makes the bases those of the words of these pages, with their last stamps laid over these: before
+// the words and the stamps are put. A place whose words and stamps stay keeps its base; otherwise
+// its page becomes its base if the place will have the page's stamps, and if not the place is marked
+// as written since.
 pub(crate) fn put_bases_over(
     bases: &mut Vec<Base>,
     written: &mut Vec<bool>,
+    words: &[u16],
     stamps: &[Option<Stamp>],
     pages: &[Rc<Page>],
+    turn: u32,
 )
-    requires bases { length bases.old.items ≡ length pages.now }
-    requires written { length written.old.items ≡ length pages.now }
-    requires whole { 0 < length stamps.now → length stamps.now ≡ length (words_of pages.now) }
-    ensures { AreFields (words_of pages.now) stamps.now bases.new.items written.new.items }
+    requires fields { AreFields words.now stamps.now bases.old.items written.old.items }
+    requires words { length (words_of pages.now) ≡ length words.now }
+    requires stamps { length (stamps_of pages.now) ≡ length stamps.now }
+    ensures { AreFields (words_of pages.now) (stamps_over turn stamps.now (stamps_of pages.now))
+        bases.new.items written.new.items }
 {
     for place in 0..pages.len() {
-        let same = are_same_stamps(piece_at(stamps, place), stamps_in(&pages[place]));
-        bases[place] = Base::of(&pages[place]);
-        written[place] = !same;
+        let page = &pages[place];
+        let (these, under) = (piece_at(words, place), piece_at(stamps, place));
+        if keeps_base(written[place], turn, these, under, page) {
+            continue;
+        }
+        written[place] = !is_laid(turn, under, stamps_in(page), stamps_in(page));
+        bases[place] = Base::of(page);
     }
 }
 
-// Whether two runs of stamps are the same.
-fn are_same_stamps(some: &[Option<Stamp>], others: &[Option<Stamp>]) -> bool
-    ensures { result ≡ true → some.now ≡ others.now }
+// Whether a place isn't marked as written and keeps these words and stamps, if this page is loaded
+// over it.
+fn keeps_base(
+    is_written: bool,
+    turn: u32,
+    words: &[u16],
+    under: &[Option<Stamp>],
+    page: &Rc<Page>,
+) -> bool
+    requires { length (page_stamps page.now) ≡ length under.now }
+    ensures words { result ≡ true → words.now ≡ page_words page.now }
+    ensures stamps { result ≡ true → stamps_over turn under.now (page_stamps page.now) ≡ under.now }
 {
-    if some.len() != others.len() {
-        return false;
-    }
-    for k in 0..some.len() {
-        if !is_same_stamp(some[k], others[k]) {
+    !is_written
+        && are_same_words(words, words_in(page))
+        && is_laid(turn, under, stamps_in(page), under)
+}
+
+// Whether the stamps laid over those under them come to these.
+fn is_laid(
+    turn: u32,
+    under: &[Option<Stamp>],
+    over: &[Option<Stamp>],
+    these: &[Option<Stamp>],
+) -> bool
+    requires over { length over.now ≡ length under.now }
+    requires these { length these.now ≡ length under.now }
+    ensures { result ≡ true → stamps_over turn under.now over.now ≡ these.now }
+{
+    for k in 0..under.len() {
+        if !is_same_stamp(stamp_over(turn, under[k], over[k]), these[k]) {
             return false;
         }
     }

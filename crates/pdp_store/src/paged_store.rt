@@ -339,7 +339,8 @@ impl Paged {
     /// with stamps or without as this one. Of their last stamps those of turn `turn` and of later
     /// turns are laid over those that the store has. Takes no memory.
     ///
-    /// A page becomes the base of its place if the place then has its stamps.
+    /// A place whose words and stamps stay keeps its base. Otherwise its page becomes its base if the
+    /// place then has the page's stamps.
     pub fn load_pages_over(&mut self, pages: &[Rc<Page>], turn: u32)
         requires words { length (words_of pages.now) ≡ length self.old.words }
         requires stamps { length (stamps_of pages.now) ≡ length self.old.stamps }
@@ -349,9 +350,17 @@ impl Paged {
         ensures given { self.new.given ≡ self.old.given }
         ensures first_touches { self.new.first_touches ≡ self.old.first_touches }
     {
+        let words = &self.words;
+        put_bases_over(
+            &mut self.bases,
+            &mut self.written,
+            words,
+            &self.stamps,
+            pages,
+            turn,
+        );
         put_words(&mut self.words, pages);
         lay_over(&mut self.stamps, pages, turn);
-        put_bases_over(&mut self.bases, &mut self.written, &self.stamps, pages);
     }
 
     /// Whether the words are those of these pages, which were taken of a store of as many words.

@@ -1,11 +1,47 @@
-use Rattle.std.proofs.Common.{◌≡◌, ◌∙◌, Bool, true, false, not, ap, sym, length, arith, refl}
+use Rattle.std.proofs.Common.{◌≡◌, ◌∙◌, ◌<◌, Bool, false, length, not, true, ap, arith, refl, subst, sym}
 use Rattle.std.proofs.lemmas.Option.{slice_get_read}
-use Rattle.pdp_store.specs.Pages.{page_stamps}
-use Rattle.pdp_store.proofs.Overlays.{all_fields, one_field_more, room_for_place}
+use Rattle.pdp_store.specs.Overlays.{stamps_over}
+use Rattle.pdp_store.specs.Pages.{page_stamps, stamps_of}
+use Rattle.pdp_store.specs.Pieces.{piece}
+use Rattle.pdp_store.proofs.Overlays.{all_so_far, as_long, length-stamps_over, none_so_far, one_kept_more, one_put_more, piece-stamps_over, stamps_here}
+use Rattle.pdp_store.proofs.Pages.{piece-words_of}
 use Rattle.pdp_store.proofs.overlay.put_bases_over.Goals as goal
 
-pub piece_at-requires : goal.piece_at-requires
-piece_at-requires c = λ some. room_for_place c.args.pages.now (length c.args.stamps.now) c.loop-place.place (c.requires.whole some) c.loop-place-test.true
+-- src/overlay.rt
+pub loop-place-init : goal.loop-place-init
+loop-place-init c =
+    none_so_far c.args.words.now c.args.stamps.now c.args.pages.now _ c.args.bases.now.items c.args.written.now.items c.requires.words c.requires.fields
+
+pub keeps_base-requires : goal.keeps_base-requires
+keeps_base-requires c =
+    let here = stamps_here c.args.words.now c.args.stamps.now c.args.pages.now _ _ c.loop-place.place c.index-pages-place.result c.requires.fields c.requires.words c.requires.stamps c.loop-place-test.true c.index-pages-place.is in
+    ap length (sym here) ∙ as_long c.loop-place.place (stamps_of c.args.pages.now) c.args.stamps.now c.requires.stamps ∙ ap length (sym c.piece_at-under.ensures.piece)
+
+pub loop-place-preserved-then-keeps_base : goal.loop-place-preserved-then-keeps_base
+loop-place-preserved-then-keeps_base c =
+    let place = c.loop-place.place in
+    let pages = c.args.pages.now in
+    let page = c.index-pages-place.result in
+    let at = slice_get_read pages (length pages) place page refl c.loop-place-test.true c.index-pages-place.is in
+    let here = stamps_here c.args.words.now c.args.stamps.now pages _ _ place page c.requires.fields c.requires.words c.requires.stamps c.loop-place-test.true c.index-pages-place.is in
+    one_kept_more c.args.words.now c.args.stamps.now pages (stamps_over c.args.turn c.args.stamps.now (stamps_of pages)) c.loop-place.bases.items c.loop-place.written.items place c.loop-place.invariant
+    (sym c.piece_at-these.ensures.piece ∙ c.keeps_base.ensures.words c.if-keeps_base.true ∙ sym (piece-words_of pages place page at))
+    (sym (piece-stamps_over c.args.turn place c.args.stamps.now (stamps_of pages)
+    ∙ ap (stamps_over c.args.turn (piece place c.args.stamps.now)) here
+    ∙ ap (λ xs. stamps_over c.args.turn xs (page_stamps page)) (sym c.piece_at-under.ensures.piece)
+    ∙ c.keeps_base.ensures.stamps c.if-keeps_base.true
+    ∙ c.piece_at-under.ensures.piece))
+
+pub is_laid-requires-clause-over : goal.is_laid-requires-clause-over
+is_laid-requires-clause-over c =
+    let here = stamps_here c.args.words.now c.args.stamps.now c.args.pages.now _ _ c.loop-place.place c.index-pages-place.result c.requires.fields c.requires.words c.requires.stamps c.loop-place-test.true c.index-pages-place.is in
+    ap length (c.stamps_in.ensures ∙ sym here) ∙ as_long c.loop-place.place (stamps_of c.args.pages.now) c.args.stamps.now c.requires.stamps ∙ ap length (sym c.piece_at-under.ensures.piece)
+
+pub is_laid-requires-clause-these : goal.is_laid-requires-clause-these
+is_laid-requires-clause-these c =
+    let here = stamps_here c.args.words.now c.args.stamps.now c.args.pages.now _ _ c.loop-place.place c.index-pages-place.result c.requires.fields c.requires.words c.requires.stamps c.loop-place-test.true c.index-pages-place.is in
+    ap length (c.stamps_in-in-loop-place.ensures ∙ sym here) ∙ as_long c.loop-place.place (stamps_of c.args.pages.now) c.args.stamps.now c.requires.stamps
+    ∙ ap length (sym c.piece_at-under.ensures.piece)
 
 yes : (b : Bool) → not b ≡ false → b ≡ true
 yes true is = refl
@@ -13,16 +49,24 @@ yes false is = absurd (cc)
 
 pub loop-place-preserved : goal.loop-place-preserved
 loop-place-preserved c =
+    let place = c.loop-place.place in
+    let pages = c.args.pages.now in
     let page = c.index-pages-place.result in
-    let other = c.index-pages-place-in-loop-place.result in
-    let here = slice_get_read c.args.pages.now (length c.args.pages.now) c.loop-place.place page refl c.loop-place-test.true c.index-pages-place.is in
-    let there = slice_get_read c.args.pages.now (length c.args.pages.now) c.loop-place.place other refl c.loop-place-test.true c.index-pages-place-in-loop-place.is in
-    let same_page : page ≡ other = cc in
-    one_field_more c.args.pages.now c.args.stamps.now c.loop-place.bases.items c.loop-place.written.items c.loop-place.place c.of.result other (not c.are_same_stamps-same.result)
-    c.loop-place.invariant c.loop-place-test.true there c.of.ensures
-    (λ no. sym c.piece_at.ensures.piece ∙ c.are_same_stamps-same.ensures (yes c.are_same_stamps-same.result no) ∙ c.stamps_in.ensures ∙ ap page_stamps same_page)
+    let at = slice_get_read pages (length pages) place page refl c.loop-place-test.true c.index-pages-place.is in
+    let here = stamps_here c.args.words.now c.args.stamps.now pages _ _ place page c.requires.fields c.requires.words c.requires.stamps c.loop-place-test.true c.index-pages-place.is in
+    one_put_more c.args.words.now c.args.stamps.now pages (stamps_over c.args.turn c.args.stamps.now (stamps_of pages)) c.loop-place.bases.items c.loop-place.written.items place
+    c.of.result page (not c.is_laid.result) c.loop-place.invariant at c.of.ensures
+    (λ no. piece-stamps_over c.args.turn place c.args.stamps.now (stamps_of pages)
+    ∙ ap (stamps_over c.args.turn (piece place c.args.stamps.now)) (here ∙ sym c.stamps_in.ensures)
+    ∙ ap (λ xs. stamps_over c.args.turn xs c.stamps_in.result.now) (sym c.piece_at-under.ensures.piece)
+    ∙ c.is_laid.ensures (yes c.is_laid.result no)
+    ∙ c.stamps_in-in-loop-place.ensures)
 
 pub returns : goal.returns
 returns c =
     let end : c.loop-place.place ≡ length c.args.pages.now = omega arith in
-    all_fields c.args.pages.now c.args.stamps.now c.loop-place.bases.items c.loop-place.written.items c.requires.whole (rw (← end) c.loop-place.invariant)
+    let stamps = stamps_over c.args.turn c.args.stamps.now (stamps_of c.args.pages.now) in
+    let size = length-stamps_over c.args.turn c.args.stamps.now (stamps_of c.args.pages.now) c.requires.stamps in
+    all_so_far c.args.words.now c.args.stamps.now c.args.pages.now stamps c.loop-place.bases.items c.loop-place.written.items
+    (λ some. size ∙ c.requires.fields.all_stamps (subst (λ n. 0 < n) size some) ∙ sym c.requires.words)
+    (rw (← end) c.loop-place.invariant)
