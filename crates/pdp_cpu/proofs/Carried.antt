@@ -1,7 +1,10 @@
--- A turn does the same whatever first touches are kept, and adds to them what its trace touches.
-use Rattle.std.proofs.Common.{◌≡◌, ℕ, List, ◌++◌, sym, ap, ap₂, ◌∙◌}
+-- A turn does the same whatever first touches and last stamps are kept, and its trace changes them.
+use Rattle.std.proofs.Common.{◌≡◌, ℕ, List, Option, ◌++◌, sym, ap, ap₂, ◌∙◌}
 use Rattle.pdp_store.specs.FirstTouches.{FirstTouches, first_touches_after, no_first_touches}
-use Rattle.pdp_store.proofs.FirstTouches.{first_touches_after-append, no_first_touches_after}
+use Rattle.pdp_store.specs.Stamps.{stamps_after_trace}
+use Rattle.pdp_store.specs.declared.Stamp.{Stamp}
+use Rattle.pdp_store.proofs.FirstTouches.{no_first_touches_after}
+use Rattle.pdp_unibus.proofs.AccessNotes.{AccessNotes, access_notes, notes_after, notes_after-append, notes_of, with_notes}
 use Rattle.pdp_unibus.proofs.Carried.{begun_carried}
 use Rattle.pdp_unibus.specs.BusWorld.{BusWorld}
 use Rattle.pdp_unibus.specs.Trace.{begun_touches}
@@ -13,12 +16,49 @@ use Rattle.pdp_operand.specs.Phases.Phase.{inner_of, state_of}
 use Rattle.pdp_operand.specs.Phases.World.{World, world}
 use Rattle.pdp_operand.specs.declared.processor.Processor.{Processor}
 use Rattle.pdp_cpu.specs.declared.due.Due.{Due}
+use Rattle.pdp_cpu.specs.Laws.TurnLaws.{StampsDisturbNothing}
 use Rattle.pdp_cpu.specs.Turns.Due.{act_of, course_of, due_now, due_of}
 use Rattle.pdp_cpu.specs.Turns.MachineState.{MachineState, after_turn, without_first_touches}
 use Rattle.pdp_cpu.specs.Turns.MachineState.{world_with_first_touches}
 use Rattle.pdp_cpu.specs.Turns.Turn.{act_end, beginning, clear_latch, course_at, one_turn}
 use Rattle.pdp_cpu.specs.Turns.Turn.{printed_in, processor_after_events, punched_in, initial_state}
 use Rattle.pdp_cpu.specs.Turns.Turn.{turn_act, turn_trace}
+
+-- the same world with other notes of accesses
+abbrev world_noting : World → AccessNotes → World
+world_noting w notes = world w.processor (with_notes w.bus notes)
+
+-- turn t in a world, and the same over other notes of accesses
+record TurnNoted (t : ℕ) (events : List Event) (w : World) (notes : AccessNotes) : Type 0 where
+  world_is : one_turn t events (world_noting w notes) ≡ world_noting (one_turn t events w) (notes_after (turn_trace t events w) notes)
+  trace : turn_trace t events (world_noting w notes) ≡ turn_trace t events w
+  act : turn_act t events (world_noting w notes) ≡ turn_act t events w
+  printed : printed_in t events (world_noting w notes) ≡ printed_in t events w
+  punched : punched_in t events (world_noting w notes) ≡ punched_in t events w
+
+turn_noted : (t : ℕ) (events : List Event) (w : World) (notes : AccessNotes) → TurnNoted t events w notes
+unfolding one_turn turn_trace turn_act printed_in punched_in
+turn_noted t events w notes =
+    let xs = begun_touches t events w.bus in
+    let first = begun_carried t events w.bus notes in
+    let v = beginning t events w in
+    let begins : beginning t events (world_noting w notes) ≡ world_noting v (notes_after xs notes)
+    = ap (λ q. world (processor_after_events events w.processor) q.bus) first.is in
+    let course = carried_course (course_at (initial_state v)) (initial_state v) (notes_after xs notes) in
+    let acts = trace_of (course_at (initial_state v)) (initial_state v) in
+    record {
+      world_is = ap act_end begins ∙ ap (λ s. s.world) course.is
+          ∙ ap (world_noting (act_end v)) (sym (notes_after-append xs acts notes));
+      trace = ap₂ ◌++◌ first.trace
+          (ap (λ u. trace_of (course_at (initial_state u)) (initial_state u)) begins ∙ course.trace);
+      act = ap (λ u. act_of (due_of (inner_of (initial_state u)))) begins;
+      printed = ap (λ q. q.printed) first.is;
+      punched = ap (λ q. q.punched) first.is;
+    }
+
+-- a turn changes its own notes by its trace
+pub notes_next : (t : ℕ) (events : List Event) (w : World) → notes_of (one_turn t events w).bus ≡ notes_after (turn_trace t events w) (notes_of w.bus)
+notes_next t events w = ap (λ u. notes_of u.bus) (turn_noted t events w (notes_of w.bus)).world_is
 
 -- turn t in a world, and the same over other first touches
 pub record TurnCarried (t : ℕ) (events : List Event) (w : World) (first_touches : FirstTouches) : Type 0 where
@@ -31,24 +71,31 @@ pub record TurnCarried (t : ℕ) (events : List Event) (w : World) (first_touche
 
 pub turn_carried : (t : ℕ) (events : List Event) (w : World) (first_touches : FirstTouches)
     → TurnCarried t events w first_touches
-unfolding one_turn turn_trace turn_act printed_in punched_in
 turn_carried t events w first_touches =
-    let xs = begun_touches t events w.bus in
-    let first = begun_carried t events w.bus first_touches in
-    let v = beginning t events w in
-    let begins : beginning t events (world_with_first_touches w first_touches)
-    ≡ world_with_first_touches v (first_touches_after xs first_touches)
-    = ap (λ q. world (processor_after_events events w.processor) q.bus) first.is in
-    let course = carried_course (course_at (initial_state v)) (initial_state v) (first_touches_after xs first_touches) in
-    let acts = trace_of (course_at (initial_state v)) (initial_state v) in
+    let so = turn_noted t events w (access_notes w.bus.stamps first_touches) in
+    let left = first_touches_after (turn_trace t events w) first_touches in
     record {
-      world_is = ap act_end begins ∙ ap (λ s. s.world) course.is
-          ∙ ap (world_with_first_touches (act_end v)) (sym (first_touches_after-append xs acts first_touches));
-      trace = ap₂ ◌++◌ first.trace
-          (ap (λ u. trace_of (course_at (initial_state u)) (initial_state u)) begins ∙ course.trace);
-      act = ap (λ u. act_of (due_of (inner_of (initial_state u)))) begins;
-      printed = ap (λ q. q.printed) first.is;
-      punched = ap (λ q. q.punched) first.is;
+      world_is = so.world_is
+          ∙ ap (λ (n : AccessNotes). world_noting (one_turn t events w) (access_notes n.stamps left)) (sym (notes_next t events w));
+      trace = so.trace;
+      act = so.act;
+      printed = so.printed;
+      punched = so.punched;
+    }
+
+-- and over other stamps
+pub stamps_disturb_nothing : (t : ℕ) (events : List Event) (w : World) (stamps : List (Option Stamp))
+    → StampsDisturbNothing t events w stamps
+stamps_disturb_nothing t events w stamps =
+    let so = turn_noted t events w (access_notes stamps w.bus.first_touches) in
+    let left = stamps_after_trace (turn_trace t events w) stamps in
+    record {
+      world_is = so.world_is
+          ∙ ap (λ (n : AccessNotes). world_noting (one_turn t events w) (access_notes left n.first_touches)) (sym (notes_next t events w));
+      trace = so.trace;
+      act = so.act;
+      printed = so.printed;
+      punched = so.punched;
     }
 
 none_stay : (t : ℕ) (events : List Event) (w : World) → w.bus.first_touches ≡ no_first_touches

@@ -1,17 +1,18 @@
 //! Laws of turns, for every turn, its events and every world.
 
-ghost use Rattle.std.specs.Prelude.{◌≡◌, ◌<◌, ◌≤◌, ℕ, All, List, None, false, length, map};
-ghost use Rattle.std.specs.Prelude.{slice_index_or};
+ghost use Rattle.std.specs.Prelude.{◌≡◌, ◌<◌, ◌≤◌, ℕ, All, List, None, Option, false, length};
+ghost use Rattle.std.specs.Prelude.{map, slice_index_or};
 ghost use Rattle.pdp_unibus.specs.BusWorld.{BusWorld, is_disk_busy};
 ghost use Rattle.pdp_unibus.specs.declared.event.Event.{Event};
 ghost use Rattle.pdp_store.specs.TracedAccess.{Avoids, last_write};
+ghost use Rattle.pdp_store.specs.declared.Stamp.{Stamp};
 ghost use Rattle.pdp_store.specs.declared.part.Part.{Part};
 ghost use Rattle.pdp_unibus.specs.Page.{AlikeOutside};
 ghost use Rattle.pdp_unibus.specs.Touched.{IsOfTurn};
 ghost use Rattle.pdp_operand.specs.declared.processor.Processor.{Processor};
 ghost use Rattle.pdp_operand.specs.declared.processor.RunState.TheVariants.{Halted};
-ghost use Rattle.pdp_cpu.specs.Laws.TurnLaws.{NoneContinues, Stays, Undisturbed, WordsStay};
-ghost use Rattle.pdp_cpu.specs.Laws.TurnLaws.{turn_phases, world_after};
+ghost use Rattle.pdp_cpu.specs.Laws.TurnLaws.{NoneContinues, StampsDisturbNothing, Stays};
+ghost use Rattle.pdp_cpu.specs.Laws.TurnLaws.{Undisturbed, WordsStay, turn_phases, world_after};
 ghost use Rattle.pdp_cpu.specs.Turns.Turn.{one_turn, turn_trace};
 ghost use Rattle.pdp_operand.specs.Phases.World.{World, world};
 
@@ -28,6 +29,13 @@ pub fn stamps_are_last_writes()
     ensures { (t : ℕ) (events : List Event) (w : World) (k : ℕ) → k < length w.bus.stamps →
         slice_index_or (one_turn t events w).bus.stamps k None
         ≡ last_write (turn_trace t events w) k (slice_index_or w.bus.stamps k None) }
+{}
+
+/// A law of turns: a turn does the same whatever last stamps core has. The writes of its trace
+/// leave their stamps on these, and nothing else differs. [P]
+pub fn stamps_disturb_nothing()
+    ensures { (t : ℕ) (events : List Event) (w : World) (stamps : List (Option Stamp)) →
+        StampsDisturbNothing t events w stamps }
 {}
 
 /// A law of turns: every access in the trace of a turn is in that turn; one of core is of a word

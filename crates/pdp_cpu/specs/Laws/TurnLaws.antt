@@ -1,15 +1,18 @@
 -- What the laws of turns speak of. No rule of the handbook is here.
-use Rattle.std.specs.Prelude.{ℕ, zero, suc, ◌+◌, ◌≡◌, ◌≢◌, All, List}
+use Rattle.std.specs.Prelude.{ℕ, zero, suc, ◌+◌, ◌≡◌, ◌≢◌, All, List, Option}
 use Rattle.pdp_unibus.specs.declared.event.Event.{Event}
 use Rattle.pdp_unibus.specs.declared.event.Event.TheVariants.{Continue}
 use Rattle.pdp_unibus.specs.BusWorld.{BusWorld}
 use Rattle.pdp_operand.specs.Laws.Count.{course_length}
+use Rattle.pdp_store.specs.Stamps.{stamps_after_trace}
+use Rattle.pdp_store.specs.declared.Stamp.{Stamp}
 use Rattle.pdp_store.specs.declared.part.Part.{Part}
 use Rattle.pdp_unibus.specs.Page.{AlikeOutside, SamePage}
 use Rattle.pdp_operand.specs.declared.processor.Processor.{Processor}
 use Rattle.pdp_operand.specs.Phases.World.{World, world}
+use Rattle.pdp_cpu.specs.Turns.MachineState.{world_with_stamps}
 use Rattle.pdp_cpu.specs.Turns.Turn.{course_at, at_turn, one_turn, printed_in, punched_in}
-use Rattle.pdp_cpu.specs.Turns.Turn.{turn_trace}
+use Rattle.pdp_cpu.specs.Turns.Turn.{turn_act, turn_trace}
 
 -- how many phases turn t runs
 unfoldable pub turn_phases : ℕ → List Event → World → ℕ
@@ -52,3 +55,14 @@ pub record WordsStay (v w : World) : Type 0 where
   pub core : w.bus.core ≡ v.bus.core
   pub stamps : w.bus.stamps ≡ v.bus.stamps
   pub drives : w.bus.drives ≡ v.bus.drives
+
+-- turn t with these events in a world, and in the same world with other last stamps of core: the
+-- writes of its trace leave their stamps on these, and nothing else differs
+pub record StampsDisturbNothing (t : ℕ) (events : List Event) (w : World)
+    (stamps : List (Option Stamp)) : Type 0 where
+  pub world_is : one_turn t events (world_with_stamps w stamps) ≡ world_with_stamps
+      (one_turn t events w) (stamps_after_trace (turn_trace t events w) stamps)
+  pub trace : turn_trace t events (world_with_stamps w stamps) ≡ turn_trace t events w
+  pub act : turn_act t events (world_with_stamps w stamps) ≡ turn_act t events w
+  pub printed : printed_in t events (world_with_stamps w stamps) ≡ printed_in t events w
+  pub punched : punched_in t events (world_with_stamps w stamps) ≡ punched_in t events w

@@ -3,7 +3,7 @@ use Rattle.std.specs.Prelude.{ℕ, ◌+◌, ◌<◌, ◌++◌, List, [], Option,
 use Rattle.pdp_store.specs.declared.Stamp.{Stamp}
 use Rattle.pdp_unibus.specs.SavedBusData.{bus_with_tape}
 use Rattle.pdp_store.specs.FirstTouches.{FirstTouches, no_first_touches}
-use Rattle.pdp_unibus.specs.BusWorld.{bus_at_power_up, with_first_touches}
+use Rattle.pdp_unibus.specs.BusWorld.{bus_at_power_up, with_first_touches, with_stamps}
 use Rattle.pdp_unibus.specs.declared.delays.Delays.{Delays}
 use Rattle.pdp_unibus.specs.declared.event.Event.{Event}
 use Rattle.pdp_operand.specs.Handbook.Processor.{powered_processor}
@@ -38,6 +38,10 @@ world_with_first_touches w first_touches =
 
 abbrev pub without_first_touches : World → World
 without_first_touches w = world_with_first_touches w no_first_touches
+
+-- a world with these last stamps of core
+abbrev pub world_with_stamps : World → List (Option Stamp) → World
+world_with_stamps w stamps = world w.processor (with_stamps w.bus stamps)
 
 -- the world of a machine with its first touches, and the machine with these in the world of its
 -- state
