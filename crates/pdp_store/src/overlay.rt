@@ -43,10 +43,11 @@ pub(crate) fn lay_over(stamps: &mut [Option<Stamp>], pages: &[Rc<Page>], turn: u
     }
 }
 
-// Makes the bases those of the words of these pages, with their last stamps laid over these: before
-// the words and the stamps are put. A place whose words and stamps stay keeps its base; otherwise
-// its page becomes its base if the place will have the page's stamps, and if not the place is marked
-// as written since.
+// Makes the bases those that fit the words of these pages, with their last stamps laid over these.
+// It is called before the words and the stamps are changed.
+//
+// A place whose words and stamps stay keeps its base. Otherwise its page becomes its base if the
+// place will have the page's stamps; if not, the place is marked as written since.
 pub(crate) fn put_bases_over(
     bases: &mut Vec<Base>,
     written: &mut Vec<bool>,
