@@ -214,9 +214,10 @@ impl Ladder {
     }
 
     /// Gives a word of core, or of this drive, this value in the checkpoints up to `turn`, and
-    /// drops those of turns above it and the states between. The states up to `turn` have the page of the word alike: they
-    /// share the one page that is made. All that is needed for the new states is there before the
-    /// first is changed. The machine numbers the new page, and is left as it is. [P]
+    /// drops those of turns above it and the states between. The checkpoints up to `turn` have the
+    /// page of the word alike: they share the one page that is made. All that is needed for the new
+    /// states is there before the first is changed. The machine numbers the new page, and is left as
+    /// it is. [P]
     ///
     /// # Errors
     ///

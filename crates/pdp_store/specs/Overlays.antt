@@ -50,9 +50,9 @@ abbrev pub AreBefore : ℕ → List (Option Stamp) → Type 0
 AreBefore turn [] = Unit {0}
 AreBefore turn (x ∷ xs) = IsBefore turn x × AreBefore turn xs
 
--- two overlays are one: stamps are laid over b from turn c on, and what comes of that over a from
--- turn e on. If e is not before c, and all of b are before e, b counts for nothing. If e is not
--- after c, it is the same to lay b over a first.
+-- two overlays are one: stamps are laid over b from turn c on, and the result over a from turn e on.
+-- If e is not before c, and all of b are before e, b has no effect. If e is not after c, it is the
+-- same to lay b over a first.
 abbrev pub OverlaysAreFlat : Type 0
 OverlaysAreFlat =
     (c e : ℕ) (a b stamps : List (Option Stamp)) → length b ≡ length stamps

@@ -364,7 +364,7 @@ impl Paged {
     }
 
     /// Whether the words are those of these pages, which were taken of a store of as many words.
-    /// Their stamps count for nothing.
+    /// It doesn't compare their stamps.
     pub fn has_words(&self, pages: &[Rc<Page>]) -> bool
         requires { length (words_of pages.now) ≡ length self.now.words }
         ensures { (result ≡ true) ↔ (self.now.words ≡ words_of pages.now) }

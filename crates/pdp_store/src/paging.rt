@@ -81,7 +81,7 @@ pub trait SharedPaging: Paging {
         ensures first_touches { Self.first_touches self.new ≡ Self.first_touches self.old };
 
     /// Whether the words are those of these pages, which were taken of a store of as many words.
-    /// Their stamps count for nothing.
+    /// It doesn't compare their stamps.
     fn has_words(&self, pages: &Pages) -> bool
         requires { length (words_of pages.now.value.items) ≡ length (Self.words self.now) }
         ensures { (result ≡ true) ↔ (Self.words self.now ≡ words_of pages.now.value.items) };

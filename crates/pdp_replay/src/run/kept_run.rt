@@ -163,8 +163,8 @@ impl KeptRun {
         Ok(())
     }
 
-    // Keeps the state of the machine beside the checkpoints, if it paused at turn `pause` on its way
-    // to a later one, `to`, and if there is memory for it: no answer depends on it.
+    // Keeps the state of the machine beside the checkpoints, if the run paused at turn `pause` on
+    // its way to turn `to`, and if there is memory for it: no answer depends on it.
     fn keep_near(&mut self, alloc: Global, pause: u32, to: u32)
         ensures same { self.new ≡ with_near self.new.ladder.near self.old }
         ensures way { (p : Past) → IsOnWay p self.old → IsOnWay p self.new }
