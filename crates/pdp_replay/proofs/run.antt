@@ -27,3 +27,7 @@ pub mod Coming
 pub mod PoweredRuns
 pub mod Forgotten
 pub mod CalmWays
+mod GrowingTexts
+pub mod Meetings
+pub mod SavedMeetings
+pub mod Adoptions

@@ -4,3 +4,6 @@ pub mod FirstTouches
 pub mod Checkpoints
 pub mod Strides
 pub mod KeptRuns
+pub mod Meetings
+pub mod SavedMeetings
+pub mod Adoptions

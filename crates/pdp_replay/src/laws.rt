@@ -3,6 +3,10 @@ ghost use Rattle.pdp_replay.specs.Run.FirstTouches.{LateTouchesAreDropped};
 ghost use Rattle.pdp_replay.specs.Run.FirstTouches.{PatchesReachTheFirstTouch};
 ghost use Rattle.pdp_replay.specs.Run.FirstTouches.{TurnsRunAgainTouchNothingNew};
 ghost use Rattle.pdp_replay.specs.Run.FirstTouches.{UntouchedPagesAreAlike};
+ghost use Rattle.pdp_replay.specs.Run.Adoptions.{AdoptedRunsGoOn};
+ghost use Rattle.pdp_replay.specs.Run.Meetings.{EqualStaysEqual, FirstTouchesAreTaken, MeetAgain};
+ghost use Rattle.pdp_replay.specs.Run.Meetings.{TouchesNoMoreAgain};
+ghost use Rattle.pdp_replay.specs.Run.SavedMeetings.{KeptBytesAreTaken, SavedMachinesAreTaken};
 ghost use Rattle.pdp_replay.specs.Past.FirstWords.{CoreHasItsSize, DriveHasItsSize};
 ghost use Rattle.pdp_replay.specs.Past.FirstWords.{CoreWordsAreFirstWords, DiskWordsAreFirstWords};
 ghost use Rattle.pdp_replay.specs.Past.FirstWords.{DrivesAreByNumber, DrivesAreSoMany};
@@ -99,4 +103,48 @@ pub fn turns_run_again_touch_nothing_new()
 /// [P]
 pub fn untouched_pages_are_alike()
     ensures { UntouchedPagesAreAlike }
+{}
+
+/// A law of runs: two runs that meet in a state stay equal. If their states before some turn are
+/// equal except for the last stamps of core, and their scripts have the same events from that turn
+/// on, then so are their states before each later turn, stamps from that turn on too, and what they
+/// print, punch and access from then on. So they meet again at each later turn. Their setups and
+/// their earlier events may differ.
+///
+/// [P]
+pub fn equal_stays_equal()
+    ensures equal { EqualStaysEqual }
+    ensures again { MeetAgain }
+{}
+
+/// A law of first touches: of two runs that meet, let the second have touched no page before that
+/// turn that the first has not. Then the first touches of the first run before each later turn are
+/// those that it had where they met, and for each other page those of the second run. So again the
+/// second has touched no page that the first has not.
+///
+/// [P]
+pub fn first_touches_are_taken()
+    ensures taken { FirstTouchesAreTaken }
+    ensures again { TouchesNoMoreAgain }
+{}
+
+/// A law of runs: of two runs that meet, each saved machine of the second from that turn on is,
+/// with its stamps laid over those of the first, the saved machine of the first before the same
+/// turn. And the bytes that come out of the second from that turn on, with their turns, come out of
+/// the first.
+///
+/// [P]
+pub fn saved_machines_are_taken()
+    ensures machines { SavedMachinesAreTaken }
+    ensures bytes { KeptBytesAreTaken }
+{}
+
+/// A law of runs: a machine that is in a state of the first of two runs that meet there, and keeps
+/// its texts, can be made any later saved machine of the second. If its bytes, its first touches and
+/// its stamps are taken of the second from that turn on, it is then in a state of the first run, and
+/// keeps the texts of the first run.
+///
+/// [P]
+pub fn adopted_runs_go_on()
+    ensures { AdoptedRunsGoOn }
 {}

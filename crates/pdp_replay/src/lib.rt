@@ -25,6 +25,11 @@
 //!   and no further. Up to there the states of the run differ in that word alone
 //!   (`patches_reach_the_first_touch`, `first_touches_are_told`,
 //!   `turns_run_again_touch_nothing_new`, `untouched_pages_are_alike`).
+//! - Two runs whose states before a turn are equal except for stamps, with the same events from
+//!   then on, stay so, and from then on print, punch and access the same (`equal_stays_equal`,
+//!   `first_touches_are_taken`). So the saved machines of the one run, with their stamps laid over
+//!   those of the other, are those of the other (`saved_machines_are_taken`), and a machine of the
+//!   other goes on from them (`adopted_runs_go_on`).
 //! - Alterations and drops of events, and edits of tape and delays, are never refused for memory
 //!   (`some_edits_need_no_memory`). Texts only grow from turn to turn (`texts_only_grow`).
 //!
@@ -47,8 +52,9 @@ pub use ask::{
 };
 pub use engine::Engine;
 pub use laws::{
-    core_words_are_first_words, disk_words_are_first_words, first_touches_are_told,
-    patches_reach_the_first_touch, some_edits_need_no_memory, stamps_of_states_are_last_writes,
+    adopted_runs_go_on, core_words_are_first_words, disk_words_are_first_words, equal_stays_equal,
+    first_touches_are_taken, first_touches_are_told, patches_reach_the_first_touch,
+    saved_machines_are_taken, some_edits_need_no_memory, stamps_of_states_are_last_writes,
     texts_only_grow, turns_run_again_touch_nothing_new, untouched_pages_are_alike,
 };
 pub use past::{DEFAULT_STRIDE, Patch, Setup};
