@@ -1,9 +1,9 @@
 -- A completion does the same whatever last stamps core has, and its trace leaves its stamps on them.
-use Rattle.std.proofs.Common.{◌≡◌, ◌∙◌, ◌&&◌, ℕ, zero, suc, Bool, true, false, List, [], ◌++◌, Option, Some, None, refl, sym, ap, ap₂, length, slice_set, if◌then◌else◌}
+use Rattle.std.proofs.Common.{◌≡◌, ◌∙◌, ◌&&◌, ℕ, zero, suc, Bool, true, false, List, [], Option, Some, None, refl, sym, ap, length, slice_set, if◌then◌else◌}
 use Rattle.pdp_device.specs.Operation.{is_under_way}
 use Rattle.pdp_store.specs.TracedAccess.{TracedAccess}
 use Rattle.pdp_store.specs.declared.Stamp.{Stamp}
-use Rattle.pdp_rk11.specs.Completion.{DiskWorld, rk_completed, drive_of, lists_after, stamp_of_disk, world_finished, run_unless_refused, refusal, transfer_of, rk_transferred, registers_after, with_rk, run_function, is_write_check}
+use Rattle.pdp_rk11.specs.Completion.{DiskWorld, rk_completed, drive_of, lists_after, stamp_of_disk, world_finished, run_unless_refused, refusal, rk_transferred, registers_after, with_rk, run_function, is_write_check}
 use Rattle.pdp_rk11.specs.Geometry.{drive_in}
 use Rattle.pdp_rk11.specs.Trace.{StampsDisturbNoCompletion, completion_touches, disk_world_with_stamps, fill_touches, joined_lists, move_touches, transfer_touches, touches_unless_refused}
 use Rattle.pdp_rk11.specs.Transfer.{core_word, is_different, moved_to_core, rest_of_sector, stamps_read}

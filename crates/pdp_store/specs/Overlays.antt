@@ -14,8 +14,8 @@ stamp_over turn under (Some stamp) = if nat_le turn stamp.turn then Some stamp e
 abbrev pub stamps_over : ℕ → List (Option Stamp) → List (Option Stamp) → List (Option Stamp)
 stamps_over turn [] stamps = []
 stamps_over turn (under ∷ unders) [] = []
-stamps_over turn (under ∷ unders) (stamp ∷ stamps) = stamp_over turn under stamp ∷ stamps_over turn
-    unders stamps
+stamps_over turn (under ∷ unders) (stamp ∷ stamps) =
+    stamp_over turn under stamp ∷ stamps_over turn unders stamps
 
 -- the first touch of a page: one under it that is before this turn stays, otherwise it is the one
 -- over it
@@ -26,14 +26,14 @@ touch_over turn under first = if nat_lt under turn then under else first
 abbrev pub touches_over : ℕ → List ℕ → List ℕ → List ℕ
 touches_over turn [] firsts = []
 touches_over turn (under ∷ unders) [] = []
-touches_over turn (under ∷ unders) (first ∷ firsts) = touch_over turn under first ∷ touches_over turn
-    unders firsts
+touches_over turn (under ∷ unders) (first ∷ firsts) =
+    touch_over turn under first ∷ touches_over turn unders firsts
 
 abbrev pub drives_over : ℕ → List (List ℕ) → List (List ℕ) → List (List ℕ)
 drives_over turn [] drives = []
 drives_over turn (under ∷ unders) [] = []
-drives_over turn (under ∷ unders) (drive ∷ drives) = touches_over turn under drive ∷ drives_over turn
-    unders drives
+drives_over turn (under ∷ unders) (drive ∷ drives) =
+    touches_over turn under drive ∷ drives_over turn unders drives
 
 -- the first touches of core and of each drive
 abbrev pub first_touches_over : ℕ → FirstTouches → FirstTouches → FirstTouches
