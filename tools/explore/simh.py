@@ -26,7 +26,9 @@ LEAST_NAMES = {
     "bye": "exit", "ru": "run", "se": "set", "sh": "show", "h": "help",
 }  # fmt: skip
 ASKING = {"echo", "examine", "show", "help"}  # they show something, and set nothing
-REGISTERS = re.compile(r"r[0-7]|sp|pc|psw?|sr|dr|[ksu][id]?(par|pdr|sp)\w*|mmr\d|stklim|pirq", re.I)
+REGISTERS = re.compile(
+    r"r[0-7]|sp|pc|psw?|sr|dr|[ksu][id]?(par|pdr|sp)\w*|mmr[0-9]|stklim|pirq", re.I | re.A
+)
 AS_HERE = {"11/40", "eis", "mmu", "nofis", "nofpp", "nocis", "noidle", "enabled"}
 DRIVE = re.compile(r"rk(?P<number>[0-7]?)")  # rk is rk0
 
@@ -108,7 +110,7 @@ class Imported:
         if not words or words[0].lower() != "cpu" or len(words) < 2:
             raise Unusable("it has no meaning here")
         for word in ",".join(words[1:]).lower().split(","):
-            size = re.fullmatch(r"(\d{1,5})(k|m)", word)
+            size = re.fullmatch(r"([0-9]{1,5})(k|m)", word)
             if size:
                 self.set_size(int(size[1]) * (1 if size[2] == "k" else 1024))
             elif word not in AS_HERE:

@@ -95,21 +95,22 @@ def of_list(lines: Sequence[str]) -> SymbolFile:
 # the words or bytes of the line, with ' or G behind those that the linker changes. Then comes the
 # source.
 
+LINE_NUMBER = r"([0-9]{1,5}\s+)?"
 SOURCE = re.compile(
-    r"\f?\s*(\d{1,5}\s+)?(?P<address>[0-7]{6})(?P<words>(\s+([0-7]{6}|[0-7]{3})['GC]{0,2}(?!\S))*)"
-    r"(\s+(?P<source>.*))?"
+    rf"\f?\s*{LINE_NUMBER}(?P<address>[0-7]{{6}})"
+    r"(?P<words>(\s+([0-7]{6}|[0-7]{3})['GC]{0,2}(?!\S))*)(\s+(?P<source>.*))?"
 )
-COMMENT = re.compile(r"\s*(\d{1,5}\s*)?(;.*)?")
+COMMENT = re.compile(r"\s*([0-9]{1,5}\s*)?(;.*)?")
 LABEL = re.compile(rf"(?P<name>{NAME_OF_DEC})::?\s*")
 IN_SOURCE = re.compile(
-    rf"\f?\s*(\d{{1,5}}\s+)?([0-7]{{6}}['GC]?\s+)?(?P<name>{NAME_OF_DEC})\s*==?:?\s*"
+    rf"\f?\s*{LINE_NUMBER}([0-7]{{6}}['GC]?\s+)?(?P<name>{NAME_OF_DEC})\s*==?:?\s*"
     r"(?P<value>[0-7]{1,6})\s*(;.*)?"
 )
 TABLE = re.compile(r"\f?\s*symbol table\s*", re.IGNORECASE)
 END_OF_TABLE = re.compile(r"\s*(\. ABS\.|\*\*\*|errors detected)", re.IGNORECASE)
 IN_TABLE = re.compile(
     rf"(?<!\S)(?P<name>{NAME_OF_DEC}?)\s*(?P<mark>=?)\s*(?P<register>%?)(?<![0-7])"
-    r"(?P<value>[0-7]{6}|\*{6})\s?(?P<flags>R?( ?[GXLCW]{1,2})?)(\s+(?P<section>\d{3}))?(?=\s|$)"
+    r"(?P<value>[0-7]{6}|\*{6})\s?(?P<flags>R?( ?[GXLCW]{1,2})?)(\s+[0-9]{3})?(?=\s|$)"
 )
 
 

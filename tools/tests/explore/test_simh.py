@@ -46,6 +46,11 @@ class Imports(Media):
     def test_sizes(self) -> None:
         for text, units in (("256K", 31), ("248k", 31), ("64k", 8), ("8K", 1), ("56k", 7)):
             self.assertIn(f"--units {units}", self.imports(f"set cpu {text}\n")[0])
+        three = "\N{ARABIC-INDIC DIGIT THREE}"
+        written = self.imports(f"set cpu {three}2k\nd mmr{three} 5\n")
+        self.assertEqual(written[1], "2 without a meaning here:")
+        self.assertTrue(written[2].endswith(f"there is no {three}2k here: this is an 11/40 with EIS"))
+        self.assertTrue(written[3].endswith("can't be set: only core, PC and SR can"))
         for text in ("12k", "4k", "512K", "4M", "0k"):
             written = self.imports(f"SET CPU {text}\n")
             self.assertEqual(written[0], "0 commands taken: 0 patches")

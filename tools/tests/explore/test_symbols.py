@@ -159,6 +159,12 @@ class Formats(Media):
         places = {"START": 0, "FIRST": 4, "SECOND": 4, "MSG": 0o12}
         self.assertEqual(self.values(symbol_file(text)), places)
 
+    def test_a_listing_with_other_digits(self) -> None:
+        other = "\N{ARABIC-INDIC DIGIT THREE}"
+        for line in (f"{other} 001000 000240 B: NOP", f"{other} C = 5"):
+            found = symbol_file(f"1 001000 000240 A: NOP\n{line}\n")
+            self.assertEqual((self.values(found), found.skipped), ({"A": 0o1000}, 1), line)
+
     def test_the_listing_of_the_ledger(self) -> None:
         stored = ROOT / "examples" / "ledger"
         found = self.values(symbol_file((stored / "ledger.lst").read_text()))
