@@ -5,7 +5,7 @@ from collections import deque
 from typing import Iterator, Optional
 
 from .at_work import AtWork
-from .commands import Arguments, Explorer, Sitting, command
+from .commands import END_OF_RUN, Arguments, Explorer, Sitting, command
 from .errors import ExploreError
 from .in_words import counted
 from .language import MEANINGS
@@ -90,7 +90,7 @@ class Console:
             self.run_to(terminal, end)
             self.slice.note(end - self.turn, time.monotonic() - now)
             if self.turn < WARNED_TURN <= end:
-                self.tell(terminal, f"turn {WARNED_TURN}; the last one is turn {LAST_TURN}")
+                self.tell(terminal, f"turn {WARNED_TURN}; the run ends at turn {LAST_TURN}")
             self.turn = end
         if end < due:
             return 0.0
@@ -178,9 +178,9 @@ class Console:
         """What has happened."""
         if not self.is_at_begin_of_line():
             yield ""
-        last = ", the last one" if self.turn == LAST_TURN else ""
+        end = ", the end of the run" if self.turn == LAST_TURN else ""
         turns = f"{counted(self.turn - self.first_turn, 'turn')} in {self.seconds:.1f} s"
-        yield f"turn {self.turn}{last}: {turns}; {self.events_in_words()}"
+        yield f"turn {self.turn}{end}: {turns}; {self.events_in_words()}"
         if self.withheld:
             queries = f"{self.withheld} quer{'y' if self.withheld == 1 else 'ies'}"
             yield f"{queries} of the program didn't reach the terminal: see help console"
@@ -204,7 +204,7 @@ def beginning_turn(explorer: Explorer, arguments: Arguments) -> int:
     left = explorer.sitting.turn
     turn = arguments.decimal("first", after_events if left is None else left)
     if turn >= LAST_TURN:
-        raise ExploreError(f"turn {LAST_TURN} is the last one: no turn comes after it")
+        raise ExploreError(END_OF_RUN)
     return turn
 
 

@@ -359,11 +359,12 @@ class Pace(AtConsole):
     def test_the_last_turns(self) -> None:
         self.begin(self.program([0o1], "at 899999000 tick"))  # WAIT
         self.sit()
-        self.wait_for(b"[turn 900000000; the last one is turn 1000000000]\r\n")
+        self.wait_for(b"[turn 900000000; the run ends at turn 1000000000]\r\n")
         self.assertIn("no event was made", self.leave())
-        self.assertIn("the run has 10 turns left, up to turn 1000000000", self.sit("console from 999999990"))
-        self.wait_for(b"turn 1000000000, the last one: 10 turns in ")
-        why = "console: turn 1000000000 is the last one: no turn comes after it"
+        begun = self.sit("console from 999999990")
+        self.assertIn("the run has 10 turns left, up to turn 1000000000", begun)
+        self.wait_for(b"turn 1000000000, the end of the run: 10 turns in ")
+        why = "console: turn 1000000000 is the end of the run: the last turn is 999999999"
         self.assertEqual(self.reply("console from 1000000000"), why)
         self.quit()
 
