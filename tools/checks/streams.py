@@ -91,7 +91,8 @@ def takes_each_part(program: str, folder: str) -> bool:
             return got, file.read()
 
     whole, replies = taken(1 << 20)
-    parts = (taken(size) == ((*INPUT_OR_OUTPUT, ""), replies[:size]) for size in range(len(replies)))
+    cut = (*INPUT_OR_OUTPUT, "")
+    parts = (taken(size) == (cut, replies[:size]) for size in range(len(replies)))
     return whole == (*DONE, "") and len(replies) > 100 and all(parts)
 
 

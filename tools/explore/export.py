@@ -12,7 +12,7 @@ from .replies import Devices, Mode, Pages, Registers, words_of
 
 DRIVE_WORDS = RK05_BYTES // 2
 MODEL_NAMES = {Mode.KERNEL: "KI", Mode.USER: "UI"}
-ENABLE, DONE = 0o100, 0o200
+DONE = 0o200
 
 
 def parsed(replies: Iterator[str]) -> Iterator[list[int]]:

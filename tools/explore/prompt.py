@@ -46,9 +46,9 @@ NUMBERS = (
 )
 CURRENT_TURN = (
     "The current turn is the one that a line found (until, next, where, first, last, change, when) "
-    "or showed (show, step, back, see, list, screen) last, or where you left the console. The lines "
-    "that show begin there if they name no turn. Other lines, edits too, leave it as it is. The "
-    "prompt at a terminal names it, if it isn't turn 0."
+    "or showed (show, step, back, see, list, screen) last, or where you left the console. The "
+    "lines that show begin there if they name no turn. Other lines, edits too, leave it as it is. "
+    "The prompt at a terminal names it, if it isn't turn 0."
 )
 
 

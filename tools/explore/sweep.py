@@ -72,8 +72,8 @@ class Sweep:
             self.with_event(twin, f"at {self.turns[0]} {self.event}")
 
     def work(self, twin: Machine, turn: int) -> str:
-        """The reply with the event at this turn. A twin has the event once, and moves it on. Back in
-        its own turn it would be the last of its events: there a further twin has it unmoved."""
+        """The reply with the event at this turn. A twin has the event once, and moves it on. Back
+        in its own turn it would be the last of its events: there a further twin has it unmoved."""
         if self.number is not None and twin.past.events[self.number].turn == turn:
             with closing(twin.twin()) as unmoved:
                 return self.with_event(unmoved, f"alter {self.number} {turn} {self.event}")[1]

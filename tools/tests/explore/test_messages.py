@@ -178,7 +178,8 @@ class Messages(Case):
         self.assertEqual(disassembler.instruction(0o1000, [0, 0, 0]).text, "HALT")
         assert disassembler.child
         disassembler.child.process.kill()
-        with self.assertRaisesRegex(ExploreError, "^disassemble: the program ended with status -9$"):
+        killed = "^disassemble: the program ended with status -9$"
+        with self.assertRaisesRegex(ExploreError, killed):
             disassembler.instruction(0o1002, [0, 0, 0])
         self.assertEqual(disassembler.instruction(0o1002, [0, 0, 0]).text, "HALT")
 

@@ -136,7 +136,8 @@ class Pages(Case):
 
     def test_names_on_an_axis(self) -> None:
         """A mode without symbols isn't that of the symbols; a name that is cut says so."""
-        (self.folder / "long.sym").write_text("A_NAME_THAT_IS_LONGER_THAN_THE_AXIS=1160\nSHORT=1306\n")
+        symbols = "A_NAME_THAT_IS_LONGER_THAN_THE_AXIS=1160\nSHORT=1306\n"
+        (self.folder / "long.sym").write_text(symbols)
         lines = "symbols long.sym kernel\npage it.html from 20 to 60\n"
         wide, narrow = self.page(lines, "examples/ledger/ledger.session")
         for drawing, name in ((wide, "A_NAME_THA…"), (narrow, "A_NAME_T…")):
