@@ -11,7 +11,7 @@ import {
   filesTogether, pageOfPast, saveFile, savedName, sessionOfFiles, textOfPast,
 } from "./files.js";
 import { FileError } from "./options.js";
-import { delayed, element, make } from "./page.js";
+import { delayed, element } from "./page.js";
 import { PictureMaker } from "./picture.js";
 import { keepPlace } from "./place.js";
 import { LAST_TURN, octal, visibleName } from "./replies.js";
@@ -25,8 +25,6 @@ import { ConsoleText } from "./text.js";
 import { Timeline } from "./timeline.js";
 import { Watched } from "./watched.js";
 import { WorkBar } from "./work.js";
-
-const MOST_TEXT = 40_000;
 
 export class App {
   constructor() {

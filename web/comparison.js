@@ -148,7 +148,7 @@ function differ(reply, old) {
 
 /** What is compared of the turns up to `end`: the turns after each edit one by one, as far as they
     are few, and samples between. @returns {Stretch[]} */
-export function stretchesOf(edited, end) {
+function stretchesOf(edited, end) {
   const singles = [];
   let left = MOST_SINGLE_TURNS;
   for (const [at, turn] of edited.entries()) {

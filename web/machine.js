@@ -1,9 +1,7 @@
 // The page's side of a program in a worker. It never blocks the page.
 import { newWorker, packedModule } from "./packed.js";
-
-const EDITS = new Set(
-  ["core", "uncore", "disk", "tape", "delay", "version", "at", "alter", "drop"],
-);
+import { isEdit } from "./past.js";
+import { isRefused } from "./replies.js";
 
 // Why a question has no reply: it was stopped, or the program ended with this status, which is null
 // if its module failed.
@@ -89,8 +87,7 @@ export class Machine {
   }
 
   keep(line, reply) {
-    const [word] = line.split(/[ \t]+/).filter(it => it !== "");
-    if (EDITS.has(word) && !reply.startsWith("refused ")) this.journal.push({ line, reply });
+    if (isEdit(line) && !isRefused(reply)) this.journal.push({ line, reply });
   }
 
   // The journal's edits must have the same replies again, since later lines name their events.

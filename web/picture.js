@@ -32,7 +32,7 @@ export function wordNamed(name) {
 }
 
 /** The question for a word before a turn. */
-export function questionOf(past, word, turn) {
+function questionOf(past, word, turn) {
   if (word.kind === "core") return `mem ${turn} ${word.at.toString(8)} 1`;
   const drive = past.version === 2 ? `${word.drive} ` : "";
   return `dsk ${turn} ${drive}${word.at.toString(8)} 1`;

@@ -12,7 +12,7 @@ export const STORY = { first: 126_300, span: 2_600, cursor: 126_967, wanted: "14
   ] };
 
 /** A sum of what a past has, with the numbers of its events. */
-export const sumOfPast = past =>
+const sumOfPast = past =>
   sumOf([past.lines().join("\n"), past.script.map(it => it.number).join(" ")]);
 
 /** The deposits of a past, and all else that isn't the turn of one. */

@@ -15,6 +15,9 @@ const PAUSE = 500;
 /** How many turns an arrow key steps. */
 const stepOf = isShifted => isShifted ? 64 : 1;
 
+/** About how many pixels a mark has from left to right. */
+const wideOf = mark => 9 + 8 * mark.textContent.length;
+
 /** What the timeline tells the page. @typedef {{
  *   onCursor: (turn: number) => void, onView: () => void, onDrawn: () => void,
  *   onDrag: (event: object, turn: number) => void,
@@ -168,7 +171,7 @@ export class Timeline {
       else this.markEvent(button, cluster.event);
       const x = this.view.x(Number(button.dataset.turn));
       const row = Math.max(0, ends.findIndex(it => x >= it));
-      ends[row] = x + 9 + 8 * button.textContent.length;
+      ends[row] = x + wideOf(button);
       button.style.setProperty("--row", String(row));
       return button;
     });
@@ -199,9 +202,13 @@ export class Timeline {
     this.show(Number(first) - span / 20, span * 1.1);
   }
 
+  /** Puts a mark at its turn. Its text isn't cut at the right edge: a part of a number is another
+      number. */
   place(mark, turn) {
+    const { view } = this, x = view.x(turn);
+    const most = this.width - wideOf(mark) / 2;
     mark.dataset.turn = String(turn);
-    mark.style.left = `${this.view.x(turn)}px`;
+    mark.style.left = `${x > view.left + view.width ? x : Math.min(x, most)}px`;
   }
 
   placeMark(button, event, turn) {

@@ -162,3 +162,12 @@ class ManyEvents(PageCase):
         self.assertRegex(label, r"^\d+ events in the turns 0 to \d+: zoom in$")
         self.browser.click(".mark.cluster")
         self.browser.wait("document.querySelector('[data-event=\"1\"]') !== null")
+
+    def test_a_count_is_not_cut_at_the_edge(self) -> None:
+        path = self.folder() / "many.session"
+        path.write_text("at 1000 tick\n" * 1_000 + "regs 1000\n")
+        self.give(path)
+        self.wait_text(".marks", "\u00d71000")
+        right = "document.querySelector('{}').getBoundingClientRect().right"
+        mark, edge = (self.browser.value(right.format(it)) for it in (".mark", "#timeline"))
+        self.assertLessEqual(mark, edge)

@@ -123,6 +123,8 @@ class Names(PageCase):
     def test_targets_are_large(self) -> None:
         """24 pixels each way, as WCAG 2.5.8 has it."""
         kinds = "button, input, select, summary, [role], [tabindex='0']"
+        self.type_line("alter 15 127165 key 66")
+        self.wait_text("#difference", "Drive 0")
         for width in (400, 1280):
             self.browser.size(width, 800)
             self.wait_still()
