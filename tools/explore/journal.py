@@ -347,4 +347,4 @@ def told() -> Iterator[str]:
     found = Contents.of(path)
     when = time.strftime("%d %b %Y %H:%M", time.localtime(path.stat().st_mtime))
     what = f"{counted(len(found.edits), 'edit')} of {when} (session: {found.session})"
-    yield f"a journal has {what}: ./explore --resume takes them up"
+    yield f"a journal has {what}: ./explore --resume takes it up"

@@ -46,7 +46,7 @@ class Journals(AtTerminal):
             ).splitlines()[3:]
             self.begin()
             self.wait_for(b"a journal has 3 edits of ")
-            self.wait_for(b"./explore --resume takes them up")
+            self.wait_for(b"./explore --resume takes it up")
             self.type("quit\n")
             self.assertEqual(self.child.wait(SECONDS), 0)
             self.assertEqual(len(self.journals()), 1)
