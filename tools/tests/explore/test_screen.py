@@ -1,5 +1,6 @@
 """What a terminal shows of a text, against a terminal that takes it byte by byte."""
 import random
+import time
 import unittest
 
 from explore.screen import in_characters, lines_of
@@ -47,6 +48,7 @@ class Screen(unittest.TestCase):
             self.assertEqual(lines_of(text), slow.shown(), text)
 
     def test_a_flood(self) -> None:
-        """What isn't shown takes no longer for that."""
-        flood = b"." * 50_000_000
+        """It takes about a second of processor time, and byte by byte some thirty."""
+        flood, begun = b"." * 50_000_000, time.process_time()
         self.assertEqual(lines_of(flood + b"\rx\n")[0], "x" + "." * 49_999_999)
+        self.assertLess(time.process_time() - begun, 15)
