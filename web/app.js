@@ -14,7 +14,7 @@ import { FileError } from "./options.js";
 import { delayed, element } from "./page.js";
 import { PictureMaker } from "./picture.js";
 import { keepPlace } from "./place.js";
-import { LAST_TURN, octal, visibleName } from "./replies.js";
+import { LAST_TURN, WrongReply, octal, visibleName } from "./replies.js";
 import { Run } from "./run.js";
 import { lastTurnOf, symbolsOfSession } from "./session.js";
 import { Sight } from "./sight.js";
@@ -80,7 +80,9 @@ export class App {
   fail(error) {
     if (error instanceof FileError) return this.say(error.message);
     if (!(error instanceof Ended)) console.error(error);
-    return this.say(`This failed: ${error.message}`);
+    // a program that doesn't start says why as it refuses a line
+    const [refusal] = error instanceof Ended ? /refused \d+ \w+$/.exec(error.message) ?? [] : [];
+    return this.say(`This failed: ${refusal ? new WrongReply(refusal).message : error.message}.`);
   }
 
   /** The page says whether work is under way. */

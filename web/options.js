@@ -1,11 +1,20 @@
 // The options of the program, as words of its command line, and as they stand in a session: in
 // comment lines `#! OPTIONS`, which the program passes over and explore reads too.
 
-const FILES = /^(?:core|disk[1-7]?|tape)$/, VALUES = /^(?:units|start|stride)$/;
-const MARK = "#!";
+const FILES = /^(?:core|disk[1-7]?|tape)$/, MARK = "#!";
 // A line of a session has 200 bytes at most, comments too.
 const LONGEST_PART = 190;
 const [UNITS, BYTES_OF_A_UNIT] = [31, 0o20000];
+// The options that are numbers: their digits, the least and the most, and how these are told.
+const DECIMAL = /^[0-9]{1,10}$/, EVEN = /^[0-7]{0,9}[0246]$/;
+const NUMBERS = new Map([
+  ["units", { form: DECIMAL, base: 10, least: 1, most: UNITS,
+    told: `1 to ${UNITS}, units of 4096 words of core` }],
+  ["start", { form: EVEN, base: 8, least: 0, most: 0o177776,
+    told: "an address, octal and even, up to 177776" }],
+  ["stride", { form: DECIMAL, base: 10, least: 1, most: 2_000_000_000,
+    told: "1 to 2000000000, turns between kept states" }],
+]);
 
 /** Why files make no session, for the user to read. */
 export class FileError extends Error {}
@@ -18,13 +27,23 @@ export function optionsOf(words, where) {
   const found = new Map();
   for (let at = 0; at < left.length; at += 2) {
     const [option, value] = [left[at], left[at + 1]], name = option.slice(2);
-    const isKnown = option.startsWith("--") && (FILES.test(name) || VALUES.test(name));
+    const isKnown = option.startsWith("--") && (FILES.test(name) || NUMBERS.has(name));
     if (!isKnown) throw new FileError(`${where}: '${option}' is no option of pdp11 with a value.`);
     if (value === undefined) throw new FileError(`${where}: ${option} has no value.`);
     if (found.has(name)) throw new FileError(`${where}: ${option} stands there twice.`);
+    if (!isRight(name, value)) {
+      throw new FileError(`${where}: ${option} is ${NUMBERS.get(name).told}.`);
+    }
     found.set(name, value);
   }
   return found;
+}
+
+/** Whether an option's value is in its range, if it is a number. */
+function isRight(name, value) {
+  if (!NUMBERS.has(name)) return true;
+  const { form, base, least, most } = NUMBERS.get(name), number = parseInt(value, base);
+  return form.test(value) && number >= least && number <= most;
 }
 
 export const wordsOfOptions = options => [...options].flatMap(([name, it]) => [`--${name}`, it]);

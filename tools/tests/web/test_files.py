@@ -62,7 +62,7 @@ class Files(FilesCase):
         path = self.folder() / "odd.disk"
         path.write_bytes(b"abc")
         self.browser.give_files("#files", [str(path)])
-        self.wait_text("#reply", "BadImage")
+        self.assertIn("odd number", self.wait_text("#reply", "BadImage"))
         self.balance(LOST)
 
     def test_a_saved_session_has_the_same_replies(self) -> None:

@@ -98,6 +98,8 @@ class Options(PageCase):
             ("#! --start 2000 --start 1000", "--start stands there twice"),
             ("#! --speed 9", "'--speed' is no option of pdp11 with a value"),
             ("#! --disk 'a", "a quote in its options doesn't end"),
+            ("#! --units 99", "--units is 1 to 31"),
+            ("#! --start 2001", "--start is an address, octal and even"),
         ):
             path = self.folder() / "wrong.session"
             path.write_text(f"{text}\nregs 1\n")
