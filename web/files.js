@@ -97,7 +97,8 @@ function begun(open, left) {
     name without its folders. */
 function withOptions(session, words, left, take) {
   const where = visibleName(session.name);
-  const options = optionsOf(words, where), files = { ...session.files }, paths = new Map();
+  const options = optionsOf(words, where), paths = new Map();
+  let { files } = session;
   for (const [option, path] of options) {
     if (!namesFile(option)) continue;
     const name = path.split("/").at(-1);
@@ -106,7 +107,7 @@ function withOptions(session, words, left, take) {
     }
     paths.set(name, path);
     options.set(option, name);
-    if (left.has(name)) files[name] = take(name);
+    if (left.has(name)) files = { ...files, [name]: take(name) };
   }
   const all = new Map([...optionsOf(session.arguments, where), ...options]);
   return { ...session, files, arguments: wordsOfOptions(all) };

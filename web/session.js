@@ -97,6 +97,6 @@ export function withFile(session, option, name, bytes) {
     delete files[words[at + 1]];
     words.splice(at, 2);
   }
-  files[name] = bytes;
-  return { ...session, files, arguments: [...words, `--${option}`, name] };
+  return { ...session, files: { ...files, [name]: bytes },
+    arguments: [...words, `--${option}`, name] };
 }

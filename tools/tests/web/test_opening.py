@@ -90,8 +90,12 @@ class Options(PageCase):
         self.boots()
 
     def test_a_name_that_all_objects_have(self) -> None:
-        self.browser.give_files("#files", [str(self.session("constructor"))])
-        self.assertIn("constructor", self.wait_text("#reply", "isn't open yet"))
+        for name in ("constructor", "__proto__"):
+            path = self.session(name)
+            self.browser.give_files("#files", [str(path)])
+            self.wait_text("#reply", f"its options name {name}.")
+            self.give(path, path.with_name(name))
+            self.boots()
 
     def test_options_that_are_wrong(self) -> None:
         for text, why in (
