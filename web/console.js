@@ -3,7 +3,7 @@
 
 import { element } from "./page.js";
 import {
-  LAST_TURN, bytesOf, devicesOf, lengthOf, readableText, registersOf, tailOf,
+  LAST_TURN, bytesOf, counted, devicesOf, lengthOf, readableText, registersOf, tailOf,
 } from "./replies.js";
 import { Priority } from "./run.js";
 
@@ -74,7 +74,7 @@ export class Console {
     app.reach(running.turn);
     app.timeline.setCursor(running.turn);
     const left = this.keys.length;
-    if (left) app.say(`The last ${left} keys came too soon for the keyboard, and are left out.`);
+    if (left) app.say(`Left out, since the keyboard wasn't ready: ${counted(left, "key")}.`);
   }
 
   keepPast() {

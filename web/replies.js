@@ -22,6 +22,9 @@ const FUNCTIONS = [
 /** A number in octal digits, as the session language writes words. */
 export const octal = (word, digits = 6) => word.toString(8).padStart(digits, "0");
 
+/** A count with its noun, such as `1 word` or `2 words`. */
+export const counted = (count, noun) => `${count} ${noun}${count === 1 ? "" : "s"}`;
+
 const REFUSALS = new Map([
   [1, "the memory that this needs was refused"], [2, "the address isn't in core"],
   [3, "the address is odd"], [4, "the number is past the end of a drive"],
@@ -123,7 +126,7 @@ export function devicesOf(reply) {
 export function functionInWords({ diskFunction, wordCount, sector, drive, busAddress }) {
   const name = sector === null ? "a sector that isn't there" : `sector ${sector}`;
   const [core, place] = [`core ${octal(busAddress)}`, `${name} of drive ${drive}`];
-  const words = `${diskFunction} of ${wordCount} words`;
+  const words = `${diskFunction} of ${counted(wordCount, "word")}`;
   switch (diskFunction) {
     case "write": return `${words} from ${core} to ${place}`;
     case "read": return `${words} from ${place} to ${core}`;

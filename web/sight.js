@@ -2,7 +2,7 @@
 
 import { delayed, link, make, table } from "./page.js";
 import { eventInWords } from "./past.js";
-import { octal, readableText, vectorName } from "./replies.js";
+import { counted, octal, readableText, vectorName } from "./replies.js";
 
 const MOST_OF_A_LANE = 100;
 
@@ -69,7 +69,7 @@ export function boundedRows(rows) {
     return counts.get(lane) <= MOST_OF_A_LANE;
   });
   const left = [...counts].filter(([, count]) => count > MOST_OF_A_LANE)
-    .map(([lane, count]) => `${count - MOST_OF_A_LANE} of ${lane}`);
+    .map(([lane, count]) => `${counted(count - MOST_OF_A_LANE, "row")} of '${lane}'`);
   return { shown, left };
 }
 

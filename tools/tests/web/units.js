@@ -166,7 +166,7 @@ export function test_the_table_says_what_it_leaves_out() {
   const rows = ghost => boundedRows(rowsOf(
     { first: 0, end: 200, events: [], gone: [], picture, ghost, part: null }));
   const { shown, left } = rows(old);
-  equal([shown.length, left], [104, ["50 of interrupt"]]);
+  equal([shown.length, left], [104, ["50 rows of 'interrupt'"]]);
   equal(shown.filter(it => it.lane !== "interrupt").map(it => it.what),
     ["under way: read; goes on past what is in sight", "000005 at the left edge",
       "000006 (a sample)", "060 keyboard"]);
@@ -451,6 +451,8 @@ export function test_a_refusal_is_never_a_value() {
 export function test_what_the_disk_does_in_words() {
   const devices = { diskFunction: "seek", wordCount: 65_536, sector: 12, drive: 1, busAddress: 0 };
   equal(functionInWords(devices), "seek of sector 12 of drive 1");
+  equal(functionInWords({ ...devices, diskFunction: "read check", wordCount: 1 }),
+    "read check of 1 word from sector 12 of drive 1 on");
   const { sector } = devicesOf("devices RKCS 000004 RKWC 177400 RKBA 030000 RKDA 000017");
   equal(sector, null);
 }
