@@ -138,6 +138,7 @@ def export(explorer: Explorer, arguments: Arguments) -> Iterator[str]:
     lines += device_lines(devices)
     write_whole(path, "".join(f"{it}\n" for it in lines))
     names = ", ".join(str(it) for it in (path, *(name for _, name, _ in images)))
-    yield f"written: {names}; run it: pdp11 {path}, then: step, go or examine"
+    how = f"pdp11 {shlex.quote(str(path))}"
+    yield f"written: {names}; run it: {how}, then: step, go or examine"
     yield f"each run attaches a copy: {', '.join(f'{name}.run' for _, name, _ in images)}"
     yield from lost

@@ -114,12 +114,17 @@ def holder_in_words(handle: int) -> str:
     return ""
 
 
+def there_already(path: Path) -> ExploreError:
+    how = f"--resume {shlex.quote(str(path))}"
+    return ExploreError(f"{path} is there already; {how} takes it up")
+
+
 def opened(path: Path, flags: int) -> int:
     """The file, locked. An error if another explore has it."""
     try:
         handle = os.open(path, os.O_RDWR | os.O_APPEND | os.O_CLOEXEC | flags, 0o600)
     except FileExistsError:
-        raise ExploreError(f"{path} is there already; --resume {path} takes it up") from None
+        raise there_already(path) from None
     except OSError as error:
         raise ExploreError(f"{path}: {error.strerror}") from error
     if not is_locked_here(handle):

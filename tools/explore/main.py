@@ -14,7 +14,8 @@ from .disassembly import Disassembler
 from .errors import ExploreError
 from .in_words import counted
 from .interrupts import INTERRUPTS
-from .journal import OF_SESSION, Contents, Journal, in_use, newest, state_folder, told
+from .journal import OF_SESSION, Contents, Journal, in_use, newest, state_folder
+from .journal import there_already, told
 from .language import explanation
 from .load import warnings_of
 from .machine import Machine, Start, existing_program, in_parts, is_refused
@@ -154,7 +155,7 @@ def journal_of(found: argparse.Namespace, options: Options) -> Optional[Journal]
         return Journal(heading, is_own=True)
     path = Path(found.journal)
     if path.exists():
-        raise ExploreError(f"{path} is there already; --resume {path} takes it up")
+        raise there_already(path)
     return Journal(heading, path)
 
 

@@ -185,7 +185,8 @@ def check_session(path: Path) -> None:
     if stat.S_ISDIR(mode):
         raise ExploreError(f"{path} is a folder")
     if not stat.S_ISREG(mode):
-        raise ExploreError(f"{path} is no plain file; ./explore < {path} reads its lines")
+        how = f"./explore < {shlex.quote(str(path))}"
+        raise ExploreError(f"{path} is no plain file; {how} reads its lines")
 
 
 def options_of_session(path: Path) -> Options:

@@ -2,6 +2,7 @@
 import os
 import re
 import readline
+import shlex
 import sys
 from pathlib import Path
 from typing import Iterable, Optional, Sequence
@@ -132,8 +133,9 @@ class Prompt:
         if is_dropped or not count or machine.journal == self.explorer.saved:
             machine.file.remove()
         elif machine.file.place:
-            how = "--resume" if machine.file.is_own else f"--resume {machine.file.place}"
-            self.show([f"the past isn't saved: ./explore {how} takes up {counted(count, 'edit')}"])
+            place = "" if machine.file.is_own else f" {shlex.quote(str(machine.file.place))}"
+            edits = counted(count, "edit")
+            self.show([f"the past isn't saved: ./explore --resume{place} takes up {edits}"])
 
     # Completion
 

@@ -29,10 +29,10 @@ class BadInput(Case):
         self.fails("explore: missing.session: no such file", "missing.session")
 
     def test_sessions_that_are_no_files(self) -> None:
-        os.mkfifo(self.folder / "pipe")
+        os.mkfifo(self.folder / "a pipe")
         self.fails("explore: examples is a folder\n", "examples")
-        said = "explore: pipe is no plain file; ./explore < pipe reads its lines\n"
-        self.fails(said, "pipe")
+        said = "explore: a pipe is no plain file; ./explore < 'a pipe' reads its lines\n"
+        self.fails(said, "a pipe")
 
     def test_no_program(self) -> None:
         self.fails("explore: missing: no such program", "--program", "missing")

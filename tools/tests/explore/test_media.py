@@ -295,6 +295,7 @@ class Words(Media):
         made = {it.name for it in self.folder.iterdir()}
         names = {"a b.ses", "a c", "e f", "e f.rk0", "p q.svg", "s t", "a d", "j k", "j k.session"}
         self.assertLessEqual(names, made)
+        self.assertIn("run it: pdp11 'e f', then", written)
         self.assertIn("parallel < 'j k' > 'j k.out'\nthen: sweep --gather 'j k.out'\n", written)
         self.assertTrue(written.endswith("1 symbol\n"), written)
 
