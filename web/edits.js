@@ -87,6 +87,7 @@ export class Edits {
       const [reply, text] = await run.ask([tried.now, `text ${end}`], Priority.EDIT);
       mustBeTaken(reply);
       this.app.panels.want(run, this.app.timeline.cursor);
+      element("notes").textContent = "The lanes are those before the event's move.";
       if (this.tried === tried) this.app.text.show(text);
     }
   }

@@ -40,8 +40,11 @@ class TheLostDeposit(PageCase):
         self.browser.drag(KEY, 110, is_let_go=False)
         self.balance(SAFE)
         self.assertEqual(self.edits(), [])
+        self.assertIn("lanes are those before", self.browser.text("#notes"))
         self.browser.key("Escape")
         self.balance(LOST)
+        self.wait_still()
+        self.assertNotIn("lanes", self.browser.text("#notes"))
         self.assertEqual(self.edits(), [])
 
     def test_undo_and_redo(self) -> None:
