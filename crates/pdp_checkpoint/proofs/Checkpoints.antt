@@ -8,6 +8,7 @@ use Rattle.std.proofs.lemmas.List.Elements.{All-push, All-filter}
 use Rattle.pdp_cpu.specs.Turns.MachineState.{MachineState}
 use Rattle.pdp_cpu.specs.Saved.{SavedMachineData, saved_machine}
 use Rattle.pdp_checkpoint.specs.declared.checkpoint.Checkpoint.{Checkpoint}
+use Rattle.pdp_checkpoint.specs.Formers.{FormerData}
 use Rattle.pdp_unibus.specs.LastTurn.{last_turn}
 use Rattle.pdp_checkpoint.specs.Ladder.{most_kept, LadderData, checkpoint_of, next_of, best_of, AreCheckpoints, at_multiples, with_last, ladder_doubled, kept_with}
 use Rattle.pdp_checkpoint.proofs.Steps.{AreSteps, AreHalved, from_parts, no_steps, steps_at, steps_push, steps_take, steps_below, steps_halved_from_zero}
@@ -101,9 +102,10 @@ checkpoints_cut l n checkpoints more =
       within = omega (arith, checkpoints.within);
     }
 
--- the states between the checkpoints are no matter of these
-pub checkpoints_beside : (l : LadderData) (near : List Checkpoint) → AreCheckpoints l → AreCheckpoints (record l { near = near })
-checkpoints_beside l near checkpoints = record {
+-- the states between the checkpoints are no matter of these, nor are former runs
+pub checkpoints_beside : (l : LadderData) (near : List Checkpoint) (formers : List FormerData) → AreCheckpoints l
+    → AreCheckpoints (record l { near = near; formers = formers })
+checkpoints_beside l near formers checkpoints = record {
   turns = checkpoints.turns;
   some = checkpoints.some;
   few = checkpoints.few;
@@ -121,9 +123,9 @@ pub record IsTaken (before : LadderData) (c : Checkpoint) (after : LadderData) :
 longer : (l : LadderData) (c : Checkpoint) → length (l.kept ++ c ∷ []) ≡ length l.kept + 1
 longer l c = length-append l.kept (c ∷ []) ∙ omega arith
 
-pub first_checkpoint : (c : Checkpoint) (stride : ℕ) (near : List Checkpoint) → c.turn ≡ 0 → 0 < stride → stride ≤ 2000000000
-    → AreCheckpoints (record { kept = c ∷ []; stride = stride; near = near })
-first_checkpoint c stride near start positive widest = record {
+pub first_checkpoint : (c : Checkpoint) (stride : ℕ) (near : List Checkpoint) (formers : List FormerData) → c.turn ≡ 0 → 0 < stride → stride ≤ 2000000000
+    → AreCheckpoints (record { kept = c ∷ []; stride = stride; near = near; formers = formers })
+first_checkpoint c stride near formers start positive widest = record {
   turns = from_parts stride 0 c [] start (no_steps stride (0 + stride));
   some = omega arith;
   few = omega arith;
@@ -197,9 +199,10 @@ pub record IsPushed (before : LadderData) (m : MachineState) (after : LadderData
   pub kept : after.kept ≡ before.kept ++ record { turn = turn; saved = saved } ∷ []
   pub stride : after.stride ≡ before.stride
   pub near : after.near ≡ before.near
+  pub formers : after.formers ≡ before.formers
 
-abbrev ladder_of : List Checkpoint → ℕ → List Checkpoint → LadderData
-ladder_of kept stride near = record { kept = kept; stride = stride; near = near }
+abbrev ladder_of : List Checkpoint → ℕ → List Checkpoint → List FormerData → LadderData
+ladder_of kept stride near formers = record { kept = kept; stride = stride; near = near; formers = formers }
 
 pushed_is : (l : LadderData) (m : MachineState) (now : LadderData) (turn : ℕ) (saved : SavedMachineData)
     → IsPushed l m now turn saved → now ≡ with_last l (checkpoint_of m)
@@ -207,9 +210,10 @@ pushed_is l m now turn saved pushed =
     let turn_is : turn ≡ m.turn = pushed.turn_is ∙ sym pushed.next in
     let saved_is = pushed.saved_is in
     let kept : now.kept ≡ l.kept ++ checkpoint_of m ∷ [] = pushed.kept ∙ rw (turn_is, saved_is) refl in
-    ap (λ k. ladder_of k now.stride now.near) kept
-    ∙ ap (λ s. ladder_of (l.kept ++ checkpoint_of m ∷ []) s now.near) pushed.stride
-    ∙ ap (λ n. ladder_of (l.kept ++ checkpoint_of m ∷ []) l.stride n) pushed.near
+    ap (λ k. ladder_of k now.stride now.near now.formers) kept
+    ∙ ap (λ s. ladder_of (l.kept ++ checkpoint_of m ∷ []) s now.near now.formers) pushed.stride
+    ∙ ap (λ n. ladder_of (l.kept ++ checkpoint_of m ∷ []) l.stride n now.formers) pushed.near
+    ∙ ap (λ f. ladder_of (l.kept ++ checkpoint_of m ∷ []) l.stride l.near f) pushed.formers
 
 pub pushed_in_room : (l : LadderData) (m : MachineState) (now : LadderData) (turn : ℕ) (saved : SavedMachineData)
     → IsPushed l m now turn saved → length now.kept ≤ most_kept → IsTaken l (checkpoint_of m) now

@@ -3,7 +3,7 @@ use Rattle.std.proofs.Common.{◌≡◌, ◌∙◌, ◌+◌, ◌<◌, ◌≤◌,
 use Rattle.std.proofs.lemmas.List.{take_more}
 use Rattle.std.proofs.lemmas.List.Elements.{All-push}
 use Rattle.pdp_checkpoint.specs.declared.checkpoint.Checkpoint.{Checkpoint}
-use Rattle.pdp_checkpoint.specs.Ladder.{IsClosest}
+use Rattle.pdp_checkpoint.specs.Formers.{IsClosest}
 
 found_still : (states : List Checkpoint) (place : ℕ) (c d : Checkpoint) → slice_get states place ≡ Some c → slice_get (states ++ d ∷ []) place ≡ Some c
 found_still [] place c d is = absurd (cc is)

@@ -28,7 +28,7 @@ first_is_delayed delays [] first some is = absurd (omega arith)
 first_is_delayed delays (c ∷ cs) first some is = ap (λ (d : Checkpoint). checkpoint_with_delays delays d ∷ []) is
 
 delayed_is : (l : LadderData) (delays : Delays) (now : List Checkpoint)
-    → AreCheckpoints l → now ≡ map (checkpoint_with_delays delays) (take 1 l.kept) → IsDelayed delays l (record l { kept = now; near = [] })
+    → AreCheckpoints l → now ≡ map (checkpoint_with_delays delays) (take 1 l.kept) → IsDelayed delays l (record l { kept = now; near = []; formers = [] })
 delayed_is l delays now checkpoints now_is =
     let first : 0 / l.stride + 1 ≡ 1 = ap (λ n. n + 1) (zero-div l.stride) in
     let below : filter (λ c. nat_le c.turn 0) l.kept ≡ take 1 l.kept = below_is_first l 0 checkpoints ∙ ap (λ n. take n l.kept) first in
@@ -36,12 +36,12 @@ delayed_is l delays now checkpoints now_is =
     record {
       is = rw (now_is, below) refl;
       count = rw now_is (length-map (take 1 l.kept) (checkpoint_with_delays delays) ∙ one_is_left l.kept checkpoints.some);
-      checkpoints = rw now_is (checkpoints_beside (record l { kept = map (checkpoint_with_delays delays) (take 1 l.kept) }) []
+      checkpoints = rw now_is (checkpoints_beside (record l { kept = map (checkpoint_with_delays delays) (take 1 l.kept) }) [] []
           (checkpoints_changed (record l { kept = take 1 l.kept }) (checkpoint_with_delays delays) (λ c. refl) cut));
     }
 
 pub is_delayed : (l : LadderData) (delays : Delays) (left : List Checkpoint) (first : Checkpoint) (saved : SavedMachineData)
     → AreCheckpoints l → left ≡ take 1 l.kept → first ≡ get_or left 0 first → saved ≡ saved_machine_with_delays delays first.saved
-    → IsDelayed delays l (record l { kept = slice_set left 0 (record { turn = first.turn; saved = saved }); near = [] })
+    → IsDelayed delays l (record l { kept = slice_set left 0 (record { turn = first.turn; saved = saved }); near = []; formers = [] })
 is_delayed l delays left first saved checkpoints left_is first_is saved_is =
     delayed_is l delays _ checkpoints (rw (saved_is, left_is) (first_is_delayed delays l.kept first checkpoints.some (rw (← left_is) first_is)))

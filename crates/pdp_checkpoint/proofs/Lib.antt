@@ -1,6 +1,7 @@
 pub mod Steps
 pub mod Checkpoints
 pub mod Closest
+pub mod FormerStates
 pub mod Changed
 pub mod PatchedCheckpoints
 pub mod DelayedCheckpoints

@@ -10,10 +10,11 @@ use Rattle.pdp_checkpoint.specs.Ladder.{LadderData}
 abbrev pub checkpoint_with_delays : Delays → Checkpoint → Checkpoint
 checkpoint_with_delays delays c = record c { saved = saved_machine_with_delays delays c.saved }
 
--- the states of turn 0 alone, each with these delays, and none between
+-- the states of turn 0 alone, each with these delays, and none between; and no former run
 abbrev pub ladder_with_delays : Delays → LadderData → LadderData
 ladder_with_delays delays l = record l {
   kept = map (checkpoint_with_delays delays) (filter
       (λ c. nat_le c.turn 0) l.kept);
   near = [];
+  formers = [];
 }

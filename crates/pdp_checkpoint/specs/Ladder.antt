@@ -1,11 +1,12 @@
 -- The checkpoints of a machine, at the multiples of a stride of turns [P].
 use Rattle.std.specs.Prelude.{ℕ, zero, suc, ◌≡◌, ◌+◌, ◌*◌, ◌/◌, ◌%◌, ◌-◌, ◌<◌, ◌≤◌, ◌==◌, min}
-use Rattle.std.specs.Prelude.{nat_lt, if◌then◌else◌, List, [], ◌∷◌, ◌++◌, Some, drop, length, map, slice_get}
-use Rattle.std.specs.List.{All, filter}
+use Rattle.std.specs.Prelude.{nat_lt, if◌then◌else◌, List, [], ◌∷◌, ◌++◌, drop, length, map}
+use Rattle.std.specs.List.{filter}
 use Rattle.pdp_unibus.specs.LastTurn.{last_turn}
 use Rattle.pdp_cpu.specs.Turns.MachineState.{MachineState}
 use Rattle.pdp_cpu.specs.Saved.{saved_machine}
 use Rattle.pdp_checkpoint.specs.declared.checkpoint.Checkpoint.{Checkpoint}
+use Rattle.pdp_checkpoint.specs.Formers.{FormerData}
 
 abbrev pub widest_stride : ℕ
 widest_stride = 2000000000
@@ -15,14 +16,15 @@ most_kept = 256
 
 -- how many states are kept at most between the checkpoints
 abbrev pub most_near : ℕ
-most_near = 96
+most_near = 256
 
--- the checkpoints, the earliest first, and how many turns lie between two of them; and states near
--- the turns that were asked about last, in the order in which they were kept
+-- the checkpoints, the earliest first, and how many turns lie between two of them; states near the
+-- turns that were asked about last, in the order in which they were kept; and former runs
 pub record LadderData : Type 0 where
   pub kept : List Checkpoint
   pub stride : ℕ
   pub near : List Checkpoint
+  pub formers : List FormerData
 
 -- the state of a machine, with its turn
 abbrev pub checkpoint_of : MachineState → Checkpoint
@@ -63,18 +65,11 @@ with_last l c = record l { kept = l.kept ++ c ∷ [] }
 abbrev pub ladder_doubled : LadderData → LadderData
 ladder_doubled l = record l { kept = at_multiples (l.stride * 2) l.kept; stride = l.stride * 2 }
 
--- the states near a turn, with one more; if that makes more than 96, the one that was kept first
+-- the states near a turn, with one more; if that makes more than 256, the one that was kept first
 -- goes
 abbrev pub near_with : List Checkpoint → Checkpoint → List Checkpoint
 near_with near c = (if nat_lt most_near (length near + 1) then drop 1 (near ++ c ∷ []) else near
     ++ c ∷ [])
-
--- of these states, one of a turn that is not above this one, and no other is closer to it
-pub record IsClosest (states : List Checkpoint) (turn : ℕ) (c : Checkpoint) : Type 0 where
-  pub place : ℕ
-  pub state : slice_get states place ≡ Some c
-  pub below : c.turn ≤ turn
-  pub greatest : All (λ d. d.turn ≤ turn → d.turn ≤ c.turn) states
 
 -- with one more state; if that makes more than 256, at twice the stride
 unfoldable pub kept_with : LadderData → Checkpoint → LadderData

@@ -1,3 +1,4 @@
+pub mod Formers
 pub mod Ladder
 pub mod Delayed
 pub mod Patched

@@ -8,18 +8,20 @@ use Rattle.pdp_unibus.specs.declared.save.saved_bus.patched_page.NewPages.{NewPa
 use Rattle.pdp_unibus.specs.declared.save.saved_bus.patched_page.PatchedPage.{PatchedPage}
 use Rattle.pdp_cpu.specs.Saved.{saved_machine_with_word}
 use Rattle.pdp_checkpoint.specs.declared.checkpoint.Checkpoint.{Checkpoint}
+use Rattle.pdp_checkpoint.specs.Formers.{FormerData}
 use Rattle.pdp_checkpoint.specs.Ladder.{LadderData}
 
 -- a state with this value in a word
 abbrev pub checkpoint_with_word : WordAt → ℕ → Checkpoint → Checkpoint
 checkpoint_with_word at value c = record c { saved = saved_machine_with_word at value c.saved }
 
--- the checkpoints of turns that are not above this one, each with this value in the word, and no
--- state between them
-abbrev pub patched_to : ℕ → WordAt → ℕ → LadderData → LadderData
-patched_to turn at value l = record l {
+-- the checkpoints of turns that are not above this one, each with this value in the word, no state
+-- between them, and these former runs
+abbrev pub patched_to : ℕ → WordAt → ℕ → List FormerData → LadderData → LadderData
+patched_to turn at value formers l = record l {
   kept = map (checkpoint_with_word at value) (filter (λ c. nat_le c.turn turn) l.kept);
   near = [];
+  formers = formers;
 }
 
 -- these states have the page of this word alike: there each has the words of one saved bus, and in

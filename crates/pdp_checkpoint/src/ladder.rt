@@ -1,15 +1,19 @@
-ghost use Rattle.std.specs.Prelude.{◌≡◌, ◌+◌, ◌*◌, ◌/◌, ◌<◌, ◌≤◌, ◌++◌, min, nat_le, Some, [], ◌∷◌};
-ghost use Rattle.std.specs.Prelude.{length, slice_get, IfOk, OnOk, OnErr};
+ghost use Rattle.std.specs.Prelude.{◌≡◌, ◌+◌, ◌-◌, ◌*◌, ◌/◌, ◌<◌, ◌≤◌, ◌++◌, min, nat_le, Some, [], ◌∷◌};
+ghost use Rattle.std.specs.Prelude.{length, map, slice_get, IfOk, OnOk, OnErr};
 ghost use Rattle.std.specs.List.{All, filter};
+ghost use Rattle.std.specs.Option.{option_map};
 ghost use Rattle.pdp_store.specs.Parts.{part_of, word_at};
 ghost use Rattle.pdp_unibus.specs.LastTurn.{last_turn};
 ghost use Rattle.pdp_checkpoint.specs.Delayed.{ladder_with_delays};
 ghost use Rattle.pdp_checkpoint.specs.Patched.{HavePageAlike, patched_to};
 ghost use Rattle.pdp_cpu.specs.Saved.{HasWord};
 ghost use Rattle.pdp_checkpoint.specs.Ladder.{widest_stride, checkpoint_of, next_of, best_of};
-ghost use Rattle.pdp_checkpoint.specs.Ladder.{kept_with, near_with, AreCheckpoints, IsClosest};
+ghost use Rattle.pdp_checkpoint.specs.Ladder.{kept_with, near_with, AreCheckpoints};
+ghost use Rattle.pdp_checkpoint.specs.Formers.{former_edited, IsClosest, IsFormerAfter};
 
+use crate::aside::{add_former, edit_each, split_kept, split_near};
 use crate::checkpoint::Checkpoint;
+use crate::former::Former;
 use crate::patched::ReadyPatch;
 use crate::thin::{cut_near, thin};
 use pdp_cpu::PagedMachine;
@@ -18,6 +22,7 @@ use pdp_unibus::Delays;
 use pdp_word::NoMemory;
 use std::alloc::Global;
 use std::marker::Model;
+use std::mem;
 
 /// How many states a ladder keeps at most [P].
 pub const MOST_KEPT: usize = 256;
@@ -26,16 +31,21 @@ pub const MOST_KEPT: usize = 256;
 pub const WIDEST_STRIDE: u32 = 2_000_000_000;
 
 /// How many states a ladder keeps at most between its checkpoints [P].
-pub const MOST_NEAR: usize = 96;
+pub const MOST_NEAR: usize = 256;
 
 /// Checkpoints of a machine, at most 256, at the multiples of a stride from turn 0 on, and beside
-/// them at most 96 states near the turns that were asked about last [P]. A contract sees the list
-/// of the checkpoints, the earliest first, the stride, and the list of the other states.
+/// them at most 256 states near the turns that were asked about last, and at most two former runs
+/// [P]. A contract sees the list of the checkpoints, the earliest first, the stride, the list of the
+/// other states, and that of the former runs.
 #[derive(Drop)]
 pub struct Ladder {
     kept: Vec<Checkpoint>,
     stride: u32,
     near: Vec<Checkpoint>,
+
+    // The one that was known up to the greatest turn, if that is more than was known of the other,
+    // and the one that was set aside last.
+    formers: Vec<Former>,
 }
 
 impl Model for Ladder {
@@ -49,12 +59,14 @@ impl Model for Ladder {
       kept = l.kept.items;
       stride = l.stride;
       near = l.near.items;
+      formers = l.formers.items;
     } };
 
     ghost invariant = { λ l. AreCheckpoints (record {
       kept = l.kept.items;
       stride = l.stride;
       near = l.near.items;
+      formers = l.formers.items;
     }) };
 }
 
@@ -73,13 +85,18 @@ impl Ladder {
         ensures kept { IfOk result (λ ladder. ladder.kept ≡ checkpoint_of machine.old.state ∷ []) }
         ensures stride { IfOk result (λ ladder. ladder.stride ≡ stride) }
         ensures near { IfOk result (λ ladder. ladder.near ≡ []) }
+        ensures formers { IfOk result (λ ladder. ladder.formers ≡ []) }
         ensures checkpoints { IfOk result AreCheckpoints }
     {
         let saved = machine.save(alloc)?;
         let mut kept = Vec::new(alloc);
         kept.push(Checkpoint { turn: 0, saved })?;
-        let near = Vec::new(alloc);
-        Ok(Ladder { kept, stride, near })
+        Ok(Ladder {
+            kept,
+            stride,
+            near: Vec::new(alloc),
+            formers: Vec::new(alloc),
+        })
     }
 
     /// How many turns lie between two checkpoints. It takes no memory.
@@ -159,7 +176,7 @@ impl Ladder {
         Ok(())
     }
 
-    /// Keeps the state of this machine beside the checkpoints. If that is the 97th of these states,
+    /// Keeps the state of this machine beside the checkpoints. If that is the 257th of these states,
     /// the one that was kept first goes. The machine is left as it is.
     ///
     /// # Errors
@@ -192,6 +209,7 @@ impl Ladder {
     pub fn cut(&mut self, turn: u32)
         ensures kept { self.new.kept ≡ filter (λ c. nat_le c.turn turn) self.old.kept }
         ensures near { self.new.near ≡ filter (λ c. nat_le c.turn turn) self.old.near }
+        ensures formers { self.new.formers ≡ self.old.formers }
         ensures stride { self.new.stride ≡ self.old.stride }
         ensures count { length self.new.kept
             ≡ min (length self.old.kept) (turn / self.old.stride + 1) }
@@ -201,23 +219,105 @@ impl Ladder {
         cut_near(&mut self.near, turn);
     }
 
+    /// Drops the states of turns above `turn`. If there is a former run, they become its states, and
+    /// it becomes one of the former runs, unless memory is refused for that.
+    pub fn set_aside(&mut self, alloc: Global, turn: u32, former: Option<Former>)
+        ensures kept { self.new.kept ≡ filter (λ c. nat_le c.turn turn) self.old.kept }
+        ensures near { self.new.near ≡ filter (λ c. nat_le c.turn turn) self.old.near }
+        ensures formers { All (IsFormerAfter turn (self.old.kept ++ self.old.near)
+            self.old.formers former) self.new.formers }
+        ensures stride { self.new.stride ≡ self.old.stride }
+        ensures count { length self.new.kept
+            ≡ min (length self.old.kept) (turn / self.old.stride + 1) }
+        ensures checkpoints { AreCheckpoints self.new }
+    {
+        match former {
+            Some(former) => self.add_former(alloc, turn, former),
+            None => self.cut(turn),
+        }
+    }
+
+    // Makes the states of turns above `turn` those of this former run, which becomes one of them.
+    fn add_former(&mut self, alloc: Global, turn: u32, former: Former)
+        ensures kept { self.new.kept ≡ filter (λ c. nat_le c.turn turn) self.old.kept }
+        ensures near { self.new.near ≡ filter (λ c. nat_le c.turn turn) self.old.near }
+        ensures formers { All (IsFormerAfter turn (self.old.kept ++ self.old.near)
+            self.old.formers (Some former)) self.new.formers }
+        ensures stride { self.new.stride ≡ self.old.stride }
+        ensures count { length self.new.kept
+            ≡ min (length self.old.kept) (turn / self.old.stride + 1) }
+        ensures checkpoints { AreCheckpoints self.new }
+    {
+        let count = (turn / self.stride) as usize + 1;
+        let kept = split_kept(alloc, &mut self.kept, count);
+        let near = split_near(alloc, &mut self.near, turn);
+        add_former(&mut self.formers, former.with_states(kept, near));
+    }
+
+    /// An edit of the past may have changed the events of turns up to `turn`. It takes no memory.
+    pub fn edit_formers(&mut self, turn: u32)
+        ensures { self.new ≡ record self.old {
+          formers = map (former_edited turn) self.old.formers;
+        } }
+    {
+        edit_each(&mut self.formers, turn);
+    }
+
+    /// The greatest turn whose events an edit may have changed since the last run was set aside.
+    /// None if there is no former run.
+    pub fn edited(&self) -> Option<u32>
+        ensures { result ≡ option_map (λ f. f.edited)
+            (slice_get self.now.formers (length self.now.formers - 1)) }
+    {
+        Some(self.formers.last()?.edited())
+    }
+
+    /// The least turn from `from` on, at most `to`, at which a run may meet a former run; otherwise
+    /// `to`. A run pauses there: no answer depends on it.
+    pub fn first_meeting(&self, from: u32, to: u32) -> u32
+        ensures least { min from to ≤ result }
+        ensures most { result ≤ to }
+    {
+        let mut first = to;
+        for former in &self.formers {
+            first = earlier_meeting(former, from, first);
+        }
+        first
+    }
+
+    /// The former runs, which are then gone. It takes no memory.
+    pub fn take_formers(&mut self, alloc: Global) -> Vec<Former>
+        ensures formers { result.items ≡ self.old.formers }
+        ensures after { self.new ≡ record self.old { formers = [] } }
+    {
+        mem::replace(&mut self.formers, Vec::new(alloc))
+    }
+
+    /// Makes these the former runs. It takes no memory.
+    pub fn put_formers(&mut self, formers: Vec<Former>)
+        ensures { self.new ≡ record self.old { formers = formers.items } }
+    {
+        self.formers = formers;
+    }
+
     /// Makes these the delays (turns) of the devices in the checkpoint of turn 0, and drops the
-    /// other states. It takes no memory. [P]
+    /// other states and the former runs. It takes no memory. [P]
     pub fn set_delays(&mut self, delays: Delays)
         ensures kept { self.new ≡ ladder_with_delays delays self.old }
         ensures count { length self.new.kept ≡ 1 }
         ensures checkpoints { AreCheckpoints self.new }
     {
         self.near.clear();
+        self.formers.clear();
         self.kept.truncate(1);
         self.kept[0].saved.set_delays(delays);
     }
 
-    /// Gives a word of core, or of this drive, this value in the checkpoints up to `turn`, and
-    /// drops those of turns above it and the states between. The checkpoints up to `turn` have the
-    /// page of the word alike: they share the one page that is made. All that is needed for the new
-    /// states is there before the first is changed. The machine numbers the new page, and is left as
-    /// it is. [P]
+    /// Gives a word of core, or of this drive, this value in the checkpoints up to `turn`. Those of
+    /// turns above it are set aside (`set_aside`), and the states between are dropped. The
+    /// checkpoints up to `turn` have the page of the word alike: they share the one page that is
+    /// made. All that is needed for the new states is there before the first is changed. The machine
+    /// numbers the new page, and is left as it is. [P]
     ///
     /// # Errors
     ///
@@ -230,13 +330,16 @@ impl Ladder {
         drive: Option<u8>,
         word: usize,
         value: u16,
+        former: Option<Former>,
     ) -> Result<(), NoMemory>
         requires there { All (λ c. HasWord (word_at (part_of drive) word) c.saved) self.old.kept }
         requires alike { HavePageAlike (word_at (part_of drive) word)
             (filter (λ c. nat_le c.turn turn) self.old.kept) }
         ensures machine { machine.new ≡ machine.old }
         ensures kept { OnOk result (self.new
-            ≡ patched_to turn (word_at (part_of drive) word) value self.old) }
+            ≡ patched_to turn (word_at (part_of drive) word) value self.new.formers self.old) }
+        ensures formers { OnOk result (All (IsFormerAfter turn (self.old.kept ++ self.old.near)
+            self.old.formers former) self.new.formers) }
         ensures count { OnOk result
             (length self.new.kept ≡ min (length self.old.kept) (turn / self.old.stride + 1)) }
         ensures refused { OnErr result (self.new ≡ self.old) }
@@ -248,9 +351,20 @@ impl Ladder {
             number: word,
         };
         let patch = ReadyPatch::new(alloc, machine, &self.kept[..count], at, value)?;
+        self.set_aside(alloc, turn, former);
         self.near.clear();
-        self.kept.truncate(count);
         patch.put(&mut self.kept);
         Ok(())
+    }
+}
+
+// The turn at which a run may meet this former run, if that is before turn `to`; otherwise `to`.
+fn earlier_meeting(former: &Former, from: u32, to: u32) -> u32
+    ensures least { min from to ≤ result }
+    ensures most { result ≤ to }
+{
+    match former.meeting(from) {
+        Some(turn) => turn.min(to),
+        None => to,
     }
 }

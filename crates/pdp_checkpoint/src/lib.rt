@@ -7,9 +7,11 @@
 //!   the stride, and those at odd multiples of the old one go (`Ladder::new`, `take`, `stride`,
 //!   `next`).
 //! - The best checkpoint for a turn is the last at or before it (`best`).
-//! - At most 96 further states are kept, of turns near those asked about last (`take_near`,
+//! - At most 256 further states are kept, of turns near those asked about last (`take_near`,
 //!   `drop_near`). The closest state to a turn, of all, is the last at or before it (`closest`).
-//! - A cut drops those above a turn, and no other (`cut`).
+//! - A cut drops those above a turn, and no other (`cut`). They can be set aside as a former run,
+//!   whose states are then some of those that were dropped (`set_aside`). A former run says which
+//!   of its states is the last by a turn, and which the first from a turn on (`Former`).
 //! - Other delays are put into the state of turn 0, and the others go (`set_delays`).
 //! - A patch changes a word in each checkpoint up to a turn and drops the other states, or is
 //!   refused and changes nothing. It asks that these checkpoints have the page of the word alike
@@ -19,10 +21,13 @@
 //! pdp_replay.
 #![tactic(auto)]
 
+mod aside;
 mod checkpoint;
+mod former;
 mod ladder;
 mod patched;
 mod thin;
 
 pub use checkpoint::Checkpoint;
+pub use former::Former;
 pub use ladder::{Ladder, MOST_KEPT, MOST_NEAR, WIDEST_STRIDE};

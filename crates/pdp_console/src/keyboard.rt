@@ -1,4 +1,4 @@
-ghost use Rattle.std.specs.Prelude.{◌≡◌};
+ghost use Rattle.std.specs.Prelude.{◌≡◌, ◌↔◌, true};
 
 use pdp_device::ReadyEnable;
 
@@ -16,6 +16,13 @@ pub struct Keyboard {
 impl Keyboard {
     ghost use Rattle.pdp_console.specs.Keyboard.{key_struck, key_taken, keyboard_reset};
     ghost use Rattle.pdp_console.specs.Keyboard.{init_keyboard};
+
+    /// Whether both are the same in all.
+    pub fn is_same(&self, other: &Keyboard) -> bool
+        ensures { (result ≡ true) ↔ (self.now ≡ other.now) }
+    {
+        self.key == other.key && self.ready_enable.is_same(&other.ready_enable)
+    }
 
     /// A keyboard at power-up: not done, not enabled, with key 0 [P].
     pub fn init() -> Keyboard

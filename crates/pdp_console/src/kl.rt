@@ -1,4 +1,4 @@
-ghost use Rattle.std.specs.Prelude.{◌≡◌};
+ghost use Rattle.std.specs.Prelude.{◌≡◌, ◌↔◌, true};
 
 use super::Keyboard;
 use pdp_device::{Transmitter, TransmitterRegister};
@@ -50,6 +50,13 @@ impl Kl {
     ghost use Rattle.pdp_console.specs.Kl.{keyboard_served, kl_completed, kl_printed, kl_read};
     ghost use Rattle.pdp_console.specs.Kl.{kl_reset, kl_value};
     ghost use Rattle.pdp_console.specs.Kl.{kl_written, printer_served, init_kl, kl_struck};
+
+    /// Whether both are the same in all.
+    pub fn is_same(&self, other: &Kl) -> bool
+        ensures { (result ≡ true) ↔ (self.now ≡ other.now) }
+    {
+        self.keyboard.is_same(&other.keyboard) && self.printer.is_same(&other.printer)
+    }
 
     /// A console terminal at power-up: as after RESET, with both buffers 0 [P].
     pub fn init() -> Kl

@@ -1,4 +1,4 @@
-ghost use Rattle.std.specs.Prelude.{◌≡◌};
+ghost use Rattle.std.specs.Prelude.{◌≡◌, ◌↔◌, true};
 
 use crate::bits::{LKS_ENABLE, LKS_MONITOR};
 use pdp_word::{bit_of, is_set};
@@ -6,7 +6,7 @@ use pdp_word::{bit_of, is_set};
 /// The line clock, with its one register LKS.
 ///
 /// PDP-11 Peripherals Handbook, KW11-L.
-#[derive(Clone, Copy)]
+#[derive(Clone, Copy, PartialEq, Eq)]
 pub struct Kw {
     /// Bit 7: the clock has ticked, or was initialised, since this was last cleared.
     pub monitor: bool,
@@ -19,6 +19,13 @@ pub struct Kw {
 
 impl Kw {
     ghost use Rattle.pdp_console.specs.Kw.{kw_served, kw_value, kw_written, init_kw, kw_ticked};
+
+    /// Whether both are the same in all.
+    pub fn is_same(&self, other: &Kw) -> bool
+        ensures { (result ≡ true) ↔ (self.now ≡ other.now) }
+    {
+        self == other
+    }
 
     /// A clock at power-up and after RESET: monitor is set, enable is clear, and there is no
     /// request.

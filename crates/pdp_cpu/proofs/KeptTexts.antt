@@ -2,7 +2,7 @@
 use Rattle.std.proofs.Common.{◌≡◌, ℕ, zero, suc, ◌+◌, ◌<◌, ◌≤◌, ◌-◌, List, [], ◌∷◌, ◌++◌, Bool, true, false, length, take, drop, get_or, nat_le, refl, sym, ◌∙◌, ap, slice_set, add-one, arith, min}
 use Rattle.std.proofs.Math.Seq.{take-suc}
 use Rattle.std.proofs.lemmas.Bool.{leb-false, leb-true}
-use Rattle.std.proofs.lemmas.List.{length-take-le, take-map, take-take, take_all}
+use Rattle.std.proofs.lemmas.List.{length-map, length-take, length-take-le, take-map, take-take, take_all}
 use Rattle.pdp_cpu.specs.declared.kept_text.KeptByte.{KeptByte}
 use Rattle.pdp_cpu.specs.KeptTexts.{kept_before, kept_first, kept_over, without_turns}
 
@@ -55,6 +55,10 @@ pub early_stays : (bytes : List KeptByte) (count turn : ℕ) (d : KeptByte) → 
 early_stays bytes count turn d some within is =
     let last = last_of bytes count (count - 1) d (omega (arith, some)) within in
     last ∙ sym (ap (kept_before turn) last ∙ early turn (get_or bytes (count - 1) d) (take (count - 1) bytes) is)
+
+-- the text that is shown is of the bytes that are kept
+pub text_within : (bytes : List KeptByte) (n : ℕ) → length (without_turns (take n bytes)) ≤ length bytes
+text_within bytes n = rw length-map (omega (arith, length-take n bytes))
 
 -- the text that is shown
 pub count_is : (bytes : List KeptByte) (n : ℕ) → n ≤ length bytes → n ≡ length (without_turns (take n bytes))

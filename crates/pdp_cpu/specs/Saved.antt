@@ -1,5 +1,5 @@
 -- What is saved of a machine [P].
-use Rattle.std.specs.Prelude.{ℕ, ◌≤◌, List, length, take}
+use Rattle.std.specs.Prelude.{ℕ, ◌≡◌, ◌≤◌, ◌+◌, ◌-◌, List, length, take}
 use Rattle.pdp_store.specs.declared.part.WordAt.{WordAt}
 use Rattle.pdp_operand.specs.Phases.World.{World, world}
 use Rattle.pdp_operand.specs.declared.processor.Processor.{Processor}
@@ -7,6 +7,8 @@ use Rattle.pdp_unibus.specs.SavedBusData.{SavedBusData, HasSizesOf, saved_bus, b
 use Rattle.pdp_unibus.specs.SavedBusData.{saved_bus_with_delays as bus_with_delays}
 use Rattle.pdp_unibus.specs.SavedBusData.{SavedBusHasWord as BusHasWord}
 use Rattle.pdp_unibus.specs.SavedBusData.{saved_bus_with_word as bus_with_word}
+use Rattle.pdp_unibus.specs.SavedBusData.{saved_bus_with_stamps as bus_with_stamps}
+use Rattle.pdp_unibus.specs.SavedBusData.{saved_bus_over as bus_over}
 use Rattle.pdp_unibus.specs.declared.delays.Delays.{Delays}
 use Rattle.pdp_cpu.specs.KeptTexts.{without_turns}
 use Rattle.pdp_cpu.specs.Turns.MachineState.{MachineState, MachineWithTexts}
@@ -48,6 +50,25 @@ pub record CanHold (m : MachineWithTexts) (c : SavedMachineData) : Type 0 where
   pub sizes : HasSizesOf c.bus m.state.world.bus
   pub text : c.text_length ≤ length m.kept_text
   pub punched : c.punched_length ≤ length m.kept_punched
+
+-- two saved machines are of the same turn and equal, except for the last stamps of core, of which
+-- there are as many, and for how many bytes were printed and punched
+pub record SavedMeet (here there : SavedMachineData) : Type 0 where
+  pub turn : here.turn ≡ there.turn
+  pub processor : here.processor ≡ there.processor
+  pub bus : here.bus ≡ bus_with_stamps here.bus.stamps there.bus
+  pub size : length here.bus.stamps ≡ length there.bus.stamps
+
+-- a later saved machine `s` of the run of `there`, as one of the run of `here`, where both meet in
+-- turn c: its stamps of turn c and of later turns over those of `here`, and as many bytes more than
+-- `here` as `s` has more than `there`
+abbrev pub saved_over : ℕ → SavedMachineData → SavedMachineData → SavedMachineData
+    → SavedMachineData
+saved_over c here there s = record s {
+  bus = bus_over c here.bus.stamps s.bus;
+  text_length = here.text_length + (s.text_length - there.text_length);
+  punched_length = here.punched_length + (s.punched_length - there.punched_length);
+}
 
 -- the saved machine with other delays
 abbrev pub saved_machine_with_delays : Delays → SavedMachineData → SavedMachineData

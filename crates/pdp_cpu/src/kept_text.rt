@@ -1,7 +1,7 @@
 //! Bytes that came out of the machine, kept with their turns while earlier states are looked at.
 
 ghost use Rattle.std.specs.Prelude.{◌≡◌, ◌+◌, ◌-◌, ◌≤◌, ◌<◌, ◌++◌, ◌∷◌, [], drop, length, take};
-ghost use Rattle.std.specs.Prelude.{min, nat_lt, option_to_list, true, false, OnOk};
+ghost use Rattle.std.specs.Prelude.{min, nat_lt, option_to_list, true, false, OnErr, OnOk};
 ghost use Rattle.std.specs.Vec.{vec_capacity, vec_len};
 ghost use Rattle.pdp_cpu.specs.KeptTexts.{kept_before, kept_over, put_over, without_turns};
 
@@ -116,6 +116,58 @@ impl KeptText {
         ensures room { self.new.room ≡ self.old.room }
     {
         self.shown = count;
+    }
+
+    /// The machine is now one out of which `more` further bytes of those that are kept came.
+    pub fn show_more(&mut self, more: usize)
+        requires { length self.old.text + more ≤ length self.old.bytes }
+        ensures bytes { self.new.bytes ≡ self.old.bytes }
+        ensures text { self.new.text
+            ≡ without_turns (take (length self.old.text + more) self.old.bytes) }
+    {
+        // This read gives the prover the range of the sum.
+        let _kept = self.bytes.len();
+        let count = self.count();
+        self.show(count + more);
+    }
+
+    /// All bytes that are kept.
+    #[tactic(auto, using(crate::proofs::KeptTexts::text_within))]
+    pub fn all(&self) -> &[KeptByte]
+        ensures all { result.now ≡ self.now.bytes }
+        ensures text { length self.now.text ≤ length result.now }
+    {
+        &self.bytes
+    }
+
+    /// How many of the bytes are left if those at the end that came out in this turn or later are
+    /// dropped.
+    pub fn count_before(&self, turn: u32) -> usize
+        ensures count { result ≡ length (kept_before turn self.now.bytes) }
+        ensures within { result ≤ length self.now.bytes }
+    {
+        kept_length(&self.bytes, turn)
+    }
+
+    /// Keeps these bytes too, after all others. They came out of a later machine.
+    ///
+    /// Err(NoMemory) if memory was refused. The bytes stay as they are then.
+    pub fn add(&mut self, more: &[KeptByte]) -> Result<(), NoMemory>
+        ensures bytes { OnOk result (self.new.bytes ≡ self.old.bytes ++ more.now) }
+        ensures text { self.new.text ≡ self.old.text }
+        ensures refused { OnErr result (self.new.bytes ≡ self.old.bytes) }
+    {
+        self.bytes.extend_from_slice(more)?;
+        Ok(())
+    }
+
+    /// Drops the bytes after the first `count`, none of which came out of the machine as it is now.
+    pub fn keep_first(&mut self, count: usize)
+        requires { length self.old.text ≤ count }
+        ensures bytes { self.new.bytes ≡ take count self.old.bytes }
+        ensures text { self.new.text ≡ self.old.text }
+    {
+        self.bytes.truncate(count);
     }
 
     /// Drops the bytes at the end that came out in this turn or later.

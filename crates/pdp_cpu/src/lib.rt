@@ -60,4 +60,4 @@ pub use pdp_operand::RunState;
 pub use pdp_quick::WordTable;
 pub use pdp_unibus::{DeviceRegisters, LAST_TURN, PageRegisters};
 pub use regs::Regs;
-pub use saved::{PagedMachine, Saved};
+pub use saved::{PagedMachine, Saved, SavedOutput};

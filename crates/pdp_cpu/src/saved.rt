@@ -14,7 +14,10 @@ use pdp_word::NoMemory;
 use std::alloc::Global;
 use std::marker::Model;
 
+mod overlay;
 mod patched_page;
+
+pub use overlay::SavedOutput;
 
 /// The machine whose core and drives can be taken as shared pages.
 pub type PagedMachine = Machine<Paged, PagedDrive>;

@@ -1,7 +1,7 @@
-ghost use Rattle.std.specs.Prelude.{◌≡◌};
+ghost use Rattle.std.specs.Prelude.{◌≡◌, ◌↔◌, true};
 
 /// What a device is doing: nothing, or something that takes until a turn or an event [P].
-#[derive(Clone, Copy, Default)]
+#[derive(Clone, Copy, PartialEq, Eq, Default)]
 pub enum Operation {
     /// Nothing is under way.
     #[default]
@@ -14,6 +14,13 @@ pub enum Operation {
 
 impl Operation {
     ghost use Rattle.pdp_device.specs.Operation.{begun_operation, due_after, is_due, is_under_way};
+
+    /// Whether both are the same in all.
+    pub fn is_same(&self, other: &Operation) -> bool
+        ensures { (result ≡ true) ↔ (self.now ≡ other.now) }
+    {
+        self == other
+    }
 
     /// An operation begun in turn `turn` that is complete `delay` turns later; with delay 0 only
     /// its event completes it [P].

@@ -1,4 +1,4 @@
-ghost use Rattle.std.specs.Prelude.{◌≡◌};
+ghost use Rattle.std.specs.Prelude.{◌≡◌, ◌↔◌, true};
 
 use crate::bits::{STATUS_ENABLE, STATUS_READY};
 use crate::request::request_after;
@@ -7,7 +7,7 @@ use pdp_word::{bit_of, is_set};
 /// Ready, enable and the request of a device that interrupts if ready and enable are both set.
 ///
 /// PDP-11 Peripherals Handbook, KL11, PC11 and RK11.
-#[derive(Clone, Copy, Default)]
+#[derive(Clone, Copy, PartialEq, Eq, Default)]
 pub struct ReadyEnable {
     /// Bit 7 of the status: the device is ready, or done.
     pub ready: bool,
@@ -22,6 +22,13 @@ impl ReadyEnable {
     ghost use Rattle.pdp_device.specs.ReadyEnable.{ready_enable_served, ready_enable_status};
     ghost use Rattle.pdp_device.specs.ReadyEnable.{ready_enable_with, enable_written};
     ghost use Rattle.pdp_device.specs.ReadyEnable.{wants_interrupt, init_ready_enable, with_ready};
+
+    /// Whether both are the same in all.
+    pub fn is_same(&self, other: &ReadyEnable) -> bool
+        ensures { (result ≡ true) ↔ (self.now ≡ other.now) }
+    {
+        self == other
+    }
 
     /// A ready/enable pair as RESET leaves it: ready or not, not enabled, with no request.
     pub fn init(ready: bool) -> ReadyEnable

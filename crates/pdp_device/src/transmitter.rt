@@ -1,4 +1,4 @@
-ghost use Rattle.std.specs.Prelude.{◌≡◌};
+ghost use Rattle.std.specs.Prelude.{◌≡◌, ◌↔◌, true};
 ghost use Rattle.pdp_word.specs.Word.{low_byte};
 
 use super::{Operation, ReadyEnable};
@@ -34,6 +34,16 @@ impl Transmitter {
     ghost use Rattle.pdp_device.specs.Transmitter.{transmitter_reset, transmitter_served};
     ghost use Rattle.pdp_device.specs.Transmitter.{transmitter_value, transmitter_written};
     ghost use Rattle.pdp_device.specs.Transmitter.{init_transmitter};
+
+    /// Whether both are the same in all.
+    pub fn is_same(&self, other: &Transmitter) -> bool
+        ensures { (result ≡ true) ↔ (self.now ≡ other.now) }
+    {
+        if self.byte != other.byte || !self.ready_enable.is_same(&other.ready_enable) {
+            return false;
+        }
+        self.operation.is_same(&other.operation)
+    }
 
     /// A transmitter at power-up: ready, not enabled, with byte 0 and nothing under way [P].
     pub fn init() -> Transmitter

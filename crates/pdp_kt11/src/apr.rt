@@ -40,7 +40,7 @@ impl Space {
 /// One of the eight pages of a space: bits 15-13 of a virtual address.
 ///
 /// DEC PDP-11/40 Processor Handbook (1972), Memory management.
-#[derive(Clone, Copy)]
+#[derive(Clone, Copy, PartialEq, Eq)]
 pub enum PageNumber {
     P0,
     P1,
@@ -136,7 +136,7 @@ impl AccessControl {
 /// or from its highest block down.
 ///
 /// DEC PDP-11/40 Processor Handbook (1972), Memory management.
-#[derive(Clone, Copy)]
+#[derive(Clone, Copy, PartialEq, Eq)]
 pub enum Expansion {
     Upward,
     Downward,
@@ -169,7 +169,7 @@ impl Expansion {
 /// A page, as its page address register and its page descriptor register have it.
 ///
 /// DEC PDP-11/40 Processor Handbook (1972), Memory management.
-#[derive(Clone, Copy)]
+#[derive(Clone, Copy, PartialEq, Eq)]
 pub struct Apr {
     /// The page address field, bits 11-0 of the page address register: where the page is, in blocks
     /// of 100 (octal) bytes.

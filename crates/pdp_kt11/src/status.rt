@@ -1,4 +1,4 @@
-ghost use Rattle.std.specs.Prelude.{◌≡◌};
+ghost use Rattle.std.specs.Prelude.{◌≡◌, ◌↔◌, true};
 ghost use Rattle.pdp_kt11.specs.Status.{abort_told, clear_status, mapping_status_word};
 ghost use Rattle.pdp_kt11.specs.Status.{mapping_status_written, tells_abort};
 
@@ -28,6 +28,19 @@ pub struct MappingStatus {
 }
 
 impl MappingStatus {
+    /// Whether both are the same in all.
+    pub fn is_same(&self, other: &MappingStatus) -> bool
+        ensures { (result ≡ true) ↔ (self.now ≡ other.now) }
+    {
+        if self.resident_abort != other.resident_abort || self.length_abort != other.length_abort {
+            return false;
+        }
+        if self.read_only_abort != other.read_only_abort || self.enabled != other.enabled {
+            return false;
+        }
+        is_same_mode(self.mode, other.mode) && is_same_page(self.page, other.page)
+    }
+
     /// All bits 0, as of power-up and after RESET.
     #[tactic(auto, unfolding(crate::specs::Status::clear_status))]
     pub const fn clear() -> MappingStatus
@@ -106,4 +119,18 @@ impl MappingStatus {
             },
         }
     }
+}
+
+// Whether these are the same mode.
+fn is_same_mode(some: Mode, other: Mode) -> bool
+    ensures { (result ≡ true) ↔ (some ≡ other) }
+{
+    some == other
+}
+
+// Whether these are the same page.
+fn is_same_page(some: PageNumber, other: PageNumber) -> bool
+    ensures { (result ≡ true) ↔ (some ≡ other) }
+{
+    some == other
 }

@@ -8,7 +8,7 @@ use Rattle.pdp_replay.specs.Past.{starting_past}
 use Rattle.pdp_replay.specs.Past.Setup.{SetupData}
 use Rattle.pdp_session.specs.Language.{Language}
 use Rattle.pdp_session.specs.Session.{Session}
-use Rattle.pdp_session.specs.Streams.{OutputData, StreamsData}
+use Rattle.pdp_session.specs.Streams.{DrainData, StreamsData}
 use Rattle.pdp_program.specs.Exit.{exit_status, line_of, exit_of}
 use Rattle.pdp_program.specs.CommandLine.{Asks, command_line}
 use Rattle.pdp_program.specs.Media.{Contents, AreMediaOf}
@@ -36,7 +36,7 @@ setup_with options media = record {
 }
 
 -- a text was written whole, or the writer failed after a beginning of it
-abbrev pub Shows : List ℕ → OutputData → OutputData → Exit → Type 0
+abbrev pub Shows : List ℕ → DrainData → DrainData → Exit → Type 0
 Shows text before after Done = Appends before.written after.written text
 Shows text before after InputOrOutput =
     (taken : List ℕ) × (rest : List ℕ) × (text ≡ taken ++ rest)

@@ -31,3 +31,6 @@ mod GrowingTexts
 pub mod Meetings
 pub mod SavedMeetings
 pub mod Adoptions
+pub mod Formers
+pub mod FormersBeside
+pub mod FormerRuns

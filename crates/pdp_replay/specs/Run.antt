@@ -7,3 +7,4 @@ pub mod KeptRuns
 pub mod Meetings
 pub mod SavedMeetings
 pub mod Adoptions
+pub mod FormerRuns

@@ -2,8 +2,8 @@ ghost use Rattle.std.specs.Prelude.{◌≡◌, ◌<◌, ◌^◌, IfOk, IsErr, Ok
 ghost use Rattle.pdp_script.specs.Refusal.{for_memory, question_answer, result_map};
 ghost use Rattle.pdp_replay.specs.Past.Setup.{given_setup, setup_checked};
 ghost use Rattle.pdp_replay.specs.Ask.Answer.{answer_to, question_checked, value_answered};
-ghost use Rattle.pdp_replay.specs.Run.Checkpoints.{AreStatesOf, IsBuiltFrom, KeepsTexts};
-ghost use Rattle.pdp_replay.specs.Run.Checkpoints.{ShowsTexts};
+ghost use Rattle.pdp_replay.specs.Run.Checkpoints.{AreCheckpointsOf, IsBuiltFrom};
+ghost use Rattle.pdp_replay.specs.Run.Checkpoints.{KeepsTexts, ShowsTexts};
 ghost use Rattle.pdp_replay.specs.Ask.Known.{RunsFor, IsAnswered, IsWithinBound, LeavesPast};
 ghost use Rattle.pdp_replay.specs.Run.States.{at};
 ghost use Rattle.pdp_replay.specs.Timeline.{fresh};
@@ -149,7 +149,7 @@ impl Engine {
     /// The states that are kept of the run of the past as it is now: those of turn 0 and of each
     /// multiple of the stride up to the known turn [P].
     pub fn kept_states(&self) -> &Ladder
-        ensures states { AreStatesOf self.now.past self.now.known result.now }
+        ensures states { AreCheckpointsOf self.now.past self.now.known result.now }
         ensures stride { result.now.stride ≡ self.now.stride }
     {
         &self.run.ladder

@@ -1,6 +1,7 @@
 //! The run as an engine keeps it: its machine, its checkpoints, its turns, and what edits leave.
 
 mod changes;
+mod former_runs;
 mod kept_run;
 mod pauses;
 mod turns;

@@ -153,3 +153,26 @@ fn states_near_a_turn(rt: HostRuntime) -> Result<(), Fail> {
     let mut engine = engine_of(rt.alloc(), &BRANCH, 100_000)?;
     follow(&rt, rt.alloc(), &mut engine, 100_000, &STATES_NEAR_A_TURN)
 }
+
+// A key that no program reads leaves the same machine a turn later, but for which key it was. A run
+// that meets the run before the edit takes its states back, and runs no more turns.
+const KEY: Event = Event::Key(0o101);
+
+const OTHER_KEY: Event = Event::Key(0o102);
+
+const EDITS_THAT_FADE: [Step; 8] = [
+    Step::Edit(Edit::Insert(100, KEY), Ok(1)),
+    Step::Ran(Question::Regs(200_000), 200_000, 200_000),
+    Step::Edit(Edit::Alter(1, 101, KEY), Ok(0)),
+    Step::Ran(Question::Regs(200_000), 10_000, 200_000),
+    Step::Edit(Edit::Alter(1, 101, OTHER_KEY), Ok(0)),
+    Step::Ran(Question::Regs(200_000), 199_899, 200_000),
+    Step::Edit(Edit::Alter(1, 101, OTHER_KEY), Ok(0)),
+    Step::Ran(Question::Regs(200_000), 9_899, 200_000),
+];
+
+#[test]
+fn edits_that_fade(rt: HostRuntime) -> Result<(), Fail> {
+    let mut engine = engine_of(rt.alloc(), &BRANCH, 10_000)?;
+    follow(&rt, rt.alloc(), &mut engine, 10_000, &EDITS_THAT_FADE)
+}

@@ -8,7 +8,7 @@ use crate::bits::{
 /// Why a function of the RK11 failed, or why its transfer stopped; RKER tells it.
 ///
 /// PDP-11 Peripherals Handbook, RK11.
-#[derive(Clone, Copy)]
+#[derive(Clone, Copy, PartialEq, Eq)]
 pub enum Failure {
     /// Bit 5: the disk address names no sector of a track.
     NoSector,

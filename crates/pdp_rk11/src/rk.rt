@@ -1,4 +1,4 @@
-ghost use Rattle.std.specs.Prelude.{◌≡◌, ◌<◌};
+ghost use Rattle.std.specs.Prelude.{◌≡◌, ◌<◌, ◌↔◌, true};
 ghost use Rattle.pdp_word.specs.Bits.{field};
 
 use super::{Failure, Function, RkRegister};
@@ -47,6 +47,31 @@ impl Rk {
     ghost use Rattle.pdp_rk11.specs.Rk.{error_word, function_of, gone_with, is_locked, init_rk};
     ghost use Rattle.pdp_rk11.specs.Rk.{rk_reset, rk_served, rk_value};
     ghost use Rattle.pdp_rk11.specs.Rk.{rk_written, with_command};
+
+    /// Whether the controllers are the same in all.
+    pub fn is_same(&self, other: &Rk) -> bool
+        ensures { (result ≡ true) ↔ (self.now ≡ other.now) }
+    {
+        if !self.ready_enable.is_same(&other.ready_enable) || self.function != other.function {
+            return false;
+        }
+        if self.no_increment != other.no_increment
+            || self.search_complete != other.search_complete
+            || self.write_check != other.write_check
+        {
+            return false;
+        }
+        if !is_same_failure(self.failure, other.failure) || self.word_count != other.word_count {
+            return false;
+        }
+        if self.address != other.address || self.disk_address != other.disk_address {
+            return false;
+        }
+        if !are_same_locks(&self.locked, &other.locked) {
+            return false;
+        }
+        self.operation.is_same(&other.operation)
+    }
 
     /// The controller at power-up: as after RESET, with no drive locked [P].
     pub fn init() -> Rk
@@ -249,4 +274,18 @@ impl Rk {
             + self.address % ADDRESS_BIT_16;
         self.no_increment = is_set(RKCS_NO_INCREMENT, word);
     }
+}
+
+// Whether the same drives are locked.
+fn are_same_locks(some: &[bool], others: &[bool]) -> bool
+    ensures { (result ≡ true) ↔ (some.now ≡ others.now) }
+{
+    some == others
+}
+
+// Whether these are the same failure, or none.
+fn is_same_failure(some: Option<Failure>, other: Option<Failure>) -> bool
+    ensures { (result ≡ true) ↔ (some ≡ other) }
+{
+    some == other
 }

@@ -1,7 +1,7 @@
 -- Bytes as they are written one after another.
 use Rattle.std.proofs.Common.{◌≡◌, ℕ, zero, suc, ◌+◌, ◌<◌, List, [], ◌∷◌, ◌++◌, length, take, drop, get_or, codes, Result, Ok, Err, refl, sym, ap, ◌∙◌, append_assoc, append-nil, take-append-drop, add-one, subst, arith}
 use Rattle.pdp_session.specs.Reply.{byte_text, byte_texts, bytes_head, bytes_line}
-use Rattle.pdp_session.specs.Streams.{OutputData}
+use Rattle.pdp_session.specs.Streams.{DrainData}
 use Rattle.pdp_session.specs.Inside.Sends.{Sent, Cut, Sends}
 use Rattle.pdp_session.proofs.Pieces.{sent_then, cut_first, cut_last, cut_later}
 
@@ -35,16 +35,16 @@ bytes_parted bytes front rest others n split left =
     split ∙ ap (λ back. front ++ back) (sym (take-append-drop n rest) ∙ ap (λ back. take n rest ++ back) (sym left))
 
 -- the name, the count and the bytes of this front were written
-abbrev pub IsShownTo : List ℕ → List ℕ → List ℕ → OutputData → OutputData → Type 0
+abbrev pub IsShownTo : List ℕ → List ℕ → List ℕ → DrainData → DrainData → Type 0
 IsShownTo name bytes front output output_after = Sent (bytes_head name (length bytes) ++ byte_texts front) output output_after
 
-pub shown_head : (name bytes : List ℕ) (output output_after : OutputData)
+pub shown_head : (name bytes : List ℕ) (output output_after : DrainData)
     → Sent (bytes_head name (length bytes)) output output_after → IsShownTo name bytes [] output output_after
 unfolding byte_texts
 shown_head name bytes output output_after head = subst (λ all. Sent all output output_after) (sym (append-nil (bytes_head name (length bytes)))) head
 
 -- the writer failed before the bytes
-pub bytes_cut_at_head : (name bytes : List ℕ) (output output_after : OutputData)
+pub bytes_cut_at_head : (name bytes : List ℕ) (output output_after : DrainData)
     → Cut (bytes_head name (length bytes)) output output_after → Cut (bytes_line name bytes) output output_after
 unfolding bytes_line
 bytes_cut_at_head name bytes output output_after cut =
@@ -52,7 +52,7 @@ bytes_cut_at_head name bytes output output_after cut =
     (cut_first (bytes_head name (length bytes)) (byte_texts bytes) output output_after cut)
 
 -- or in some of them
-pub bytes_cut_within : (name bytes front some others : List ℕ) (output between output_after : OutputData) → bytes ≡ front ++ (some ++ others)
+pub bytes_cut_within : (name bytes front some others : List ℕ) (output between output_after : DrainData) → bytes ≡ front ++ (some ++ others)
     → IsShownTo name bytes front output between → Cut (byte_texts some) between output_after → Cut (bytes_line name bytes) output output_after
 unfolding bytes_line
 bytes_cut_within name bytes front some others output between output_after split before cut =
@@ -68,7 +68,7 @@ bytes_cut_within name bytes front some others output between output_after split 
     (cut_later (head ++ byte_texts front) (byte_texts some) (byte_texts others ++ codes "\n") output between output_after before cut)
 
 -- or they were written
-pub bytes_go_on : (name bytes front some : List ℕ) (output between output_after : OutputData)
+pub bytes_go_on : (name bytes front some : List ℕ) (output between output_after : DrainData)
     → IsShownTo name bytes front output between → Sent (byte_texts some) between output_after → IsShownTo name bytes (front ++ some) output output_after
 bytes_go_on name bytes front some output between output_after before more =
     let head = bytes_head name (length bytes) in
@@ -77,7 +77,7 @@ bytes_go_on name bytes front some output between output_after before more =
     subst (λ all. Sent all output output_after) whole (sent_then (head ++ byte_texts front) (byte_texts some) output between output_after before more)
 
 -- after all bytes the line ends, or the writer fails there
-pub bytes_end : {T E : Type 0} (name bytes front rest : List ℕ) (output between output_after : OutputData) (result : Result T E)
+pub bytes_end : {T E : Type 0} (name bytes front rest : List ℕ) (output between output_after : DrainData) (result : Result T E)
     → bytes ≡ front ++ rest → length rest ≡ 0 → IsShownTo name bytes front output between → Sends (codes "\n") between output_after result
     → Sends (bytes_line name bytes) output output_after result
 unfolding bytes_line

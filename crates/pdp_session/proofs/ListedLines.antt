@@ -6,7 +6,7 @@ use Rattle.std.proofs.lemmas.List.{take_all}
 use Rattle.pdp_replay.specs.declared.ask.last_write.LastWrite.{LastWrite}
 use Rattle.pdp_session.specs.Reply.{count_line, line_at, list_text}
 use Rattle.pdp_session.specs.Search.{write_line, writes_head, writes_text}
-use Rattle.pdp_session.specs.Streams.{OutputData}
+use Rattle.pdp_session.specs.Streams.{DrainData}
 use Rattle.pdp_session.specs.Inside.Sends.{Sent, Cut}
 use Rattle.pdp_session.proofs.Pieces.{take_one_more, taken_and_left, sent_then, cut_first, cut_later}
 
@@ -25,16 +25,16 @@ lines_split line xs i =
     ∙ ap (λ lines. flat_map line (take i xs) ++ lines) (flat_map-append line (option_to_list (slice_get xs i)) (drop (suc i) xs))
 
 -- the writer failed in what comes before the lines
-pub lines_cut_at_head : {X : Type 0} (head : List ℕ) (line : X → List ℕ) (xs : List X) (output output_after : OutputData)
+pub lines_cut_at_head : {X : Type 0} (head : List ℕ) (line : X → List ℕ) (xs : List X) (output output_after : DrainData)
     → Cut head output output_after → Cut (head ++ flat_map line xs) output output_after
 lines_cut_at_head head line xs output output_after cut = cut_first head (flat_map line xs) output output_after cut
 
 -- the head and the lines of i items were written
-abbrev pub AreLinesTo : {X : Type 0} → List ℕ → (X → List ℕ) → List X → ℕ → OutputData → OutputData → Type 0
+abbrev pub AreLinesTo : {X : Type 0} → List ℕ → (X → List ℕ) → List X → ℕ → DrainData → DrainData → Type 0
 AreLinesTo head line xs i output output_after = Sent (head ++ flat_map line (take i xs)) output output_after
 
 -- and then the writer failed
-pub lines_cut_at_item : {X : Type 0} (head : List ℕ) (line : X → List ℕ) (xs : List X) (i : ℕ) (output between output_after : OutputData)
+pub lines_cut_at_item : {X : Type 0} (head : List ℕ) (line : X → List ℕ) (xs : List X) (i : ℕ) (output between output_after : DrainData)
     → AreLinesTo head line xs i output between → Cut (line_at line xs i) between output_after → Cut (head ++ flat_map line xs) output output_after
 lines_cut_at_item head line xs i output between output_after before cut =
     let front = head ++ flat_map line (take i xs) in
@@ -46,7 +46,7 @@ lines_cut_at_item head line xs i output between output_after before cut =
     subst (λ all. Cut all output output_after) (sym whole) (cut_later front text back output between output_after before cut)
 
 -- or the line of one more item was written
-pub lines_go_on : {X : Type 0} (head : List ℕ) (line : X → List ℕ) (xs : List X) (i : ℕ) (output between output_after : OutputData)
+pub lines_go_on : {X : Type 0} (head : List ℕ) (line : X → List ℕ) (xs : List X) (i : ℕ) (output between output_after : DrainData)
     → AreLinesTo head line xs i output between → Sent (line_at line xs i) between output_after → AreLinesTo head line xs (i + 1) output output_after
 lines_go_on head line xs i output between output_after before next =
     let front = head ++ flat_map line (take i xs) in
@@ -57,34 +57,34 @@ lines_go_on head line xs i output between output_after before next =
     subst (λ all. Sent all output output_after) whole (sent_then front text output between output_after before next)
 
 -- all lines were written
-pub lines_are_whole : {X : Type 0} (head : List ℕ) (line : X → List ℕ) (xs : List X) (i : ℕ) (output output_after : OutputData)
+pub lines_are_whole : {X : Type 0} (head : List ℕ) (line : X → List ℕ) (xs : List X) (i : ℕ) (output output_after : DrainData)
     → length xs ≤ i → AreLinesTo head line xs i output output_after → Sent (head ++ flat_map line xs) output output_after
 lines_are_whole head line xs i output output_after all lines = rw (take_all i xs all) at lines
 
 -- ---- lists that begin with how many items they have
 
-pub list_cut_at_count : {X : Type 0} (name : List ℕ) (line : X → List ℕ) (xs : List X) (output output_after : OutputData)
+pub list_cut_at_count : {X : Type 0} (name : List ℕ) (line : X → List ℕ) (xs : List X) (output output_after : DrainData)
     → Cut (count_line name (length xs)) output output_after → Cut (list_text name line xs) output output_after
 unfolding list_text
 list_cut_at_count name line xs output output_after cut =
     lines_cut_at_head (count_line name (length xs)) line xs output output_after cut
 
 -- the first line and those of i items were written
-abbrev pub IsListedTo : {X : Type 0} → List ℕ → (X → List ℕ) → List X → ℕ → OutputData → OutputData → Type 0
+abbrev pub IsListedTo : {X : Type 0} → List ℕ → (X → List ℕ) → List X → ℕ → DrainData → DrainData → Type 0
 IsListedTo name line xs i output output_after = AreLinesTo (count_line name (length xs)) line xs i output output_after
 
-pub list_cut_at_item : {X : Type 0} (name : List ℕ) (line : X → List ℕ) (xs : List X) (i : ℕ) (output between output_after : OutputData)
+pub list_cut_at_item : {X : Type 0} (name : List ℕ) (line : X → List ℕ) (xs : List X) (i : ℕ) (output between output_after : DrainData)
     → IsListedTo name line xs i output between → Cut (line_at line xs i) between output_after → Cut (list_text name line xs) output output_after
 unfolding list_text
 list_cut_at_item name line xs i output between output_after before cut =
     lines_cut_at_item (count_line name (length xs)) line xs i output between output_after before cut
 
-pub list_goes_on : {X : Type 0} (name : List ℕ) (line : X → List ℕ) (xs : List X) (i : ℕ) (output between output_after : OutputData)
+pub list_goes_on : {X : Type 0} (name : List ℕ) (line : X → List ℕ) (xs : List X) (i : ℕ) (output between output_after : DrainData)
     → IsListedTo name line xs i output between → Sent (line_at line xs i) between output_after → IsListedTo name line xs (i + 1) output output_after
 list_goes_on name line xs i output between output_after before next =
     lines_go_on (count_line name (length xs)) line xs i output between output_after before next
 
-pub list_is_whole : {X : Type 0} (name : List ℕ) (line : X → List ℕ) (xs : List X) (i : ℕ) (output output_after : OutputData)
+pub list_is_whole : {X : Type 0} (name : List ℕ) (line : X → List ℕ) (xs : List X) (i : ℕ) (output output_after : DrainData)
     → length xs ≤ i → IsListedTo name line xs i output output_after → Sent (list_text name line xs) output output_after
 unfolding list_text
 list_is_whole name line xs i output output_after all lines =
@@ -92,23 +92,23 @@ list_is_whole name line xs i output output_after all lines =
 
 -- ---- writes, which may be more than those that are listed
 
-pub writes_cut_at_head : (writes : List LastWrite) (more : Bool) (output output_after : OutputData)
+pub writes_cut_at_head : (writes : List LastWrite) (more : Bool) (output output_after : DrainData)
     → Cut (writes_head (length writes) more) output output_after → Cut (writes_text writes more) output output_after
 unfolding writes_text
 writes_cut_at_head writes more output output_after cut =
     lines_cut_at_head (writes_head (length writes) more) write_line writes output output_after cut
 
 -- the head and i writes were written
-abbrev pub AreWritesTo : List LastWrite → Bool → ℕ → OutputData → OutputData → Type 0
+abbrev pub AreWritesTo : List LastWrite → Bool → ℕ → DrainData → DrainData → Type 0
 AreWritesTo writes more i output output_after = AreLinesTo (writes_head (length writes) more) write_line writes i output output_after
 
-pub writes_cut_at_write : (writes : List LastWrite) (more : Bool) (i : ℕ) (output between output_after : OutputData)
+pub writes_cut_at_write : (writes : List LastWrite) (more : Bool) (i : ℕ) (output between output_after : DrainData)
     → AreWritesTo writes more i output between → Cut (line_at write_line writes i) between output_after → Cut (writes_text writes more) output output_after
 unfolding writes_text
 writes_cut_at_write writes more i output between output_after before cut =
     lines_cut_at_item (writes_head (length writes) more) write_line writes i output between output_after before cut
 
-pub writes_are_whole : (writes : List LastWrite) (more : Bool) (i : ℕ) (output output_after : OutputData)
+pub writes_are_whole : (writes : List LastWrite) (more : Bool) (i : ℕ) (output output_after : DrainData)
     → length writes ≤ i → AreWritesTo writes more i output output_after → Sent (writes_text writes more) output output_after
 unfolding writes_text
 writes_are_whole writes more i output output_after all lines =

@@ -1,7 +1,7 @@
 -- Texts that are written piece by piece.
 use Rattle.std.proofs.Common.{◌≡◌, ℕ, zero, suc, List, [], ◌∷◌, ◌++◌, take, drop, slice_get, option_to_list, refl, sym, ap, ◌∙◌, append_assoc}
 use Rattle.std.proofs.KnownBytes.{Appends-nil, Appends-trans}
-use Rattle.pdp_session.specs.Streams.{OutputData}
+use Rattle.pdp_session.specs.Streams.{DrainData}
 use Rattle.pdp_session.specs.Inside.Sends.{Sent, Cut}
 
 pub take_one_more : {X : Type 0} (xs : List X) (i : ℕ) → take (suc i) xs ≡ take i xs ++ option_to_list (slice_get xs i)
@@ -17,11 +17,11 @@ taken_and_left (x ∷ xs) zero = refl
 taken_and_left (x ∷ xs) (suc i) = ap (λ ys. x ∷ ys) (taken_and_left xs i)
 
 -- nothing was written
-pub sent_nothing : (output : OutputData) → Sent [] output output
+pub sent_nothing : (output : DrainData) → Sent [] output output
 sent_nothing output = record { writes = Appends-nil output.written; sound = refl }
 
 -- a text was written after a front
-pub sent_then : (front text : List ℕ) (output between output_after : OutputData)
+pub sent_then : (front text : List ℕ) (output between output_after : DrainData)
     → Sent front output between → Sent text between output_after → Sent (front ++ text) output output_after
 sent_then front text output between output_after before next = record {
   writes = Appends-trans output.written between.written output_after.written front text before.writes next.writes;
@@ -29,7 +29,7 @@ sent_then front text output between output_after before next = record {
 }
 
 -- a text was cut, and nothing of what comes after it was written
-pub cut_first : (text back : List ℕ) (output output_after : OutputData) → Cut text output output_after → Cut (text ++ back) output output_after
+pub cut_first : (text back : List ℕ) (output output_after : DrainData) → Cut text output output_after → Cut (text ++ back) output output_after
 cut_first text back output output_after cut = record {
   taken = cut.taken;
   unwritten = cut.unwritten ++ back;
@@ -39,7 +39,7 @@ cut_first text back output output_after cut = record {
 }
 
 -- a text was cut after a front of it was written
-pub cut_last : (front text : List ℕ) (output between output_after : OutputData)
+pub cut_last : (front text : List ℕ) (output between output_after : DrainData)
     → Sent front output between → Cut text between output_after → Cut (front ++ text) output output_after
 cut_last front text output between output_after before cut = record {
   taken = front ++ cut.taken;
@@ -49,7 +49,7 @@ cut_last front text output between output_after before cut = record {
   failed = cut.failed;
 }
 
-pub cut_later : (front text back : List ℕ) (output between output_after : OutputData)
+pub cut_later : (front text back : List ℕ) (output between output_after : DrainData)
     → Sent front output between → Cut text between output_after → Cut (front ++ (text ++ back)) output output_after
 cut_later front text back output between output_after before cut =
     cut_last front (text ++ back) output between output_after before (cut_first text back between output_after cut)

@@ -8,7 +8,7 @@ use Rattle.pdp_session.specs.Lines.{without_return, lines_of}
 use Rattle.pdp_session.specs.Inside.Progress.{Reached, Goes, Breaks, Serves, Moves, Finishes}
 use Rattle.pdp_session.specs.Language.{Language, text_to}
 use Rattle.pdp_session.specs.Session.{BeginsReplies}
-use Rattle.pdp_session.specs.Streams.{OutputData}
+use Rattle.pdp_session.specs.Streams.{DrainData}
 use Rattle.pdp_session.proofs.Pieces.{sent_nothing, sent_then}
 use Rattle.pdp_session.proofs.Reaching.{line_reached, broken, last_replied}
 use Rattle.pdp_session.proofs.Replying.{answers, begins_answers}
@@ -18,7 +18,7 @@ cut_text : (out text taken unwritten : List ℕ) → text ≡ taken ++ unwritten
 cut_text out text taken unwritten split = ap (λ back. out ++ back) split ∙ sym (append_assoc out taken unwritten)
 
 -- the line that an LF ended was served
-pub line_moves : {T E : Type 0} (language : Language) (past : Past) (done out held : List ℕ) (now after : Past) (output output_after : OutputData) (result : Result T E)
+pub line_moves : {T E : Type 0} (language : Language) (past : Past) (done out held : List ℕ) (now after : Past) (output output_after : DrainData) (result : Result T E)
     → Reached language past done out held now → Serves language (without_return held) now after output output_after result
     → Moves language past (done ++ 10 ∷ []) out output output_after [] after result
 line_moves language past done out held now after output output_after (Ok x) r s = record {
@@ -38,7 +38,7 @@ line_moves language past done out held now after output output_after (Err e) r s
     }
 
 -- the line that the end of the input left open was served
-pub last_finishes : {T E : Type 0} (language : Language) (past : Past) (done out held : List ℕ) (now after : Past) (output output_after : OutputData) (result : Result T E)
+pub last_finishes : {T E : Type 0} (language : Language) (past : Past) (done out held : List ℕ) (now after : Past) (output output_after : DrainData) (result : Result T E)
     → 0 < length held → Reached language past done out held now → Serves language held now after output output_after result → Finishes language past done out output output_after result
 last_finishes language past done out held now after output output_after (Ok x) some r s = record {
   more = text_to language held s.refused now;
@@ -58,7 +58,7 @@ last_finishes language past done out held now after output output_after (Err e) 
     }
 
 -- nothing was written
-pub nothing_more : (language : Language) (past : Past) (done out held : List ℕ) (now : Past) (output : OutputData) → Reached language past done out held now
+pub nothing_more : (language : Language) (past : Past) (done out held : List ℕ) (now : Past) (output : DrainData) → Reached language past done out held now
     → Goes language past done out output output held now
 nothing_more language past done out held now output r = record {
   more = [];
@@ -67,7 +67,7 @@ nothing_more language past done out held now output r = record {
 }
 
 -- some bytes, and then some more
-pub then_moves : {T E : Type 0} (language : Language) (past : Past) (done all out held now_held : List ℕ) (between now : Past) (output output_between output_after : OutputData) (result : Result T E)
+pub then_moves : {T E : Type 0} (language : Language) (past : Past) (done all out held now_held : List ℕ) (between now : Past) (output output_between output_after : DrainData) (result : Result T E)
     → (g : Goes language past done out output output_between held between) → Moves language past all (out ++ g.more) output_between output_after now_held now result
     → Moves language past all out output output_after now_held now result
 then_moves language past done all out held now_held between now output output_between output_after (Ok x) g m = record {
@@ -83,7 +83,7 @@ then_moves language past done all out held now_held between now output output_be
 }
 
 -- the writer failed before the rest was taken
-pub breaks_early : (language : Language) (past : Past) (done rest out : List ℕ) (output output_after : OutputData) → Breaks language past done out output output_after
+pub breaks_early : (language : Language) (past : Past) (done rest out : List ℕ) (output output_after : DrainData) → Breaks language past done out output output_after
     → Breaks language past (done ++ rest) out output output_after
 breaks_early language past done rest out output output_after b = record {
   more = b.more;

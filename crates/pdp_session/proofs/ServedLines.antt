@@ -19,7 +19,7 @@ use Rattle.pdp_session.specs.Inside.Sends.{Sends}
 use Rattle.pdp_session.specs.Language.{Language, SessionLanguage, SearchLanguage, search_of, search_where, text_meant, text_to}
 use Rattle.pdp_session.specs.Reply.{text_of, refusal_text}
 use Rattle.pdp_session.specs.Search.{found_text, search_result}
-use Rattle.pdp_session.specs.Streams.{OutputData}
+use Rattle.pdp_session.specs.Streams.{DrainData}
 use Rattle.pdp_session.specs.Version.{version_of}
 
 -- a reply that tells want of memory
@@ -29,7 +29,7 @@ told_for_memory (Refused NoMemory) past set = refl
 told_for_memory _ past set = absurd (false≢true set)
 
 -- a line of the session language was answered
-pub served_command : {T E : Type 0} (line : List ℕ) (past now : Past) (reply : Reply) (output output_after : OutputData) (result : Result T E)
+pub served_command : {T E : Type 0} (line : List ℕ) (past now : Past) (reply : Reply) (output output_after : DrainData) (result : Result T E)
     → reply ≡ reply_to line (wants_memory reply) past → now ≡ past_after line (wants_memory reply) past → Sends (text_of reply now) output output_after result
     → Serves SessionLanguage line past now output output_after result
 unfolding text_to search_of
@@ -49,7 +49,7 @@ found_for_memory (Err NoMemory) set = refl
 found_for_memory _ set = absurd (false≢true set)
 
 -- a search was made
-pub made_search : {T E : Type 0} (wanted : Search) (past now : Past) (found : Result Finding Fault) (output output_after : OutputData) (result : Result T E)
+pub made_search : {T E : Type 0} (wanted : Search) (past now : Past) (found : Result Finding Fault) (output output_after : DrainData) (result : Result T E)
     → found ≡ question_answer (search_result wanted past) (for_memory found) → now ≡ past → Sends (found_text found) output output_after result
     → ServesSearch wanted past now output output_after result
 made_search wanted past now found output output_after result is after sends = record {
@@ -60,7 +60,7 @@ made_search wanted past now found output output_after result is after sends = re
 }
 
 -- a line that is no search in its language is served as one of the session language
-pub served_as_command : {T E : Type 0} (language : Language) (line : List ℕ) (past now : Past) (output output_after : OutputData) (result : Result T E)
+pub served_as_command : {T E : Type 0} (language : Language) (line : List ℕ) (past now : Past) (output output_after : DrainData) (result : Result T E)
     → None ≡ search_of language (version_of past) line → Serves SessionLanguage line past now output output_after result
     → Serves language line past now output output_after result
 unfolding text_to search_of
@@ -88,7 +88,7 @@ kept_by_line SearchLanguage line wanted refused past is =
     kept_by_search (line_means (version_of past) line) (search_named (version_of past) (words_of_line line)) wanted refused past is
 
 -- a line that is a search in its language
-pub served_as_search : {T E : Type 0} (language : Language) (line : List ℕ) (past now : Past) (wanted : Search) (output output_after : OutputData) (result : Result T E)
+pub served_as_search : {T E : Type 0} (language : Language) (line : List ℕ) (past now : Past) (wanted : Search) (output output_after : DrainData) (result : Result T E)
     → Some wanted ≡ search_of language (version_of past) line → ServesSearch wanted past now output output_after result
     → Serves language line past now output output_after result
 unfolding text_to

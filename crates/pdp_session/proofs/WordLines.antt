@@ -2,7 +2,7 @@
 use Rattle.std.proofs.Common.{◌≡◌, ℕ, zero, suc, ◌+◌, ◌<◌, ◌≤◌, List, [], ◌∷◌, ◌++◌, length, take, drop, get_or, codes, Result, Ok, Err, refl, sym, ap, ◌∙◌, append_assoc, append-nil, add-one, subst, arith}
 use Rattle.std.proofs.lemmas.List.{take_all}
 use Rattle.pdp_session.specs.Reply.{word_text, word_texts, words_line}
-use Rattle.pdp_session.specs.Streams.{OutputData}
+use Rattle.pdp_session.specs.Streams.{DrainData}
 use Rattle.pdp_session.specs.Inside.Sends.{Sent, Cut, Sends}
 use Rattle.pdp_session.proofs.Pieces.{sent_then, cut_first, cut_last, cut_later}
 
@@ -32,11 +32,11 @@ word_texts_split (w ∷ ws) (suc i) below =
     ∙ sym (append_assoc (word_text w) (word_texts (take i ws)) (word_text (get_or ws i 0) ++ word_texts (drop (suc i) ws)))
 
 -- the name and i words were written
-abbrev pub AreWordsTo : List ℕ → List ℕ → ℕ → OutputData → OutputData → Type 0
+abbrev pub AreWordsTo : List ℕ → List ℕ → ℕ → DrainData → DrainData → Type 0
 AreWordsTo name words i output output_after = Sent (name ++ word_texts (take i words)) output output_after
 
 -- the writer failed in the name
-pub words_cut_at_name : (name words : List ℕ) (output output_after : OutputData)
+pub words_cut_at_name : (name words : List ℕ) (output output_after : DrainData)
     → Cut name output output_after → Cut (words_line name words) output output_after
 unfolding words_line
 words_cut_at_name name words output output_after cut =
@@ -44,7 +44,7 @@ words_cut_at_name name words output output_after cut =
     (cut_first (name) (word_texts words) output output_after cut)
 
 -- or in a word
-pub words_cut_at_word : (name words : List ℕ) (i : ℕ) (output between output_after : OutputData) → i < length words
+pub words_cut_at_word : (name words : List ℕ) (i : ℕ) (output between output_after : DrainData) → i < length words
     → AreWordsTo name words i output between → Cut (word_text (get_or words i 0)) between output_after → Cut (words_line name words) output output_after
 unfolding words_line
 words_cut_at_word name words i output between output_after below before cut =
@@ -60,7 +60,7 @@ words_cut_at_word name words i output between output_after below before cut =
     (cut_later front text (others ++ codes "\n") output between output_after before cut)
 
 -- or one more word was written
-pub words_goes_on : (name words : List ℕ) (i : ℕ) (output between output_after : OutputData) → i < length words
+pub words_goes_on : (name words : List ℕ) (i : ℕ) (output between output_after : DrainData) → i < length words
     → AreWordsTo name words i output between → Sent (word_text (get_or words i 0)) between output_after → AreWordsTo name words (i + 1) output output_after
 words_goes_on name words i output between output_after below before word =
     let front = name ++ word_texts (take i words) in
@@ -71,7 +71,7 @@ words_goes_on name words i output between output_after below before word =
     subst (λ all. Sent all output output_after) whole (sent_then front text output between output_after before word)
 
 -- after all words the line ends, or the writer fails there
-pub words_ends : {T E : Type 0} (name words : List ℕ) (i : ℕ) (output between output_after : OutputData) (result : Result T E) → length words ≤ i
+pub words_ends : {T E : Type 0} (name words : List ℕ) (i : ℕ) (output between output_after : DrainData) (result : Result T E) → length words ≤ i
     → AreWordsTo name words i output between → Sends (codes "\n") between output_after result → Sends (words_line name words) output output_after result
 unfolding words_line
 words_ends name words i output between output_after (Ok x) all before sent =

@@ -3,23 +3,23 @@ use Rattle.std.specs.Prelude.{ℕ, Bool, true, ◌==◌, ◌&&◌, nat_lt, List,
 
 -- a feed: the bytes that are still to come, if they are known; how many pulls are left; and whether
 -- a pull has failed
-pub record InputData : Type 0 where
+pub record FeedData : Type 0 where
   pub unread : Option (List ℕ)
   pub pulls : ℕ
   pub has_failed : Bool
 
 -- a drain: the bytes that were put, if they are known; and whether a put has failed, or took none
 -- of some bytes
-pub record OutputData : Type 0 where
+pub record DrainData : Type 0 where
   pub written : Option (List ℕ)
   pub has_failed : Bool
 
 -- both streams of a session
 pub record StreamsData : Type 0 where
-  pub input : InputData
-  pub output : OutputData
+  pub input : FeedData
+  pub output : DrainData
 
-abbrev pub streams_of : InputData → OutputData → StreamsData
+abbrev pub streams_of : FeedData → DrainData → StreamsData
 streams_of input output = record { input = input; output = output }
 
 -- how many pulls a feed over one of std's readers begins with: more than any input has

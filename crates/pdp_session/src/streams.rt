@@ -1,6 +1,6 @@
 ghost use Rattle.std.specs.Prelude.{◌≡◌, ◌+◌, ◌≤◌, true, ◌||◌, is_err, length, IfOk, OnOk, OnErr};
 ghost use Rattle.std.specs.Io.KnownBytes.{ReadConsumes, WriteAppends};
-ghost use Rattle.pdp_session.specs.Streams.{InputData, OutputData, put_failed};
+ghost use Rattle.pdp_session.specs.Streams.{FeedData, DrainData, put_failed};
 
 mod from_read;
 mod sending;
@@ -17,7 +17,7 @@ pub struct Failed;
 /// Where a session's bytes come from.
 pub trait Feed {
     // the bytes that are still to come, the pulls that are left, and whether one has failed
-    ghost input: { Self → InputData };
+    ghost input: { Self → FeedData };
 
     /// Takes the next bytes into the front of `buf` and returns how many there were: 0 only at the
     /// end of the input, or if `buf` has no room. Each pull that doesn't fail lowers what
@@ -51,7 +51,7 @@ pub trait Feed {
 /// Where a session's bytes go.
 pub trait Drain {
     // the bytes that were put, and whether a put has failed, or took none of some bytes
-    ghost output: { Self → OutputData };
+    ghost output: { Self → DrainData };
 
     /// Writes a front part of `bytes` and returns how many bytes that was.
     ///

@@ -12,5 +12,6 @@ pub mod BlankDrives
 pub mod Overlays
 pub mod ComparedPages
 pub mod OverlayLaws
+pub mod TouchOverlays
 pub mod Stamps
 pub mod Rules

@@ -1,18 +1,19 @@
 -- Stamps laid over others, one after the other.
-use Rattle.std.proofs.Common.{◌≡◌, ◌≢◌, ◌⊎◌, inl, inr, subst, length-set, ◌∙◌, ℕ, suc, zero, ◌+◌, ◌-◌, ◌*◌, ◌/◌, ◌%◌, ◌<◌, ◌≤◌, Bool, false, List, [], ◌∷◌, ◌++◌, Option, Some, None, length, min, take, drop, get_or, slice_get, slice_set, refl, sym, ap, arith}
-use Rattle.std.proofs.Math.Nat.{div-mul-le_self}
-use Rattle.std.proofs.lemmas.List.{append-nil, drop_all, length-drop, length-take, take_more, get_or-drop, get_or-take, take_all}
-use Rattle.std.proofs.lemmas.Nat.{div-add-mod'}
+use Rattle.std.proofs.Common.{◌≡◌, ◌≢◌, ◌⊎◌, inl, inr, subst, length-set, ◌∙◌, ℕ, suc, zero, ◌+◌, ◌-◌, ◌*◌, ◌<◌, ◌≤◌, Bool, false, List, [], ◌∷◌, ◌++◌, Option, Some, None, length, min, take, drop, get_or, slice_get, slice_set, refl, sym, ap, arith}
+use Rattle.std.proofs.lemmas.List.{append-nil, drop_all, length-append, length-drop, length-take, take_more, take_all}
 use Rattle.std.proofs.lemmas.Bool.{cases_eq}
+use Rattle.std.proofs.lemmas.List.Concat.{get_or-flat_map}
+use Rattle.std.proofs.lemmas.List.Folds.{length-flat_map-take}
+use Rattle.std.specs.List.{flat_map}
 use Rattle.std.proofs.lemmas.Option.{slice_get_read, slice_get_within}
 use Rattle.pdp_store.specs.declared.Stamp.{Stamp}
 use Rattle.pdp_store.specs.declared.base.Base.{Base}
 use Rattle.pdp_store.specs.Bases.{AreFields, Holds, IsBaseOf}
 use Rattle.pdp_store.specs.declared.page.Page.{Page}
-use Rattle.pdp_store.specs.Overlays.{stamp_over, stamps_over}
+use Rattle.pdp_store.specs.Overlays.{laid_to, stamp_over, stamps_over}
 use Rattle.pdp_store.specs.Pages.{SharedPage, page_stamps, stamps_of, words_of}
 use Rattle.pdp_store.specs.Pieces.{piece}
-use Rattle.pdp_store.proofs.PageRuns.{length-piece, set_here, set_there}
+use Rattle.pdp_store.proofs.PageRuns.{set_here, set_there}
 use Rattle.pdp_store.proofs.PagedTakes.{as_stamped}
 use Rattle.pdp_store.proofs.Pages.{length-words_of, piece-stamps_of, piece-words_of}
 
@@ -40,36 +41,50 @@ all_laid turn under over now k past same is =
     ∙ ap (λ xs. stamps_over turn under over ++ xs) (drop_all k under past)
     ∙ append-nil (stamps_over turn under over)
 
--- the page of a word, and its place there
-pub page_there : (pages : List SharedPage) (k : ℕ) → length (stamps_of pages) ≡ length (words_of pages) → k < length (stamps_of pages) → k / 256 < length pages
-page_there pages k whole within =
-    let all = length-words_of pages in
-    let low = div-mul-le_self k 256 in
-    omega (arith, all, low, whole, within)
+pub length-laid_to : (n turn : ℕ) (under all now : List (Option Stamp)) → length all ≡ length under → now ≡ laid_to n turn under all → length now ≡ length under
+length-laid_to n turn under all now same is =
+    let size = length-stamps_over turn under all same in
+    ap length is ∙ length-append (take n (stamps_over turn under all)) (drop n under)
+    ∙ omega (arith, size, length-take n (stamps_over turn under all), length-drop n under)
 
-pub stamps_there : (pages : List SharedPage) (k : ℕ) (page : SharedPage) → length (stamps_of pages) ≡ length (words_of pages) → k < length (stamps_of pages)
-    → page ≡ get_or pages (k / 256) page → piece (k / 256) (stamps_of pages) ≡ page_stamps page
-stamps_there pages k page whole within is =
-    piece-stamps_of pages (k / 256) page (λ some. whole)
-    (slice_get_read pages (length pages) (k / 256) page refl (page_there pages k whole within) is)
+-- one stamp more of a page is laid
+pub one_laid_on : (turn start k : ℕ) (under all over items now : List (Option Stamp)) → start + k < length under → length all ≡ length under
+    → get_or all (start + k) None ≡ get_or over k None → items ≡ laid_to (start + k) turn under all
+    → now ≡ slice_set items (start + k) (stamp_over turn (get_or items (start + k) None) (get_or over k None))
+    → now ≡ laid_to (start + (k + 1)) turn under all
+one_laid_on turn start k under all over items now below same part is left =
+    let more : start + k + 1 ≡ start + (k + 1) = omega arith in
+    left
+    ∙ ap (λ x. slice_set items (start + k) (stamp_over turn (get_or items (start + k) None) x)) (sym part)
+    ∙ ap (λ xs. slice_set xs (start + k) (stamp_over turn (get_or xs (start + k) None) (get_or all (start + k) None))) is
+    ∙ laid_more turn under all (start + k) None None below same
+    ∙ ap (λ n. laid_to n turn under all) more
 
-pub many_there : (pages : List SharedPage) (k : ℕ) (page : SharedPage) → length (stamps_of pages) ≡ length (words_of pages) → k < length (stamps_of pages)
-    → page ≡ get_or pages (k / 256) page → length (page_stamps page) ≡ 256
-many_there pages k page whole within is =
-    let all = length-words_of pages in
-    let inside = page_there pages k whole within in
-    ap length (sym (stamps_there pages k page whole within is))
-    ∙ length-piece (k / 256) (stamps_of pages) (omega (arith, all, whole, inside))
+-- there is room for the next page, whose stamps are part of all
+pub room_to_lay : (turn n at : ℕ) (pages : List SharedPage) (before now part : List (Option Stamp)) (page : SharedPage) → at ≡ length (flat_map page_stamps (take n pages))
+    → length (flat_map page_stamps pages) ≡ length before → now ≡ laid_to at turn before (flat_map page_stamps pages) → n < length pages → page ≡ get_or pages n page
+    → part ≡ page_stamps page → at + length part ≤ length now
+room_to_lay turn n at pages before now part page here all is below there part_is =
+    let fits = length-flat_map-take page_stamps pages n page below in
+    let same : length part ≡ length (page_stamps (get_or pages n page)) = ap length part_is ∙ ap (λ p. length (page_stamps p)) there in
+    let size = length-laid_to at turn before (flat_map page_stamps pages) now all is in
+    omega (arith, fits, same, size, here, all)
 
-pub stamp_there : (pages : List SharedPage) (k : ℕ) (page : SharedPage) (d : Option Stamp) → length (stamps_of pages) ≡ length (words_of pages) → k < length (stamps_of pages)
-    → page ≡ get_or pages (k / 256) page → get_or (page_stamps page) (k % 256) d ≡ get_or (stamps_of pages) k d
-unfolding piece
-stamp_there pages k page d whole within is =
-    let there = div-add-mod' k 256 in
-    ap (λ xs. get_or xs (k % 256) d) (sym (stamps_there pages k page whole within is))
-    ∙ get_or-take 256 (drop (k / 256 * 256) (stamps_of pages)) (k % 256) d (omega arith)
-    ∙ get_or-drop (k / 256 * 256) (stamps_of pages) (k % 256) d
-    ∙ ap (λ n. get_or (stamps_of pages) n d) there
+pub page_is_part : (n at k : ℕ) (pages : List SharedPage) (part : List (Option Stamp)) (page : SharedPage) → at ≡ length (flat_map page_stamps (take n pages))
+    → n < length pages → page ≡ get_or pages n page → part ≡ page_stamps page → k < length part
+    → get_or (flat_map page_stamps pages) (at + k) None ≡ get_or part k None
+page_is_part n at k pages part page here below there part_is within =
+    let is : part ≡ page_stamps (get_or pages n page) = part_is ∙ ap page_stamps there in
+    ap (λ m. get_or (flat_map page_stamps pages) (m + k) None) here
+    ∙ get_or-flat_map page_stamps pages n k page None below (subst (λ xs. k < length xs) is within)
+    ∙ ap (λ xs. get_or xs k None) (sym is)
+
+pub all_pages_laid : (turn n at : ℕ) (pages : List SharedPage) (before now : List (Option Stamp)) → at ≡ length (flat_map page_stamps (take n pages))
+    → length (flat_map page_stamps pages) ≡ length before → length pages ≤ n → now ≡ laid_to at turn before (flat_map page_stamps pages)
+    → now ≡ stamps_over turn before (flat_map page_stamps pages)
+all_pages_laid turn n at pages before now here all past is =
+    let end : at ≡ length before = here ∙ ap (λ ps. length (flat_map page_stamps ps)) (take_all n pages past) ∙ all in
+    all_laid turn before (flat_map page_stamps pages) now at (omega arith) all is
 
 -- stamps of one place
 get_or-stamps_over : (turn : ℕ) (under over : List (Option Stamp)) (k : ℕ) (d e f : Option Stamp) → k < length under → length over ≡ length under

@@ -1,6 +1,6 @@
 -- Last stamps and first touches of one run, from a turn on, laid over those of another run [P].
-use Rattle.std.specs.Prelude.{ℕ, ◌≡◌, ◌<◌, ◌≤◌, List, [], ◌∷◌, Option, Some, None, length, nat_le}
-use Rattle.std.specs.Prelude.{nat_lt, if◌then◌else◌}
+use Rattle.std.specs.Prelude.{ℕ, ◌≡◌, ◌<◌, ◌≤◌, ◌++◌, List, [], ◌∷◌, Option, Some, None, drop, length}
+use Rattle.std.specs.Prelude.{nat_le, nat_lt, take, if◌then◌else◌}
 use Rattle.pdp_store.specs.FirstTouches.{FirstTouches, first_touches_of}
 use Rattle.pdp_store.specs.declared.Stamp.{Stamp}
 
@@ -16,6 +16,10 @@ stamps_over turn [] stamps = []
 stamps_over turn (under ∷ unders) [] = []
 stamps_over turn (under ∷ unders) (stamp ∷ stamps) =
     stamp_over turn under stamp ∷ stamps_over turn unders stamps
+
+-- the stamps laid over those before word n alone
+abbrev pub laid_to : ℕ → ℕ → List (Option Stamp) → List (Option Stamp) → List (Option Stamp)
+laid_to n turn under stamps = take n (stamps_over turn under stamps) ++ drop n under
 
 -- the first touch of a page: one under it that is before this turn stays, otherwise it is the one
 -- over it

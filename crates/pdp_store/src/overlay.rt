@@ -1,8 +1,10 @@
 //! Stamps of pages laid over those that a store has, from a turn on.
 
-ghost use Rattle.std.specs.Prelude.{◌≡◌, ◌<◌, None, length, slice_index_or, true};
+ghost use Rattle.std.specs.Prelude.{◌≡◌, ◌+◌, ◌<◌, ◌≤◌, List, None, Option, length, true, ℕ};
+ghost use Rattle.std.specs.Prelude.{slice_index_or, slice_set};
+ghost use Rattle.pdp_store.specs.declared.Stamp.{Stamp};
 ghost use Rattle.pdp_store.specs.Bases.{AreFields};
-ghost use Rattle.pdp_store.specs.Overlays.{stamp_over, stamps_over};
+ghost use Rattle.pdp_store.specs.Overlays.{laid_to, stamp_over, stamps_over};
 ghost use Rattle.pdp_store.specs.Pages.{page_stamps, page_words, stamps_of, words_of};
 
 use crate::Stamp;
@@ -21,25 +23,45 @@ fn stamp_over(turn: u32, under: Option<Stamp>, over: Option<Stamp>) -> Option<St
     }
 }
 
-// The last stamp of word `k` of these pages.
-fn last_at(pages: &[Rc<Page>], k: usize) -> Option<Stamp>
-    requires within { k < length (stamps_of pages.now) }
-    requires whole { length (stamps_of pages.now) ≡ length (words_of pages.now) }
-    ensures { result ≡ slice_index_or (stamps_of pages.now) k None }
-{
-    let page: &Page = &pages[k / PAGE_WORDS];
-    page.stamps[k % PAGE_WORDS]
-}
-
 // Lays the last stamps of these pages over those that are there.
+#[tactic(auto, unfolding(crate::specs::Pages::stamps_of))]
 pub(crate) fn lay_over(stamps: &mut [Option<Stamp>], pages: &[Rc<Page>], turn: u32)
-    requires many { length (stamps_of pages.now) ≡ length stamps.old }
-    requires whole { 0 < length stamps.old
-        → length (stamps_of pages.now) ≡ length (words_of pages.now) }
+    requires { length (stamps_of pages.now) ≡ length stamps.old }
     ensures { stamps.new ≡ stamps_over turn stamps.old (stamps_of pages.now) }
 {
-    for k in 0..stamps.len() {
-        stamps[k] = stamp_over(turn, stamps[k], last_at(pages, k));
+    let mut at = 0;
+    for page in pages {
+        at = lay_page(stamps, at, stamps_in(page), turn);
+    }
+}
+
+// Lays the last stamps of a page over those from word `start` on, and returns where they end.
+fn lay_page(stamps: &mut [Option<Stamp>], start: usize, over: &[Option<Stamp>], turn: u32) -> usize
+    requires { start + length over.now ≤ length stamps.old }
+    ensures end { result ≡ start + length over.now }
+    ensures laid { (under all : List (Option Stamp)) → length all ≡ length under
+        → ((k : ℕ) → k < length over.now
+        → slice_index_or all (start + k) None ≡ slice_index_or over.now k None)
+        → stamps.old ≡ laid_to start turn under all
+        → stamps.new ≡ laid_to (start + length over.now) turn under all }
+{
+    for k in 0..over.len() {
+        lay_one(stamps, start + k, over[k], turn);
+    }
+    start + over.len()
+}
+
+// Lays a last stamp over that of word `i`.
+#[inline(always)]
+fn lay_one(stamps: &mut [Option<Stamp>], i: usize, over: Option<Stamp>, turn: u32)
+    requires { i < length stamps.old }
+    ensures { stamps.new ≡ slice_set stamps.old i
+        (stamp_over turn (slice_index_or stamps.old i None) over) }
+{
+    if let Some(stamp) = over {
+        if turn <= stamp.turn {
+            stamps[i] = over;
+        }
     }
 }
 
@@ -86,9 +108,31 @@ fn keeps_base(
     ensures words { result ≡ true → words.now ≡ page_words page.now }
     ensures stamps { result ≡ true → stamps_over turn under.now (page_stamps page.now) ≡ under.now }
 {
-    !is_written
-        && are_same_words(words, words_in(page))
-        && is_laid(turn, under, stamps_in(page), under)
+    !is_written && are_same_words(words, words_in(page)) && are_hidden(turn, under, stamps_in(page))
+}
+
+// Whether the stamps stay if these are laid over them.
+fn are_hidden(turn: u32, under: &[Option<Stamp>], over: &[Option<Stamp>]) -> bool
+    requires { length over.now ≡ length under.now }
+    ensures { result ≡ true → stamps_over turn under.now over.now ≡ under.now }
+{
+    for k in 0..under.len() {
+        if !is_hidden(turn, under[k], over[k]) {
+            return false;
+        }
+    }
+    true
+}
+
+// Whether a last stamp stays if this one is laid over it.
+#[inline(always)]
+fn is_hidden(turn: u32, under: Option<Stamp>, over: Option<Stamp>) -> bool
+    ensures { result ≡ true → stamp_over turn under over ≡ under }
+{
+    match over {
+        None => true,
+        Some(stamp) => stamp.turn < turn || is_same_stamp(over, under),
+    }
 }
 
 // Whether the stamps laid over those under them come to these.

@@ -281,6 +281,18 @@ impl Paging for PagedDrive {
         self.given = next_given(self.given);
         Ok(patched)
     }
+
+    fn touches(&self) -> &[u32] {
+        self.touches.list()
+    }
+
+    fn lay_touches(&mut self, over: &[u32], from: u32, to: u32) {
+        self.touches.lay_over(over, from, to);
+    }
+
+    fn has_touches_of(&self, over: &[u32], turn: u32) -> bool {
+        self.touches.has_all_of(over, turn)
+    }
 }
 
 impl SharedPaging for PagedDrive {

@@ -2,6 +2,8 @@
 
 ghost use Rattle.std.specs.Prelude.{◌≡◌, ◌<◌, ◌↔◌, Some, length, map, true, IfOk, IsErr, is_ok};
 ghost use Rattle.std.specs.Prelude.{if◌then◌else◌};
+ghost use Rattle.pdp_store.specs.FirstTouches.{first_touches_before};
+ghost use Rattle.pdp_store.specs.Overlays.{touches_over};
 ghost use Rattle.pdp_store.specs.Pages.{IsPatched, given_after, stamps_of, next_given, serials};
 ghost use Rattle.pdp_store.specs.Pages.{serials_taken, words_of};
 ghost use Rattle.pdp_store.specs.Unchanged.{SameStored};
@@ -39,6 +41,31 @@ pub trait Paging: Store {
         ensures first_touches { Self.first_touches self.new ≡ Self.first_touches self.old }
         ensures given { given self.new ≡ (if is_ok result then next_given
             (given self.old) else given self.old) };
+
+    /// Returns the first touch of each page, in the order of the pages; `u32::MAX` for a page that
+    /// has none.
+    fn touches(&self) -> &[u32]
+        ensures { result.now ≡ Self.first_touches self.now };
+
+    /// Lays first touches of another run over those of the store: a page that was touched before
+    /// turn `from` keeps its own first touch, and each other page gets the one that is given for
+    /// it, if that is before turn `to`, and otherwise none. Takes no memory.
+    fn lay_touches(&mut self, over: &[u32], from: u32, to: u32)
+        requires { length over.now ≡ length (Self.first_touches self.old) }
+        ensures words { Self.words self.new ≡ Self.words self.old }
+        ensures stamps { Self.stamps self.new ≡ Self.stamps self.old }
+        ensures bases { bases self.new ≡ bases self.old }
+        ensures given { given self.new ≡ given self.old }
+        ensures first_touches { Self.first_touches self.new
+            ≡ touches_over from (Self.first_touches self.old) (first_touches_before to over.now) };
+
+    /// Whether each page that has a first touch before turn `turn` in this list has one before it
+    /// in the store too.
+    fn has_touches_of(&self, over: &[u32], turn: u32) -> bool
+        requires { length over.now ≡ length (Self.first_touches self.now) }
+        ensures { (result ≡ true)
+            ↔ (touches_over turn (Self.first_touches self.now) (first_touches_before turn over.now)
+            ≡ Self.first_touches self.now) };
 }
 
 /// A [`Paging`] store whose pages are taken as one list, which is itself shared. So a store that

@@ -1,8 +1,10 @@
 //! First touches: for each page of a store, the first turn with an access to one of its words.
 
-ghost use Rattle.std.specs.Prelude.{◌≡◌, ◌<◌, ◌/◌, ◌+◌, length, map, nat_le, replicate};
+ghost use Rattle.std.specs.Prelude.{◌≡◌, ◌<◌, ◌/◌, ◌+◌, ◌↔◌, length, map, nat_le, replicate, true};
 ghost use Rattle.std.specs.Prelude.{slice_index_or, IfOk};
-ghost use Rattle.pdp_store.specs.FirstTouches.{first_before, never, first_turn, touch_page};
+ghost use Rattle.pdp_store.specs.FirstTouches.{first_before, first_touches_before, never};
+ghost use Rattle.pdp_store.specs.FirstTouches.{first_turn, touch_page};
+ghost use Rattle.pdp_store.specs.Overlays.{touch_over, touches_over};
 
 use crate::page::PAGE_WORDS;
 use pdp_word::NoMemory;
@@ -91,6 +93,50 @@ impl StoreTouches {
             self.first_touches[page] = kept_before(turn, self.first_touches[page]);
         }
     }
+
+    /// Returns the first touch of each page, in the order of the pages; `u32::MAX` for a page that
+    /// has none.
+    pub(crate) fn list(&self) -> &[u32]
+        ensures { result.now ≡ self.now }
+    {
+        &self.first_touches
+    }
+
+    /// Lays the first touches of another store of as many pages over these. A page that was touched
+    /// before turn `from` here keeps its own first touch. Each other page gets the one of the
+    /// other store, if that is before turn `to`, and otherwise none.
+    pub(crate) fn lay_over(&mut self, over: &[u32], from: u32, to: u32)
+        requires { length over.now ≡ length self.old }
+        ensures { self.new ≡ touches_over from self.old (first_touches_before to over.now) }
+    {
+        for page in 0..self.first_touches.len() {
+            let over = kept_before(to, over[page]);
+            self.first_touches[page] = touch_over(from, self.first_touches[page], over);
+        }
+    }
+
+    /// Whether each page that was touched before turn `turn` in another store of as many pages was
+    /// touched before it here too.
+    pub(crate) fn has_all_of(&self, over: &[u32], turn: u32) -> bool
+        requires { length over.now ≡ length self.now }
+        ensures { (result ≡ true)
+            ↔ (touches_over turn self.now (first_touches_before turn over.now) ≡ self.now) }
+    {
+        for page in 0..self.first_touches.len() {
+            let first = self.first_touches[page];
+            if touch_over(turn, first, kept_before(turn, over[page])) != first {
+                return false;
+            }
+        }
+        true
+    }
+}
+
+// Returns the first touch of a page if it is before turn `turn`, otherwise the one over it.
+fn touch_over(turn: u32, under: u32, over: u32) -> u32
+    ensures { result ≡ touch_over turn under over }
+{
+    if under < turn { under } else { over }
 }
 
 // Returns a first touch if it is before turn `turn`, otherwise the one of an untouched page.

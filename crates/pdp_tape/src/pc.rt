@@ -1,4 +1,4 @@
-ghost use Rattle.std.specs.Prelude.{◌≡◌};
+ghost use Rattle.std.specs.Prelude.{◌≡◌, ◌↔◌, true};
 
 use super::Reader;
 use pdp_device::{Transmitter, TransmitterRegister};
@@ -52,6 +52,13 @@ impl Pc {
     ghost use Rattle.pdp_tape.specs.Pc.{pc_punch_completed, pc_punched, pc_read};
     ghost use Rattle.pdp_tape.specs.Pc.{pc_reader_completed, pc_reset};
     ghost use Rattle.pdp_tape.specs.Pc.{pc_value, pc_written, punch_served, init_pc, reader_served};
+
+    /// Whether both are the same in all.
+    pub fn is_same(&self, other: &Pc) -> bool
+        ensures { (result ≡ true) ↔ (self.now ≡ other.now) }
+    {
+        self.reader.is_same(&other.reader) && self.punch.is_same(&other.punch)
+    }
 
     /// Reader and punch at power-up: as after RESET, with both buffers 0 [P].
     pub fn init() -> Pc

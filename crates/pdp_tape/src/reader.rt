@@ -1,4 +1,4 @@
-ghost use Rattle.std.specs.Prelude.{◌≡◌, false};
+ghost use Rattle.std.specs.Prelude.{◌≡◌, ◌↔◌, false, true};
 
 use crate::bits::{PRS_BUSY, PRS_DONE, PRS_ENABLE, PRS_ERROR, PRS_GO};
 use pdp_device::{Operation, request_after};
@@ -31,6 +31,19 @@ impl Reader {
     ghost use Rattle.pdp_tape.specs.Reader.{init_reader, reader_completed};
     ghost use Rattle.pdp_tape.specs.Reader.{reader_reset, reader_status, reader_with};
     ghost use Rattle.pdp_tape.specs.Reader.{reader_status_written};
+
+    /// Whether both are the same in all.
+    pub fn is_same(&self, other: &Reader) -> bool
+        ensures { (result ≡ true) ↔ (self.now ≡ other.now) }
+    {
+        if self.error != other.error || self.done != other.done || self.enable != other.enable {
+            return false;
+        }
+        if self.request != other.request || self.byte != other.byte {
+            return false;
+        }
+        self.operation.is_same(&other.operation)
+    }
 
     /// A reader at power-up: nothing set, with byte 0 and nothing under way [P].
     pub fn init() -> Reader

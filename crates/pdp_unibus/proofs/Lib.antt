@@ -16,6 +16,7 @@ pub mod Directs
 pub mod Kept
 pub mod Pairs
 mod SavedDrives
+mod ComparedDrives
 mod PatchedPages
 pub mod FewerDrives
 pub mod Rules

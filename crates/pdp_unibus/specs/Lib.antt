@@ -26,6 +26,7 @@ pub mod Touched
 pub mod SavedBusData
 pub mod PatchedPages
 pub mod SavedDrives
+pub mod SavedTouches
 pub mod Drives
 -- what attributes open, by a shorter path
 unfoldable pub use Rattle.pdp_unibus.specs.Beginning.{after_beginning, before_disk}

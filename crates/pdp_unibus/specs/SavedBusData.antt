@@ -3,6 +3,7 @@
 use Rattle.std.specs.Prelude.{ℕ, ◌≡◌, ◌<◌, List, Option, length, map, slice_set}
 use Rattle.pdp_store.specs.Parts.{core_with, drives_with, words_in}
 use Rattle.pdp_store.specs.FirstTouches.{no_first_touches}
+use Rattle.pdp_store.specs.Overlays.{stamps_over}
 use Rattle.pdp_store.specs.Pages.{SharedPage, stamps_of, words_of}
 use Rattle.pdp_store.specs.Stored.{HasLastOfEachOrNone}
 use Rattle.pdp_store.specs.declared.Stamp.{Stamp}
@@ -44,6 +45,18 @@ bus_of tape c = record {
   first_touches = no_first_touches;
 }
 
+-- the saved bus with core of these words and these last stamps
+abbrev pub saved_bus_with_core : List ℕ → List (Option Stamp) → SavedBusData → SavedBusData
+saved_bus_with_core words stamps c = record c { core = words; stamps = stamps }
+
+-- the saved bus with these last stamps of core, and with its own of turn `turn` and of later turns
+-- laid over these
+abbrev pub saved_bus_with_stamps : List (Option Stamp) → SavedBusData → SavedBusData
+saved_bus_with_stamps stamps c = record c { stamps = stamps }
+
+abbrev pub saved_bus_over : ℕ → List (Option Stamp) → SavedBusData → SavedBusData
+saved_bus_over turn under c = saved_bus_with_stamps (stamps_over turn under c.stamps) c
+
 -- the saved bus with other delays, and the bus with another tape
 abbrev pub saved_bus_with_delays : Delays → SavedBusData → SavedBusData
 saved_bus_with_delays delays c = record c { io_page = record c.io_page { delays = delays } }
@@ -72,6 +85,10 @@ pub record IsCoreOfSize (pages : List SharedPage) (w : BusWorld) : Type 0 where
 -- the bus with core of these pages
 abbrev pub with_core_of : List SharedPage → BusWorld → BusWorld
 with_core_of pages w = record w { core = words_of pages; stamps = stamps_of pages }
+
+-- the bus with core of this saved bus, whose last stamps from turn `turn` on are laid over its own
+abbrev pub with_core_over : ℕ → SavedBusData → BusWorld → BusWorld
+with_core_over turn c w = record w { core = c.core; stamps = stamps_over turn w.stamps c.stamps }
 
 -- the words of a part
 abbrev pub saved_words : Part → SavedBusData → List ℕ

@@ -1,4 +1,4 @@
-ghost use Rattle.std.specs.Prelude.{◌≡◌};
+ghost use Rattle.std.specs.Prelude.{◌≡◌, ◌↔◌, true};
 ghost use Rattle.pdp_unibus.specs.Delays.{standard_delays, with_delay};
 
 /// A device whose delay can be set [P].
@@ -30,6 +30,19 @@ pub struct Delays {
 }
 
 impl Delays {
+    /// Whether both are the same in all.
+    pub fn is_same(&self, other: &Delays) -> bool
+        ensures { (result ≡ true) ↔ (self.now ≡ other.now) }
+    {
+        if self.printer != other.printer || self.reader != other.reader {
+            return false;
+        }
+        if self.punch != other.punch || self.disk != other.disk {
+            return false;
+        }
+        self.clock == other.clock
+    }
+
     /// The delays of a machine for which none is given: printer 1, reader 4, punch 4, disk 10, and
     /// no tick of the clock but by events [P].
     pub fn standard() -> Delays

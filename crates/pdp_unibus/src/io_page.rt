@@ -1,4 +1,4 @@
-ghost use Rattle.std.specs.Prelude.{◌≡◌};
+ghost use Rattle.std.specs.Prelude.{◌≡◌, ◌↔◌, true};
 ghost use Rattle.pdp_unibus.specs.BusWorld.{io_page_reset, io_page_at_power_up};
 ghost use Rattle.pdp_unibus.specs.Register.{value_in, after_byte, after_read, after_write};
 ghost use Rattle.pdp_unibus.specs.Register.{is_byte_written, word_with_byte};
@@ -63,6 +63,26 @@ impl IoPage {
             delays: self.delays,
             switches: self.switches,
         }
+    }
+
+    /// Whether both are the same in all that a contract sees: which translations are kept counts
+    /// for nothing.
+    pub(crate) fn is_same(&self, other: &IoPage) -> bool
+        ensures { (result ≡ true) ↔ (self.now ≡ other.now) }
+    {
+        if self.switches != other.switches || !self.status.is_same(&other.status) {
+            return false;
+        }
+        if !self.console.is_same(&other.console) || !self.clock.is_same(&other.clock) {
+            return false;
+        }
+        if !self.paper_tape.is_same(&other.paper_tape) || !self.disk.is_same(&other.disk) {
+            return false;
+        }
+        if !self.mapping.is_same(&other.mapping) {
+            return false;
+        }
+        self.delays.is_same(&other.delays)
     }
 
     /// What a read of the register gives, with so many drives on the disk, without the effect of a

@@ -87,7 +87,7 @@ pub use laws::{
 };
 pub use priority::Priority;
 pub use register::{Register, register_at_address};
-pub use save::{NewPages, PatchedPage, SavedBus};
+pub use save::{NewPages, PatchedPage, SavedBus, SavedTouches};
 pub use show::{DeviceRegisters, PageRegisters, SHOWN_REGISTERS};
 pub use source::Source;
 pub use status::Status;

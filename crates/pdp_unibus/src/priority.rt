@@ -4,7 +4,7 @@ ghost use Rattle.std.specs.Prelude.{◌≡◌, ◌<◌};
 /// request.
 ///
 /// DEC PDP-11/40 Processor Handbook (1972), Processor status word.
-#[derive(Clone, Copy, Default)]
+#[derive(Clone, Copy, PartialEq, Eq, Default)]
 pub enum Priority {
     #[default]
     Level0,

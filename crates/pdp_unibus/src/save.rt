@@ -2,5 +2,7 @@
 
 mod saved_bus;
 mod saved_drives;
+mod saved_touches;
 
 pub use saved_bus::{NewPages, PatchedPage, SavedBus};
+pub use saved_touches::SavedTouches;

@@ -1,4 +1,4 @@
-ghost use Rattle.std.specs.Prelude.{◌≡◌};
+ghost use Rattle.std.specs.Prelude.{◌≡◌, ◌↔◌, true};
 
 use crate::bits::{PS_C, PS_MODE, PS_N, PS_PREVIOUS, PS_PRIORITY, PS_TRACE, PS_V, PS_Z};
 use crate::priority::Priority;
@@ -19,6 +19,19 @@ pub struct Status {
 
 impl Status {
     ghost use Rattle.pdp_unibus.specs.Status.{status_of_word, status_word, status_written};
+
+    /// Whether both are the same in all.
+    pub fn is_same(&self, other: &Status) -> bool
+        ensures { (result ≡ true) ↔ (self.now ≡ other.now) }
+    {
+        if !is_same_mode(self.mode, other.mode) || !is_same_mode(self.previous, other.previous) {
+            return false;
+        }
+        if !is_same_priority(self.priority, other.priority) || self.trace_bit != other.trace_bit {
+            return false;
+        }
+        are_same_codes(self.codes, other.codes)
+    }
 
     /// The program status word: bits 15-14 current mode, 13-12 previous mode, 7-5 priority, 4 T, 3
     /// N, 2 Z, 1 V, 0 C. Bits 11-8 are 0 [P].
@@ -61,4 +74,31 @@ impl Status {
             ..Status::of_word(word)
         }
     }
+}
+
+// Whether these are the same condition codes.
+fn are_same_codes(some: Codes, others: Codes) -> bool
+    ensures { (result ≡ true) ↔ (some ≡ others) }
+{
+    if some.n != others.n || some.z != others.z {
+        return false;
+    }
+    if some.v != others.v {
+        return false;
+    }
+    some.c == others.c
+}
+
+// Whether these are the same mode.
+fn is_same_mode(some: Mode, other: Mode) -> bool
+    ensures { (result ≡ true) ↔ (some ≡ other) }
+{
+    some == other
+}
+
+// Whether these are the same priority.
+fn is_same_priority(some: Priority, other: Priority) -> bool
+    ensures { (result ≡ true) ↔ (some ≡ other) }
+{
+    some == other
 }

@@ -63,7 +63,7 @@ delays_kept p q delays before after kept setup forgotten ladder same =
     let built = kept.built in
     let now : IsBuiltFrom (with_those_delays delays p.setup) after.machine =
     record { tape = rw same built.tape; core = rw same built.core; stamps = rw same built.stamps; drives = rw same built.drives } in
-    kept_anew p q before after (untouched_alike q.setup p.setup (ap core_size setup) (ap (λ (s : SetupData). s.drives) setup)) kept forgotten first (ap (λ (l : LadderData). l.near) ladder) (checkpoints_anew q before.ladder after.ladder kept.states.checkpoints first (ap (λ (l : LadderData). l.stride) ladder))
+    kept_anew p q before after (untouched_alike q.setup p.setup (ap core_size setup) (ap (λ (s : SetupData). s.drives) setup)) kept forgotten first (ap (λ (l : LadderData). l.near) ladder) (ap (λ (l : LadderData). l.formers) ladder) (checkpoints_anew q before.ladder after.ladder kept.states.checkpoints first (ap (λ (l : LadderData). l.stride) ladder))
     (subst (λ s. IsBuiltFrom s after.machine) (sym setup) now)
 
 pub engine_delayed : (p q : Past) (delays : Delays) (highest : ℕ) (before after : KeptRun) → IsEngine p highest before
@@ -90,7 +90,7 @@ tape_kept p q tape before after kept setup forgotten ladder changed =
     let built = kept.built in
     let now : IsBuiltFrom (with_that_tape tape p.setup) after.machine =
     record { tape = rw changed refl; core = rw changed built.core; stamps = rw changed built.stamps; drives = rw changed built.drives } in
-    kept_anew p q before after (untouched_alike q.setup p.setup (ap core_size setup) (ap (λ (s : SetupData). s.drives) setup)) kept forgotten first (ap (λ (l : LadderData). l.near) ladder) (checkpoints_anew q before.ladder after.ladder kept.states.checkpoints first (ap (λ (l : LadderData). l.stride) ladder))
+    kept_anew p q before after (untouched_alike q.setup p.setup (ap core_size setup) (ap (λ (s : SetupData). s.drives) setup)) kept forgotten first (ap (λ (l : LadderData). l.near) ladder) (ap (λ (l : LadderData). l.formers) ladder) (checkpoints_anew q before.ladder after.ladder kept.states.checkpoints first (ap (λ (l : LadderData). l.stride) ladder))
     (subst (λ s. IsBuiltFrom s after.machine) (sym setup) now)
 
 pub engine_with_tape : (p q : Past) (tape : List ℕ) (highest : ℕ) (before after : KeptRun) → IsEngine p highest before

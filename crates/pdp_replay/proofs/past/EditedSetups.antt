@@ -10,14 +10,14 @@ use Rattle.pdp_cpu.specs.Turns.MachineState.{powered_world}
 use Rattle.pdp_operand.specs.Phases.World.{World}
 use Rattle.pdp_script.specs.Script.{ScriptData}
 use Rattle.pdp_script.specs.declared.faults.Fault.{Fault}
-use Rattle.pdp_store.specs.FirstTouches.{first_touches_in, never}
+use Rattle.pdp_store.specs.FirstTouches.{all_first_touches_before, first_touches_in, never}
 use Rattle.pdp_store.specs.Parts.{word_at}
 use Rattle.pdp_store.specs.Stored.{no_touch_in}
 use Rattle.pdp_replay.specs.Past.Edit.{core_edit, core_word_at, disk_edit, disk_word_at, revert_edit}
 use Rattle.pdp_replay.specs.Run.FirstTouches.{first_touch_of, first_touch, untouched_all}
 use Rattle.pdp_replay.specs.Past.FirstWords.{AllThere, IsThere, PartHasWord, drives_words}
 use Rattle.pdp_replay.specs.Run.KeptRuns.{IsPatchedRun, reached_by}
-use Rattle.pdp_replay.specs.Run.Checkpoints.{AreKept, AreStatesOf}
+use Rattle.pdp_replay.specs.Run.Checkpoints.{AreKept, AreStatesOf, IsFormerOf}
 use Rattle.pdp_replay.specs.Past.{Past, with_setup}
 use Rattle.pdp_replay.specs.Past.PatchedWords.{Patches, is_same_word, patch_of}
 use Rattle.pdp_replay.specs.Past.Setup.{SetupData, core_size, drive_words}
@@ -30,10 +30,11 @@ use Rattle.pdp_store.specs.declared.part.WordAt.{WordAt}
 use Rattle.pdp_replay.proofs.run.CoreSizes.{core_keeps_size}
 use Rattle.pdp_replay.proofs.run.DriveSizes.{drive_keeps_size}
 use Rattle.pdp_replay.proofs.past.FirstWords.{core_has_size, drive_by_number, drive_has_size}
+use Rattle.pdp_replay.proofs.run.Formers.{former_of_other, formers_after}
 use Rattle.pdp_replay.proofs.run.PatchedStates.{PowersWith, states_patched, texts_patched}
 use Rattle.pdp_replay.proofs.past.Patches.{there_inserted, there_removed}
 use Rattle.pdp_replay.proofs.past.PoweredWords.{patched, unpatched, core_patched, core_stays, drives_patched, drives_stay, core_reverted, drives_stay_reverted}
-use Rattle.pdp_replay.proofs.run.RunFirstTouches.{first_touches_tell, reached_is, untouched_alike}
+use Rattle.pdp_replay.proofs.run.RunFirstTouches.{first_touches_cut, first_touches_tell, reached_is, untouched_alike}
 use Rattle.pdp_replay.proofs.run.SamePages.{kept_have_page}
 use Rattle.pdp_replay.proofs.run.Untouched.{first_touch_le}
 
@@ -109,6 +110,14 @@ page_within s (parts.Drive drive) i inside =
     rw (each_alike s.drives drive (no_touch_in drive_words) [] inside.0, length-replicate ((drive_words + 255) / 256) never)
     (omega (arith, below))
 
+-- no page was touched first from the known turn on
+pub touched_before : (p : Past) (highest : ℕ) (r : KeptRun) → IsEngine p highest r
+    → all_first_touches_before r.known r.machine.first_touches ≡ r.machine.first_touches
+touched_before p highest r engine =
+    let small : r.known ≤ never = omega (arith, engine.reached, engine.limit) in
+    let is = engine.run.kept.texts.first_touches in
+    ap (all_first_touches_before r.known) is ∙ first_touches_cut p r.known r.known (omega arith) small ∙ sym is
+
 -- how far a patch reaches is told by the first touches that are kept
 reached_first : (p : Past) (k : WordAt) (r : KeptRun) → AreKept p r.known r.machine r.ladder → IsThere p.setup k → r.known ≤ never
     → reached_by k r ≡ first_touch p k.part (k.number / 256) r.known
@@ -142,6 +151,9 @@ engine_repatched p patches k word highest before after engine there inside power
     let reached = engine.reached in
     let built = kept.built in
     let same = done.world in
+    let left = formers_after p after.known 0 before after kept le small done.formers in
+    let formers : All (IsFormerOf (with_setup p s)) after.ladder.formers =
+    λ k d inside. former_of_other p (with_setup p s) _ refl refl refl (λ t above. refl) (left k d inside) in
     record {
       good = record { units = engine.good.units; some = engine.good.some; widest = engine.good.widest; core = engine.good.core; disks = engine.good.disks };
       there = there;
@@ -150,7 +162,7 @@ engine_repatched p patches k word highest before after engine there inside power
       stride = rw (ap (λ (l : LadderData). l.stride) done.ladder) engine.stride;
       run = record {
         kept = record {
-          states = states_patched k.part k.number word p s before.known after.known before.ladder after.ladder powers kept.states le low done.ladder done.count done.checkpoints;
+          states = states_patched k.part k.number word p s before.known after.known before.ladder after.ladder powers kept.states le low done.ladder formers done.count done.checkpoints;
           texts = texts_patched k.part k.number word p s before.known after.known before.machine after.machine powers kept.texts (untouched_alike s p.setup refl refl) le done.small low done.text done.punched done.first_touches;
           built = record { tape = rw same built.tape; core = rw same built.core; stamps = rw same built.stamps; drives = rw same built.drives };
         };

@@ -169,7 +169,7 @@ kept_begun p q drives before after kept one setup first anew =
     let turn : after.machine.state.turn ≡ 0 = ap (λ (s : MachineState). s.turn) here in
     record {
       kept = rw known (record {
-        states = states_first q after.ladder (anew.kept ∙ ap (λ m. checkpoint_of m ∷ []) first) anew.near anew.checkpoints;
+        states = states_first q after.ladder (anew.kept ∙ ap (λ m. checkpoint_of m ∷ []) first) anew.near anew.formers anew.checkpoints;
         texts = texts_begun p q before.known before.machine after.machine kept.texts one setup anew.text anew.punched anew.first_touches;
         built = at_is_built q 0 after.machine here;
       });

@@ -3,7 +3,7 @@ use Rattle.std.proofs.Common.{◌≡◌, ◌∙◌, ℕ, ◌+◌, List, ◌++◌
 use Rattle.pdp_store.specs.FirstTouches.{FirstTouches}
 use Rattle.pdp_store.specs.Overlays.{first_touches_over}
 use Rattle.pdp_operand.specs.Phases.World.{World}
-use Rattle.pdp_cpu.specs.Saved.{SavedMachineData, saved_machine, state_on}
+use Rattle.pdp_cpu.specs.Saved.{SavedMachineData, SavedMeet, saved_machine, saved_over, state_on}
 use Rattle.pdp_cpu.specs.Turns.MachineState.{MachineWithTexts}
 use Rattle.pdp_cpu.specs.declared.kept_text.KeptByte.{KeptByte}
 use Rattle.pdp_replay.specs.Past.{Past}
@@ -11,7 +11,6 @@ use Rattle.pdp_replay.specs.Past.Setup.{SetupData}
 use Rattle.pdp_replay.specs.Run.Adoptions.{AdoptedRunsGoOn}
 use Rattle.pdp_replay.specs.Run.Checkpoints.{IsBuiltFrom, KeepsTexts, punched_kept_at, text_kept_at}
 use Rattle.pdp_replay.specs.Run.FirstTouches.{first_touches_at}
-use Rattle.pdp_replay.specs.Run.SavedMeetings.{SavedMeet, saved_over}
 use Rattle.pdp_replay.specs.Run.States.{at, punched_at, text_at}
 use Rattle.pdp_replay.proofs.run.KeptBytes.{length_is}
 use Rattle.pdp_replay.proofs.run.KeptTexts.{printed_of, punched_keeps, punched_of, text_keeps}
@@ -20,10 +19,10 @@ use Rattle.pdp_replay.proofs.run.Resumed.{resumes}
 use Rattle.pdp_replay.proofs.run.SavedMeetings.{kept_bytes_are_taken, saved_machines_are_taken, they_meet}
 use Rattle.pdp_replay.proofs.run.StateSizes.{at_is_built}
 
-text_size : (q : Past) (n : ℕ) → length (text_kept_at q n) ≡ length (text_at q n)
+pub text_size : (q : Past) (n : ℕ) → length (text_kept_at q n) ≡ length (text_at q n)
 text_size q n = length_is (text_kept_at q) (text_at q) (printed_of q) (text_keeps q) n
 
-punched_size : (q : Past) (n : ℕ) → length (punched_kept_at q n) ≡ length (punched_at q n)
+pub punched_size : (q : Past) (n : ℕ) → length (punched_kept_at q n) ≡ length (punched_at q n)
 punched_size q n = length_is (punched_kept_at q) (punched_at q) (punched_of q) (punched_keeps q) n
 
 -- a machine of the same world has what no turn changes

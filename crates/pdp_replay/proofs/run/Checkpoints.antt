@@ -10,7 +10,7 @@ use Rattle.pdp_checkpoint.specs.Ladder.{AreCheckpoints, LadderData, checkpoint_o
 use Rattle.pdp_checkpoint.specs.declared.checkpoint.Checkpoint.{Checkpoint}
 use Rattle.pdp_cpu.specs.Saved.{CanHold, saved_machine, state_on}
 use Rattle.pdp_cpu.specs.Turns.MachineState.{MachineState, MachineWithTexts}
-use Rattle.pdp_replay.specs.Run.Checkpoints.{AreKept, AreStatesOf, IsKeptState}
+use Rattle.pdp_replay.specs.Run.Checkpoints.{AreKept, AreStatesOf, IsFormerOf, IsKeptState}
 use Rattle.pdp_replay.specs.Past.{Past}
 use Rattle.pdp_replay.specs.Run.States.{at}
 use Rattle.pdp_replay.proofs.run.Agreeing.{Agree, agree_before, same_at}
@@ -51,8 +51,8 @@ pub turns_within : (p : Past) (known : ℕ) (l : LadderData) → AreStatesOf p k
 turns_within p known l are i d below = turn_within p known l are i d below
 
 -- the state of a machine at turn 0 is all that is kept at first
-pub states_first : (p : Past) (l : LadderData) → l.kept ≡ checkpoint_of (at p 0) ∷ [] → l.near ≡ [] → AreCheckpoints l → AreStatesOf p 0 l
-states_first p l is none checkpoints =
+pub states_first : (p : Past) (l : LadderData) → l.kept ≡ checkpoint_of (at p 0) ∷ [] → l.near ≡ [] → l.formers ≡ [] → AreCheckpoints l → AreStatesOf p 0 l
+states_first p l is none no_former checkpoints =
     let positive = checkpoints.positive in
     let one : length l.kept ≡ 1 = ap length is in
     record {
@@ -60,6 +60,7 @@ states_first p l is none checkpoints =
       checkpoints = checkpoints;
       count = quotient_at l.stride (length l.kept) 0 positive (ap (λ n. n * l.stride) one ∙ omega arith);
       near = subst (All (IsKeptState p 0)) (sym none) (All-nil (IsKeptState p 0));
+      formers = subst (All (IsFormerOf p)) (sym no_former) (All-nil (IsFormerOf p));
     }
   where
     only : (i : ℕ) (d : Checkpoint) → i < 1 → IsStateOf p (get_or (checkpoint_of (at p 0) ∷ []) i d)
@@ -84,12 +85,20 @@ states_stay p known k l are le below =
       checkpoints = are.checkpoints;
       count = count ∙ ap (λ n. n + 1) same;
       near = near_stay p known k l.near are.near le;
+      formers = are.formers;
     }
 
 near_taken : (l : LadderData) (c : Checkpoint) → (kept_with l c).near ≡ l.near
 unfolding kept_with
 near_taken l c = by (nat_lt (length l.kept) most_kept) where
   by : (b : Bool) → (if b then with_last l c else ladder_doubled (with_last l c)).near ≡ l.near
+  by true = refl
+  by false = refl
+
+formers_taken : (l : LadderData) (c : Checkpoint) → (kept_with l c).formers ≡ l.formers
+unfolding kept_with
+formers_taken l c = by (nat_lt (length l.kept) most_kept) where
+  by : (b : Bool) → (if b then with_last l c else ladder_doubled (with_last l c)).formers ≡ l.formers
   by true = refl
   by false = refl
 
@@ -103,6 +112,7 @@ states_taken p known n m l now are here le turn is checkpoints next =
       checkpoints = checkpoints;
       count = quotient_at now.stride (length now.kept) n checkpoints.positive (next ∙ ap (λ k. k + now.stride) (sym turn));
       near = subst (All (IsKeptState p n)) (sym (ap (λ (x : LadderData). x.near) is ∙ near_taken l (checkpoint_of m))) (near_stay p known n l.near are.near le);
+      formers = subst (All (IsFormerOf p)) (sym (ap (λ (x : LadderData). x.formers) is ∙ formers_taken l (checkpoint_of m))) are.formers;
     }
 
 near_cut : (p : Past) (known k : ℕ) (near : List Checkpoint) → All (IsKeptState p known) near → All (IsKeptState p k) (filter (λ c. nat_le c.turn k) near)
@@ -113,9 +123,10 @@ near_cut p known k near are = λ i d below.
 
 -- of a lesser known turn those are kept that are not later
 pub states_cut : (p : Past) (known k : ℕ) (l now : LadderData) → AreStatesOf p known l → k ≤ known
+    → All (IsFormerOf p) now.formers
     → now.kept ≡ filter (λ c. nat_le c.turn k) l.kept → now.near ≡ filter (λ c. nat_le c.turn k) l.near → now.stride ≡ l.stride → length now.kept ≡ min (length l.kept) (k / l.stride + 1) → AreCheckpoints now
     → AreStatesOf p k now
-states_cut p known k l now are le kept near stride long checkpoints =
+states_cut p known k l now are le formers kept near stride long checkpoints =
     let less : k / l.stride < known / l.stride + 1 = lesser_quotient l.stride known k are.checkpoints.positive le in
     let count : length now.kept ≡ k / l.stride + 1 = omega (arith, long, are.count, less) in
     record {
@@ -123,11 +134,13 @@ states_cut p known k l now are le kept near stride long checkpoints =
       checkpoints = checkpoints;
       count = count ∙ ap (λ s. k / s + 1) (sym stride);
       near = subst (All (IsKeptState p k)) (sym near) (near_cut p known k l.near are.near);
+      formers = formers;
     }
 
 -- they are those of each past that agrees with this one up to there
-pub states_agree : (p q : Past) (known : ℕ) (l : LadderData) → Agree p q known → AreStatesOf p known l → AreStatesOf q known l
-states_agree p q known l agree are = record {
+pub states_agree : (p q : Past) (known : ℕ) (l : LadderData) → Agree p q known → All (IsFormerOf q) l.formers → AreStatesOf p known l → AreStatesOf q known l
+states_agree p q known l agree formers are = record {
+  formers = formers;
   states = λ i d below.
       let c : Checkpoint = get_or l.kept i d in
       let within : c.turn ≤ known = turn_within p known l are i d below in
@@ -141,7 +154,7 @@ states_agree p q known l agree are = record {
 }
 
 -- all states that are kept
-all_kept : (p : Past) (known : ℕ) (l : LadderData) → AreStatesOf p known l → All (IsKeptState p known) (l.kept ++ l.near)
+pub all_kept : (p : Past) (known : ℕ) (l : LadderData) → AreStatesOf p known l → All (IsKeptState p known) (l.kept ++ l.near)
 all_kept p known l are =
     All-append (IsKeptState p known) l.kept l.near
     (λ i d below. record { saved = are.states i d below; within = turn_within p known l are i d below })

@@ -3,6 +3,7 @@ use Rattle.std.proofs.Common.{◌≡◌, ◌∙◌, ◌+◌, ◌/◌, ◌<◌, �
 use Rattle.std.specs.List.{filter}
 use Rattle.std.proofs.Math.Nat.{zero-div}
 use Rattle.pdp_checkpoint.proofs.Checkpoints.{below_is_first, first_checkpoint, turn_at}
+use Rattle.pdp_checkpoint.specs.Formers.{FormerData}
 use Rattle.pdp_checkpoint.specs.Ladder.{AreCheckpoints, LadderData, checkpoint_of}
 use Rattle.pdp_checkpoint.specs.declared.checkpoint.Checkpoint.{Checkpoint}
 use Rattle.pdp_cpu.specs.Saved.{SavedMachineData, saved_machine}
@@ -24,13 +25,13 @@ texts_of_none p q m same keeps = record { text = keeps.text; punched = keeps.pun
 
 -- the first state of the other run is all that is kept of it
 pub kept_anew : (p q : Past) (before after : KeptRun) → untouched_all q.setup ≡ untouched_all p.setup
-    → AreKept p before.known before.machine before.ladder → IsForgotten before after → after.ladder.kept ≡ checkpoint_of (at q 0) ∷ [] → after.ladder.near ≡ [] → AreCheckpoints after.ladder → IsBuiltFrom q.setup after.machine
+    → AreKept p before.known before.machine before.ladder → IsForgotten before after → after.ladder.kept ≡ checkpoint_of (at q 0) ∷ [] → after.ladder.near ≡ [] → after.ladder.formers ≡ [] → AreCheckpoints after.ladder → IsBuiltFrom q.setup after.machine
     → AreKept q after.known after.machine after.ladder
-kept_anew p q before after same kept forgotten is none checkpoints built =
+kept_anew p q before after same kept forgotten is none no_former checkpoints built =
     let texts : KeepsTexts p 0 after.machine =
     texts_cut p before.known 0 before.machine after.machine kept.texts (omega arith) (omega arith) forgotten.text forgotten.punched forgotten.first_touches in
     rw forgotten.known (record {
-      states = states_first q after.ladder is none checkpoints;
+      states = states_first q after.ladder is none no_former checkpoints;
       texts = texts_of_none p q after.machine same texts;
       built = built;
     })
@@ -55,10 +56,10 @@ first_kept p known l are =
     ∙ ap (λ n. take n l.kept) one
     ∙ first_alone p l.kept are.checkpoints.some (λ d. turn_at l 0 d are.checkpoints are.checkpoints.some ∙ omega arith) (λ d. are.states 0 d are.checkpoints.some)
 
-abbrev ladder_of : List Checkpoint → List Checkpoint → ℕ → LadderData
-ladder_of near kept stride = record { kept = kept; stride = stride; near = near }
+abbrev ladder_of : List FormerData → List Checkpoint → List Checkpoint → ℕ → LadderData
+ladder_of formers near kept stride = record { kept = kept; stride = stride; near = near; formers = formers }
 
 -- the state of turn 0 alone makes a ladder of the same stride
 pub checkpoints_anew : (q : Past) (l now : LadderData) → AreCheckpoints l → now.kept ≡ checkpoint_of (at q 0) ∷ [] → now.stride ≡ l.stride → AreCheckpoints now
 checkpoints_anew q l now checkpoints kept stride =
-    subst AreCheckpoints (sym (ap₂ (ladder_of now.near) kept stride)) (first_checkpoint (checkpoint_of (at q 0)) l.stride now.near refl checkpoints.positive checkpoints.widest)
+    subst AreCheckpoints (sym (ap₂ (ladder_of now.formers now.near) kept stride)) (first_checkpoint (checkpoint_of (at q 0)) l.stride now.near now.formers refl checkpoints.positive checkpoints.widest)

@@ -85,9 +85,10 @@ on_way_near p r now near is taken on =
       kept = record {
         states = record {
           states = states.states;
-          checkpoints = checkpoints_beside r.ladder _ states.checkpoints;
+          checkpoints = checkpoints_beside r.ladder _ _ states.checkpoints;
           count = states.count;
           near = near_taken_on p r.known r.ladder.near (checkpoint_of r.machine.state) states.near here;
+          formers = states.formers;
         };
         texts = on.kept.texts;
         built = on.kept.built;

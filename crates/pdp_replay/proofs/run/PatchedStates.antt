@@ -18,7 +18,7 @@ use Rattle.pdp_cpu.specs.Saved.{SavedMachineData, saved_machine_with_word, saved
 use Rattle.pdp_cpu.specs.Turns.MachineState.{MachineWithTexts}
 use Rattle.pdp_replay.specs.Run.FirstTouches.{first_touch, untouched_all, world_changed}
 use Rattle.pdp_store.specs.FirstTouches.{all_first_touches_before, first_touches_after, never}
-use Rattle.pdp_replay.specs.Run.Checkpoints.{AreStatesOf, IsKeptState, KeepsTexts}
+use Rattle.pdp_replay.specs.Run.Checkpoints.{AreStatesOf, IsFormerOf, IsKeptState, KeepsTexts}
 use Rattle.pdp_replay.specs.Past.{Past, with_setup}
 use Rattle.pdp_replay.specs.Past.Setup.{SetupData}
 use Rattle.pdp_replay.specs.Run.States.{at, power, punched_at, state_at, text_at}
@@ -78,9 +78,9 @@ lesser_quotient s known k positive le =
     lt_of_mul-lt-mul_right s (omega arith)
 
 pub states_patched : (part : Part) (i word : ℕ) (p : Past) (s : SetupData) (known k : ℕ) (l now : LadderData) → PowersWith part i word p.setup s
-    → AreStatesOf p known l → k ≤ known → k ≤ first_touch p part (i / 256) known → now ≡ patched_to k (word_at part i) word l
-    → length now.kept ≡ min (length l.kept) (k / l.stride + 1) → AreCheckpoints now → AreStatesOf (with_setup p s) k now
-states_patched part i word p s known k l now powers are le low is long checkpoints =
+    → AreStatesOf p known l → k ≤ known → k ≤ first_touch p part (i / 256) known → now ≡ patched_to k (word_at part i) word now.formers l
+    → All (IsFormerOf (with_setup p s)) now.formers → length now.kept ≡ min (length l.kept) (k / l.stride + 1) → AreCheckpoints now → AreStatesOf (with_setup p s) k now
+states_patched part i word p s known k l now powers are le low is formers long checkpoints =
     let stride : now.stride ≡ l.stride = ap (λ (x : LadderData). x.stride) is in
     let less : k / l.stride < known / l.stride + 1 = lesser_quotient l.stride known k are.checkpoints.positive le in
     let count : length now.kept ≡ k / l.stride + 1 = omega (arith, long, are.count, less) in
@@ -95,6 +95,7 @@ states_patched part i word p s known k l now powers are le low is long checkpoin
       checkpoints = checkpoints;
       count = count ∙ ap (λ n. k / n + 1) (sym stride);
       near = subst (All (IsKeptState (with_setup p s) k)) (sym (ap (λ (x : LadderData). x.near) is)) (All-nil (IsKeptState (with_setup p s) k));
+      formers = formers;
     }
 
 pub texts_patched : (part : Part) (i word : ℕ) (p : Past) (s : SetupData) (known k : ℕ) (m now : MachineWithTexts) → PowersWith part i word p.setup s

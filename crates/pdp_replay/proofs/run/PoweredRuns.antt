@@ -51,9 +51,9 @@ no_texts p m text punched first_touches = record { text = text; punched = punche
 
 -- its first state is all that is kept
 pub powered_kept : (p : Past) (m now : MachineWithTexts) (l : LadderData) → m.state ≡ at p 0 → m.kept_text ≡ [] → m.kept_punched ≡ []
-    → m.first_touches ≡ untouched_all p.setup → now ≡ m → l.kept ≡ checkpoint_of m.state ∷ [] → l.near ≡ [] → AreCheckpoints l → AreKept p 0 now l
-powered_kept p m now l state text punched first_touches same kept none checkpoints = rw same (record {
-  states = states_first p l (kept ∙ ap (λ s. checkpoint_of s ∷ []) state) none checkpoints;
+    → m.first_touches ≡ untouched_all p.setup → now ≡ m → l.kept ≡ checkpoint_of m.state ∷ [] → l.near ≡ [] → l.formers ≡ [] → AreCheckpoints l → AreKept p 0 now l
+powered_kept p m now l state text punched first_touches same kept none no_former checkpoints = rw same (record {
+  states = states_first p l (kept ∙ ap (λ s. checkpoint_of s ∷ []) state) none no_former checkpoints;
   texts = no_texts p m text punched first_touches;
   built = at_is_built p 0 m state;
 })

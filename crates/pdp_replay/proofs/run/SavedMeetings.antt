@@ -7,9 +7,10 @@ use Rattle.pdp_unibus.specs.SavedBusData.{bus_of, saved_bus}
 use Rattle.pdp_operand.specs.Phases.World.{World, world}
 use Rattle.pdp_cpu.specs.Saved.{SavedMachineData, saved_machine}
 use Rattle.pdp_replay.specs.Past.{Past}
-use Rattle.pdp_replay.specs.Run.Checkpoints.{punched_kept_at, text_kept_at, with_turn}
+use Rattle.pdp_replay.specs.Run.Checkpoints.{SameInputsFrom, punched_kept_at, text_kept_at, with_turn}
 use Rattle.pdp_replay.specs.Run.Meetings.{MeetAt, world_over}
-use Rattle.pdp_replay.specs.Run.SavedMeetings.{KeptBytesAreTaken, SameInputsFrom, SavedMachinesAreTaken, SavedMeet}
+use Rattle.pdp_replay.specs.Run.SavedMeetings.{KeptBytesAreTaken, SavedMachinesAreTaken}
+use Rattle.pdp_cpu.specs.Saved.{SavedMeet}
 use Rattle.pdp_replay.specs.Run.States.{at, punched_at, state_at, text_at}
 use Rattle.pdp_replay.proofs.run.Bare.{state_is_bare}
 use Rattle.pdp_replay.proofs.run.GrowingTexts.{grow_alike}

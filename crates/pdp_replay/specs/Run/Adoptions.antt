@@ -1,13 +1,13 @@
 -- A machine that goes on from a saved machine of another run, which its own run meets [P].
 use Rattle.std.specs.Prelude.{ℕ, ◌≡◌, ◌+◌, ◌++◌, drop, length}
 use Rattle.pdp_store.specs.Overlays.{first_touches_over}
-use Rattle.pdp_cpu.specs.Saved.{saved_machine, state_on}
+use Rattle.pdp_cpu.specs.Saved.{SavedMeet, saved_machine, saved_over, state_on}
 use Rattle.pdp_cpu.specs.Turns.MachineState.{MachineWithTexts}
 use Rattle.pdp_replay.specs.Past.{Past}
-use Rattle.pdp_replay.specs.Run.Checkpoints.{KeepsTexts, punched_kept_at, text_kept_at}
+use Rattle.pdp_replay.specs.Run.Checkpoints.{KeepsTexts, SameInputsFrom, punched_kept_at}
+use Rattle.pdp_replay.specs.Run.Checkpoints.{text_kept_at}
 use Rattle.pdp_replay.specs.Run.FirstTouches.{first_touches_at}
 use Rattle.pdp_replay.specs.Run.Meetings.{TouchesNoMore}
-use Rattle.pdp_replay.specs.Run.SavedMeetings.{SameInputsFrom, SavedMeet, saved_over}
 use Rattle.pdp_replay.specs.Run.States.{at, punched_at, text_at}
 
 -- of the run of q a machine takes the bytes that come out in turn c and later, before turn n, and

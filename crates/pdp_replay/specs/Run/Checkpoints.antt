@@ -1,16 +1,19 @@
 -- What an engine keeps of a run: the bytes that came out of it, with their turns, and some of its
 -- states [P].
 use Rattle.std.specs.Prelude.{ℕ, zero, suc, ◌≡◌, ◌≤◌, ◌+◌, ◌/◌, ◌++◌, List, [], length, map}
-use Rattle.std.specs.Prelude.{replicate}
+use Rattle.std.specs.Prelude.{drop, replicate}
 use Rattle.std.specs.List.{All}
+use Rattle.pdp_checkpoint.specs.Formers.{FormerData}
 use Rattle.pdp_checkpoint.specs.Ladder.{AreCheckpoints, LadderData}
 use Rattle.pdp_checkpoint.specs.declared.checkpoint.Checkpoint.{Checkpoint}
 use Rattle.pdp_cpu.specs.Saved.{saved_machine}
 use Rattle.pdp_cpu.specs.KeptTexts.{without_turns}
+use Rattle.pdp_cpu.specs.SavedOutput.{OutputData}
 use Rattle.pdp_cpu.specs.Turns.MachineState.{MachineWithTexts}
 use Rattle.pdp_cpu.specs.Turns.Turn.{printed_in, punched_in}
 use Rattle.pdp_cpu.specs.declared.kept_text.KeptByte.{KeptByte}
 use Rattle.pdp_script.specs.Entries.{events_at}
+use Rattle.pdp_store.specs.FirstTouches.{never}
 use Rattle.pdp_replay.specs.Run.FirstTouches.{first_touches_at}
 use Rattle.pdp_replay.specs.Past.{Past}
 use Rattle.pdp_replay.specs.Past.Setup.{SetupData, core_size, drive_words}
@@ -62,13 +65,48 @@ pub record IsKeptState (p : Past) (known : ℕ) (c : Checkpoint) : Type 0 where
   pub saved : c.saved ≡ saved_machine (at p c.turn)
   pub within : c.turn ≤ known
 
+-- both pasts have the same tape, and the same events in turn c and in each later turn
+pub record SameInputsFrom (c : ℕ) (p q : Past) : Type 0 where
+  pub tape : p.setup.tape ≡ q.setup.tape
+  pub events : (t : ℕ) → c ≤ t → events_at p.script.entries t ≡ events_at q.script.entries t
+
+-- what came out of a run up to a known turn, from some byte on, and its first touches
+pub record IsOutputOf (p : Past) (known : ℕ) (o : OutputData) : Type 0 where
+  pub text : o.text ≡ drop o.text_from (text_kept_at p known)
+  pub punched : o.punched ≡ drop o.punched_from (punched_kept_at p known)
+  pub first_touches : o.first_touches ≡ first_touches_at p known
+
+-- no byte that came out before this state is among those, but as many as are left out
+pub record ComesAfter (o : OutputData) (c : Checkpoint) : Type 0 where
+  pub text : o.text_from ≤ c.saved.text_length
+  pub punched : o.punched_from ≤ c.saved.punched_length
+
+-- a former run is that of another past, with a machine of the same size and the same tape, and with
+-- the same events after the greatest turn that was edited since: its states, and what came out
+pub record IsFormerOf (p : Past) (f : FormerData) : Type 0 where
+  pub past : Past
+  pub inputs : SameInputsFrom (f.edited + 1) p past
+  pub units : past.setup.units ≡ p.setup.units
+  pub drives : past.setup.drives ≡ p.setup.drives
+  pub states : All (IsKeptState past f.known) f.states
+  pub output : IsOutputOf past f.known f.output
+  pub after : All (ComesAfter f.output) f.states
+  pub small : f.known ≤ never
+
 -- the checkpoints are those of the run at turn 0 and at each multiple of the stride up to the known
--- turn, and the states between them are the run's too
+-- turn
+pub record AreCheckpointsOf (p : Past) (known : ℕ) (l : LadderData) : Type 0 where
+  pub states : All (λ c. c.saved ≡ saved_machine (at p c.turn)) l.kept
+  pub checkpoints : AreCheckpoints l
+  pub count : length l.kept ≡ known / l.stride + 1
+
+-- they are, the states between them are the run's too, and the former runs are such
 pub record AreStatesOf (p : Past) (known : ℕ) (l : LadderData) : Type 0 where
   pub states : All (λ c. c.saved ≡ saved_machine (at p c.turn)) l.kept
   pub checkpoints : AreCheckpoints l
   pub count : length l.kept ≡ known / l.stride + 1
   pub near : All (IsKeptState p known) l.near
+  pub formers : All (IsFormerOf p) l.formers
 
 -- what an engine keeps of a run up to the known turn: states, texts, and what no turn changes
 pub record AreKept (p : Past) (known : ℕ) (m : MachineWithTexts) (l : LadderData) : Type 0 where

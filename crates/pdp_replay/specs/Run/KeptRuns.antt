@@ -1,15 +1,17 @@
 -- The run that an engine keeps, between its calls and on the way [P].
 use Rattle.std.specs.Prelude.{ℕ, ◌≡◌, ◌+◌, ◌*◌, ◌-◌, ◌/◌, ◌<◌, ◌≤◌, ◌&&◌, Bool, true, false}
-use Rattle.std.specs.Prelude.{◌++◌, List, [], ◌∷◌, length, max, min, nat_le, nat_lt}
+use Rattle.std.specs.Prelude.{◌++◌, List, [], ◌∷◌, Some, length, max, min, nat_le, nat_lt}
 use Rattle.std.specs.Prelude.{if◌then◌else◌}
-use Rattle.std.specs.List.{filter}
+use Rattle.std.specs.List.{All, filter}
 use Rattle.pdp_store.specs.FirstTouches.{FirstTouches, all_first_touches_before, first_touches_of, never}
+use Rattle.pdp_checkpoint.specs.Formers.{FormerData, IsFormerAfter}
 use Rattle.pdp_checkpoint.specs.Ladder.{AreCheckpoints, LadderData, best_of, checkpoint_of, next_of}
 use Rattle.pdp_checkpoint.specs.Patched.{patched_to}
 use Rattle.pdp_checkpoint.specs.declared.checkpoint.Checkpoint.{Checkpoint}
 use Rattle.pdp_cpu.specs.Drives.{state_with_drives}
 use Rattle.pdp_cpu.specs.KeptTexts.{kept_before}
 use Rattle.pdp_cpu.specs.Saved.{state_cut}
+use Rattle.pdp_cpu.specs.SavedOutput.{output_from}
 use Rattle.pdp_cpu.specs.Turns.MachineState.{MachineState, MachineWithTexts}
 use Rattle.pdp_script.specs.Entries.{events_at}
 use Rattle.pdp_script.specs.Script.{ScriptData}
@@ -61,6 +63,12 @@ pub record IsOnWay (p : Past) (r : KeptRun) : Type 0 where
   pub kept : AreKept p r.known r.machine r.ladder
   pub here : r.machine.state ≡ at p r.machine.state.turn
   pub reached : r.machine.state.turn ≤ r.known
+
+-- so it is of some run with this script
+pub record IsOnWayOf (script : ScriptData) (r : KeptRun) : Type 0 where
+  pub past : Past
+  pub same : past.script ≡ script
+  pub way : IsOnWay past r
 
 -- what is kept is still that of each run with this script that it was of
 abbrev pub KeepsRun : ScriptData → KeptRun → KeptRun → Type 0
@@ -147,13 +155,30 @@ pub record ArrivesAt (to : ℕ) (before after : KeptRun) : Type 0 where
 abbrev pub reached_by : WordAt → KeptRun → ℕ
 reached_by at r = min r.known (first_touch_of at.part (at.number / 256) r.machine.first_touches)
 
+-- what is left of a run for a former run, without its states: what came out of it in this turn and
+-- later, and up to which turn it was known; edits may change the events of turns up to `edited`
+abbrev pub left_run : ℕ → ℕ → KeptRun → FormerData
+left_run turn edited r = record {
+  states = [];
+  output = output_from turn r.machine;
+  edited = edited;
+  known = r.known;
+}
+
+-- the former runs after states of turns above this one were set aside
+abbrev pub AreFormersAfter : ℕ → ℕ → KeptRun → KeptRun → Type 0
+AreFormersAfter turn edited before after =
+    All (IsFormerAfter turn (before.ladder.kept ++ before.ladder.near) before.ladder.formers
+    (Some (left_run turn edited before))) after.ladder.formers
+
 -- a word was given this value in what is kept up to the turn that its patch reaches, the rest was
--- dropped, and the machine is in no state of the run
+-- set aside, and the machine is in no state of the run
 pub record IsPatchedRun (at : WordAt) (word : ℕ) (before after : KeptRun) : Type 0 where
   pub known : after.known ≡ reached_by at before
   pub turn : after.machine.state.turn ≡ before.machine.state.turn
   pub current : after.is_current ≡ false
-  pub ladder : after.ladder ≡ patched_to after.known at word before.ladder
+  pub ladder : after.ladder ≡ patched_to after.known at word after.ladder.formers before.ladder
+  pub formers : AreFormersAfter after.known 0 before after
   pub count : length after.ladder.kept
       ≡ min (length before.ladder.kept) (after.known / before.ladder.stride + 1)
   pub checkpoints : AreCheckpoints after.ladder
@@ -165,13 +190,17 @@ pub record IsPatchedRun (at : WordAt) (word : ℕ) (before after : KeptRun) : Ty
   pub meter : after.meter ≡ before.meter
   pub small : after.known ≤ never
 
--- the state of turn 0 alone
+-- the state of turn 0 alone, and no former run
 abbrev pub cut_to_first : LadderData → LadderData
-cut_to_first l = record l { kept = filter (λ c. nat_le c.turn 0) l.kept; near = [] }
+cut_to_first l = record l { kept = filter (λ c. nat_le c.turn 0) l.kept; near = []; formers = [] }
 
 -- a run with these states between its checkpoints
 abbrev pub with_near : List Checkpoint → KeptRun → KeptRun
 with_near near r = record r { ladder = record r.ladder { near = near } }
+
+-- a run with these former runs
+abbrev pub with_formers : List FormerData → KeptRun → KeptRun
+with_formers formers r = record r { ladder = record r.ladder { formers = formers } }
 
 -- the state with these drives behind those that are there
 abbrev pub with_more_drives : List (List ℕ) → MachineState → MachineState
@@ -186,6 +215,7 @@ with_more_first_touches more f = first_touches_of f.core (f.drives ++ more)
 pub record BeginsAnew (drives touches : List (List ℕ)) (before after : KeptRun) : Type 0 where
   pub kept : after.ladder.kept ≡ checkpoint_of (with_more_drives drives before.machine.state) ∷ []
   pub near : after.ladder.near ≡ []
+  pub formers : after.ladder.formers ≡ []
   pub checkpoints : AreCheckpoints after.ladder
   pub state : after.machine.state
       ≡ state_cut (length after.machine.kept_text) (length after.machine.kept_punched)

@@ -102,14 +102,15 @@ impl Engine {
         ensures after { self.new ≡ event_inserted turn event (for_memory result) self.old }
         ensures refused { OnErr result (self.new ≡ self.old) }
     {
+        let alloc = *self.patches.allocator();
         let number = self.script.insert(turn, event)?;
-        self.run.lower(turn);
+        self.run.lower(alloc, turn, turn);
         Ok(number)
     }
 
     /// Gives the event of this number another turn and event: at the same turn it keeps its place,
     /// at another it goes last among those of the turn. The known turn becomes at most the lesser
-    /// of both turns; no turn is run. Takes no memory.
+    /// of both turns; no turn is run. It needs no memory.
     ///
     /// Err(TurnTooLarge) at a turn above 1,000,000,000; else Err(NoSuchEvent) if no event has this
     /// number. A refused edit changes nothing. [P]
@@ -120,14 +121,15 @@ impl Engine {
         ensures after { self.new ≡ event_altered number turn event self.old }
         ensures refused { OnErr result (self.new ≡ self.old) }
     {
+        let alloc = *self.patches.allocator();
         let before = self.script.turn_of(number).unwrap_or(turn);
         self.script.alter(number, turn, event)?;
-        self.run.lower(before.min(turn));
+        self.run.lower(alloc, before.min(turn), before.max(turn));
         Ok(())
     }
 
     /// Takes the event of this number out of the script. Its number is never given again. The known
-    /// turn becomes at most its turn; no turn is run. Takes no memory.
+    /// turn becomes at most its turn; no turn is run. It needs no memory.
     ///
     /// Err(NoSuchEvent) if no event has this number; nothing changes then. [P]
     #[tactic(auto, unfolding(crate::specs::Past::Edit::event_drop))]
@@ -136,9 +138,10 @@ impl Engine {
         ensures after { self.new ≡ event_dropped number self.old }
         ensures refused { OnErr result (self.new ≡ self.old) }
     {
+        let alloc = *self.patches.allocator();
         let before = self.script.turn_of(number).unwrap_or(0);
         self.script.drop_event(number)?;
-        self.run.lower(before);
+        self.run.lower(alloc, before, before);
         Ok(())
     }
 

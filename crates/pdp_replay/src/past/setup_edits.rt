@@ -59,7 +59,10 @@ impl Engine {
                 self.run.add_drives(alloc, drives)?;
                 self.base_setup.drives = DriveCount::Eight;
             }
-            DriveCount::Eight => self.run.lower(0),
+            DriveCount::Eight => {
+                let alloc = *self.patches.allocator();
+                self.run.lower(alloc, 0, 0);
+            }
         }
         Ok(())
     }
@@ -77,7 +80,8 @@ impl Engine {
         if tape.len() > TAPE_BYTES {
             return Err(Fault::BadImage);
         }
-        self.run.set_tape(tape);
+        let alloc = *self.patches.allocator();
+        self.run.set_tape(alloc, tape);
         Ok(())
     }
 

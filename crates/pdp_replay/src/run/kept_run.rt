@@ -5,7 +5,8 @@ ghost use Rattle.pdp_cpu.specs.Turns.MachineState.{after_turn};
 ghost use Rattle.pdp_cpu.specs.Turns.Turn.{turn_act};
 ghost use Rattle.pdp_script.specs.Entries.{events_at};
 ghost use Rattle.pdp_replay.specs.Run.KeptRuns.{is_current_by, resumed_turn, Advances, ArrivesAt};
-ghost use Rattle.pdp_replay.specs.Run.KeptRuns.{CanGoOn, GoesOn, IsKeptRun, IsOnWay, IsResumed};
+ghost use Rattle.pdp_replay.specs.Run.KeptRuns.{CanGoOn, GoesOn, IsKeptRun, IsOnWay, IsOnWayOf};
+ghost use Rattle.pdp_replay.specs.Run.KeptRuns.{IsResumed};
 ghost use Rattle.pdp_replay.specs.Run.KeptRuns.{IsRunOf, IsSomeRun, IsUnderWay, KeepsRun};
 ghost use Rattle.pdp_replay.specs.Run.KeptRuns.{LeavesKept, with_near};
 ghost use Rattle.pdp_replay.specs.Run.Checkpoints.{AreStatesOf};
@@ -124,11 +125,13 @@ impl KeptRun {
         self.is_current && self.machine.turns() <= turn
     }
 
-    /// Runs the machine on to this turn, with the events of the script.
+    /// Takes the machine on to this turn, with the events of the script: runs it, and where it
+    /// meets a former run, takes states of that run back instead (`take_back`).
     ///
     /// Err if memory was refused; what was kept until then stays.
     fn forward(&mut self, alloc: Global, script: &Script, to: u32) -> Result<(), NoMemory>
         requires ready { CanGoOn self.old }
+        requires run { IsOnWayOf script.now self.old }
         requires forward { self.old.machine.state.turn ≤ to }
         requires limit { to ≤ LAST_TURN }
         ensures kept { LeavesKept script.now self.old self.new }
@@ -138,13 +141,14 @@ impl KeptRun {
     {
         while self.machine.turns() < to {
             self.part(alloc, script, to)?;
+            self.take_back(alloc, to)?;
         }
         Ok(())
     }
 
-    /// Runs the machine towards this turn, to where the run pauses (`next_pause`), but not beyond
-    /// the next turn whose state is to be kept. If it pauses before this turn, the state there is
-    /// kept beside the checkpoints.
+    /// Runs the machine towards this turn, to where the run pauses (`next_pause`) or may meet a
+    /// former run (`meeting`), but not beyond the next turn whose state is to be kept. If it pauses
+    /// before this turn, the state there is kept beside the checkpoints.
     ///
     /// Err if memory was refused; what was kept until then stays.
     fn part(&mut self, alloc: Global, script: &Script, to: u32) -> Result<(), NoMemory>
@@ -157,8 +161,10 @@ impl KeptRun {
         ensures arrives { OnOk result (ArrivesAt self.new.machine.state.turn self.old self.new) }
         ensures advances { Advances self.old.machine.state.turn to self.old self.new }
     {
-        let pause = next_pause(self.machine.turns(), to, self.ladder.stride());
-        self.leg(alloc, script, pause)?;
+        let edited = self.ladder.edited();
+        let pause = next_pause(self.machine.turns(), edited, to, self.ladder.stride());
+        let meeting = self.meeting(pause);
+        self.leg(alloc, script, meeting)?;
         self.keep_near(alloc, pause, to);
         Ok(())
     }

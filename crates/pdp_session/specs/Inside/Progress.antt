@@ -13,13 +13,13 @@ use Rattle.pdp_session.specs.Language.{Language, text_to}
 use Rattle.pdp_session.specs.Lines.{longest_line, is_line_feed, ended_lines, lines_of}
 use Rattle.pdp_session.specs.Reply.{refusal_text}
 use Rattle.pdp_session.specs.Search.{found_text, search_result}
-use Rattle.pdp_session.specs.Streams.{OutputData}
+use Rattle.pdp_session.specs.Streams.{DrainData}
 use Rattle.pdp_session.specs.Inside.Sends.{Sent, Sends}
 use Rattle.pdp_session.specs.Session.{replies, OnlyForMemory, RepliesTo, BeginsReplies}
 
 -- what answering one line of a language does
 pub record Serves {T E : Type 0} (language : Language) (line : List ℕ) (past now : Past)
-    (output output_after : OutputData) (result : Result T E) : Type 0 where
+    (output output_after : DrainData) (result : Result T E) : Type 0 where
   pub refused : Bool
   pub only : refused ≡ true → text_to language line refused past ≡ refusal_text
       NoMemory
@@ -28,7 +28,7 @@ pub record Serves {T E : Type 0} (language : Language) (line : List ℕ) (past n
 
 -- what making one search does
 pub record ServesSearch {T E : Type 0} (search : Search) (past now : Past)
-    (output output_after : OutputData) (result : Result T E) : Type 0 where
+    (output output_after : DrainData) (result : Result T E) : Type 0 where
   pub refused : Bool
   pub only : refused ≡ true → found_text (question_answer (search_result search past) refused)
       ≡ refusal_text NoMemory
@@ -75,21 +75,21 @@ pub record Reached (language : Language) (past : Past) (done out held : List ℕ
 
 -- `more` was written, and the session goes on
 pub record Goes (language : Language) (past : Past) (done out : List ℕ)
-    (output output_after : OutputData) (held : List ℕ) (now : Past) : Type 0 where
+    (output output_after : DrainData) (held : List ℕ) (now : Past) : Type 0 where
   pub more : List ℕ
   pub sent : Sent more output output_after
   pub reached : Reached language past done (out ++ more) held now
 
 -- `more` was written before the writer failed, within the replies to whatever begins with `done`
 pub record Breaks (language : Language) (past : Past) (done out : List ℕ)
-    (output output_after : OutputData) : Type 0 where
+    (output output_after : DrainData) : Type 0 where
   pub more : List ℕ
   pub writes : Appends output.written output_after.written more
   pub failed : output_after.has_failed ≡ true
   pub broken : (next : List ℕ) → BeginsReplies language past (lines_of (done ++ next)) (out ++ more)
 
 -- what the next bytes do, after which `done` was read
-abbrev pub Moves : {T E : Type 0} → Language → Past → List ℕ → List ℕ → OutputData → OutputData
+abbrev pub Moves : {T E : Type 0} → Language → Past → List ℕ → List ℕ → DrainData → DrainData
     → List ℕ → Past → Result T E → Type 0
 Moves language past done out output output_after held now (Ok x) =
     Goes language past done out output output_after held now
@@ -98,26 +98,26 @@ Moves language past done out output output_after held now (Err e) =
 
 -- from wherever a session has come to, these bytes move it on
 abbrev pub Takes : {T E : Type 0} → Language → List ℕ → List ℕ → List ℕ → Past → Past
-    → OutputData → OutputData → Result T E → Type 0
+    → DrainData → DrainData → Result T E → Type 0
 Takes language bytes held held_after now now_after output output_after result =
     (past : Past) (done out : List ℕ) → Reached language past done out held now
     → Moves language past (done ++ bytes) out output output_after held_after now_after result
 
 -- what the end of the input does
 pub record Completes (language : Language) (past : Past) (done out : List ℕ)
-    (output output_after : OutputData) : Type 0 where
+    (output output_after : DrainData) : Type 0 where
   pub more : List ℕ
   pub sent : Sent more output output_after
   pub answers : RepliesTo language past (lines_of done) (out ++ more)
 
 pub record BreaksOff (language : Language) (past : Past) (done out : List ℕ)
-    (output output_after : OutputData) : Type 0 where
+    (output output_after : DrainData) : Type 0 where
   pub more : List ℕ
   pub writes : Appends output.written output_after.written more
   pub failed : output_after.has_failed ≡ true
   pub begins : BeginsReplies language past (lines_of done) (out ++ more)
 
-abbrev pub Finishes : {T E : Type 0} → Language → Past → List ℕ → List ℕ → OutputData → OutputData
+abbrev pub Finishes : {T E : Type 0} → Language → Past → List ℕ → List ℕ → DrainData → DrainData
     → Result T E → Type 0
 Finishes language past done out output output_after (Ok x) =
     Completes language past done out output output_after
@@ -126,7 +126,7 @@ Finishes language past done out output output_after (Err e) =
 
 -- from wherever a session has come to, the end of the input finishes it
 abbrev pub TakesEnd
-    : {T E : Type 0} → Language → List ℕ → Past → OutputData → OutputData → Result T E
+    : {T E : Type 0} → Language → List ℕ → Past → DrainData → DrainData → Result T E
     → Type 0
 TakesEnd language held now output output_after result =
     (past : Past) (done out : List ℕ) → Reached language past done out held now

@@ -1,10 +1,11 @@
 //! What is saved of a bus, so that it can be looked at again as it was.
 
-ghost use Rattle.std.specs.Prelude.{◌≡◌, IfOk};
+ghost use Rattle.std.specs.Prelude.{◌≡◌, length, map, IfOk};
 ghost use Rattle.pdp_unibus.specs.BusWorld.{with_first_touches};
 ghost use Rattle.pdp_unibus.specs.SavedBusData.{HasSizesOf, saved_bus, bus_of};
 ghost use Rattle.pdp_unibus.specs.SavedBusData.{IsCoreOf, IsCoreOfSize, with_core_of};
-ghost use Rattle.pdp_unibus.specs.SavedBusData.{saved_bus_with_delays, bus_with_tape};
+ghost use Rattle.pdp_unibus.specs.SavedBusData.{saved_bus_with_core, saved_bus_with_delays};
+ghost use Rattle.pdp_unibus.specs.SavedBusData.{bus_with_tape};
 
 use crate::bus::Bus;
 use crate::delays::Delays;
@@ -17,6 +18,7 @@ use std::alloc::Global;
 use std::marker::Model;
 use std::rc::Rc;
 
+mod overlay;
 mod patched_page;
 
 pub use patched_page::{NewPages, PatchedPage};
@@ -118,6 +120,16 @@ impl Bus<Paged, PagedDrive> {
             ≡ with_first_touches (bus_of self.old.tape saved.now) self.old.first_touches }
     {
         self.load_core(&saved.core);
+        self.load_devices(saved);
+    }
+
+    // Makes all but core and the first touches the saved ones.
+    fn load_devices(&mut self, saved: &SavedBus)
+        requires { map length saved.now.drives ≡ map length self.old.drives }
+        ensures { self.new ≡ with_first_touches (bus_of self.old.tape
+            (saved_bus_with_core self.old.core self.old.stamps saved.now))
+            self.old.first_touches }
+    {
         load_each(&mut self.drives, &saved.drives);
         self.watch = Watch::unknown();
         self.direct = 0;

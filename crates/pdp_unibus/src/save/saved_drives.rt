@@ -1,6 +1,7 @@
 //! The drives as shared pages: taken, and loaded again.
 
-ghost use Rattle.std.specs.Prelude.{◌≡◌, ◌<◌, [], length, map, slice_index_or, slice_set, IfOk};
+ghost use Rattle.std.specs.Prelude.{◌≡◌, ◌<◌, ◌↔◌, [], length, map, slice_index_or, slice_set};
+ghost use Rattle.std.specs.Prelude.{true, IfOk};
 ghost use Rattle.pdp_unibus.specs.PatchedPages.{IsNumberedBy, IsPageWith, given_by_core};
 ghost use Rattle.pdp_unibus.specs.PatchedPages.{given_by_drives};
 ghost use Rattle.pdp_unibus.specs.SavedDrives.{pages_stamps, pages_words};
@@ -94,6 +95,33 @@ fn load_one<D: SharedPaging>(drives: &mut Vec<D>, pages: &Vec<Pages>, number: us
         ≡ map D.first_touches drives.old.items }
 {
     drives[number].load_pages(&pages[number]);
+}
+
+/// Whether the words of each drive are those of the pages of its number.
+pub(crate) fn each_has_words<D: SharedPaging>(drives: &Vec<D>, pages: &Vec<Pages>) -> bool
+    requires { map length (map pages_words pages.now.items) ≡ map length
+        (map D.words drives.now.items) }
+    ensures { (result ≡ true) ↔ (map D.words drives.now.items ≡ map pages_words pages.now.items) }
+{
+    for number in 0..drives.len() {
+        if !one_has_words(drives, pages, number) {
+            return false;
+        }
+    }
+    true
+}
+
+/// Whether the words of the drive of this number are those of these pages of this number.
+#[tactic(auto, using(crate::proofs::SavedDrives::seen))]
+fn one_has_words<D: SharedPaging>(drives: &Vec<D>, pages: &Vec<Pages>, number: usize) -> bool
+    requires within { number < length drives.now.items }
+    requires there { number < length pages.now.items }
+    requires words { length (slice_index_or (map pages_words pages.now.items) number []) ≡ length
+        (slice_index_or (map D.words drives.now.items) number []) }
+    ensures { (result ≡ true) ↔ (slice_index_or (map D.words drives.now.items) number []
+        ≡ slice_index_or (map pages_words pages.now.items) number []) }
+{
+    drives[number].has_words(&pages[number])
 }
 
 /// The page of a word in these pages, which are those of the drive of this number, with the word

@@ -1,21 +1,33 @@
-use Rattle.std.proofs.Common.{◌≡◌, ◌++◌, ◌+◌, ◌<◌, ℕ, List, None, Option, drop, get_or, length, slice_set, take}
-use Rattle.pdp_store.specs.declared.Stamp.{Stamp}
-use Rattle.pdp_store.specs.Overlays.{stamp_over, stamps_over}
-use Rattle.pdp_store.specs.Pages.{stamps_of}
-use Rattle.pdp_store.proofs.Overlays.{all_laid, laid_more}
+use Rattle.std.proofs.Common.{◌≡◌, subst, sym}
+use Rattle.pdp_store.specs.Overlays.{laid_to}
+use Rattle.pdp_store.specs.Pages.{page_stamps, stamps_of}
+use Rattle.pdp_store.proofs.PageRuns.{put_ends}
+use Rattle.pdp_store.proofs.Overlays.{all_pages_laid, page_is_part, room_to_lay}
 use Rattle.pdp_store.proofs.overlay.lay_over.Goals as goal
 
-preserved : (turn : ℕ) (under over items : List (Option Stamp)) (k : ℕ) (read now : Option Stamp) → k < length under → length over ≡ length under
-    → items ≡ take k (stamps_over turn under over) ++ drop k under → read ≡ get_or over k None → now ≡ stamp_over turn (get_or items k None) read
-    → slice_set items k now ≡ take (k + 1) (stamps_over turn under over) ++ drop (k + 1) under
-preserved turn under over items k read now below same is here left =
-    rw (left, here, is) (laid_more turn under over k None None below same)
+pub lay_page-at-requires : goal.lay_page-at-requires
+unfolding stamps_of
+lay_page-at-requires c =
+    room_to_lay c.args.turn c.loop-page.page-index c.loop-page.at c.args.pages.now c.args.stamps.now c.loop-page.stamps c.stamps_in.result.now c.page-item.result
+    c.loop-page.invariant.here c.requires c.loop-page.invariant.laid c.loop-page-test.true c.page-item.is c.stamps_in.ensures
 
-pub loop-k-preserved : goal.loop-k-preserved
-loop-k-preserved c =
-    preserved c.args.turn c.args.stamps.now (stamps_of c.args.pages.now) c.loop-k.stamps c.loop-k.k c.last_at.result c.stamp_over.result
-    c.loop-k-test.true c.requires.many c.loop-k.invariant c.last_at.ensures c.stamp_over.ensures
+pub loop-page-preserved : goal.loop-page-preserved
+unfolding stamps_of
+loop-page-preserved c =
+    let at = c.loop-page.at in
+    let pages = c.args.pages.now in
+    let before = c.loop-page.invariant in
+    let end = c.lay_page-at.ensures.end in
+    record {
+      here = put_ends page_stamps pages c.loop-page.page-index at _ c.stamps_in.result.now c.page-item.result end before.here c.loop-page-test.true c.page-item.is c.stamps_in.ensures;
+      laid = subst (λ n. c.lay_page-at.new.stamps ≡ laid_to n c.args.turn c.args.stamps.now (stamps_of pages)) (sym end)
+          (c.lay_page-at.ensures.laid c.args.stamps.now (stamps_of pages) c.requires
+          (λ k within. page_is_part c.loop-page.page-index at k pages c.stamps_in.result.now c.page-item.result before.here c.loop-page-test.true c.page-item.is c.stamps_in.ensures within)
+          before.laid);
+    }
 
 pub returns : goal.returns
+unfolding stamps_of
 returns c =
-    all_laid c.args.turn c.args.stamps.now (stamps_of c.args.pages.now) c.loop-k.stamps c.loop-k.k c.loop-k-test.false c.requires.many c.loop-k.invariant
+    let before = c.loop-page.invariant in
+    all_pages_laid c.args.turn c.loop-page.page-index c.loop-page.at c.args.pages.now c.args.stamps.now c.loop-page.stamps before.here c.requires c.loop-page-test.false before.laid

@@ -4,7 +4,7 @@ use Rattle.pdp_checkpoint.proofs.ladder.Ladder.best.Goals as goal
 
 best : (c : goal.After-index) → IsBest c.args.self.now c.args.turn c.index.result.now
 best c =
-    let l : LadderData = record { kept = c.self.inside.kept.items; stride = c.self.inside.stride; near = c.self.inside.near.items } in
+    let l : LadderData = record { kept = c.self.inside.kept.items; stride = c.self.inside.stride; near = c.self.inside.near.items; formers = c.self.inside.formers.items } in
     rw (← c.self.view_is) (is_best l c.args.turn c.index.result.now c.self.invariant cc)
 
 pub returns-clause-turn : goal.returns-clause-turn

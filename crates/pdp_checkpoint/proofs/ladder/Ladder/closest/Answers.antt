@@ -1,6 +1,6 @@
 use Rattle.std.proofs.Common.{◌≡◌, ◌∙◌, ◌++◌, ap, append-nil, arith, get_or, subst}
 use Rattle.std.proofs.lemmas.List.{take_all}
-use Rattle.pdp_checkpoint.specs.Ladder.{IsClosest}
+use Rattle.pdp_checkpoint.specs.Formers.{IsClosest}
 use Rattle.pdp_checkpoint.proofs.Closest.{looked_at_more, now_closest, still_closest}
 use Rattle.pdp_checkpoint.proofs.ladder.Ladder.closest.Goals as goal
 use Rattle.pdp_checkpoint.proofs.ladder.Ladder.closest.Goals.{then-closest-state+then-state-turn, else-closest-state, else-closest-state-via-then-closest-state+else-state-turn, else-closest-state-via-else-closest-state}

@@ -1,5 +1,6 @@
 use Rattle.std.proofs.Common.{◌≤◌, ◌*◌, ◌++◌, take}
-use Rattle.pdp_checkpoint.specs.Ladder.{IsClosest, best_of}
+use Rattle.pdp_checkpoint.specs.Formers.{IsClosest}
+use Rattle.pdp_checkpoint.specs.Ladder.{best_of}
 use Rattle.pdp_checkpoint.proofs.ladder.Ladder.closest.Given as goal
 
 abbrev pub invariant-loop-state : goal.invariant-loop-state

@@ -5,13 +5,13 @@ use Rattle.pdp_checkpoint.proofs.ladder.Ladder.cut.Goals as goal
 
 pub invariant_of-self : goal.invariant_of-self
 invariant_of-self c =
-    let l : LadderData = record { kept = c.self.inside.kept.items; stride = c.self.inside.stride; near = c.self.inside.near.items } in
+    let l : LadderData = record { kept = c.self.inside.kept.items; stride = c.self.inside.stride; near = c.self.inside.near.items; formers = c.self.inside.formers.items } in
     let cut = checkpoints_cut l (c.args.turn / l.stride + 1) c.self.invariant (omega arith) in
-    rw c.truncate.ensures.items (checkpoints_beside _ c.cut_near.new.near.items cut)
+    rw c.truncate.ensures.items (checkpoints_beside _ c.cut_near.new.near.items c.self.inside.formers.items cut)
 
 pub returns-clause-kept : goal.returns-clause-kept
 returns-clause-kept c =
-    let l : LadderData = record { kept = c.self.inside.kept.items; stride = c.self.inside.stride; near = c.self.inside.near.items } in
+    let l : LadderData = record { kept = c.self.inside.kept.items; stride = c.self.inside.stride; near = c.self.inside.near.items; formers = c.self.inside.formers.items } in
     rw (← c.self.view_is) (c.truncate.ensures.items ∙ sym (below_is_first l c.args.turn c.self.invariant))
 
 pub returns-clause-checkpoints : goal.returns-clause-checkpoints

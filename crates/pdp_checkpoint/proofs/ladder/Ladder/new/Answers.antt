@@ -7,7 +7,7 @@ pub invariant_of-result : goal.invariant_of-result
 invariant_of-result c =
     let first : Checkpoint = record { turn = 0; saved = c.in_ok-saved.saved } in
     let is : c.push.new.self.items ≡ first ∷ [] = c.in_ok-push.ensures.items ∙ ap (λ xs. xs ++ first ∷ []) c.new-kept.ensures.items in
-    rw is (first_checkpoint first c.args.stride _ refl c.requires.some c.requires.widest)
+    rw is (first_checkpoint first c.args.stride _ _ refl c.requires.some c.requires.widest)
 
 pub returns-clause-checkpoints : goal.returns-clause-checkpoints
 returns-clause-checkpoints c = invariant_of-result c

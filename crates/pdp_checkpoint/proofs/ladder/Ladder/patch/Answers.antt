@@ -1,4 +1,4 @@
-use Rattle.std.proofs.Common.{rules, ◌≡◌, All, ap, arith, length, length-take, map, nat_le, subst, sym, take, ◌∙◌}
+use Rattle.std.proofs.Common.{rules, ◌≡◌, All, ap, arith, length, length-take, nat_le, subst, sym, take, ◌∙◌}
 use Rattle.std.specs.List.{filter}
 use Rattle.std.proofs.lemmas.List.Elements.{All-take}
 use Rattle.std.specs.Vec.{with_items}
@@ -9,7 +9,7 @@ use Rattle.pdp_cpu.specs.Saved.{HasWord}
 use Rattle.pdp_checkpoint.specs.declared.checkpoint.Checkpoint.{Checkpoint}
 use Rattle.pdp_checkpoint.specs.Ladder.{LadderData}
 use Rattle.pdp_checkpoint.proofs.PatchedCheckpoints.{IsPatchedTo, first_are_low, is_patched_to, same_change}
-use Rattle.pdp_checkpoint.specs.Patched.{HavePageAlike}
+use Rattle.pdp_checkpoint.specs.Patched.{AreNewPagesFor, HavePageAlike}
 use Rattle.pdp_checkpoint.proofs.ladder.Ladder.patch.Goals as goal
 
 pub new-requires-clause-some : goal.new-requires-clause-some
@@ -23,22 +23,39 @@ new-requires-clause-there c =
 
 pub new-requires-clause-alike : goal.new-requires-clause-alike
 new-requires-clause-alike c =
-    let l : LadderData = record { kept = c.self.inside.kept.items; stride = c.self.inside.stride; near = c.self.inside.near.items } in
+    let l : LadderData = record { kept = c.self.inside.kept.items; stride = c.self.inside.stride; near = c.self.inside.near.items; formers = c.self.inside.formers.items } in
     let low = first_are_low l c.args.turn (take c.min-count.result c.deref.result.now) c.self.invariant (cc) in
     let alike = HavePageAlike (word_at (part_of c.args.drive) c.args.word) in
     rw c.of.ensures (subst alike (sym low) (subst (λ (x : LadderData). alike (filter (λ s. nat_le s.turn c.args.turn) x.kept)) (sym c.self.view_is) c.requires.alike))
 
+-- what is left of the checkpoints are those up to the turn
+low : (c : goal.After-self-1) → c.deref_mut.result.now ≡ filter (λ s. nat_le s.turn c.args.turn) c.self.inside.kept.items
+low c =
+    c.deref_mut.ensures.value ∙ ap (λ (l : LadderData). l.kept) c.self-2.view_is ∙ c.set_aside.ensures.kept
+    ∙ ap (λ (l : LadderData). filter (λ s. nat_le s.turn c.args.turn) l.kept) (sym c.self.view_is)
+
 after : (c : goal.After-self-1)
-    → IsPatchedTo c.args.turn (word_at (part_of c.args.drive) c.args.word) c.args.value (record { kept = c.self.inside.kept.items; stride = c.self.inside.stride; near = c.self.inside.near.items }) (record { kept = (with_items c.truncate.new.self c.put.new.kept).items; stride = c.self.inside.stride; near = c.clear.new.self.items })
+    → IsPatchedTo c.args.turn (word_at (part_of c.args.drive) c.args.word) c.args.value (record { kept = c.self.inside.kept.items; stride = c.self.inside.stride; near = c.self.inside.near.items; formers = c.self.inside.formers.items })
+    (record { kept = (with_items c.self-2.inside.kept c.put.new.kept).items; stride = c.self-2.inside.stride; near = c.clear.new.self.items; formers = c.self-2.inside.formers.items })
 after c =
-    let l : LadderData = record { kept = c.self.inside.kept.items; stride = c.self.inside.stride; near = c.self.inside.near.items } in
-    let as_many : length c.put.new.kept ≡ c.truncate.new.self.len = search rules in
+    let l : LadderData = record { kept = c.self.inside.kept.items; stride = c.self.inside.stride; near = c.self.inside.near.items; formers = c.self.inside.formers.items } in
+    let as_many : length c.put.new.kept ≡ c.self-2.inside.kept.len = search rules in
     let at = word_at (part_of c.args.drive) c.args.word in
     let made : IsPatchOf at c.args.value c.in_ok-patch.patch.page =
     subst (λ x. IsPatchOf (word_at x c.args.word) c.args.value c.in_ok-patch.patch.page) c.of.ensures c.in_ok-patch.ensures.patch in
-    rw c.clear.ensures.items (is_patched_to l c.args.turn at c.args.value c.truncate.new.self.items _ c.self.invariant (c.truncate.ensures.items ∙ cc)
-    (rewrapped c.put.new.kept c.truncate.new.self.items c.truncate.new.self.len as_many ∙ c.put.ensures ∙ ap (map _) c.deref_mut.ensures.value
-    ∙ same_change c.in_ok-patch.patch.page at c.args.value c.truncate.new.self.items made))
+    let stride : c.self-2.inside.stride ≡ l.stride = ap (λ (x : LadderData). x.stride) c.self-2.view_is ∙ c.set_aside.ensures.stride ∙ ap (λ (x : LadderData). x.stride) (sym c.self.view_is) in
+    rw (c.clear.ensures.items, stride) (is_patched_to l c.args.turn at c.args.value c.deref_mut.result.now _ c.self-2.inside.formers.items c.self.invariant (low c)
+    (rewrapped c.put.new.kept c.self-2.inside.kept.items c.self-2.inside.kept.len as_many ∙ c.put.ensures
+    ∙ same_change c.in_ok-patch.patch.page at c.args.value c.deref_mut.result.now made))
+
+pub put-requires : goal.put-requires
+put-requires c =
+    let l : LadderData = record { kept = c.self.inside.kept.items; stride = c.self.inside.stride; near = c.self.inside.near.items; formers = c.self.inside.formers.items } in
+    let first = first_are_low l c.args.turn (take c.min-count.result c.deref.result.now) c.self.invariant (cc) in
+    let left : c.deref_mut.result.now ≡ filter (λ s. nat_le s.turn c.args.turn) l.kept =
+    c.deref_mut.ensures.value ∙ ap (λ (l : LadderData). l.kept) c.self-2.view_is ∙ c.set_aside.ensures.kept
+    ∙ ap (λ (l : LadderData). filter (λ s. nat_le s.turn c.args.turn) l.kept) (sym c.self.view_is) in
+    subst (λ xs. AreNewPagesFor c.in_ok-patch.patch.page xs c.in_ok-patch.patch.pages.items) (first ∙ sym left) c.in_ok-patch.ensures.pages
 
 pub invariant_of-self : goal.invariant_of-self
 invariant_of-self c = (after c).checkpoints

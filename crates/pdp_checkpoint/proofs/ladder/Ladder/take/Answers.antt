@@ -4,9 +4,9 @@ use Rattle.pdp_checkpoint.proofs.Checkpoints.{IsPushed, IsTaken, pushed_in_room,
 use Rattle.pdp_checkpoint.proofs.ladder.Ladder.take.Goals as goal
 
 in_room : (c : goal.Else-len-gt-MOST_KEPT)
-    → IsTaken c.args.self.now (checkpoint_of c.args.machine.now.state) (record { kept = c.push.new.self.items; stride = c.self.inside.stride; near = c.self.inside.near.items })
+    → IsTaken c.args.self.now (checkpoint_of c.args.machine.now.state) (record { kept = c.push.new.self.items; stride = c.self.inside.stride; near = c.self.inside.near.items; formers = c.self.inside.formers.items })
 in_room c =
-    let now : LadderData = record { kept = c.push.new.self.items; stride = c.self.inside.stride; near = c.self.inside.near.items } in
+    let now : LadderData = record { kept = c.push.new.self.items; stride = c.self.inside.stride; near = c.self.inside.near.items; formers = c.self.inside.formers.items } in
     let pushed : IsPushed c.args.self.now c.args.machine.now.state now c.next-turn.result c.in_ok-saved.saved = record {
       checkpoints = c.next-turn.ensures.checkpoints;
       next = c.requires.next;
@@ -16,13 +16,14 @@ in_room c =
       kept = rw (← c.self.view_is) c.in_ok-push.ensures.items;
       stride = ap (λ l. l.stride) c.self.view_is;
       near = ap (λ l. l.near) c.self.view_is;
+      formers = ap (λ l. l.formers) c.self.view_is;
     } in
     pushed_in_room c.args.self.now c.args.machine.now.state now c.next-turn.result c.in_ok-saved.saved pushed (omega arith)
 
 at_full : (c : goal.After-thin)
-    → IsTaken c.args.self.now (checkpoint_of c.args.machine.now.state) (record { kept = c.thin.new.kept.items; stride = c.self.inside.stride * 2; near = c.self.inside.near.items })
+    → IsTaken c.args.self.now (checkpoint_of c.args.machine.now.state) (record { kept = c.thin.new.kept.items; stride = c.self.inside.stride * 2; near = c.self.inside.near.items; formers = c.self.inside.formers.items })
 at_full c =
-    let now : LadderData = record { kept = c.push.new.self.items; stride = c.self.inside.stride; near = c.self.inside.near.items } in
+    let now : LadderData = record { kept = c.push.new.self.items; stride = c.self.inside.stride; near = c.self.inside.near.items; formers = c.self.inside.formers.items } in
     let pushed : IsPushed c.args.self.now c.args.machine.now.state now c.next-turn.result c.in_ok-saved.saved = record {
       checkpoints = c.next-turn.ensures.checkpoints;
       next = c.requires.next;
@@ -32,6 +33,7 @@ at_full c =
       kept = rw (← c.self.view_is) c.in_ok-push.ensures.items;
       stride = ap (λ l. l.stride) c.self.view_is;
       near = ap (λ l. l.near) c.self.view_is;
+      formers = ap (λ l. l.formers) c.self.view_is;
     } in
     rw c.thin.ensures (pushed_at_full c.args.self.now c.args.machine.now.state now c.next-turn.result c.in_ok-saved.saved pushed (omega arith))
 

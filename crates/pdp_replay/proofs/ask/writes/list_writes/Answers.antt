@@ -54,6 +54,9 @@ loop-writes-preserved c =
           begun (omega (arith, on)) (next.write p same (before.way p same under)) next.arrives.turn (before.listed p same under) c.in_ok-add.ensures.items;
     }
 
+pub returns-in_err-write-clause-kept : goal.returns-in_err-write-clause-kept
+returns-in_err-write-clause-kept c = λ p same under. c.next_write.ensures.kept p same (c.loop-writes.invariant.way p same under)
+
 pub returns-in_err-write-clause-advances : goal.returns-in_err-write-clause-advances
 returns-in_err-write-clause-advances c = advanced (goal.at.returns-in_err-write-clause-advances c).After-next_write
 

@@ -1,21 +1,12 @@
-use Rattle.std.proofs.Common.{◌≡◌, ◌∙◌, ℕ, Err, Ok, Result, ap, arith, false, min, refl, subst, sym, unwrap_or}
+use Rattle.std.proofs.Common.{◌≡◌, ◌∙◌, ◌≤◌, All, ℕ, ap, arith, max, min, subst, sym, unwrap_or}
 use Rattle.pdp_operand.specs.Phases.World.{World}
 use Rattle.pdp_script.specs.Entries.{entry_of}
-use Rattle.pdp_script.specs.Refusal.{edit_answer, past_left}
-use Rattle.pdp_script.specs.Script.{ScriptData}
-use Rattle.pdp_script.specs.declared.faults.Fault.{Fault}
 use Rattle.pdp_replay.specs.Past.{Past, past_from}
 use Rattle.pdp_replay.specs.Past.Setup.{setup_from}
 use Rattle.pdp_replay.specs.Timeline.{IsEngine}
 use Rattle.pdp_replay.proofs.past.EditedEngines.{engine_edited}
-use Rattle.pdp_replay.proofs.past.EditedStates.{SameBefore, same_before_alteration, turn_or}
+use Rattle.pdp_replay.proofs.past.EditedStates.{SameAfter, SameBefore, refused_left, same_after_alteration, same_before_alteration, turn_or}
 use Rattle.pdp_replay.proofs.engine.Engine.alter.Goals as goal
-
--- a refused edit leaves the script
-refused_left : (due : Result ScriptData Fault) (old : ScriptData) (result : Result (Unit {0}) Fault) (fault : Fault) → result ≡ edit_answer due false tt
-    → result ≡ Err fault → past_left due false old ≡ old
-refused_left (Err other) old result fault answer is = refl
-refused_left (Ok new) old result fault answer is = absurd (cc (answer, is))
 
 pub invariant_of-self : goal.invariant_of-self
 invariant_of-self c =
@@ -39,6 +30,11 @@ invariant_of-self-2 c =
     let back : c.min.result ≡ reached = omega (arith, c.min.ensures, before) in
     let same : SameBefore reached old.script script =
     subst (SameBefore reached old.script) (sym c.alter.ensures.after) (same_before_alteration c.args.number turn c.args.event old.script) in
-    engine_edited p q reached old.highest old.run run c.self.invariant
-    (ap (λ (w : World). setup_from old.base_setup w.bus.tape old.delays old.patches) (sym lower.world)) same
+    let edited : ℕ = max (turn_or turn (entry_of old.script.entries c.args.number)) turn in
+    let last : c.max.result ≡ edited = omega (arith, c.max.ensures, before) in
+    let later : SameAfter edited old.script script =
+    subst (SameAfter edited old.script) (sym c.alter.ensures.after) (same_after_alteration c.args.number turn c.args.event old.script) in
+    engine_edited p q reached edited old.highest old.run run c.self.invariant
+    (ap (λ (w : World). setup_from old.base_setup w.bus.tape old.delays old.patches) (sym lower.world)) same later
+    (subst (λ n. All (λ f. n ≤ f.edited) run.ladder.formers) last lower.formers)
     (lower.known ∙ ap (min old.run.known) back) lower.stride (lower.run p c.self.invariant.run)

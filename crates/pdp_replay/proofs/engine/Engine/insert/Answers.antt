@@ -4,7 +4,7 @@ use Rattle.pdp_script.specs.Refusal.{for_memory}
 use Rattle.pdp_replay.specs.Past.{Past, past_from}
 use Rattle.pdp_replay.specs.Past.Setup.{setup_from}
 use Rattle.pdp_replay.proofs.past.EditedEngines.{engine_edited}
-use Rattle.pdp_replay.proofs.past.EditedStates.{SameBefore, same_before_insertion}
+use Rattle.pdp_replay.proofs.past.EditedStates.{SameAfter, SameBefore, same_after_insertion, same_before_insertion}
 use Rattle.pdp_replay.proofs.engine.Engine.insert.Goals as goal
 
 pub invariant_of-self-2 : goal.invariant_of-self-2
@@ -18,6 +18,8 @@ invariant_of-self-2 c =
     let lower = c.lower.ensures in
     let same : SameBefore turn old.script script =
     subst (SameBefore turn old.script) (sym c.insert.ensures.after) (same_before_insertion turn c.args.event (for_memory c.insert.result) old.script) in
-    engine_edited p q turn old.highest old.run run c.self.invariant
-    (ap (λ (w : World). setup_from old.base_setup w.bus.tape old.delays old.patches) (sym lower.world)) same lower.known lower.stride
+    let later : SameAfter turn old.script script =
+    subst (SameAfter turn old.script) (sym c.insert.ensures.after) (same_after_insertion turn c.args.event (for_memory c.insert.result) old.script) in
+    engine_edited p q turn turn old.highest old.run run c.self.invariant
+    (ap (λ (w : World). setup_from old.base_setup w.bus.tape old.delays old.patches) (sym lower.world)) same later lower.formers lower.known lower.stride
     (lower.run p c.self.invariant.run)

@@ -9,7 +9,7 @@ use Rattle.pdp_replay.specs.Past.Edit.{revert_edit}
 use Rattle.pdp_replay.specs.Past.{Past, past_from}
 use Rattle.pdp_replay.specs.Past.PatchedWords.{is_same_word, patch_of}
 use Rattle.pdp_replay.specs.Past.Setup.{setup_of}
-use Rattle.pdp_replay.proofs.past.EditedSetups.{engine_reverted, known_patched, pages_kept, revert_is, timeline, told_patched, word_kept}
+use Rattle.pdp_replay.proofs.past.EditedSetups.{engine_reverted, known_patched, pages_kept, revert_is, timeline, told_patched, touched_before, word_kept}
 use Rattle.pdp_replay.specs.Run.KeptRuns.{IsPatchedRun}
 use Rattle.pdp_replay.proofs.past.PoweredWords.{unpatched}
 use Rattle.pdp_replay.proofs.engine.Engine.revert_core.Goals as goal
@@ -21,6 +21,7 @@ set_word-requires c =
     record {
       there = word_kept p old.run.known old.run.ladder (word_at part.Core c.in_ok-number.number) c.self.invariant.run.kept.states c.in_ok-number.ensures.below;
       alike = pages_kept p (word_at part.Core c.in_ok-number.number) old.highest old.run c.self.invariant c.in_ok-number.ensures.below;
+      touches = touched_before p old.highest old.run c.self.invariant;
     }
 
 pub returns-then-not-contains_key-clause-answer : goal.returns-then-not-contains_key-clause-answer

@@ -7,7 +7,7 @@ use Rattle.pdp_replay.specs.Past.FirstWords.{IsThere}
 use Rattle.pdp_replay.specs.Past.PatchedWords.{is_same_word, patch_of}
 use Rattle.pdp_replay.specs.Past.Setup.{SetupData, setup_of}
 use Rattle.pdp_replay.specs.Timeline.{Timeline, word_patched}
-use Rattle.pdp_replay.proofs.past.EditedSetups.{engine_patched, known_patched, pages_kept, timeline, told_patched, word_kept}
+use Rattle.pdp_replay.proofs.past.EditedSetups.{engine_patched, known_patched, pages_kept, timeline, told_patched, touched_before, word_kept}
 use Rattle.pdp_replay.proofs.past.Lists.{ok_is_no_err}
 use Rattle.pdp_replay.proofs.past.PoweredWords.{patched}
 use Rattle.pdp_replay.proofs.engine.Engine.set_patch.Goals as goal
@@ -22,6 +22,7 @@ set_word-requires c =
     record {
       there = word_kept p old.run.known old.run.ladder k kept.states inside;
       alike = pages_kept p k old.highest old.run c.self.invariant inside;
+      touches = touched_before p old.highest old.run c.self.invariant;
     }
 
 pub invariant_of-self-2 : goal.invariant_of-self-2

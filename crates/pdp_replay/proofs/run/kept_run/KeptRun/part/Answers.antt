@@ -6,7 +6,7 @@ use Rattle.pdp_replay.proofs.run.kept_run.KeptRun.part.Goals as goal
 
 pub returns-in_err-leg-clause-advances : goal.returns-in_err-leg-clause-advances
 returns-in_err-leg-clause-advances c =
-    advances_further _ _ _ c.args.self.now c.leg.new.self c.leg.ensures.advances c.next_pause-pause.ensures.most
+    advances_further _ _ _ c.args.self.now c.leg.new.self c.leg.ensures.advances (omega (arith, c.meeting-meeting.ensures.most, c.next_pause-pause.ensures.most))
 
 pub returns-clause-kept : goal.returns-clause-kept
 returns-clause-kept c = λ p same on. kept_of_way p _ (c.keep_near.ensures.way p (c.in_ok-leg.ensures.way p same on))
@@ -28,4 +28,4 @@ returns-clause-arrives c =
 pub returns-clause-advances : goal.returns-clause-advances
 returns-clause-advances c =
     advances_near _ _ _ c.args.self.now c.leg.new.self _ c.keep_near.ensures.same
-    (advances_further _ _ _ c.args.self.now c.leg.new.self c.leg.ensures.advances c.next_pause-pause.ensures.most)
+    (advances_further _ _ _ c.args.self.now c.leg.new.self c.leg.ensures.advances (omega (arith, c.meeting-meeting.ensures.most, c.next_pause-pause.ensures.most)))

@@ -10,6 +10,6 @@ returns-clause-run c =
     let first = c.in_ok-machine.ensures in
     let new = c.in_ok-ladder.ensures in
     record {
-      kept = powered_kept p m c.new.new.machine c.in_ok-ladder.ladder first.state first.kept_text first.kept_punched first.first_touches new.machine new.kept new.near new.checkpoints;
+      kept = powered_kept p m c.new.new.machine c.in_ok-ladder.ladder first.state first.kept_text first.kept_punched first.first_touches new.machine new.kept new.near new.formers new.checkpoints;
       current = λ yes. powered_in_run p m c.new.new.machine first.state new.machine;
     }

@@ -14,6 +14,11 @@ resume-requires c =
     let run = c.requires.run in
     record { run = record { past = run.past; run = run.run } }
 
+pub forward-requires-clause-run : goal.forward-requires-clause-run
+forward-requires-clause-run c =
+    let run = c.requires.run in
+    record { past = run.past; same = run.same; way = c.resume.ensures.way run.past run.run }
+
 pub returns-clause-kept : goal.returns-clause-kept
 returns-clause-kept c = λ p same run. c.forward.ensures.kept p same (c.resume.ensures.way p run)
 

@@ -1,7 +1,7 @@
 use Rattle.std.proofs.Common.{rules, sym, ◌∙◌}
 use Rattle.pdp_store.specs.Pages.{PagedWords}
 use Rattle.pdp_unibus.proofs.SavedDrives.{blank_sizes, no_stamps}
-use Rattle.pdp_unibus.proofs.save.saved_bus.Bus+Paged+PagedDrive.load.Goals as goal
+use Rattle.pdp_unibus.proofs.save.saved_bus.Bus+Paged+PagedDrive.load_devices.Goals as goal
 
 pub load_each-requires-clause-stamps : goal.load_each-requires-clause-stamps
 load_each-requires-clause-stamps c =
