@@ -28,16 +28,37 @@ FIRST_ALONE = ["--stride", "2000000000"]
 
 def asked(description, **defaults):
     """Returns the numbers that a measurement is given, in the order of these names, each with its
-    default. --help shows the description and ends. If there is no program, it ends with status 1."""
+    default. --help shows the description and ends. Without a program it ends with status 1."""
+    return list(vars(_read(_parser(description, defaults))).values())
+
+
+def asked_beside(description, **defaults):
+    """The same numbers, and the programs to measure: the built one, and after it the program OTHER
+    if that is given."""
+    parser = _parser(description, defaults)
+    parser.add_argument("other", metavar="OTHER", nargs="?", help="a program to measure beside it")
+    *numbers, other = vars(_read(parser)).values()
+    if other is None:
+        return numbers, [PROGRAM]
+    if not os.access(other, os.X_OK):
+        parser.exit(1, f"{parser.prog}: {other}: no such program\n")
+    return numbers, [PROGRAM, os.path.abspath(other)]
+
+
+def _parser(description, defaults):
     as_it_is = argparse.RawDescriptionHelpFormatter
     parser = argparse.ArgumentParser(description=description, formatter_class=as_it_is)
     for name, default in defaults.items():
         text = f"{default:,} if it isn't given"
         parser.add_argument(name.upper(), nargs="?", type=int, default=default, help=text)
-    numbers = vars(parser.parse_args()).values()
+    return parser
+
+
+def _read(parser):
+    words = parser.parse_args()
     if not PROGRAM:
         parser.exit(1, f"{parser.prog}: build the program first: tools/build pdp11\n")
-    return list(numbers)
+    return words
 
 
 def programs(kind="programs", period=0):
@@ -47,6 +68,18 @@ def programs(kind="programs", period=0):
     for name in sorted(os.listdir(folder)):
         with open(os.path.join(folder, name), encoding="ascii") as file:
             yield name.removesuffix(".session"), file.read() + f"delay clock {period}\n"
+
+
+def patches_of(path):
+    """The lines of a session that make its machine, without its script."""
+    with open(os.path.join(ROOT, path), encoding="ascii") as file:
+        lines = file.read().splitlines()
+    return [it for it in lines if it.split(" ")[0] in ("core", "disk", "delay")]
+
+
+def ledger():
+    """The lines of a bank on a disk (examples/ledger), which runs on without a key."""
+    return patches_of("examples/ledger/ledger.session")
 
 
 def words_of(lines):
@@ -71,11 +104,12 @@ def rate(lines, turns, states=("run",)):
     return turns / max(some - none, 1e-9)
 
 
-def after(arguments, lines, asked):
-    """Runs the program on these lines, and then on those that are asked; no reply has more than one
-    line. Returns the seconds from asking to the last reply, and the resident kilobytes then."""
+def after(arguments, lines, asked, measured=None):
+    """Runs the program, or the one that is measured, on these lines, and then on those that are
+    asked; no reply has more than one line. Returns the seconds from asking to the last reply, and
+    the resident kilobytes then."""
     pipes = {"stdin": subprocess.PIPE, "stdout": subprocess.PIPE}
-    with subprocess.Popen([PROGRAM, *arguments], **pipes) as program:
+    with subprocess.Popen([measured or PROGRAM, *arguments], **pipes) as program:
         for text in lines, asked:
             begun = time.perf_counter()
             program.stdin.write(text.encode())
