@@ -10,6 +10,7 @@ pub mod SerialLaws
 pub mod PageLists
 pub mod BlankDrives
 pub mod Overlays
+pub mod LatestTurns
 pub mod ComparedPages
 pub mod OverlayLaws
 pub mod TouchOverlays

@@ -43,7 +43,7 @@ over_after c a b [] late = refl
 over_after c a b (x ∷ xs) late = over_after c a (stamps_after_access x b) xs late.1 ∙ ap (stamps_after_trace xs) (over_put c a b x late.0)
 
 -- stamps before the turn have no effect
-early_stamp : (c : ℕ) (under stamp : Option Stamp) → IsBefore c stamp → stamp_over c under stamp ≡ under
+pub early_stamp : (c : ℕ) (under stamp : Option Stamp) → IsBefore c stamp → stamp_over c under stamp ≡ under
 early_stamp c under None early = refl
 early_stamp c under (Some stamp) early = by (nat_le c stamp.turn) refl where
   by : (b : Bool) → nat_le c stamp.turn ≡ b → (if b then Some stamp else under) ≡ under

@@ -1,6 +1,6 @@
 -- Last stamps and first touches of one run, from a turn on, laid over those of another run [P].
 use Rattle.std.specs.Prelude.{ℕ, ◌≡◌, ◌<◌, ◌≤◌, ◌++◌, List, [], ◌∷◌, Option, Some, None, drop, length}
-use Rattle.std.specs.Prelude.{nat_le, nat_lt, take, if◌then◌else◌}
+use Rattle.std.specs.Prelude.{max, nat_le, nat_lt, take, if◌then◌else◌}
 use Rattle.pdp_store.specs.FirstTouches.{FirstTouches, first_touches_of}
 use Rattle.pdp_store.specs.declared.Stamp.{Stamp}
 
@@ -9,6 +9,15 @@ use Rattle.pdp_store.specs.declared.Stamp.{Stamp}
 abbrev pub stamp_over : ℕ → Option Stamp → Option Stamp → Option Stamp
 stamp_over turn under None = under
 stamp_over turn under (Some stamp) = if nat_le turn stamp.turn then Some stamp else under
+
+-- the greatest turn of these last stamps; 0 if there are none
+abbrev pub later_turn : ℕ → Option Stamp → ℕ
+later_turn latest None = latest
+later_turn latest (Some stamp) = max latest stamp.turn
+
+unfoldable pub latest_turn : List (Option Stamp) → ℕ
+latest_turn [] = 0
+latest_turn (last ∷ stamps) = later_turn (latest_turn stamps) last
 
 -- the same for each word of core; of two lists, as many words as the shorter one has
 abbrev pub stamps_over : ℕ → List (Option Stamp) → List (Option Stamp) → List (Option Stamp)

@@ -4,7 +4,8 @@ ghost use Rattle.std.specs.Prelude.{◌≡◌, ◌+◌, ◌<◌, ◌≤◌, List
 ghost use Rattle.std.specs.Prelude.{slice_index_or, slice_set};
 ghost use Rattle.pdp_store.specs.declared.Stamp.{Stamp};
 ghost use Rattle.pdp_store.specs.Bases.{AreFields};
-ghost use Rattle.pdp_store.specs.Overlays.{laid_to, stamp_over, stamps_over};
+ghost use Rattle.pdp_store.specs.Overlays.{laid_to, later_turn, latest_turn, stamp_over};
+ghost use Rattle.pdp_store.specs.Overlays.{stamps_over};
 ghost use Rattle.pdp_store.specs.Pages.{page_stamps, page_words, stamps_of, words_of};
 
 use crate::Stamp;
@@ -23,6 +24,28 @@ fn stamp_over(turn: u32, under: Option<Stamp>, over: Option<Stamp>) -> Option<St
     }
 }
 
+// The greatest turn of these last stamps; 0 if there are none.
+pub(crate) fn latest_turn(stamps: &[Option<Stamp>]) -> u32
+    ensures { result ≡ latest_turn stamps.now }
+{
+    let mut latest = 0;
+    for last in stamps {
+        latest = later_turn(latest, *last);
+    }
+    latest
+}
+
+// The later of this turn and that of a last stamp.
+#[inline(always)]
+fn later_turn(latest: u32, last: Option<Stamp>) -> u32
+    ensures { result ≡ later_turn latest last }
+{
+    match last {
+        Some(stamp) => latest.max(stamp.turn),
+        None => latest,
+    }
+}
+
 // Lays the last stamps of these pages over those that are there.
 #[tactic(auto, unfolding(crate::specs::Pages::stamps_of))]
 pub(crate) fn lay_over(stamps: &mut [Option<Stamp>], pages: &[Rc<Page>], turn: u32)
@@ -31,12 +54,30 @@ pub(crate) fn lay_over(stamps: &mut [Option<Stamp>], pages: &[Rc<Page>], turn: u
 {
     let mut at = 0;
     for page in pages {
-        at = lay_page(stamps, at, stamps_in(page), turn);
+        at = lay_page(stamps, at, page, turn);
     }
 }
 
-// Lays the last stamps of a page over those from word `start` on, and returns where they end.
-fn lay_page(stamps: &mut [Option<Stamp>], start: usize, over: &[Option<Stamp>], turn: u32) -> usize
+// Lays the last stamps of a page over those from word `start` on, and returns where they end. It
+// doesn't look at stamps that are all of earlier turns.
+fn lay_page(stamps: &mut [Option<Stamp>], start: usize, page: &Rc<Page>, turn: u32) -> usize
+    requires { start + length (page_stamps page.now) ≤ length stamps.old }
+    ensures end { result ≡ start + length (page_stamps page.now) }
+    ensures laid { (under all : List (Option Stamp)) → length all ≡ length under
+        → ((k : ℕ) → k < length (page_stamps page.now)
+        → slice_index_or all (start + k) None ≡ slice_index_or (page_stamps page.now) k None)
+        → stamps.old ≡ laid_to start turn under all
+        → stamps.new ≡ laid_to (start + length (page_stamps page.now)) turn under all }
+{
+    let over = stamps_in(page);
+    if page.latest < turn {
+        return start + over.len();
+    }
+    lay_each(stamps, start, over, turn)
+}
+
+// Lays these last stamps over those from word `start` on, and returns where they end.
+fn lay_each(stamps: &mut [Option<Stamp>], start: usize, over: &[Option<Stamp>], turn: u32) -> usize
     requires { start + length over.now ≤ length stamps.old }
     ensures end { result ≡ start + length over.now }
     ensures laid { (under all : List (Option Stamp)) → length all ≡ length under
@@ -108,7 +149,15 @@ fn keeps_base(
     ensures words { result ≡ true → words.now ≡ page_words page.now }
     ensures stamps { result ≡ true → stamps_over turn under.now (page_stamps page.now) ≡ under.now }
 {
-    !is_written && are_same_words(words, words_in(page)) && are_hidden(turn, under, stamps_in(page))
+    !is_written && are_same_words(words, words_in(page)) && is_page_hidden(turn, under, page)
+}
+
+// Whether the stamps stay if those of this page are laid over them.
+fn is_page_hidden(turn: u32, under: &[Option<Stamp>], page: &Rc<Page>) -> bool
+    requires { length (page_stamps page.now) ≡ length under.now }
+    ensures { result ≡ true → stamps_over turn under.now (page_stamps page.now) ≡ under.now }
+{
+    page.latest < turn || are_hidden(turn, under, stamps_in(page))
 }
 
 // Whether the stamps stay if these are laid over them.

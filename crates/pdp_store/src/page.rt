@@ -1,8 +1,10 @@
 //! Pages: 256 words with their last stamps, which several stores and states may share.
 
 ghost use Rattle.std.specs.Prelude.{◌≡◌, ◌<◌, length, slice_set, IfOk};
+ghost use Rattle.pdp_store.specs.Overlays.{latest_turn};
 
 use crate::Stamp;
+use crate::overlay::latest_turn;
 use pdp_word::NoMemory;
 use std::alloc::Global;
 use std::rc::Rc;
@@ -23,8 +25,11 @@ pub struct Page {
     /// As many as the words; or none, if the store is without stamps. The pages that are made of
     /// this one with a word changed share them.
     pub stamps: Rc<Vec<Option<Stamp>>>,
+    /// The greatest turn of these stamps; 0 if there are none.
+    pub latest: u32,
     ghost full: { length words.items ≡ 256 },
     ghost stamped: { 0 < length stamps.value.items → length stamps.value.items ≡ 256 },
+    ghost late: { latest ≡ latest_turn stamps.value.items },
 }
 
 impl Page {
@@ -43,12 +48,14 @@ impl Page {
         ensures words { IfOk result (λ page. page.words.items ≡ words.now) }
         ensures stamps { IfOk result (λ page. page.stamps.value.items ≡ stamps.now) }
     {
+        let latest = latest_turn(stamps);
         let words = words.to_vec(alloc)?;
         let stamps = Rc::new(alloc, stamps.to_vec(alloc)?)?;
         Ok(Page {
             serial,
             words,
             stamps,
+            latest,
         })
     }
 
@@ -76,6 +83,7 @@ impl Page {
             serial,
             words,
             stamps,
+            latest: self.latest,
         })
     }
 }

@@ -1,4 +1,4 @@
-use Rattle.std.proofs.Common.{◌≡◌, subst, sym}
+use Rattle.std.proofs.Common.{◌≡◌, refl, subst, sym}
 use Rattle.pdp_store.specs.Overlays.{laid_to}
 use Rattle.pdp_store.specs.Pages.{page_stamps, stamps_of}
 use Rattle.pdp_store.proofs.PageRuns.{put_ends}
@@ -8,8 +8,8 @@ use Rattle.pdp_store.proofs.overlay.lay_over.Goals as goal
 pub lay_page-at-requires : goal.lay_page-at-requires
 unfolding stamps_of
 lay_page-at-requires c =
-    room_to_lay c.args.turn c.loop-page.page-index c.loop-page.at c.args.pages.now c.args.stamps.now c.loop-page.stamps c.stamps_in.result.now c.page-item.result
-    c.loop-page.invariant.here c.requires c.loop-page.invariant.laid c.loop-page-test.true c.page-item.is c.stamps_in.ensures
+    room_to_lay c.args.turn c.loop-page.page-index c.loop-page.at c.args.pages.now c.args.stamps.now c.loop-page.stamps (page_stamps c.page-item.result) c.page-item.result
+    c.loop-page.invariant.here c.requires c.loop-page.invariant.laid c.loop-page-test.true c.page-item.is refl
 
 pub loop-page-preserved : goal.loop-page-preserved
 unfolding stamps_of
@@ -19,10 +19,10 @@ loop-page-preserved c =
     let before = c.loop-page.invariant in
     let end = c.lay_page-at.ensures.end in
     record {
-      here = put_ends page_stamps pages c.loop-page.page-index at _ c.stamps_in.result.now c.page-item.result end before.here c.loop-page-test.true c.page-item.is c.stamps_in.ensures;
+      here = put_ends page_stamps pages c.loop-page.page-index at _ (page_stamps c.page-item.result) c.page-item.result end before.here c.loop-page-test.true c.page-item.is refl;
       laid = subst (λ n. c.lay_page-at.new.stamps ≡ laid_to n c.args.turn c.args.stamps.now (stamps_of pages)) (sym end)
           (c.lay_page-at.ensures.laid c.args.stamps.now (stamps_of pages) c.requires
-          (λ k within. page_is_part c.loop-page.page-index at k pages c.stamps_in.result.now c.page-item.result before.here c.loop-page-test.true c.page-item.is c.stamps_in.ensures within)
+          (λ k within. page_is_part c.loop-page.page-index at k pages (page_stamps c.page-item.result) c.page-item.result before.here c.loop-page-test.true c.page-item.is refl within)
           before.laid);
     }
 

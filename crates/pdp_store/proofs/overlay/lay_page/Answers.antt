@@ -1,16 +1,16 @@
-use Rattle.std.proofs.Common.{◌≡◌, ◌+◌, arith, length, subst}
-use Rattle.pdp_store.specs.Overlays.{laid_to}
-use Rattle.pdp_store.proofs.Overlays.{length-laid_to, one_laid_on}
+use Rattle.std.proofs.Common.{◌∙◌, ap, arith, length}
+use Rattle.pdp_store.specs.Pages.{page_stamps}
+use Rattle.pdp_store.specs.declared.page.Page.{Page}
+use Rattle.pdp_store.proofs.LatestTurns.{laid_past}
+use Rattle.pdp_store.proofs.Overlays.{length-laid_to}
 use Rattle.pdp_store.proofs.overlay.lay_page.Goals as goal
 
-pub loop-k-preserved : goal.loop-k-preserved
-loop-k-preserved c = λ under all same part before.
+-- src/overlay.rt
+pub returns-then-deref-turn-clause-laid : goal.returns-then-deref-turn-clause-laid
+returns-then-deref-turn-clause-laid c = λ under all same part before.
+    let page = c.args.page.now in
+    let late = page.value.late in
+    let here = ap (λ (p : Page). p.latest) c.deref.ensures in
     let size = length-laid_to c.args.start c.args.turn under all c.args.stamps.now same before in
-    one_laid_on c.args.turn c.args.start c.loop-k.k under all c.args.over.now c.loop-k.stamps c.lay_one.new.stamps
-    (omega (arith, size, c.requires, c.loop-k-test.true)) same (part c.loop-k.k c.loop-k-test.true)
-    (c.loop-k.invariant under all same part before) c.lay_one.ensures
-
-pub returns-clause-laid : goal.returns-clause-laid
-returns-clause-laid c = λ under all same part before.
-    let end : c.loop-k.k ≡ length c.args.over.now = omega arith in
-    subst (λ n. c.loop-k.stamps ≡ laid_to (c.args.start + n) c.args.turn under all) end (c.loop-k.invariant under all same part before)
+    before ∙ laid_past c.args.turn c.args.start (length (page_stamps page)) under all (page_stamps page) same
+    (omega (arith, late, here, c.if-deref-turn.true)) part (omega (arith, size, c.requires))

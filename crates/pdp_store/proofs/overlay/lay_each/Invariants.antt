@@ -1,7 +1,7 @@
 use Rattle.std.proofs.Common.{◌≡◌, ◌+◌, ◌<◌, ℕ, List, None, Option, get_or, length}
 use Rattle.pdp_store.specs.Overlays.{laid_to}
 use Rattle.pdp_store.specs.declared.Stamp.{Stamp}
-use Rattle.pdp_store.proofs.overlay.lay_page.Given as goal
+use Rattle.pdp_store.proofs.overlay.lay_each.Given as goal
 
 abbrev pub invariant-loop-k : goal.invariant-loop-k
 invariant-loop-k l =
