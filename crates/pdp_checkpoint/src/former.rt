@@ -107,7 +107,7 @@ impl Former {
 
     /// The least turn from `from` on of which there is a state, and after which no event was edited
     /// since; None if there is none.
-    pub fn meeting(&self, from: u32) -> Option<u32>
+    pub(crate) fn meeting(&self, from: u32) -> Option<u32>
         ensures { IfSome result (λ turn. from ≤ turn) }
     {
         self.first_from(from.max(self.edited.saturating_add(1)))

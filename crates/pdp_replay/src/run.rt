@@ -7,5 +7,5 @@ mod pauses;
 mod turns;
 
 pub(crate) use kept_run::KeptRun;
-pub(crate) use pauses::next_pause;
+pub(crate) use pauses::{next_pause, pause_on_the_way};
 pub(crate) use turns::{quiet_until, run_part};

@@ -43,8 +43,6 @@ fn assert_kept(rt: &impl Abort, engine: &Engine, turn: u32, want: (u32, u32)) {
 }
 
 // The 257th state, that of turn 256, doubles the stride: the states of turns 0, 2, .. 256 stay.
-// The clock's bit is set from power-up on, so the tick changes nothing, and the states of later
-// turns are taken back.
 const FILLS: [Step; 1] = [Step::Ran(Question::Regs(255), 255, 255)];
 
 const DOUBLES: [Step; 5] = [
@@ -52,7 +50,7 @@ const DOUBLES: [Step; 5] = [
     Step::Ran(Question::Regs(300), 44, 300),
     Step::Ran(Question::Regs(255), 1, 300),
     Step::Edit(Edit::Insert(100, Event::Tick), Ok(1)),
-    Step::Ran(Question::Trail(300, 64), 66, 300),
+    Step::Ran(Question::Trail(300, 64), 200, 300),
 ];
 
 fn assert_doubles(rt: &impl Abort, alloc: Global, engine: &mut Engine) -> Result<(), Fail> {
@@ -103,8 +101,7 @@ fn machine_and_kept_states(rt: HostRuntime) -> Result<(), Fail> {
 }
 
 // An early question leaves what was printed and punched by the known turn. An edit at a turn
-// leaves what was printed and punched before it. The tick changes nothing, so the bytes of later
-// turns are taken back.
+// leaves what was printed and punched before it.
 const TEXTS: [Step; 11] = [
     Step::Ran(Question::Text(100), 100, 100),
     Step::Ran(Question::Text(3), 3, 100),
@@ -116,7 +113,7 @@ const TEXTS: [Step; 11] = [
     Step::Edit(Edit::Insert(50, Event::Tick), Ok(1)),
     Step::Ran(Question::Text(8), 0, 50),
     Step::Ran(Question::Text(52), 4, 52),
-    Step::Ran(Question::Text(100), 4, 100),
+    Step::Ran(Question::Text(100), 48, 100),
 ];
 
 #[test]

@@ -22,7 +22,7 @@ use Rattle.pdp_replay.specs.Run.Adoptions.{Adopts, TakesTexts}
 use Rattle.pdp_replay.specs.Run.Checkpoints.{ComesAfter, IsBuiltFrom, IsFormerOf, IsKeptState, KeepsTexts, SameInputsFrom, punched_kept_at, text_kept_at}
 use Rattle.pdp_replay.specs.Run.FirstTouches.{first_touches_at, untouched_all}
 use Rattle.pdp_replay.specs.Run.FormerRuns.{MeetsFormer}
-use Rattle.pdp_replay.specs.Run.KeptRuns.{IsOnWay}
+use Rattle.pdp_replay.specs.Run.KeptRuns.{IsOnWay, with_near}
 use Rattle.pdp_replay.specs.Run.Meetings.{MeetAt, TouchesNoMore}
 use Rattle.pdp_replay.specs.Run.States.{at, punched_at, text_at}
 use Rattle.pdp_replay.specs.declared.run.kept_run.KeptRun.{KeptRun}
@@ -258,3 +258,16 @@ meets_on p f there next r after meets state later on turn known =
       meet = subst (λ n. MeetAt n p meets.former.past) there_is (meet_again p meets.former.past c d meets.meet);
       touches = subst (λ n. TouchesNoMore n p meets.former.past) there_is (no_more_again p meets.former.past c d meets.meet meets.touches);
     }
+
+-- a run that keeps more states between its checkpoints meets the former run still
+pub meets_near : (p : Past) (f : FormerData) (there : Checkpoint) (near : List Checkpoint) (r after : KeptRun) → after ≡ with_near near r → IsOnWay p after
+    → MeetsFormer p f there r → MeetsFormer p f there after
+meets_near p f there near r after same way meets = subst (λ a. IsOnWay p a → MeetsFormer p f there a) (sym same) (λ on. record {
+  former = meets.former;
+  way = on;
+  state = meets.state;
+  turn = meets.turn;
+  known = meets.known;
+  meet = meets.meet;
+  touches = meets.touches;
+}) way

@@ -76,7 +76,7 @@ pub record IsOutputOf (p : Past) (known : ℕ) (o : OutputData) : Type 0 where
   pub punched : o.punched ≡ drop o.punched_from (punched_kept_at p known)
   pub first_touches : o.first_touches ≡ first_touches_at p known
 
--- no byte that came out before this state is among those, but as many as are left out
+-- the bytes that are left out at the front all came out before this state
 pub record ComesAfter (o : OutputData) (c : Checkpoint) : Type 0 where
   pub text : o.text_from ≤ c.saved.text_length
   pub punched : o.punched_from ≤ c.saved.punched_length

@@ -26,7 +26,7 @@ pub record IsSomeWay (r : KeptRun) : Type 0 where
   pub past : Past
   pub way : IsOnWay past r
 
--- the run of p is where all is known of it, and meets a former run there, in this state
+-- the run of p is at the turn up to which it is known, and meets a former run there, in this state
 pub record MeetsFormer (p : Past) (f : FormerData) (there : Checkpoint) (r : KeptRun) : Type 0 where
   pub former : IsFormerOf p f
   pub way : IsOnWay p r

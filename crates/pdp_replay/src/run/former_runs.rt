@@ -12,16 +12,20 @@ ghost use Rattle.pdp_replay.specs.Run.FormerRuns.{MeetsSomewhere};
 ghost use Rattle.pdp_replay.specs.Run.KeptRuns.{Advances, ArrivesAt, CanGoOn, IsKeptRun, IsOnWay};
 ghost use Rattle.pdp_replay.specs.Past.{Past};
 
-use crate::run::KeptRun;
+use crate::run::{KeptRun, pause_on_the_way};
 use pdp_checkpoint::{Checkpoint, Former};
 use pdp_unibus::LAST_TURN;
 use pdp_word::NoMemory;
 use std::alloc::Global;
 
+/// Where the stride is shorter, the turns up to the next state that is to be kept are run in less
+/// time than a state of a former run takes.
+const LEAST_STRIDE: u32 = 10_000;
+
 impl KeptRun {
-    /// Where a run on its way to turn `to` may meet a former run next, at `to` at the latest: the
-    /// least turn after the machine's and from the known one on of which a former run has a state,
-    /// and after whose turn no event was edited.
+    /// Where a run on its way to turn `to` may meet a former run next: the least turn, after the
+    /// machine's and not before the known one, of which a former run has a state and from which on
+    /// no event was edited; `to` if there is none before it.
     pub(crate) fn meeting(&self, to: u32) -> u32
         requires { self.now.machine.state.turn < to }
         ensures ahead { self.now.machine.state.turn < result }
@@ -31,8 +35,9 @@ impl KeptRun {
         self.ladder.first_meeting(from, to)
     }
 
-    /// If the machine is where all is known, and a former run has a state there that is equal, goes
-    /// on from the later states of the former run up to turn `to`. It runs no turn.
+    /// If the machine is at the turn up to which the run is known, and a former run has an equal
+    /// state of that turn, goes on from the later states of that run up to turn `to`. It runs no
+    /// turn.
     ///
     /// Err if memory was refused; what was kept until then stays.
     pub(crate) fn take_back(&mut self, alloc: Global, to: u32) -> Result<(), NoMemory>
@@ -83,6 +88,9 @@ impl KeptRun {
         ensures arrives { OnOk result (ArrivesAt self.new.machine.state.turn self.old self.new) }
         ensures advances { Advances self.old.machine.state.turn to self.old self.new }
     {
+        if self.ladder.stride() < LEAST_STRIDE {
+            return Ok(());
+        }
         let Some(there) = former.last_by(self.machine.turns()) else {
             return Ok(());
         };
@@ -92,7 +100,8 @@ impl KeptRun {
         self.go_on(alloc, former, there, to)
     }
 
-    // Whether the run meets the former run in this state of it, where all is known of the run.
+    // Whether the run meets the former run in this state of it, at the turn up to which the run is
+    // known.
     fn meets(&self, former: &Former, there: &Checkpoint) -> bool
         requires run { HasFormer former.now self.now }
         requires state { IsStateIn former.now.states there.now }
@@ -103,7 +112,7 @@ impl KeptRun {
         if there.turn != here || self.known != here || here <= former.edited() {
             return false;
         }
-        self.machine.has_touches_of(former.output()) && self.machine.meets(&there.saved)
+        self.machine.meets(&there.saved) && self.machine.has_touches_of(former.output())
     }
 
     // Goes on from later states of the former run, which the run meets in this one.
@@ -129,15 +138,34 @@ impl KeptRun {
     {
         let mut met = there;
         while let Some(next) = self.later_state(former, met, to) {
-            self.adopt(alloc, former, met, next)?;
+            self.adopt_and_keep(alloc, former, met, next)?;
             met = next;
         }
         Ok(())
     }
 
+    // A state of the former run that is later than this one, up to turn `to` and to the next turn
+    // whose state is to be kept: the last one up to where a run would pause, or if there is none,
+    // the last one.
+    fn later_state<'a>(
+        &self,
+        former: &'a Former,
+        there: &Checkpoint,
+        to: u32,
+    ) -> Option<&'a Checkpoint>
+        ensures { IfSome result (λ next. IsLaterState to former.now there.now next.now self.now) }
+    {
+        let stride = self.ladder.stride();
+        let pause = pause_on_the_way(self.machine.turns(), former.edited(), to, stride);
+        match self.last_later(former, there, pause) {
+            Some(next) => Some(next),
+            None => self.last_later(former, there, to),
+        }
+    }
+
     // The last state of the former run that is later than this one, up to turn `to` and to the next
     // turn whose state is to be kept.
-    fn later_state<'a>(
+    fn last_later<'a>(
         &self,
         former: &'a Former,
         there: &Checkpoint,
@@ -151,6 +179,31 @@ impl KeptRun {
         } else {
             None
         }
+    }
+
+    // Makes the machine this later state of the former run, settles there, and keeps the state.
+    //
+    // Err as above.
+    fn adopt_and_keep(
+        &mut self,
+        alloc: Global,
+        former: &Former,
+        there: &Checkpoint,
+        next: &Checkpoint,
+    ) -> Result<(), NoMemory>
+        requires ready { CanGoOn self.old }
+        requires meets { MeetsSomewhere former.now there.now self.old }
+        requires next { IsLaterState LAST_TURN former.now there.now next.now self.old }
+        ensures kept { (p : Past) → MeetsFormer p former.now there.now self.old
+            → IsKeptRun p self.new }
+        ensures meets { OnOk result ((p : Past) → MeetsFormer p former.now there.now self.old
+            → MeetsFormer p former.now next.now self.new) }
+        ensures arrives { OnOk result (ArrivesAt next.now.turn self.old self.new) }
+        ensures advances { Advances self.old.machine.state.turn next.now.turn self.old self.new }
+    {
+        self.adopt(alloc, former, there, next)?;
+        self.keep_between(alloc);
+        Ok(())
     }
 
     // Makes the machine this later state of the former run, and settles there.

@@ -170,12 +170,23 @@ impl KeptRun {
     }
 
     // Keeps the state of the machine beside the checkpoints, if the run paused at turn `pause` on
-    // its way to turn `to`, and if there is memory for it: no answer depends on it.
+    // its way to turn `to`.
     fn keep_near(&mut self, alloc: Global, pause: u32, to: u32)
         ensures same { self.new ≡ with_near self.new.ladder.near self.old }
         ensures way { (p : Past) → IsOnWay p self.old → IsOnWay p self.new }
     {
         if pause < to && self.machine.turns() == pause {
+            self.keep_between(alloc);
+        }
+    }
+
+    /// Keeps the state of the machine beside the checkpoints, if it isn't of the turn of one of
+    /// them, and if there is memory for it: no answer depends on it.
+    pub(crate) fn keep_between(&mut self, alloc: Global)
+        ensures same { self.new ≡ with_near self.new.ladder.near self.old }
+        ensures way { (p : Past) → IsOnWay p self.old → IsOnWay p self.new }
+    {
+        if self.machine.turns() % self.ladder.stride() != 0 {
             let _ = self.ladder.take_near(alloc, &mut self.machine);
         }
     }

@@ -42,6 +42,18 @@ fn pause_before(here: u32, to: u32, stride: u32) -> u32
     here + part
 }
 
+/// Where a run that meets a former run at turn `here` takes a state of it next, so that it keeps
+/// states after the edited turn as a run does that pauses there (`pause_after`); at turn `to` at
+/// the latest.
+pub(crate) fn pause_on_the_way(here: u32, edited: u32, to: u32, stride: u32) -> u32
+    ensures { result ≤ to }
+{
+    if here >= to {
+        return to;
+    }
+    pause_after(here, edited, to, stride)
+}
+
 /// Pauses at the edited turn, and at distances after it of which each is twice the one before, up
 /// to a stride: the next edit is likely near this one, and its run then meets this one soon. It
 /// pauses at turn `to` at the latest.

@@ -15,15 +15,15 @@ meets-requires c =
     let run = c.requires.run in
     state_fits run.past c.args.former.now c.args.there.now c.args.self.now.machine run.former c.requires.state run.way.kept.built
 
-pub returns-then-has_touches_of : goal.returns-then-has_touches_of
-returns-then-has_touches_of c = λ yes p is on.
+pub returns-then-meets : goal.returns-then-meets
+returns-then-meets c = λ yes p is on.
     let f = c.args.former.now in
     let r = c.args.self.now in
     let turn : r.machine.state.turn ≡ c.turns-here.result = sym c.turns-here.ensures in
-    let touches = c.has_touches_of.ensures.0 c.if-has_touches_of.true in
+    let touches = c.has_touches_of.ensures.0 yes in
     meets_here p f c.args.there.now r is on c.requires.state
     (omega (arith, turn, c.if-there-here.false))
     (omega (arith, turn, c.if-self-here.false))
     (omega (arith, turn, c.edited.ensures, c.if-here-edited.false))
-    (c.meets.ensures.0 yes)
+    (c.meets.ensures.0 c.if-meets.true)
     (subst (λ (o : OutputData). first_touches_over r.machine.state.turn r.machine.first_touches (all_first_touches_before r.machine.state.turn o.first_touches) ≡ r.machine.first_touches) c.output.ensures touches)
