@@ -1,4 +1,4 @@
-use Rattle.pdp_replay.proofs.run.Coming.{advances_near, arrives_near, arrives_where}
+use Rattle.pdp_replay.proofs.run.Coming.{advances_near, arrives_near}
 use Rattle.pdp_replay.proofs.run.FormerRuns.{meets_near}
 use Rattle.pdp_replay.proofs.run.UnderWay.{kept_of_way}
 use Rattle.pdp_replay.proofs.run.kept_run.KeptRun.adopt_and_keep.Goals as goal
