@@ -34,6 +34,25 @@ KEYS = {
     "Alt": 18,
 }
 ALT, SHIFT = 1, 8
+# The middle of an element, after it was scrolled into sight, or why it can't be pressed there now.
+PRESSED = """(async name => {
+  const frame = () => new Promise(requestAnimationFrame);
+  await frame();
+  const it = document.querySelector(name);
+  if (!it) return "it isn't there";
+  it.scrollIntoView({block: "nearest"});
+  const before = it.getBoundingClientRect();
+  await frame();
+  const {x, y, width, height} = it.getBoundingClientRect();
+  const isSeen = getComputedStyle(it).visibility === "visible";
+  if (!width || !height || !isSeen) return "it isn't shown";
+  const isStill = x === before.x && y === before.y;
+  if (!isStill || width !== before.width || height !== before.height) return "it moves";
+  if (it.disabled) return "it is disabled";
+  const middle = [x + width / 2, y + height / 2], found = document.elementFromPoint(...middle);
+  if (!found) return "its middle is out of sight";
+  return it.contains(found) ? middle : `this lies over it: ${found.outerHTML.slice(0, 200)}`;
+})"""
 
 
 def found_browser() -> Optional[str]:
@@ -210,16 +229,16 @@ class Browser:
     def text(self, selector: str) -> str:
         return str(self.value(f"document.querySelector({json.dumps(selector)}).textContent"))
 
-    def middle(self, selector: str) -> list[float]:
-        """The middle of an element, after it was scrolled into sight."""
-        name = json.dumps(selector)
-        found = self.value(
-            f"(() => {{ const it = document.querySelector({name});"
-            "it.scrollIntoView({block: 'nearest'});"
-            "const box = it.getBoundingClientRect();"
-            "return [box.x + box.width / 2, box.y + box.height / 2]; })()"
-        )
-        return list(found)
+    def middle(self, selector: str, seconds: float = WAIT) -> list[float]:
+        """The middle of an element, once a user could press it there: it is shown and stands still,
+        and nothing lies over it."""
+        end = time.monotonic() + seconds
+        while True:
+            found = self.value(f"{PRESSED}({json.dumps(selector)})")
+            if not isinstance(found, str):
+                return list(found)
+            if time.monotonic() > end:
+                raise BrowserError(f"{selector} can't be pressed: {found}")
 
     # Pointer and keys
 
