@@ -8,7 +8,7 @@ import signal
 import subprocess
 import tempfile
 import time
-from typing import Any, Optional
+from typing import Any, Callable, Optional
 
 SECONDS, WAIT = 120.0, 120.0
 OPTIONS = (
@@ -34,6 +34,8 @@ KEYS = {
     "Alt": 18,
 }
 ALT, SHIFT = 1, 8
+# What is traced: the tasks of each thread, and the marks that the page makes.
+TRACED = ["disabled-by-default-devtools.timeline", "blink.user_timing"]
 # The middle of an element, after it was scrolled into sight, or why it can't be pressed there now.
 PRESSED = """(async name => {
   const frame = () => new Promise(requestAnimationFrame);
@@ -95,6 +97,8 @@ class Browser:
         self.dialogs: list[str] = []
         self.loads = 0
         self.requests: list[str] = []
+        self.traced: list[dict[str, Any]] = []
+        self.is_traced = False
         self._attach()
 
     def _attach(self) -> None:
@@ -168,6 +172,10 @@ class Browser:
             self.loads += 1
         elif method == "Network.requestWillBeSent":
             self.requests.append(parameters["request"]["url"])
+        elif method == "Tracing.dataCollected":
+            self.traced += parameters["value"]
+        elif method == "Tracing.tracingComplete":
+            self.is_traced = True
 
     # The page
 
@@ -239,6 +247,23 @@ class Browser:
                 return list(found)
             if time.monotonic() > end:
                 raise BrowserError(f"{selector} can't be pressed: {found}")
+
+    def longest_task(self, act: Callable[[], None]) -> float:
+        """The most milliseconds of a processor that one task of the page takes while this is done.
+        The time in which the processor has other work isn't among them."""
+        self.traced, self.is_traced = [], False
+        self.call("Tracing.start", traceConfig={"includedCategories": TRACED})
+        try:
+            self.value("performance.mark('traced')")
+            act()
+        finally:
+            self.call("Tracing.end")
+            end = time.monotonic() + SECONDS
+            while not self.is_traced:
+                self._note(self._message(end - time.monotonic()))
+        thread = next(it["tid"] for it in self.traced if it["name"] == "traced")
+        tasks = [it for it in self.traced if it["name"] == "RunTask" and it["tid"] == thread]
+        return max(float(it["tdur"]) / 1000 for it in tasks if it["ph"] == "X")
 
     # Pointer and keys
 
