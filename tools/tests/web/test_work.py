@@ -61,9 +61,9 @@ class LongQuestions(PageCase):
     def test_a_bar_and_stop(self) -> None:
         self.wait_still()
         self.type_line("alter 15 127165 key 66")
-        self.go(1_000_000_000)
+        self.go(LAST)
         self.browser.wait("!document.querySelector('#work').hidden")
-        self.wait_text("#work-text", "turns")
+        self.wait_text("#work-text", f"of {LAST} turns")
         self.browser.click("#stop")
         self.wait_text("#reply", "Stopped")
         self.balance("145")
