@@ -138,14 +138,15 @@ export class App {
   }
 
   /** A machine of a session. */
-  newRun(name, { arguments: words, files } = this.session) {
-    return new Run({ arguments: words, files }, it => this.workBar.show(name, it));
+  newRun({ arguments: words, files } = this.session) {
+    const run = new Run({ arguments: words, files }, it => this.workBar.show(run, it));
+    return run;
   }
 
   /** A run with the session's lines, and those that were refused. What is open stays so far. */
   async loaded(session) {
     this.opening?.end();
-    const run = this.newRun("run", session);
+    const run = this.newRun(session);
     this.opening = run;
     try {
       return { run, refused: await run.load(session.lines) };
@@ -308,7 +309,7 @@ export class App {
   /** The past as the session was opened, on a machine of its own. */
   keepOld() {
     if (this.old) return;
-    this.old = this.newRun("old");
+    this.old = this.newRun();
     this.timeline.ghost = this.timeline.picture;
     this.oldIsLoaded = this.old.takeUp(this.begun).then(() => this.timeline.draw());
     this.attempt(() => this.oldIsLoaded);

@@ -114,7 +114,7 @@ export class Sweep {
     const complaint = this.complaint(event, [from, to], question);
     if (complaint) return this.say(complaint);
     this.end();
-    const run = app.newRun("sweep");
+    const run = app.newRun();
     this.run = run;
     Object.assign(this, { outcomes: new Map(), replies: [], numbers: new Map(), shown: 0 });
     const { past, taken } = app.run;

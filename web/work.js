@@ -8,7 +8,7 @@ const [UNTIL_SHOWN, UNTIL_HIDDEN] = [300, 200];
 /** @typedef {{done: number, all: number, what: string}} Work */
 export class WorkBar {
   constructor() {
-    /** @type {Map<string, Work>} by the name of a machine, what it is doing */
+    /** @type {Map<object, Work>} by a machine, what it is doing */
     this.works = new Map();
     this.timer = 0;
   }

@@ -8,7 +8,7 @@ import signal
 import subprocess
 import tempfile
 import time
-from typing import Any, Optional
+from typing import Any, Callable, Optional
 
 SECONDS, WAIT = 120.0, 120.0
 OPTIONS = (
@@ -34,6 +34,27 @@ KEYS = {
     "Alt": 18,
 }
 ALT, SHIFT = 1, 8
+# What is traced: the tasks of each thread, and the marks that the page makes.
+TRACED = ["disabled-by-default-devtools.timeline", "blink.user_timing"]
+# The middle of an element, after it was scrolled into sight, or why it can't be pressed there now.
+PRESSED = """(async name => {
+  const frame = () => new Promise(requestAnimationFrame);
+  await frame();
+  const it = document.querySelector(name);
+  if (!it) return "it isn't there";
+  it.scrollIntoView({block: "nearest"});
+  const before = it.getBoundingClientRect();
+  await frame();
+  const {x, y, width, height} = it.getBoundingClientRect();
+  const isSeen = getComputedStyle(it).visibility === "visible";
+  if (!width || !height || !isSeen) return "it isn't shown";
+  const isStill = x === before.x && y === before.y;
+  if (!isStill || width !== before.width || height !== before.height) return "it moves";
+  if (it.disabled) return "it is disabled";
+  const middle = [x + width / 2, y + height / 2], found = document.elementFromPoint(...middle);
+  if (!found) return "its middle is out of sight";
+  return it.contains(found) ? middle : `this lies over it: ${found.outerHTML.slice(0, 200)}`;
+})"""
 
 
 def found_browser() -> Optional[str]:
@@ -76,6 +97,8 @@ class Browser:
         self.dialogs: list[str] = []
         self.loads = 0
         self.requests: list[str] = []
+        self.traced: list[dict[str, Any]] = []
+        self.is_traced = False
         self._attach()
 
     def _attach(self) -> None:
@@ -149,6 +172,10 @@ class Browser:
             self.loads += 1
         elif method == "Network.requestWillBeSent":
             self.requests.append(parameters["request"]["url"])
+        elif method == "Tracing.dataCollected":
+            self.traced += parameters["value"]
+        elif method == "Tracing.tracingComplete":
+            self.is_traced = True
 
     # The page
 
@@ -210,16 +237,33 @@ class Browser:
     def text(self, selector: str) -> str:
         return str(self.value(f"document.querySelector({json.dumps(selector)}).textContent"))
 
-    def middle(self, selector: str) -> list[float]:
-        """The middle of an element, after it was scrolled into sight."""
-        name = json.dumps(selector)
-        found = self.value(
-            f"(() => {{ const it = document.querySelector({name});"
-            "it.scrollIntoView({block: 'nearest'});"
-            "const box = it.getBoundingClientRect();"
-            "return [box.x + box.width / 2, box.y + box.height / 2]; })()"
-        )
-        return list(found)
+    def middle(self, selector: str, seconds: float = WAIT) -> list[float]:
+        """The middle of an element, once a user could press it there: it is shown and stands still,
+        and nothing lies over it."""
+        end = time.monotonic() + seconds
+        while True:
+            found = self.value(f"{PRESSED}({json.dumps(selector)})")
+            if not isinstance(found, str):
+                return list(found)
+            if time.monotonic() > end:
+                raise BrowserError(f"{selector} can't be pressed: {found}")
+
+    def longest_task(self, act: Callable[[], None]) -> float:
+        """The most milliseconds of a processor that one task of the page takes while this is done.
+        The time in which the processor has other work isn't among them."""
+        self.traced, self.is_traced = [], False
+        self.call("Tracing.start", traceConfig={"includedCategories": TRACED})
+        try:
+            self.value("performance.mark('traced')")
+            act()
+        finally:
+            self.call("Tracing.end")
+            end = time.monotonic() + SECONDS
+            while not self.is_traced:
+                self._note(self._message(end - time.monotonic()))
+        thread = next(it["tid"] for it in self.traced if it["name"] == "traced")
+        tasks = [it for it in self.traced if it["name"] == "RunTask" and it["tid"] == thread]
+        return max(float(it["tdur"]) / 1000 for it in tasks if it["ph"] == "X")
 
     # Pointer and keys
 

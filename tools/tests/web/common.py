@@ -11,7 +11,7 @@ from typing import Optional
 
 from tests import under_test
 
-from .browser import Browser, found_browser
+from .browser import WAIT, Browser, found_browser
 
 ROOT = Path(__file__).resolve().parents[3]
 LEDGER = ROOT / "examples" / "ledger"
@@ -105,9 +105,9 @@ class PageCase(unittest.TestCase):
         self.browser.wait(f"document.querySelector({name})?.textContent.includes({wanted})")
         return self.browser.text(selector)
 
-    def wait_still(self, seconds: float = SECONDS) -> None:
+    def wait_still(self) -> None:
         """Waits until the picture is drawn and nothing is under way."""
-        self.browser.wait("document.documentElement.dataset.work === 'none'", seconds)
+        self.browser.wait("document.documentElement.dataset.work === 'none'")
 
     def balance(self, wanted: str) -> None:
         self.wait_text("#balance", wanted)
@@ -143,7 +143,7 @@ class PageCase(unittest.TestCase):
             "Browser.setDownloadBehavior", behavior="allow", downloadPath=str(folder)
         )
         self.browser.click(selector)
-        end = time.monotonic() + 30
+        end = time.monotonic() + WAIT
         while time.monotonic() < end:
             found = [it for it in folder.iterdir() if it.suffix in (".session", ".html")]
             if found:

@@ -1,4 +1,5 @@
 """Edits: the lost deposit comes back by dragging a key, typing a line, or keys alone."""
+import json
 import re
 
 from .browser import ALT, SHIFT
@@ -37,6 +38,7 @@ class TheLostDeposit(PageCase):
 
     def test_the_balance_changes_while_the_key_is_dragged(self) -> None:
         self.balance(LOST)
+        self.wait_still()
         self.browser.drag(KEY, 110, is_let_go=False)
         self.balance(SAFE)
         self.assertEqual(self.edits(), [])
@@ -59,14 +61,15 @@ class TheLostDeposit(PageCase):
         self.assertEqual(self.edits(), [line])
 
     def test_keys_alone(self) -> None:
-        """Keys in quick succession are one move: each a turn, with shift 64, and one edit."""
+        """A key that is held is one move: each time a turn, with shift 64, and one edit."""
         self.browser.value(f"document.querySelector('{KEY}').focus()")
         for _ in range(20):
-            self.browser.key("ArrowRight", ALT)
+            self.browser.key("ArrowRight", ALT, is_up=False)
+        self.browser.key("ArrowRight", ALT, is_down=False)
         self.browser.wait("document.querySelectorAll('#edits li').length === 1")
         self.browser.key("Alt", is_up=False)
         for _ in range(4):
-            self.browser.key("ArrowRight", ALT | SHIFT)
+            self.browser.key("ArrowRight", ALT | SHIFT, is_up=False)
         self.balance(SAFE)
         self.browser.key("Alt", is_down=False)
         self.browser.wait("document.querySelectorAll('#edits li').length === 2")
@@ -77,15 +80,23 @@ class TheLostDeposit(PageCase):
         self.browser.wait("document.querySelectorAll('#edits li').length === 0")
         self.balance(LOST)
 
-    def test_a_move_right_after_a_move(self) -> None:
-        """The next move begins where the last one ended, though that edit is still under way."""
+    def strike(self, *keys: tuple[str, str]) -> None:
+        """Strikes keys at a mark, without a pause: each is a kind of event and a name."""
         self.browser.value(
             f"(() => {{ const it = document.querySelector('{KEY}'); it.focus();"
-            "const strike = (kind, key) => it.dispatchEvent(new KeyboardEvent(kind,"
-            "{key, altKey: true, bubbles: true}));"
-            "for (let count = 0; count < 3; count++) {"
-            "strike('keydown', 'ArrowRight'); strike('keyup', 'Alt'); } })()"
+            f"for (const [kind, key] of {json.dumps(keys)}) {{"
+            "it.dispatchEvent(new KeyboardEvent(kind, {key, altKey: true, bubbles: true}));"
+            "} })()"
         )
+
+    def test_keys_in_quick_succession_are_one_move(self) -> None:
+        self.strike(*20 * [("keydown", "ArrowRight"), ("keyup", "ArrowRight")])
+        self.browser.wait("document.querySelectorAll('#edits li').length > 0")
+        self.assertEqual(self.edits(), ["alter 15 126987 key 66"])
+
+    def test_a_move_right_after_a_move(self) -> None:
+        """The next move begins where the last one ended, though that edit is still under way."""
+        self.strike(*3 * [("keydown", "ArrowRight"), ("keyup", "Alt")])
         self.browser.wait("document.querySelectorAll('#edits li').length === 3")
         self.assertEqual(self.edits()[-1], "alter 15 126970 key 66")
 
@@ -93,8 +104,7 @@ class TheLostDeposit(PageCase):
         self.browser.drag(KEY, 110)
         self.assertIn("0000000  000170 \u2192 000176", self.wait_text("#difference", "Drive 0"))
         self.assertIn("030000  000170 \u2192 000176", self.browser.text("#difference"))
-        ghost = self.browser.text(".mark.ghost")
-        self.assertEqual(ghost, "6")
+        self.assertEqual(self.wait_text(".mark.ghost", "6"), "6")
         self.wait_text("#difference", "first differ before turn ")
         line = self.edits()[0]
         found = re.search(r"before turn (\d+)", self.browser.text("#difference"))

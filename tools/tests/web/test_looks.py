@@ -1,4 +1,5 @@
 """How the page looks: wide and narrow, light and dark, with names for those who don't see it."""
+import json
 import struct
 import zlib
 from typing import Any
@@ -8,6 +9,23 @@ from tests import under_test
 from .common import KEY, SAFE, PageCase
 
 SIZES = ((1280, 900), (400, 800))
+# What the page shows for moments, or changes while the user does something else.
+WORKS = (None, "0 of 1 edits", "999999999 of 1000000000 turns")
+VERDICTS = ("", "\u2713 nothing is lost", "\u2717 a deposit of 100 is lost; try another turn")
+# Where the button that stops the work is, and the timeline, whatever of these is shown.
+PLACES = """((works, verdicts) => {
+  const found = it => document.querySelector(it);
+  const places = works.flatMap(work => verdicts.map(verdict => {
+    found('#work').hidden = work === null;
+    found('#work-text').textContent = work ?? '';
+    found('#verdict').textContent = verdict;
+    return ['#stop', '#timeline'].map(it => {
+      const {x, y} = found(it).getBoundingClientRect();
+      return `${it} at ${x} ${y + scrollY}`;
+    }).join(', ');
+  }));
+  return [...new Set(places)];
+})"""
 
 
 def pixels_of(png: bytes) -> tuple[int, int, list[bytes]]:
@@ -70,6 +88,16 @@ class Tour(PageCase):
             self.wait_still()
             wide = self.browser.value("document.documentElement.scrollWidth")
             self.assertLessEqual(wide, width)
+
+    def test_what_comes_and_goes_moves_nothing(self) -> None:
+        """The user may be about to press it."""
+        asked = f"{PLACES}({json.dumps(WORKS)}, {json.dumps(VERDICTS)})"
+        name = "document.querySelector('#session-name').textContent"
+        for text in ("a.session", "a session of an afternoon with many visitors.session"):
+            self.browser.value(f"{name} = {text!r}")
+            for width in (320, 400, 560, 700, 960, 1280):
+                self.browser.size(width, 800)
+                self.assertEqual(len(self.browser.value(asked)), 1, (text, width))
 
     def test_the_look_is_chosen(self) -> None:
         ground = "getComputedStyle(document.body).backgroundColor"
