@@ -61,9 +61,10 @@ class LongQuestions(PageCase):
     def test_a_bar_and_stop(self) -> None:
         self.wait_still()
         self.type_line("alter 15 127165 key 66")
+        self.balance("145")
         self.go(LAST)
         self.browser.wait("!document.querySelector('#work').hidden")
-        self.wait_text("#work-text", f"of {LAST} turns")
+        self.wait_text("#work-text", "turns")
         self.browser.click("#stop")
         self.wait_text("#reply", "Stopped")
         self.balance("145")
@@ -113,9 +114,7 @@ class LongQuestions(PageCase):
         """Each edit of 10,000 events may take twice as long."""
         self.never_hangs(self.open_many_events, self.edit_many_events, 2 * LONG_TASK)
 
-    def never_hangs(
-        self, begin: Callable[[], None], act: Callable[[], None], most: float
-    ) -> None:
+    def never_hangs(self, begin: Callable[[], None], act: Callable[[], None], most: float) -> None:
         """The least of three tries: beside other work the processor may be slower."""
         tries = []
         for _ in range(3):
