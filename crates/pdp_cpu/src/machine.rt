@@ -319,6 +319,14 @@ impl<S: Store, D: Store> Machine<S, D> {
         self.punched.shown()
     }
 
+    /// All bytes of the paper tape in the reader, those too that were read (PDP-11 Peripherals
+    /// Handbook, PC11).
+    pub fn tape(&self) -> &[u8]
+        ensures { result.now ≡ self.now.state.world.bus.tape }
+    {
+        self.computer.bus.tape()
+    }
+
     /// The registers of the devices as reads would give them, without the effect of a read (PDP-11
     /// Peripherals Handbook, KL11, KW11-L, PC11 and RK11).
     #[tactic(auto, unfolding(pdp_unibus::specs::Shown::devices_of))]

@@ -8,3 +8,5 @@ pub mod TextParts
 pub mod DiskChanges
 pub mod Resuming
 pub mod Watches
+pub mod Fadings
+pub mod FadingEdits

@@ -34,3 +34,6 @@ pub mod Adoptions
 pub mod Formers
 pub mod FormersBeside
 pub mod FormerRuns
+pub mod Decided
+pub mod Branches
+pub mod BranchingOff

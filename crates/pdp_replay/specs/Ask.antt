@@ -9,3 +9,4 @@ pub mod Writes
 pub mod TextParts
 pub mod DiskChanges
 pub mod Watches
+pub mod Fadings

@@ -8,3 +8,7 @@ pub mod Meetings
 pub mod SavedMeetings
 pub mod Adoptions
 pub mod FormerRuns
+pub mod Branches
+pub mod Discrete
+pub mod DiscreteParts
+pub mod Decided

@@ -2,6 +2,7 @@
 //! searches of the run.
 
 mod disk_change;
+mod fading;
 mod items;
 mod last_write;
 mod question;
@@ -13,6 +14,7 @@ mod trail;
 mod watch;
 mod writes;
 
+pub use fading::Fading;
 pub use items::{Bytes, Items, Words};
 pub use last_write::LastWrite;
 pub use question::{Answer, Question, Value};

@@ -47,7 +47,7 @@ mod past;
 mod run;
 
 pub use ask::{
-    Answer, Bytes, Found, Items, LastWrite, Question, Sought, TextKind, TextPart, Trail,
+    Answer, Bytes, Fading, Found, Items, LastWrite, Question, Sought, TextKind, TextPart, Trail,
     TrailEntry, Value, Words, Written,
 };
 pub use engine::Engine;
@@ -59,6 +59,6 @@ pub use laws::{
 };
 pub use past::{DEFAULT_STRIDE, Patch, Setup};
 pub use pdp_cpu::{Act, DeviceRegisters, PageRegisters, Regs, RunState};
-pub use pdp_script::Fault;
+pub use pdp_script::{Fault, ScriptEdit};
 pub use pdp_store::Agent;
 pub use pdp_unibus::{DelayedDevice, Delays, Event};

@@ -1,11 +1,13 @@
 //! The run as an engine keeps it: its machine, its checkpoints, its turns, and what edits leave.
 
+mod branch;
 mod changes;
 mod former_runs;
 mod kept_run;
 mod pauses;
 mod turns;
 
+pub(crate) use branch::{Branch, Comparison};
 pub(crate) use kept_run::KeptRun;
 pub(crate) use pauses::{next_pause, pause_on_the_way};
 pub(crate) use turns::{quiet_until, run_part};

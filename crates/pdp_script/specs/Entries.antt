@@ -1,6 +1,6 @@
 -- The entries of a script: its events with their numbers and turns, in the order of their turns
 -- [P].
-use Rattle.std.specs.Prelude.{ℕ, ◌≡◌, ◌<◌, ◌≤◌, cond, eqb, nat_lt, nat_le, Option, Some, None, List}
+use Rattle.std.specs.Prelude.{ℕ, ◌≡◌, ◌+◌, ◌<◌, ◌≤◌, cond, eqb, nat_lt, nat_le, Option, Some, None, List}
 use Rattle.std.specs.Prelude.{[], ◌∷◌, map}
 use Rattle.std.specs.List.{filter}
 use Rattle.pdp_unibus.specs.declared.event.Event.{Event}
@@ -13,6 +13,16 @@ pub record Entry : Type 0 where
 -- the events of a turn, in list order
 abbrev pub events_at : List Entry → ℕ → List Event
 events_at entries turn = map (λ e. e.event) (filter (λ e. eqb e.turn turn) entries)
+
+-- the events of turn `from` and of later turns, each with its turn, in list order
+abbrev pub events_from : List Entry → ℕ → List (ℕ × Event)
+events_from entries from = map (λ e. (e.turn, e.event)) (filter (λ e. nat_le from e.turn) entries)
+
+-- two scripts have different events from this turn on, but the same from the next one on
+abbrev pub DifferLastFrom : List Entry → List Entry → ℕ → Type 0
+DifferLastFrom some other turn =
+    (events_from some turn ≡ events_from other turn → ⊥)
+    × (events_from some (turn + 1) ≡ events_from other (turn + 1))
 
 -- the first entry of this number
 abbrev pub entry_of : List Entry → ℕ → Option Entry

@@ -1,6 +1,7 @@
 -- The script of a run as callers see it, and what each edit makes of it [P].
 use Rattle.std.specs.Prelude.{Bool, ℕ, ◌≡◌, ◌+◌, ◌≤◌, ◌||◌, cond, eqb, nat_lt, nat_le, Option, Some}
-use Rattle.std.specs.Prelude.{None, List, length, Result, Ok, Err}
+use Rattle.std.specs.Prelude.{None, List, length, min, unwrap_or, Result, Ok, Err}
+use Rattle.std.specs.Option.{option_map}
 use Rattle.std.specs.List.{All, AllPairs}
 use Rattle.std.specs.List.Sorted.{IsNonDecreasingBy}
 use Rattle.pdp_script.specs.declared.faults.Fault.{Fault}
@@ -8,6 +9,8 @@ use Rattle.pdp_script.specs.declared.faults.Fault.TheVariants.{NoSuchEvent, Scri
 use Rattle.pdp_script.specs.declared.faults.Fault.TheVariants.{TurnTooLarge}
 use Rattle.pdp_script.specs.Entries.{Entry, entry_of, inserted_entries, without, altered_entries}
 use Rattle.pdp_script.specs.Refusal.{edit_answer}
+use Rattle.pdp_script.specs.declared.script.ScriptEdit.{ScriptEdit}
+use Rattle.pdp_script.specs.declared.script.ScriptEdit.TheVariants.{Insert, Alter, Drop}
 use Rattle.pdp_unibus.specs.LastTurn.{last_turn}
 use Rattle.pdp_unibus.specs.declared.event.Event.{Event}
 
@@ -77,3 +80,17 @@ pub record IsScript (script : ScriptData) : Type 0 where
   pub in_range : All (λ e. e.turn ≤ last_turn) script.entries
   pub numbered : All (λ e. (1 ≤ e.number) × (e.number ≤ script.given)) script.entries
   pub distinct : AllPairs (λ e f. e.number ≡ f.number → ⊥) script.entries
+
+-- what an edit makes of a script
+abbrev pub script_edited : ScriptEdit → ScriptData → Result ScriptData Fault
+script_edited (Insert turn event) script = insert_edit turn event script
+script_edited (Alter number turn event) script = alter_edit number turn event script
+script_edited (Drop number) script = drop_edit number script
+
+-- the least turn whose events an edit could change: that of its event, before or after it
+abbrev pub first_turn_of_edit : ScriptEdit → ScriptData → ℕ
+first_turn_of_edit (Insert turn event) script = turn
+first_turn_of_edit (Alter number turn event) script =
+    min (unwrap_or (option_map (λ e. e.turn) (entry_of script.entries number)) turn) turn
+first_turn_of_edit (Drop number) script =
+    unwrap_or (option_map (λ e. e.turn) (entry_of script.entries number)) 0

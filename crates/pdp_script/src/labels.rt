@@ -1,5 +1,5 @@
-ghost use Rattle.std.specs.Prelude.{◌≡◌, ℕ, ◌<◌, ◌≤◌, length, IfOk, IsErr, MatchOption, vec_len};
-ghost use Rattle.std.specs.Prelude.{vec_capacity};
+ghost use Rattle.std.specs.Prelude.{◌≡◌, ◌↔◌, ℕ, ◌<◌, ◌≤◌, length, map, true, IfOk, IsErr};
+ghost use Rattle.std.specs.Prelude.{MatchOption, vec_capacity, vec_len};
 ghost use Rattle.std.specs.List.{All, AllWithin};
 ghost use Rattle.pdp_script.specs.Labels.{IsFirstOf, IsInOrder, PutsLast};
 
@@ -39,6 +39,37 @@ pub fn index_of(labels: &[Label], number: u32) -> Option<usize>
         (IsFirstOf labels.now number) }
 {
     labels.iter().position(|label| label.number == number)
+}
+
+/// Whether these labels have the same turns, in the same order.
+pub fn are_same_turns(some: &[Label], other: &[Label]) -> bool
+    ensures { (result ≡ true) ↔ (map (λ (s : Label). s.turn) some.now
+        ≡ map (λ (s : Label). s.turn) other.now) }
+{
+    if some.len() != other.len() {
+        return false;
+    }
+    for (index, label) in some.iter().enumerate() {
+        if label.turn != other[index].turn {
+            return false;
+        }
+    }
+    true
+}
+
+/// Whether these are the same events, in the same order.
+pub fn are_same_events(some: &[Event], other: &[Event]) -> bool
+    ensures { (result ≡ true) ↔ (some.now ≡ other.now) }
+{
+    if some.len() != other.len() {
+        return false;
+    }
+    for (index, event) in some.iter().enumerate() {
+        if !event.is_same(&other[index]) {
+            return false;
+        }
+    }
+    true
 }
 
 /// Puts an event last among its turn's.

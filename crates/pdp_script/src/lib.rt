@@ -6,7 +6,9 @@
 //! - Each fault has its number and name (`Fault::number`, `name`).
 //! - A script is a list of events ordered by turn, in list order within a turn. Each edit is the
 //!   list operation with its refusals (`Script::insert`, `alter`, `drop_event`), and leaves all
-//!   else (`edits_leave_other_turns`, `edits_leave_other_entries`).
+//!   else (`edits_leave_other_turns`, `edits_leave_other_entries`). An edit can also be done to a
+//!   copy (`edited`).
+//! - Whether two scripts have the same events from a turn on (`has_events_of`).
 //! - The events of a turn, and the next turn that has any (`at`, `turn_of`, `next_turn`).
 //!
 //! # What is only tested
@@ -24,4 +26,4 @@ mod script;
 pub use faults::Fault;
 pub use laws::{edits_leave_other_entries, edits_leave_other_turns};
 pub use pdp_unibus::LAST_TURN;
-pub use script::{MOST_EVENTS, Script};
+pub use script::{MOST_EVENTS, Script, ScriptEdit};

@@ -1,18 +1,45 @@
-ghost use Rattle.std.specs.Prelude.{◌≡◌, ℕ, ◌+◌, [], Option, true, false};
-ghost use Rattle.pdp_script.specs.Entries.{entry_of, events_at, turn_from, IsNextTurn};
+ghost use Rattle.std.specs.Prelude.{◌≡◌, ◌↔◌, ℕ, ◌+◌, [], IfOk, MatchOption, Option, true};
+ghost use Rattle.std.specs.Prelude.{◌≤◌, cond, false, nat_lt, Err, Ok, OnOk};
+ghost use Rattle.pdp_script.specs.Entries.{entry_of, events_at, events_from, turn_from, DifferLastFrom};
+ghost use Rattle.pdp_script.specs.Entries.{IsNextTurn};
 ghost use Rattle.pdp_script.specs.Refusal.{edit_answer, for_memory, past_left};
+ghost use Rattle.pdp_script.specs.Refusal.{question_answer, result_map};
 ghost use Rattle.pdp_script.specs.Script.{insert_edit, insert_answer, alter_edit, drop_edit};
-ghost use Rattle.pdp_script.specs.Script.{IsScript};
+ghost use Rattle.pdp_script.specs.Script.{first_turn_of_edit, script_edited, IsScript};
 ghost use Rattle.std.specs.Option.{option_map};
 
 use crate::faults::Fault;
-use crate::labels::{Label, index_after, index_from, index_of, insert_last, put_last};
+use crate::labels::{
+    Label, are_same_events, are_same_turns, index_after, index_from, index_of, insert_last,
+    put_last,
+};
 use pdp_unibus::{Event, LAST_TURN};
+use pdp_word::NoMemory;
 use std::alloc::Global;
 use std::marker::Model;
 
 /// How many events a script may have at a time [P].
 pub const MOST_EVENTS: usize = 65_536;
+
+/// An edit of a script, as something that could be done [P].
+#[derive(Clone, Copy)]
+pub enum ScriptEdit {
+    /// An event is added, as by [`Script::insert`].
+    Insert {
+        turn: u32,
+        event: Event,
+    },
+    /// An event gets another turn and event, as by [`Script::alter`].
+    Alter {
+        number: u32,
+        turn: u32,
+        event: Event,
+    },
+    /// An event is taken out, as by [`Script::drop_event`].
+    Drop {
+        number: u32,
+    },
+}
 
 /// What happens to the machine from outside: events in the order of their turns, each under a
 /// number of its own [P].
@@ -60,6 +87,143 @@ impl Script {
         let from = index_from(&self.labels, turn);
         let to = index_after(&self.labels, turn);
         &self.events[from..to]
+    }
+
+    /// A copy of the script, with the same numbers.
+    ///
+    /// # Errors
+    ///
+    /// `NoMemory` if memory was refused.
+    pub fn copy(&self, alloc: Global) -> Result<Script, NoMemory>
+        ensures { IfOk result (λ copy. copy ≡ self.now) }
+    {
+        Ok(Script {
+            labels: self.labels.to_vec(alloc)?,
+            events: self.events.to_vec(alloc)?,
+            given: self.given,
+        })
+    }
+
+    /// The script as an edit would leave it; this one stays.
+    ///
+    /// # Errors
+    ///
+    /// Those of the edit, in its order; `NoMemory` if memory was refused.
+    pub fn edited(&self, alloc: Global, edit: ScriptEdit) -> Result<Script, Fault>
+        ensures { result ≡ question_answer (script_edited edit self.now) (for_memory result) }
+    {
+        self.check(edit)?;
+        let mut copy = self.copy(alloc)?;
+        match edit {
+            ScriptEdit::Insert { turn, event } => {
+                copy.insert(turn, event)?;
+            }
+            ScriptEdit::Alter {
+                number,
+                turn,
+                event,
+            } => copy.alter(number, turn, event)?,
+            ScriptEdit::Drop { number } => copy.drop_event(number)?,
+        }
+        Ok(copy)
+    }
+
+    /// The least turn whose events an edit could change: that of its event, before or after it. It
+    /// takes no memory.
+    pub fn first_turn_of(&self, edit: ScriptEdit) -> u32
+        ensures { result ≡ first_turn_of_edit edit self.now }
+    {
+        match edit {
+            ScriptEdit::Insert { turn, .. } => turn,
+            ScriptEdit::Alter { number, turn, .. } => self
+                .turn_of(number)
+                .unwrap_or(turn)
+                .min(turn),
+            ScriptEdit::Drop { number } => self.turn_of(number).unwrap_or(0),
+        }
+    }
+
+    // Whether an edit could be done, memory allowing.
+    //
+    // Err as that of the edit.
+    fn check(&self, edit: ScriptEdit) -> Result<(), Fault>
+        ensures { result ≡ result_map (λ _. tt) (script_edited edit self.now) }
+    {
+        match edit {
+            ScriptEdit::Insert { turn, .. } => self.check_insert(turn),
+            ScriptEdit::Alter { number, turn, .. } => {
+                check_turn(turn)?;
+                self.check_number(number)
+            }
+            ScriptEdit::Drop { number } => self.check_number(number),
+        }
+    }
+
+    // Whether an event can be added at a turn, memory allowing.
+    //
+    // Err as that of `insert`.
+    fn check_insert(&self, turn: u32) -> Result<(), Fault>
+        ensures { (event : Event)
+            → result ≡ result_map (λ _. tt) (insert_edit turn event self.now) }
+    {
+        check_turn(turn)?;
+        if self.events.len() >= MOST_EVENTS || self.given == u32::MAX {
+            return Err(Fault::ScriptFull);
+        }
+        Ok(())
+    }
+
+    // Whether there is an event of this number.
+    //
+    // Err(NoSuchEvent) if there is none.
+    fn check_number(&self, number: u32) -> Result<(), Fault>
+        ensures { result ≡ result_map (λ _. tt) (drop_edit number self.now) }
+    {
+        match self.turn_of(number) {
+            Some(_) => Ok(()),
+            None => Err(Fault::NoSuchEvent),
+        }
+    }
+
+    /// Whether both scripts have the same events in turn `from` and in later turns, in the same
+    /// order; their numbers may differ. It takes no memory.
+    pub fn has_events_of(&self, other: &Script, from: u32) -> bool
+        ensures same { (result ≡ true)
+            ↔ (events_from self.now.entries from ≡ events_from other.now.entries from) }
+        ensures kept { IsScript self.now }
+        ensures other_kept { IsScript other.now }
+    {
+        let (mine, theirs) = (
+            index_from(&self.labels, from),
+            index_from(&other.labels, from),
+        );
+        let (_, labels) = self.labels.split_at(mine);
+        let (_, other_labels) = other.labels.split_at(theirs);
+        let (_, events) = self.events.split_at(mine);
+        let (_, other_events) = other.events.split_at(theirs);
+        are_same_turns(labels, other_labels) && are_same_events(events, other_events)
+    }
+
+    /// The greatest turn from which on the scripts have different events; None if they have the
+    /// same in all turns. It takes no memory.
+    pub fn last_difference(&self, other: &Script) -> Option<u32>
+        ensures { MatchOption result
+            (events_from self.now.entries 0 ≡ events_from other.now.entries 0)
+            (DifferLastFrom self.now.entries other.now.entries) }
+    {
+        if self.has_events_of(other, 0) {
+            return None;
+        }
+        let (mut different, mut same) = (0, LAST_TURN + 1);
+        while same - different > 1 {
+            let middle = different + (same - different) / 2;
+            if self.has_events_of(other, middle) {
+                same = middle;
+            } else {
+                different = middle;
+            }
+        }
+        Some(different)
     }
 
     /// The turn of the event of this number, if it is there.
@@ -163,4 +327,17 @@ impl Script {
         }
         Ok(())
     }
+}
+
+// Whether events can have this turn.
+//
+// Err(TurnTooLarge) if it is above 1,000,000,000.
+fn check_turn(turn: u32) -> Result<(), Fault>
+    ensures refusal { result ≡ cond (nat_lt LAST_TURN turn) (Err Fault.TurnTooLarge) (Ok tt) }
+    ensures within { OnOk result (turn ≤ LAST_TURN) }
+{
+    if turn > LAST_TURN {
+        return Err(Fault::TurnTooLarge);
+    }
+    Ok(())
 }

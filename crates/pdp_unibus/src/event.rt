@@ -1,5 +1,7 @@
+ghost use Rattle.std.specs.Prelude.{◌≡◌, ◌↔◌, true};
+
 /// What happens to the machine from outside, at a turn of a script [P].
-#[derive(Clone, Copy)]
+#[derive(Clone, Copy, PartialEq, Eq)]
 pub enum Event {
     /// A key is struck, with this byte.
     Key(u8),
@@ -17,4 +19,13 @@ pub enum Event {
     Switches(u16),
     /// The console's continue: a halted processor goes on.
     Continue,
+}
+
+impl Event {
+    /// Whether both are the same, with the same byte or word.
+    pub fn is_same(&self, other: &Event) -> bool
+        ensures { (result ≡ true) ↔ (self.now ≡ other.now) }
+    {
+        self == other
+    }
 }

@@ -41,6 +41,13 @@ impl Tape {
         Some(byte)
     }
 
+    /// All its bytes.
+    pub(crate) fn bytes(&self) -> &[u8]
+        ensures { result.now ≡ self.now.bytes }
+    {
+        self.bytes.as_slice()
+    }
+
     /// How many of the bytes have been read.
     pub(crate) fn taken(&self) -> usize
         ensures { result ≡ self.now.read }

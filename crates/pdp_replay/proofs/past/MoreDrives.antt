@@ -221,9 +221,9 @@ one_more words value xs now x number next is pushed before =
     ∙ ap (λ n. map value (range_with_len 1 n)) (sym long)
 
 -- all have the same
-pub all_alike : {X : Type 0} (pages : X → List ℕ) (xs now : List X) (x : X) (blank : List ℕ) → pages x ≡ blank → now ≡ xs ++ x ∷ []
+pub all_alike : {X Y : Type 0} (pages : X → Y) (xs now : List X) (x : X) (blank : Y) → pages x ≡ blank → now ≡ xs ++ x ∷ []
     → map pages xs ≡ replicate (length xs) blank → map pages now ≡ replicate (length now) blank
-all_alike {X} pages xs now x blank is pushed before =
+all_alike {X} {Y} pages xs now x blank is pushed before =
     ap (map pages) pushed ∙ each xs before ∙ ap (λ (ys : List X). replicate (length ys) blank) (sym pushed) where
       each : (ys : List X) → map pages ys ≡ replicate (length ys) blank → map pages (ys ++ x ∷ []) ≡ replicate (length (ys ++ x ∷ [])) blank
       each [] same = ap (λ words. words ∷ []) is

@@ -58,7 +58,7 @@ touched_sizes (Drive number) word turn f = record {
   drives = map-set_same length f.drives number _ [] (length-set (get_or f.drives number []) _ _);
 }
 
-trace_sizes : (xs : List TracedAccess) (f : FirstTouches) → HasPagesOf (first_touches_after xs f) f
+pub trace_sizes : (xs : List TracedAccess) (f : FirstTouches) → HasPagesOf (first_touches_after xs f) f
 unfolding first_touches_after
 trace_sizes [] f = record { core = refl; drives = refl }
 trace_sizes (x ∷ xs) f =
@@ -110,7 +110,7 @@ meets_here p f there r is on state turn known later meets touches =
     }
 
 -- two saved machines of runs that meet
-saved_meet : (p q : Past) (c : ℕ) → MeetAt c p q → SavedMeet (saved_machine (at p c)) (saved_machine (at q c))
+pub saved_meet : (p q : Past) (c : ℕ) → MeetAt c p q → SavedMeet (saved_machine (at p c)) (saved_machine (at q c))
 saved_meet p q c meet = record {
   turn = refl;
   processor = ap (λ (w : World). w.processor) meet.world_is;
@@ -119,7 +119,7 @@ saved_meet p q c meet = record {
 }
 
 -- the bytes from one of two lengths to the other, of a list that leaves some out
-between_is : (from a b : ℕ) (all : List KeptByte) → from ≤ a → a ≤ b → bytes_between from a b (drop from all) ≡ drop a (take b all)
+pub between_is : (from a b : ℕ) (all : List KeptByte) → from ≤ a → a ≤ b → bytes_between from a b (drop from all) ≡ drop a (take b all)
 between_is from a b all low high =
     let whole : from + (b - from) ≡ b = omega (arith, low, high) in
     let rest : from + (a - from) ≡ a = omega (arith, low) in
