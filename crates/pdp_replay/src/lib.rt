@@ -15,6 +15,9 @@
 //! - **Searches**: [`Engine::first_at`] returns the first turn of the run that begins with the act
 //!   that is sought, and [`Engine::writes`] the writes to a word of core, for every past and
 //!   whatever is kept. The turns run for them are bounded as those of an answer.
+//! - **An edit that fades**: [`Engine::fades`] returns the least turn from which on the run with an
+//!   edit of the script would be the run as it is: the same state, except for stamps and what came
+//!   out, and the same events from then on.
 //! - Core and each drive as of power-up have each word's patch, else the word of the image, else 0
 //!   (`core_words_are_first_words`, `disk_words_are_first_words`).
 //! - Each edit with its refusals in their order, what it leaves, and how far back it lowers the

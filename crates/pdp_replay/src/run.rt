@@ -7,7 +7,7 @@ mod kept_run;
 mod pauses;
 mod turns;
 
-pub(crate) use branch::{Branch, Comparison};
+pub(crate) use branch::{Branch, Likeness};
 pub(crate) use kept_run::KeptRun;
 pub(crate) use pauses::{next_pause, pause_on_the_way};
 pub(crate) use turns::{quiet_until, run_part};

@@ -6,63 +6,69 @@ use std::alloc::Global;
 use std::process::Abort;
 use std::test::Fail;
 
-// In a loop TST @#177560 and a BPL back to it, until there is a key; then MOV @#177562,R0 and a
-// branch back to the TST, which is done in the even turns while no key comes.
-const FETCHES_KEYS: [u16; 6] = [0o5737, 0o177560, 0o100375, 0o13700, 0o177562, 0o772];
+// In a loop TSTB @#177560 and a BPL back to it, until there is a key; then MOV @#177562,R0 and a
+// branch back to the TSTB, which is done in the even turns while no key comes.
+const FETCHES_KEYS: [u16; 6] = [0o105737, 0o177560, 0o100375, 0o13700, 0o177562, 0o772];
 
-const A: Event = Event::Key(b'A');
+/// An edit. Key 101 comes in turn 5000 as event 1, and key 102 in turn 9000 as event 2.
+#[derive(Clone, Copy)]
+enum Edit {
+    /// Event 1 comes in this turn, with this key.
+    Alter(u32, u8),
+    /// Event 1 goes.
+    Drop,
+    /// The clock ticks in this turn.
+    Tick(u32),
+    /// Key 101 comes in this turn too.
+    Key(u32),
+}
 
-const B: Event = Event::Key(b'B');
-
-// Keys A and B come in turns 5000 and 9000. The edit, the turn up to which is looked, and the turn
-// from which on it would change nothing.
-const FADINGS: [(ScriptEdit, u32, Option<u32>); 8] = [
-    // The key is fetched four turns later, and the TST after it sets the condition codes.
-    (alter(5003, A), 20_000, Some(5009)),
-    (alter(5003, A), 5009, Some(5009)),
-    (alter(5003, A), 5008, None),
-    // The same event is left, in the same turn.
-    (alter(5000, A), 20_000, Some(0)),
-    // Register 0 has another letter until B is fetched in turn 9002.
-    (alter(5000, Event::Key(b'C')), 20_000, Some(9003)),
-    (ScriptEdit::Drop { number: 1 }, 20_000, Some(9003)),
-    // The clock's monitor bit is set already.
-    (
-        ScriptEdit::Insert {
-            turn: 7000,
-            event: Event::Tick,
-        },
-        20_000,
-        Some(7001),
-    ),
-    (
-        ScriptEdit::Insert {
-            turn: 7000,
-            event: B,
-        },
-        8999,
-        None,
-    ),
-];
-
-// Event 1 gets this turn and event.
-const fn alter(turn: u32, event: Event) -> ScriptEdit {
-    ScriptEdit::Alter {
-        number: 1,
-        turn,
-        event,
+impl Edit {
+    fn of_script(self) -> ScriptEdit {
+        match self {
+            Edit::Alter(turn, key) => ScriptEdit::Alter {
+                number: 1,
+                turn,
+                event: Event::Key(key),
+            },
+            Edit::Drop => ScriptEdit::Drop { number: 1 },
+            Edit::Tick(turn) => ScriptEdit::Insert {
+                turn,
+                event: Event::Tick,
+            },
+            Edit::Key(turn) => ScriptEdit::Insert {
+                turn,
+                event: Event::Key(0o101),
+            },
+        }
     }
 }
+
+// The edit, the turn up to which is looked, and the turn from which on it would change nothing.
+const FADINGS: [(Edit, u32, Option<u32>); 8] = [
+    // The key is fetched four turns later, and the TSTB after it sets the condition codes.
+    (Edit::Alter(5003, 0o101), 20_000, Some(5009)),
+    (Edit::Alter(5003, 0o101), 5009, Some(5009)),
+    (Edit::Alter(5003, 0o101), 5008, None),
+    // The event stays as it is.
+    (Edit::Alter(5000, 0o101), 20_000, Some(0)),
+    // Register 0 differs until key 102 is fetched in turn 9002.
+    (Edit::Alter(5000, 0o103), 20_000, Some(9003)),
+    (Edit::Drop, 20_000, Some(9003)),
+    // The clock's monitor bit is set already.
+    (Edit::Tick(7000), 20_000, Some(7001)),
+    (Edit::Key(7000), 7004, None),
+];
 
 #[test]
 fn edits_fade(rt: HostRuntime) -> Result<(), Fail> {
     let alloc = rt.alloc();
     let mut engine = engine_of(alloc, &FETCHES_KEYS, WIDEST)?;
-    engine.insert(5000, A)?;
-    engine.insert(9000, B)?;
+    engine.insert(5000, Event::Key(0o101))?;
+    engine.insert(9000, Event::Key(0o102))?;
     for (number, (edit, to, turn)) in FADINGS.iter().enumerate() {
-        let fading = engine.fades(alloc, *edit, *to)?;
-        assert_eq!(&rt; fading.turn, *turn, "fading {number}");
+        let fading = engine.fades(alloc, edit.of_script(), *to)?;
+        assert_eq!(&rt; fading.turn, *turn, "edit {number}");
     }
     Ok(())
 }

@@ -11,14 +11,14 @@ use Rattle.pdp_replay.specs.Ask.Fadings.{AreApart, AreJoined, IsBracket, IsEdge,
 use Rattle.pdp_replay.specs.Ask.Searches.{HoldsNowhere, IsFirst, first_turn_of}
 use Rattle.pdp_replay.specs.Past.{Past}
 use Rattle.pdp_replay.specs.Past.Setup.{SetupData}
-use Rattle.pdp_replay.specs.Run.Branches.{AreAlikeAt, AreBeside, AreBesideAt, BranchesOff, Compares, IsBranch, IsBranchAt, IsKeptOfSize, KeepsBranch, SameEventsBefore}
+use Rattle.pdp_replay.specs.Run.Branches.{AreAlikeAt, AreBeside, AreBesideAt, BranchesOff, Compares, IsBranchOf, IsBranchAt, IsKeptOfSize, KeepsBranch, SameEventsBefore}
 use Rattle.pdp_replay.specs.Run.Checkpoints.{KeepsTexts, SameInputsFrom}
 use Rattle.pdp_replay.specs.Run.KeptRuns.{IsKeptRun, IsUnderWay, KeepsRun}
 use Rattle.pdp_replay.specs.Run.Meetings.{MeetAt}
 use Rattle.pdp_replay.specs.Run.States.{at}
 use Rattle.pdp_replay.specs.declared.past.base_setup.BaseSetup.{BaseSetup}
 use Rattle.pdp_replay.specs.declared.run.branch.Branch.{Branch}
-use Rattle.pdp_replay.specs.declared.run.branch.Comparison.TheVariants.{Apart}
+use Rattle.pdp_replay.specs.declared.run.branch.Likeness.TheVariants.{Apart}
 use Rattle.pdp_replay.specs.declared.run.kept_run.KeptRun.{KeptRun}
 use Rattle.pdp_replay.proofs.ask.Searches.{first_is}
 use Rattle.pdp_replay.proofs.run.Decided.{are_same_events_tells, do_meet_tells}
@@ -225,7 +225,7 @@ way_of_other p q n m agree there way =
 
 -- so a branch is of each run with the other script
 pub branch_of_other : (p q : Past) (base : BaseSetup) (some other : ScriptData) (r : KeptRun) (b : Branch) (n from : ℕ) → IsKeptOfSize p base some r → q.script ≡ other → p.setup ≡ q.setup
-    → SameEventsBefore from some other → n ≤ from → b.machine.state.turn ≡ n → BranchesOff n base some other r b → IsBranch q b
+    → SameEventsBefore from some other → n ≤ from → b.machine.state.turn ≡ n → BranchesOff n base some other r b → IsBranchOf q b
 branch_of_other p q base some other r b n from is script setup events le there off = record {
   script = script ∙ sym off.0;
   known = n;

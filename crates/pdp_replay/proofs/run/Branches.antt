@@ -6,7 +6,7 @@ use Rattle.pdp_cpu.specs.Turns.MachineState.{MachineState, MachineWithTexts}
 use Rattle.pdp_script.specs.Script.{ScriptData}
 use Rattle.pdp_replay.specs.Past.{Past}
 use Rattle.pdp_replay.specs.Past.Setup.{drive_words, unit_words}
-use Rattle.pdp_replay.specs.Run.Branches.{AreBeside, IsBranch, IsBranchAt, IsLookedAt}
+use Rattle.pdp_replay.specs.Run.Branches.{AreBeside, IsBranchOf, IsBranchAt, IsLookedAt}
 use Rattle.pdp_replay.specs.Run.Checkpoints.{IsBuiltFrom, KeepsTexts}
 use Rattle.pdp_replay.specs.Run.KeptRuns.{Advances, IsKeptRun, IsUnderWay}
 use Rattle.pdp_replay.specs.Run.States.{at}
@@ -32,7 +32,7 @@ pub kept_metered : (p : Past) (r : KeptRun) (counted : ℕ) → IsKeptRun p r �
 kept_metered p r counted run = record { kept = run.kept; current = run.current }
 
 -- the state of a branch that came to a turn
-pub state_of_branch : (q : Past) (b : Branch) (turn : ℕ) (saved : SavedMachineData) → IsBranch q b → b.machine.state.turn ≡ turn
+pub state_of_branch : (q : Past) (b : Branch) (turn : ℕ) (saved : SavedMachineData) → IsBranchOf q b → b.machine.state.turn ≡ turn
     → saved ≡ saved_machine b.machine.state → saved ≡ saved_machine (at q turn)
 state_of_branch q b turn saved branch there is = is ∙ ap saved_machine (branch.way.here ∙ ap (at q) there)
 

@@ -11,7 +11,7 @@ use Rattle.pdp_script.specs.declared.script.ScriptEdit.{ScriptEdit}
 use Rattle.pdp_unibus.specs.LastTurn.{last_turn}
 use Rattle.pdp_replay.specs.Ask.Searches.{first_turn_of}
 use Rattle.pdp_replay.specs.Past.{Past, of_script}
-use Rattle.pdp_replay.specs.Run.Branches.{AreAlikeAt, AreBesideAt, IsBranch}
+use Rattle.pdp_replay.specs.Run.Branches.{AreAlikeAt, AreBesideAt, IsBranchOf}
 use Rattle.pdp_replay.specs.Run.Decided.{are_same_events, do_meet}
 use Rattle.pdp_replay.specs.Run.KeptRuns.{IsKeptRun}
 use Rattle.pdp_replay.specs.Run.States.{at}
@@ -65,7 +65,7 @@ pub record AreApart (from : ℕ) (p q : Past) (script : ScriptData) (r : KeptRun
     pub setup : p.setup ≡ q.setup
     pub same : p.script ≡ script
     pub run : IsKeptRun p r
-    pub branch : IsBranch q b
+    pub branch : IsBranchOf q b
     pub apart : are_joined p q from ≡ false
     pub events : events_from p.script.entries (from + 1) ≡ events_from q.script.entries (from + 1)
 

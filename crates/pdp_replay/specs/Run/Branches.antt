@@ -12,19 +12,19 @@ use Rattle.pdp_replay.specs.Run.KeptRuns.{IsKeptRun, IsUnderWay, KeepsStride}
 use Rattle.pdp_replay.specs.Run.States.{at}
 use Rattle.pdp_replay.specs.declared.past.base_setup.BaseSetup.{BaseSetup}
 use Rattle.pdp_replay.specs.declared.run.branch.Branch.{Branch}
-use Rattle.pdp_replay.specs.declared.run.branch.Comparison.{Comparison}
-use Rattle.pdp_replay.specs.declared.run.branch.Comparison.TheVariants.{Alike, Apart}
+use Rattle.pdp_replay.specs.declared.run.branch.Likeness.{Likeness}
+use Rattle.pdp_replay.specs.declared.run.branch.Likeness.TheVariants.{Alike, Apart}
 use Rattle.pdp_replay.specs.declared.run.kept_run.KeptRun.{KeptRun}
 
 -- the branch has the script of this past, and is in a state of its run, with what came out of it
-pub record IsBranch (q : Past) (b : Branch) : Type 0 where
+pub record IsBranchOf (q : Past) (b : Branch) : Type 0 where
   pub script : q.script ≡ b.script
   pub known : ℕ
   pub way : IsUnderWay q known b.machine
 
 -- a call leaves the branch in a state of each run in a state of which it was
 abbrev pub KeepsBranch : Branch → Branch → Type 0
-KeepsBranch before after = (q : Past) → IsBranch q before → IsBranch q after
+KeepsBranch before after = (q : Past) → IsBranchOf q before → IsBranchOf q after
 
 -- a run with this script is kept, and the branch is of a machine of the same size
 pub record AreBeside (script : ScriptData) (r : KeptRun) (b : Branch) : Type 0 where
@@ -32,7 +32,7 @@ pub record AreBeside (script : ScriptData) (r : KeptRun) (b : Branch) : Type 0 w
   pub other : Past
   pub same : past.script ≡ script
   pub run : IsKeptRun past r
-  pub branch : IsBranch other b
+  pub branch : IsBranchOf other b
   pub units : other.setup.units ≡ past.setup.units
   pub drives : other.setup.drives ≡ past.setup.drives
 
@@ -45,7 +45,7 @@ pub record AreBesideAt (turn : ℕ) (saved : SavedMachineData) (script : ScriptD
 
 -- the branch is of the run of q, came to this turn at least, and this is its state then
 pub record IsBranchAt (q : Past) (turn : ℕ) (saved : SavedMachineData) (b : Branch) : Type 0 where
-  pub branch : IsBranch q b
+  pub branch : IsBranchOf q b
   pub state : saved ≡ saved_machine (at q turn)
   pub reached : turn ≤ b.machine.state.turn
 
@@ -84,13 +84,13 @@ AreAlikeAt n p q = SavedMeet (saved_machine (at p n)) (saved_machine (at q n))
 
 -- what the comparison of both runs in turn n told: that they are alike; or that they are not, and
 -- the state of the other one
-abbrev pub IsTold : ℕ → Past → Past → Comparison → Type 0
+abbrev pub IsTold : ℕ → Past → Past → Likeness → Type 0
 IsTold n p q Alike = AreAlikeAt n p q
 IsTold n p q (Apart here) = (AreAlikeAt n p q → ⊥) × (here ≡ saved_machine (at q n))
 
 -- so it is of each run with this script that is kept, and of each run that the branch is of
-abbrev pub Compares : ℕ → ScriptData → KeptRun → Branch → Comparison → Type 0
-Compares n script r b told = (p q : Past) → p.script ≡ script → IsKeptRun p r → IsBranch q b
+abbrev pub Compares : ℕ → ScriptData → KeptRun → Branch → Likeness → Type 0
+Compares n script r b told = (p q : Past) → p.script ≡ script → IsKeptRun p r → IsBranchOf q b
     → IsTold n p q told
 
 -- a run was looked at in turns up to this one, and what it came to is known

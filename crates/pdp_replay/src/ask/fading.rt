@@ -15,7 +15,7 @@ ghost use Rattle.pdp_replay.specs.declared.ask.question.Question.TheVariants.{Re
 
 use crate::engine::Engine;
 use crate::past::BaseSetup;
-use crate::run::{Branch, Comparison, KeptRun};
+use crate::run::{Branch, KeptRun, Likeness};
 use pdp_cpu::Saved;
 use pdp_script::{Fault, Script, ScriptEdit};
 use pdp_unibus::LAST_TURN;
@@ -184,14 +184,14 @@ fn gallop(
         let step = FIRST_STEP.max(apart - from);
         let next = to.min(apart.saturating_add(step));
         match run.compare(alloc, script, branch, next)? {
-            Comparison::Alike => {
+            Likeness::Alike => {
                 return Ok(Some(Bracket {
                     apart,
                     alike: next,
                     state,
                 }));
             }
-            Comparison::Apart(there) => {
+            Likeness::Apart(there) => {
                 apart = next;
                 state = there;
             }
@@ -229,8 +229,8 @@ fn halve(
         let middle = apart + (alike - apart) / 2;
         branch.go_back(&state, apart);
         match run.compare(alloc, script, branch, middle)? {
-            Comparison::Alike => alike = middle,
-            Comparison::Apart(there) => {
+            Likeness::Alike => alike = middle,
+            Likeness::Apart(there) => {
                 apart = middle;
                 state = there;
             }

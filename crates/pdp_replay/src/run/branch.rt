@@ -26,7 +26,7 @@ pub(crate) struct Branch {
 
 /// What the comparison of a run and a branch at a turn told.
 #[derive(Drop)]
-pub(crate) enum Comparison {
+pub(crate) enum Likeness {
     /// Both are in the same state, except for stamps and what came out.
     Alike,
     /// They aren't; and the state of the branch.
@@ -107,7 +107,7 @@ impl KeptRun {
         script: &Script,
         branch: &mut Branch,
         turn: u32,
-    ) -> Result<Comparison, NoMemory>
+    ) -> Result<Likeness, NoMemory>
         requires beside { AreBeside script.now self.old branch.old }
         requires forward { branch.old.machine.state.turn ≤ turn }
         requires limit { turn ≤ LAST_TURN }
@@ -121,9 +121,9 @@ impl KeptRun {
         branch.run(&self.words, &mut self.meter, turn)?;
         let here = branch.machine.save(alloc)?;
         if self.machine.meets(&here) {
-            Ok(Comparison::Alike)
+            Ok(Likeness::Alike)
         } else {
-            Ok(Comparison::Apart(here))
+            Ok(Likeness::Apart(here))
         }
     }
 }

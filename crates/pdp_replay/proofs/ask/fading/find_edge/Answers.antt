@@ -3,7 +3,7 @@ use Rattle.pdp_cpu.specs.Saved.{saved_machine}
 use Rattle.pdp_cpu.specs.Turns.MachineState.{MachineWithTexts}
 use Rattle.pdp_replay.specs.Past.{Past}
 use Rattle.pdp_replay.specs.Ask.Fadings.{AreApart, AreBesideIn, IsBracket, IsBracketIn, IsBracketOrNone}
-use Rattle.pdp_replay.specs.Run.Branches.{IsBranch, IsLookedAt}
+use Rattle.pdp_replay.specs.Run.Branches.{IsBranchOf, IsLookedAt}
 use Rattle.pdp_replay.specs.Run.KeptRuns.{IsKeptRun}
 use Rattle.pdp_replay.specs.Run.States.{at}
 use Rattle.pdp_replay.specs.declared.run.branch.Branch.{Branch}
@@ -13,8 +13,8 @@ use Rattle.pdp_replay.proofs.run.Branches.{kept_metered, looked_further, looked_
 use Rattle.pdp_replay.proofs.ask.fading.find_edge.Goals as goal
 use Rattle.pdp_replay.proofs.ask.fading.find_edge.Goals.{In_ok-state}
 
-same_branch : (q : Past) (b : Branch) (m : MachineWithTexts) → m ≡ b.machine → IsBranch q b → IsBranch q (record b { machine = m })
-same_branch q b m same branch = subst (λ x. IsBranch q (record b { machine = x })) (sym same) branch
+same_branch : (q : Past) (b : Branch) (m : MachineWithTexts) → m ≡ b.machine → IsBranchOf q b → IsBranchOf q (record b { machine = m })
+same_branch q b m same branch = subst (λ x. IsBranchOf q (record b { machine = x })) (sym same) branch
 
 pub gallop-requires-clause-beside : goal.gallop-requires-clause-beside
 gallop-requires-clause-beside c =

@@ -1,7 +1,7 @@
 use Rattle.std.proofs.Common.{◌≡◌, ◌-◌, ◌<◌, ◌≤◌, ℕ}
 use Rattle.pdp_replay.specs.Ask.Fadings.{AreApart, IsBracket}
 use Rattle.pdp_replay.specs.Past.{Past}
-use Rattle.pdp_replay.specs.Run.Branches.{AreBesideAt, IsBranch, IsLookedAt}
+use Rattle.pdp_replay.specs.Run.Branches.{AreBesideAt, IsBranchOf, IsLookedAt}
 use Rattle.pdp_replay.specs.Run.KeptRuns.{KeepsRun}
 use Rattle.pdp_replay.proofs.ask.fading.halve.Given as goal
 
@@ -15,7 +15,7 @@ invariant-loop-alike l = record {
   looked : IsLookedAt l.fn.bracket.alike l.fn.run l.run;
   told : (from to : ℕ) (p q : Past) → AreApart from p q l.script l.fn.run l.fn.branch → from ≤ l.fn.bracket.apart
       → IsBracket to p q l.fn.bracket
-      → IsBranch q l.branch × IsBracket to p q (record { apart = l.apart; alike = l.alike; state = l.state });
+      → IsBranchOf q l.branch × IsBracket to p q (record { apart = l.apart; alike = l.alike; state = l.state });
 }
 
 abbrev pub decreases-loop-alike : goal.decreases-loop-alike
