@@ -154,9 +154,8 @@ fn states_near_a_turn(rt: HostRuntime) -> Result<(), Fail> {
     follow(&rt, rt.alloc(), &mut engine, 100_000, &STATES_NEAR_A_TURN)
 }
 
-// The program reads no key. So a key that comes a turn later leaves the same machine, and another
-// key in its place leaves another one. Where the run is the run before the edit again, its states
-// are taken back, and no more turns are run.
+// A key that no program reads leaves the same machine a turn later, but for which key it was. A run
+// that meets the run before the edit takes its states back, and runs no more turns.
 const KEY: Event = Event::Key(0o101);
 
 const OTHER_KEY: Event = Event::Key(0o102);
