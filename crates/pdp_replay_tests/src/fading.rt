@@ -1,0 +1,96 @@
+//! From which turn on an edit of the script would change nothing.
+
+use crate::steps::{self, Step, WIDEST, engine_of, follow};
+use pdp_replay::*;
+use std::alloc::Global;
+use std::process::Abort;
+use std::test::Fail;
+
+// In a loop TSTB @#177560 and a BPL back to it, until there is a key; then MOV @#177562,R0 and a
+// branch back to the TSTB, which is done in the even turns while no key comes.
+const FETCHES_KEYS: [u16; 6] = [0o105737, 0o177560, 0o100375, 0o13700, 0o177562, 0o772];
+
+/// An edit. Key 101 comes in turn 5000 as event 1, and key 102 in turn 9000 as event 2.
+#[derive(Clone, Copy)]
+enum Edit {
+    /// Event 1 comes in this turn, with this key.
+    Alter(u32, u8),
+    /// Event 1 goes.
+    Drop,
+    /// The clock ticks in this turn.
+    Tick(u32),
+    /// Key 101 comes in this turn too.
+    Key(u32),
+}
+
+impl Edit {
+    fn of_script(self) -> ScriptEdit {
+        match self {
+            Edit::Alter(turn, key) => ScriptEdit::Alter {
+                number: 1,
+                turn,
+                event: Event::Key(key),
+            },
+            Edit::Drop => ScriptEdit::Drop { number: 1 },
+            Edit::Tick(turn) => ScriptEdit::Insert {
+                turn,
+                event: Event::Tick,
+            },
+            Edit::Key(turn) => ScriptEdit::Insert {
+                turn,
+                event: Event::Key(0o101),
+            },
+        }
+    }
+}
+
+// The edit, the turn up to which is looked, and the turn from which on it would change nothing.
+const FADINGS: [(Edit, u32, Option<u32>); 8] = [
+    // The key is fetched four turns later, and the TSTB after it sets the condition codes.
+    (Edit::Alter(5003, 0o101), 20_000, Some(5009)),
+    (Edit::Alter(5003, 0o101), 5009, Some(5009)),
+    (Edit::Alter(5003, 0o101), 5008, None),
+    // The event stays as it is.
+    (Edit::Alter(5000, 0o101), 20_000, Some(0)),
+    // Register 0 differs until key 102 is fetched in turn 9002.
+    (Edit::Alter(5000, 0o103), 20_000, Some(9003)),
+    (Edit::Drop, 20_000, Some(9003)),
+    // The clock's monitor bit is set already.
+    (Edit::Tick(7000), 20_000, Some(7001)),
+    (Edit::Key(7000), 7004, None),
+];
+
+// Both keys are put into the script, and then the edits are asked about.
+const KEYS: [Step; 2] = [
+    Step::Edit(steps::Edit::Insert(5000, Event::Key(0o101)), Ok(1)),
+    Step::Edit(steps::Edit::Insert(9000, Event::Key(0o102)), Ok(2)),
+];
+
+fn assert_fades(rt: &impl Abort, alloc: Global, engine: &mut Engine) -> Result<(), Fail> {
+    for (number, (edit, to, turn)) in FADINGS.iter().enumerate() {
+        let fading = engine.fades(alloc, edit.of_script(), *to)?;
+        assert_eq!(rt; fading.turn, *turn, "edit {number}");
+    }
+    Ok(())
+}
+
+fn assert_refused(rt: &impl Abort, alloc: Global, engine: &mut Engine) -> Result<(), Fail> {
+    let missing = ScriptEdit::Drop { number: 3 };
+    let refused = engine.fades(alloc, missing, 100).err();
+    assert_eq!(rt; refused, Some(Fault::NoSuchEvent));
+    let refused = engine.fades(alloc, missing, 1_000_000_001).err();
+    assert_eq!(rt; refused, Some(Fault::TurnTooLarge));
+    Ok(())
+}
+
+fn assert_all(rt: &impl Abort, alloc: Global, engine: &mut Engine) -> Result<(), Fail> {
+    follow(rt, alloc, engine, WIDEST, &KEYS)?;
+    assert_fades(rt, alloc, engine)?;
+    assert_refused(rt, alloc, engine)
+}
+
+#[test]
+fn edits_fade(rt: HostRuntime) -> Result<(), Fail> {
+    let mut engine = engine_of(rt.alloc(), &FETCHES_KEYS, WIDEST)?;
+    assert_all(&rt, rt.alloc(), &mut engine)
+}
