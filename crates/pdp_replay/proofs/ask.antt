@@ -10,3 +10,4 @@ pub mod Resuming
 pub mod Watches
 pub mod Fadings
 pub mod FadingEdits
+pub mod PatchFadings

@@ -8,4 +8,5 @@ pub mod EditedStates
 pub mod EditedEngines
 pub mod EditedDelays
 pub mod EditedSetups
+pub mod PlacedPatches
 pub mod MoreDrives

@@ -37,3 +37,4 @@ pub mod FormerRuns
 pub mod Decided
 pub mod Branches
 pub mod BranchingOff
+pub mod PatchedBranches

@@ -5,6 +5,7 @@ mod disk_change;
 mod fading;
 mod items;
 mod last_write;
+mod patch_fading;
 mod question;
 mod search;
 mod search_turns;

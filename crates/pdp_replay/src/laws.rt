@@ -12,6 +12,7 @@ ghost use Rattle.pdp_replay.specs.Past.FirstWords.{CoreWordsAreFirstWords, DiskW
 ghost use Rattle.pdp_replay.specs.Past.FirstWords.{DrivesAreByNumber, DrivesAreSoMany};
 ghost use Rattle.pdp_replay.specs.Past.Edit.{AlterationNeedsNoMemory, DropNeedsNoMemory};
 ghost use Rattle.pdp_replay.specs.Past.Edit.{TapeNeedsNoMemory, DelayNeedsNoMemory};
+ghost use Rattle.pdp_replay.specs.Ask.Fadings.{JoinedIsDecided, JoinedStayJoined};
 ghost use Rattle.pdp_replay.specs.Ask.LastWrites.{StampsOfCheckpointsAreLastWrites};
 ghost use Rattle.pdp_replay.specs.Ask.LastWrites.{StampsOfStatesAreLastWrites};
 ghost use Rattle.pdp_replay.specs.Run.States.{TextOnlyGrows, PunchedOnlyGrows};
@@ -147,4 +148,17 @@ pub fn saved_machines_are_taken()
 /// [P]
 pub fn adopted_runs_go_on()
     ensures { AdoptedRunsGoOn }
+{}
+
+/// A law of runs: two runs with the same tape that are one from a turn on, as [`Engine::fades`]
+/// tells it, are one from each later turn on. And a test decides whether they are one from a turn
+/// on: their states before the turn are equal, except for the last stamps of core and what came
+/// out, and their scripts have the same events in the turn and in later ones.
+///
+/// [`Engine::fades`]: crate::Engine::fades
+///
+/// [P]
+pub fn joined_runs_stay_joined()
+    ensures stay { JoinedStayJoined }
+    ensures decided { JoinedIsDecided }
 {}

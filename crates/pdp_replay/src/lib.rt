@@ -16,8 +16,9 @@
 //!   that is sought, and [`Engine::writes`] the writes to a word of core, for every past and
 //!   whatever is kept. The turns run for them are bounded as those of an answer.
 //! - **An edit that fades**: [`Engine::fades`] returns the least turn from which on the run with an
-//!   edit of the script would be the run as it is: the same state, except for stamps and what came
-//!   out, and the same events from then on.
+//!   edit of the script, or with a word patched, would be the run as it is: the same state, except
+//!   for stamps and what came out, and the same events from then on. Runs that are one so stay one
+//!   (`joined_runs_stay_joined`).
 //! - Core and each drive as of power-up have each word's patch, else the word of the image, else 0
 //!   (`core_words_are_first_words`, `disk_words_are_first_words`).
 //! - Each edit with its refusals in their order, what it leaves, and how far back it lowers the
@@ -56,11 +57,12 @@ pub use ask::{
 pub use engine::Engine;
 pub use laws::{
     adopted_runs_go_on, core_words_are_first_words, disk_words_are_first_words, equal_stays_equal,
-    first_touches_are_taken, first_touches_are_told, patches_reach_the_first_touch,
-    saved_machines_are_taken, some_edits_need_no_memory, stamps_of_states_are_last_writes,
-    texts_only_grow, turns_run_again_touch_nothing_new, untouched_pages_are_alike,
+    first_touches_are_taken, first_touches_are_told, joined_runs_stay_joined,
+    patches_reach_the_first_touch, saved_machines_are_taken, some_edits_need_no_memory,
+    stamps_of_states_are_last_writes, texts_only_grow, turns_run_again_touch_nothing_new,
+    untouched_pages_are_alike,
 };
-pub use past::{DEFAULT_STRIDE, Patch, Setup};
+pub use past::{DEFAULT_STRIDE, PastEdit, Patch, Setup};
 pub use pdp_cpu::{Act, DeviceRegisters, PageRegisters, Regs, RunState};
 pub use pdp_script::{Fault, ScriptEdit};
 pub use pdp_store::Agent;

@@ -3,6 +3,7 @@
 mod base_setup;
 mod edits;
 mod image;
+mod past_edit;
 mod patch;
 mod setup;
 mod setup_edits;
@@ -10,6 +11,7 @@ mod setup_edits;
 pub(crate) use base_setup::{BaseSetup, DriveCount};
 pub(crate) use edits::core_word;
 pub(crate) use image::{core_store, drive_store, more_drives};
+pub use past_edit::PastEdit;
 pub use patch::Patch;
 pub use setup::{DEFAULT_STRIDE, Setup};
 pub(crate) use setup::{DRIVE_WORDS, MOST_DRIVES, TAPE_BYTES, UNIT_WORDS};

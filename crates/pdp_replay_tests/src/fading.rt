@@ -21,11 +21,13 @@ enum Edit {
     Tick(u32),
     /// Key 101 comes in this turn too.
     Key(u32),
+    /// The core word at this address is this one as of power-up.
+    Core(u32, u16),
 }
 
 impl Edit {
-    fn of_script(self) -> ScriptEdit {
-        match self {
+    fn of_past(self) -> PastEdit {
+        PastEdit::Script(match self {
             Edit::Alter(turn, key) => ScriptEdit::Alter {
                 number: 1,
                 turn,
@@ -40,12 +42,13 @@ impl Edit {
                 turn,
                 event: Event::Key(0o101),
             },
-        }
+            Edit::Core(address, word) => return PastEdit::Word(Patch::Core(address, word)),
+        })
     }
 }
 
 // The edit, the turn up to which is looked, and the turn from which on it would change nothing.
-const FADINGS: [(Edit, u32, Option<u32>); 8] = [
+const FADINGS: [(Edit, u32, Option<u32>); 10] = [
     // The key is fetched four turns later, and the TSTB after it sets the condition codes.
     (Edit::Alter(5003, 0o101), 20_000, Some(5009)),
     (Edit::Alter(5003, 0o101), 5009, Some(5009)),
@@ -58,6 +61,9 @@ const FADINGS: [(Edit, u32, Option<u32>); 8] = [
     // The clock's monitor bit is set already.
     (Edit::Tick(7000), 20_000, Some(7001)),
     (Edit::Key(7000), 7004, None),
+    // No turn touches this word, which is 0.
+    (Edit::Core(0o20000, 0), 20_000, Some(0)),
+    (Edit::Core(0o20000, 1), 20_000, None),
 ];
 
 // Both keys are put into the script, and then the edits are asked about.
@@ -68,18 +74,23 @@ const KEYS: [Step; 2] = [
 
 fn assert_fades(rt: &impl Abort, alloc: Global, engine: &mut Engine) -> Result<(), Fail> {
     for (number, (edit, to, turn)) in FADINGS.iter().enumerate() {
-        let fading = engine.fades(alloc, edit.of_script(), *to)?;
+        let fading = engine.fades(alloc, edit.of_past(), *to)?;
         assert_eq!(rt; fading.turn, *turn, "edit {number}");
     }
     Ok(())
 }
 
 fn assert_refused(rt: &impl Abort, alloc: Global, engine: &mut Engine) -> Result<(), Fail> {
-    let missing = ScriptEdit::Drop { number: 3 };
+    let missing = PastEdit::Script(ScriptEdit::Drop { number: 3 });
     let refused = engine.fades(alloc, missing, 100).err();
     assert_eq!(rt; refused, Some(Fault::NoSuchEvent));
     let refused = engine.fades(alloc, missing, 1_000_000_001).err();
     assert_eq!(rt; refused, Some(Fault::TurnTooLarge));
+    let odd = Edit::Core(0o20001, 1).of_past();
+    assert_eq!(rt;
+        engine.fades(alloc, odd, 100).err(),
+        Some(Fault::OddAddress)
+    );
     Ok(())
 }
 

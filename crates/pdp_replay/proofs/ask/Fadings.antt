@@ -1,5 +1,5 @@
 -- Runs that become one: decided, once and for ever, and found between two turns.
-use Rattle.std.proofs.Common.{◌≡◌, ◌∙◌, ◌+◌, ◌-◌, ◌<◌, ◌≤◌, ◌&&◌, ℕ, Bool, true, false, cond, eqb, leb, List, [], ◌∷◌, None, Option, Some, ap, arith, map, max, refl, subst, sym, ⊎_elim}
+use Rattle.std.proofs.Common.{◌≡◌, ◌∙◌, ◌+◌, ◌-◌, ◌<◌, ◌≤◌, ◌&&◌, ℕ, Bool, true, false, cond, eqb, leb, List, [], ◌∷◌, Err, IfOk, None, Ok, Option, Result, Some, ap, arith, map, max, refl, subst, sym, ⊎_elim}
 use Rattle.std.specs.List.{filter}
 use Rattle.std.proofs.lemmas.Bool.{cases_Bool, leb-false, lt-leb, ne_eqb}
 use Rattle.pdp_unibus.specs.declared.event.Event.{Event}
@@ -7,13 +7,12 @@ use Rattle.pdp_cpu.specs.Saved.{SavedMachineData, SavedMeet, saved_machine}
 use Rattle.pdp_cpu.specs.Turns.MachineState.{MachineWithTexts}
 use Rattle.pdp_script.specs.Entries.{Entry, events_at, events_from}
 use Rattle.pdp_script.specs.Script.{ScriptData}
-use Rattle.pdp_replay.specs.Ask.Fadings.{AreApart, AreJoined, IsBracket, IsEdge, JoinedIsDecided, JoinedStayJoined, are_joined, joined_by}
-use Rattle.pdp_replay.specs.Ask.Searches.{HoldsNowhere, IsFirst, first_turn_of}
+use Rattle.pdp_replay.specs.Ask.Fadings.{AreJoined, IsEdge, JoinedIsDecided, JoinedStayJoined, are_joined, joined_by}
+use Rattle.pdp_replay.specs.Ask.Searches.{IsFirst, first_turn_of}
 use Rattle.pdp_replay.specs.Past.{Past}
-use Rattle.pdp_replay.specs.Past.Setup.{SetupData}
 use Rattle.pdp_replay.specs.Run.Branches.{AreAlikeAt, AreBeside, AreBesideAt, BranchesOff, Compares, IsBranchOf, IsBranchAt, IsKeptOfSize, KeepsBranch, SameEventsBefore}
 use Rattle.pdp_replay.specs.Run.Checkpoints.{KeepsTexts, SameInputsFrom}
-use Rattle.pdp_replay.specs.Run.KeptRuns.{IsKeptRun, IsUnderWay, KeepsRun}
+use Rattle.pdp_replay.specs.Run.KeptRuns.{IsUnderWay, KeepsRun}
 use Rattle.pdp_replay.specs.Run.Meetings.{MeetAt}
 use Rattle.pdp_replay.specs.Run.States.{at}
 use Rattle.pdp_replay.specs.declared.past.base_setup.BaseSetup.{BaseSetup}
@@ -75,17 +74,17 @@ pub events_later : (p q : Past) (n k : ℕ) → n ≤ k → events_from p.script
 events_later p q n k le same =
     later_of_later p.script.entries n k le ∙ ap (filter (λ x. leb k x.0)) same ∙ sym (later_of_later q.script.entries n k le)
 
-same_inputs : (p q : Past) (n : ℕ) → p.setup ≡ q.setup → events_from p.script.entries n ≡ events_from q.script.entries n → SameInputsFrom n p q
-same_inputs p q n setup same = record {
-  tape = ap (λ (s : SetupData). s.tape) setup;
+same_inputs : (p q : Past) (n : ℕ) → p.setup.tape ≡ q.setup.tape → events_from p.script.entries n ≡ events_from q.script.entries n → SameInputsFrom n p q
+same_inputs p q n tape same = record {
+  tape = tape;
   events = λ t le. at_of_later p.script.entries n t le ∙ ap (λ l. map (λ x. x.1) (filter (λ x. eqb x.0 t) l)) same ∙ sym (at_of_later q.script.entries n t le);
 }
 
 pub joined_stay_joined : JoinedStayJoined
-joined_stay_joined p q n k setup le joined =
+joined_stay_joined p q n k tape le joined =
     let d : ℕ = k - n in
     let there : d + n ≡ k = omega (arith, le) in
-    let meet : MeetAt n p q = they_meet p q n (same_inputs p q n setup joined.events) joined.state in
+    let meet : MeetAt n p q = they_meet p q n (same_inputs p q n tape joined.events) joined.state in
     record {
       state = subst (λ m. AreAlikeAt m p q) there (saved_meet p q (d + n) (meet_again p q n d meet));
       events = events_later p q n k le joined.events;
@@ -101,9 +100,9 @@ pub not_joined : (p q : Past) (n : ℕ) → (AreJoined n p q → ⊥) → are_jo
 not_joined p q n never = not_true (are_joined p q n) (λ told. never ((joined_is_decided p q n).0 told))
 
 -- runs that are not one yet were not one before
-pub not_joined_before : (p q : Past) (n k : ℕ) → p.setup ≡ q.setup → k ≤ n → are_joined p q n ≡ false → are_joined p q k ≡ false
-not_joined_before p q n k setup le apart =
-    not_joined p q k (λ joined. let told = (joined_is_decided p q n).1 (joined_stay_joined p q k n setup le joined) in absurd cc)
+pub not_joined_before : (p q : Past) (n k : ℕ) → p.setup.tape ≡ q.setup.tape → k ≤ n → are_joined p q n ≡ false → are_joined p q k ≡ false
+not_joined_before p q n k tape le apart =
+    not_joined p q k (λ joined. let told = (joined_is_decided p q n).1 (joined_stay_joined p q k n tape le joined) in absurd cc)
 
 -- the first of the turns up to `to`, computed
 by : (p q : Past) (to : ℕ) (found : Option ℕ) → IsFirst (are_joined p q) 0 (to + 1) found → found ≡ joined_by to p q
@@ -111,19 +110,19 @@ by p q to found first =
     let whole : to + 1 - 0 ≡ to + 1 = omega arith in
     first_is (are_joined p q) 0 (to + 1) found (omega arith) first ∙ ap (first_turn_of (are_joined p q) 0) whole
 
-pub none_joined : (p q : Past) (to : ℕ) → p.setup ≡ q.setup → are_joined p q to ≡ false → None ≡ joined_by to p q
-none_joined p q to setup apart =
-    by p q to None (λ turn least below. not_joined_before p q to turn setup (omega (arith, below)) apart)
+pub none_joined : (p q : Past) (to : ℕ) → p.setup.tape ≡ q.setup.tape → are_joined p q to ≡ false → None ≡ joined_by to p q
+none_joined p q to tape apart =
+    by p q to None (λ turn least below. not_joined_before p q to turn tape (omega (arith, below)) apart)
 
-pub edge_is_first : (p q : Past) (to t : ℕ) → p.setup ≡ q.setup → IsEdge to p q t → Some t ≡ joined_by to p q
-edge_is_first p q to t setup edge =
+pub edge_is_first : (p q : Past) (to t : ℕ) → p.setup.tape ≡ q.setup.tape → IsEdge to p q t → Some t ≡ joined_by to p q
+edge_is_first p q to t tape edge =
     let next = edge.next in
     let most = edge.most in
     by p q to (Some t) (record {
       least = omega arith;
       most = omega (arith, most);
       there = edge.joined;
-      none = λ turn least below. not_joined_before p q edge.before turn setup (omega (arith, below, next)) edge.apart;
+      none = λ turn least below. not_joined_before p q edge.before turn tape (omega (arith, below, next)) edge.apart;
     })
 
 pub joined_at_once : (p q : Past) (to : ℕ) → are_joined p q 0 ≡ true → Some 0 ≡ joined_by to p q
@@ -179,7 +178,7 @@ beside_back script r b now turn saved at_turn back here =
       reached = omega (arith, here);
     }
 
-meets_itself : (s : SavedMachineData) → SavedMeet s s
+pub meets_itself : (s : SavedMachineData) → SavedMeet s s
 meets_itself s = record { turn = refl; processor = refl; bus = refl; size = refl }
 
 -- runs with the same events from the start on are one at once
@@ -231,3 +230,8 @@ branch_of_other p q base some other r b n from is script setup events le there o
   known = n;
   way = way_of_other p q n b.machine (agree_before p q some other n from is.same script setup events le) there (off.1 p is);
 }
+
+-- what follows from what a success says
+pub if_ok_weaker : {T E : Type 0} (P Q : T → Type 0) (r : Result T E) → ((value : T) → P value → Q value) → IfOk r P → IfOk r Q
+if_ok_weaker P Q (Ok value) gives is = gives value is
+if_ok_weaker P Q (Err refused) gives is = tt

@@ -50,7 +50,7 @@ disk_saved : (p : Past) (n drive i : ℕ) → drive < p.setup.drives → i < dri
 unfolding HasWord Rattle.pdp_unibus.specs.SavedBusData.SavedBusHasWord
 disk_saved p n drive i there inside = rw (drive_keeps_size p n drive there) inside
 
-word_saved : (p : Past) (n : ℕ) (part : Part) (i : ℕ) → PartHasWord p.setup part i → HasWord (word_at part i) (saved_machine (at p n))
+pub word_saved : (p : Past) (n : ℕ) (part : Part) (i : ℕ) → PartHasWord p.setup part i → HasWord (word_at part i) (saved_machine (at p n))
 word_saved p n parts.Core i inside = core_saved p n i inside
 word_saved p n (parts.Drive drive) i inside = disk_saved p n drive i inside.0 inside.1
 
@@ -84,7 +84,7 @@ powers_with_disk s drive i word there inside = record {
   there = rw (length_at s drive there) inside;
 }
 
-powers_of : (s : SetupData) (part : Part) (i word : ℕ) → PartHasWord s part i → PowersWith part i word s (patched s (word_at part i) word)
+pub powers_of : (s : SetupData) (part : Part) (i word : ℕ) → PartHasWord s part i → PowersWith part i word s (patched s (word_at part i) word)
 powers_of s parts.Core i word inside = powers_with_core s i word inside
 powers_of s (parts.Drive drive) i word inside = powers_with_disk s drive i word inside.0 inside.1
 
@@ -119,7 +119,7 @@ touched_before p highest r engine =
     ap (all_first_touches_before r.known) is ∙ first_touches_cut p r.known r.known (omega arith) small ∙ sym is
 
 -- how far a patch reaches is told by the first touches that are kept
-reached_first : (p : Past) (k : WordAt) (r : KeptRun) → AreKept p r.known r.machine r.ladder → IsThere p.setup k → r.known ≤ never
+pub reached_first : (p : Past) (k : WordAt) (r : KeptRun) → AreKept p r.known r.machine r.ladder → IsThere p.setup k → r.known ≤ never
     → reached_by k r ≡ first_touch p k.part (k.number / 256) r.known
 reached_first p k r kept inside small =
     let part = k.part in

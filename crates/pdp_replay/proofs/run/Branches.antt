@@ -1,19 +1,18 @@
 -- A run and a branch beside each other: what both keep, and what their comparison tells.
-use Rattle.std.proofs.Common.{◌≡◌, ◌∙◌, ◌+◌, ◌*◌, ◌<◌, ◌≤◌, ℕ, List, ap, arith, length, map, max, refl, replicate, subst, sym}
+use Rattle.std.proofs.Common.{◌≡◌, ◌∙◌, ◌*◌, ◌≤◌, ℕ, ap, arith, length, map, max, refl, replicate, subst, sym}
 use Rattle.pdp_unibus.specs.SavedBusData.{HasSizesOf}
-use Rattle.pdp_cpu.specs.Saved.{CanHold, SavedMachineData, SavedMeet, saved_machine, state_on}
+use Rattle.pdp_cpu.specs.Saved.{CanHold, SavedMachineData, saved_machine, state_on}
 use Rattle.pdp_cpu.specs.Turns.MachineState.{MachineState, MachineWithTexts}
-use Rattle.pdp_script.specs.Script.{ScriptData}
 use Rattle.pdp_replay.specs.Past.{Past}
 use Rattle.pdp_replay.specs.Past.Setup.{drive_words, unit_words}
-use Rattle.pdp_replay.specs.Run.Branches.{AreBeside, IsBranchOf, IsBranchAt, IsLookedAt}
-use Rattle.pdp_replay.specs.Run.Checkpoints.{IsBuiltFrom, KeepsTexts}
-use Rattle.pdp_replay.specs.Run.KeptRuns.{Advances, IsKeptRun, IsUnderWay}
+use Rattle.pdp_replay.specs.Run.Branches.{IsBranchOf, IsBranchAt, IsLookedAt}
+use Rattle.pdp_replay.specs.Run.Checkpoints.{KeepsTexts}
+use Rattle.pdp_replay.specs.Run.KeptRuns.{Advances, IsKeptRun}
 use Rattle.pdp_replay.specs.Run.States.{at}
 use Rattle.pdp_replay.specs.declared.run.branch.Branch.{Branch}
 use Rattle.pdp_replay.specs.declared.run.kept_run.KeptRun.{KeptRun}
 use Rattle.pdp_replay.proofs.run.Resumed.{can_hold, resumes}
-use Rattle.pdp_replay.proofs.run.StateSizes.{at_is_built, saved_machine_fits}
+use Rattle.pdp_replay.proofs.run.StateSizes.{at_is_built}
 
 -- a state of a run of a machine of the same size fits
 pub fits_beside : (p q : Past) (k n : ℕ) (m : MachineWithTexts) (saved : SavedMachineData) → q.setup.units ≡ p.setup.units → q.setup.drives ≡ p.setup.drives

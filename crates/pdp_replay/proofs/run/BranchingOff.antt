@@ -1,23 +1,23 @@
 -- A branch is made: a blank machine takes what came out of a run, and is made a state of it.
-use Rattle.std.proofs.Common.{◌≡◌, ◌∙◌, ◌+◌, ◌*◌, ◌≤◌, ◌++◌, ℕ, None, Some, List, [], ◌∷◌, ap, ap₂, arith, drop, length, map, max, refl, replicate, slice_get, subst, sym, take, true}
+use Rattle.std.proofs.Common.{◌≡◌, ◌∙◌, ◌*◌, ◌≤◌, ◌++◌, ℕ, None, Some, List, [], ◌∷◌, ap, ap₂, arith, drop, length, map, max, refl, replicate, slice_get, subst, sym, take, true}
 use Rattle.std.proofs.lemmas.Bool.{le-ltb}
 use Rattle.std.proofs.lemmas.List.{length-replicate}
 use Rattle.std.proofs.lemmas.Option.{get_or_from_slice_get, slice_get_within}
 use Rattle.pdp_checkpoint.specs.Ladder.{LadderData}
 use Rattle.pdp_checkpoint.specs.declared.checkpoint.Checkpoint.{Checkpoint}
-use Rattle.pdp_store.specs.FirstTouches.{FirstTouches, all_first_touches_before, first_touches_after, first_touches_of, never}
+use Rattle.pdp_store.specs.FirstTouches.{FirstTouches, all_first_touches_before, first_touches_of, never}
 use Rattle.pdp_store.specs.Overlays.{drives_over, first_touches_over, touches_over}
 use Rattle.pdp_store.specs.Pages.{PagedStored, PagedWords, blank_drive, blank_paged}
 use Rattle.pdp_store.specs.Stored.{no_touch_in}
 use Rattle.pdp_unibus.specs.SavedTouches.{HasPagesOf}
 use Rattle.pdp_cpu.specs.KeptTexts.{kept_before}
-use Rattle.pdp_cpu.specs.Saved.{CanHold, SavedMachineData, saved_machine, state_on}
+use Rattle.pdp_cpu.specs.Saved.{SavedMachineData, saved_machine, state_on}
 use Rattle.pdp_cpu.specs.SavedOutput.{TakesOutput, bytes_between, output_from}
 use Rattle.pdp_cpu.specs.Turns.MachineState.{MachineState, MachineWithTexts}
 use Rattle.pdp_cpu.specs.declared.kept_text.KeptByte.{KeptByte}
 use Rattle.pdp_replay.specs.Past.{Past}
-use Rattle.pdp_replay.specs.Past.Setup.{core_size, drive_count, drive_words, unit_words}
-use Rattle.pdp_replay.specs.Run.Branches.{IsBlank, IsKeptOfSize}
+use Rattle.pdp_replay.specs.Past.Setup.{drive_count, drive_words, unit_words}
+use Rattle.pdp_replay.specs.Run.Branches.{IsBlank}
 use Rattle.pdp_replay.specs.Run.Checkpoints.{AreStatesOf, IsBuiltFrom, KeepsTexts, punched_kept_at, text_kept_at}
 use Rattle.pdp_replay.specs.Run.FirstTouches.{first_touches_at, untouched_all}
 use Rattle.pdp_replay.specs.Run.KeptRuns.{IsUnderWay}
@@ -25,7 +25,7 @@ use Rattle.pdp_replay.specs.Run.States.{at, punched_at, text_at}
 use Rattle.pdp_replay.specs.declared.past.base_setup.BaseSetup.{BaseSetup}
 use Rattle.pdp_replay.proofs.run.FormerRuns.{between_is, trace_sizes}
 use Rattle.pdp_replay.proofs.run.KeptTexts.{punched_kept_before, punched_kept_first, text_kept_before, text_kept_first}
-use Rattle.pdp_replay.proofs.run.Resumed.{can_hold, resumes}
+use Rattle.pdp_replay.proofs.run.Resumed.{resumes}
 use Rattle.pdp_replay.proofs.run.RunFirstTouches.{first_touches_cut}
 
 -- over none of an earlier turn all first touches stay

@@ -107,7 +107,7 @@ there_word [] number i within = absurd (omega arith)
 there_word (drive ∷ drives) zero i within = omega arith
 there_word (drive ∷ drives) (suc number) i within = let there = there_word drives number i within in omega arith
 
-words_put : (part : Part) (words : List ℕ) (b : BusWorld) (i : ℕ) → i < length (words_of_part part b) → words_of_part part (bus_with_words part words b) ≡ words
+pub words_put : (part : Part) (words : List ℕ) (b : BusWorld) (i : ℕ) → i < length (words_of_part part b) → words_of_part part (bus_with_words part words b) ≡ words
 words_put parts.Core words b i within = refl
 words_put (parts.Drive number) words b i within = get_or-set_same b.drives number words [] (there_word b.drives number i within)
 

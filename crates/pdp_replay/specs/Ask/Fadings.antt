@@ -1,16 +1,16 @@
--- From which turn on a run with an edit of its script would be the run without it [P].
+-- From which turn on a run with an edit would be the run without it [P].
 use Rattle.std.specs.Prelude.{ℕ, ◌≡◌, ◌+◌, ◌&&◌, ◌<◌, ◌≤◌, ◌↔◌, Bool, true, false, Option, Some}
 use Rattle.std.specs.Prelude.{None, Result, Err, nat_le, if◌then◌else◌}
 use Rattle.pdp_cpu.specs.Saved.{saved_machine}
 use Rattle.pdp_script.specs.Entries.{events_from}
 use Rattle.pdp_script.specs.Refusal.{result_map}
-use Rattle.pdp_script.specs.Script.{ScriptData, script_edited}
+use Rattle.pdp_script.specs.Script.{ScriptData}
 use Rattle.pdp_script.specs.declared.faults.Fault.{Fault}
 use Rattle.pdp_script.specs.declared.faults.Fault.TheVariants.{TurnTooLarge}
-use Rattle.pdp_script.specs.declared.script.ScriptEdit.{ScriptEdit}
 use Rattle.pdp_unibus.specs.LastTurn.{last_turn}
 use Rattle.pdp_replay.specs.Ask.Searches.{first_turn_of}
-use Rattle.pdp_replay.specs.Past.{Past, of_script}
+use Rattle.pdp_replay.specs.Past.{Past}
+use Rattle.pdp_replay.specs.Past.Edit.{past_edit}
 use Rattle.pdp_replay.specs.Run.Branches.{AreAlikeAt, AreBesideAt, IsBranchOf}
 use Rattle.pdp_replay.specs.Run.Decided.{are_same_events, do_meet}
 use Rattle.pdp_replay.specs.Run.KeptRuns.{IsKeptRun}
@@ -18,6 +18,7 @@ use Rattle.pdp_replay.specs.Run.States.{at}
 use Rattle.pdp_replay.specs.Timeline.{Timeline}
 use Rattle.pdp_replay.specs.declared.ask.fading.Bracket.{Bracket}
 use Rattle.pdp_replay.specs.declared.ask.fading.Fading.{Fading}
+use Rattle.pdp_replay.specs.declared.past.past_edit.PastEdit.{PastEdit}
 use Rattle.pdp_replay.specs.declared.run.branch.Branch.{Branch}
 use Rattle.pdp_replay.specs.declared.run.kept_run.KeptRun.{KeptRun}
 
@@ -36,18 +37,14 @@ are_joined p q n =
 abbrev pub JoinedIsDecided : Type 0
 JoinedIsDecided = (p q : Past) (n : ℕ) → (are_joined p q n ≡ true) ↔ AreJoined n p q
 
--- once they are one, they stay so
+-- once they are one, with the same tape, they stay so
 abbrev pub JoinedStayJoined : Type 0
-JoinedStayJoined = (p q : Past) (n k : ℕ) → p.setup ≡ q.setup → n ≤ k → AreJoined n p q
+JoinedStayJoined = (p q : Past) (n k : ℕ) → p.setup.tape ≡ q.setup.tape → n ≤ k → AreJoined n p q
     → AreJoined k p q
 
--- the past with an edited script, or why the edit is refused
-abbrev pub past_with : ScriptEdit → Past → Result Past Fault
-past_with edit p = of_script p (script_edited edit p.script)
-
 -- the past with the edit that is asked about, up to turn `to`
-abbrev pub fading_checked : ScriptEdit → ℕ → Past → Result Past Fault
-fading_checked edit to p = (if nat_le to last_turn then past_with edit p else Err TurnTooLarge)
+abbrev pub fading_checked : PastEdit → ℕ → Past → Result Past Fault
+fading_checked edit to p = (if nat_le to last_turn then past_edit edit p else Err TurnTooLarge)
 
 -- the least turn up to turn `to` from which on both runs are one
 abbrev pub joined_by : ℕ → Past → Past → Option ℕ
@@ -55,14 +52,14 @@ joined_by to p q = first_turn_of (are_joined p q) 0 (to + 1)
 
 -- the least turn up to turn `to` from which on the run with this edit is the run without it, if the
 -- edit can be made
-unfoldable pub fading : ScriptEdit → ℕ → Past → Result (Option ℕ) Fault
+unfoldable pub fading : PastEdit → ℕ → Past → Result (Option ℕ) Fault
 fading edit to p = result_map (joined_by to p) (fading_checked edit to p)
 
 -- one run is kept, the other one is that of the branch; they are not one in turn `from`, but their
 -- scripts have the same events after it
 pub record AreApart (from : ℕ) (p q : Past) (script : ScriptData) (r : KeptRun) (b : Branch) : Type 0
   where
-    pub setup : p.setup ≡ q.setup
+    pub tape : p.setup.tape ≡ q.setup.tape
     pub same : p.script ≡ script
     pub run : IsKeptRun p r
     pub branch : IsBranchOf q b

@@ -6,7 +6,7 @@ use Rattle.std.specs.Option.{option_map}
 use Rattle.indexmap.specs.IndexMap.{insert_entry, shift_remove_entry}
 use Rattle.pdp_script.specs.Entries.{entry_of}
 use Rattle.pdp_script.specs.Refusal.{edit_answer, for_memory}
-use Rattle.pdp_script.specs.Script.{insert_edit, alter_edit, drop_edit}
+use Rattle.pdp_script.specs.Script.{insert_edit, alter_edit, drop_edit, script_edited}
 use Rattle.pdp_script.specs.declared.faults.Fault.{Fault}
 use Rattle.pdp_script.specs.declared.faults.Fault.TheVariants.{BadImage, OutsideCore, OddAddress}
 use Rattle.pdp_script.specs.declared.faults.Fault.TheVariants.{OutsideDisk, NoSuchPatch}
@@ -18,9 +18,11 @@ use Rattle.pdp_unibus.specs.declared.event.Event.{Event}
 use Rattle.pdp_store.specs.Parts.{word_at}
 use Rattle.pdp_replay.specs.Past.PatchedWords.{is_same_word, patch_of}
 use Rattle.pdp_replay.specs.Past.Setup.{SetupData, core_size, drive_words, most_drives, tape_bytes}
-use Rattle.pdp_replay.specs.Past.{Past, of_setup, of_script}
+use Rattle.pdp_replay.specs.Past.{Past, of_setup, of_script, with_setup}
 use Rattle.pdp_replay.specs.declared.past.patch.Patch.{Patch}
 use Rattle.pdp_replay.specs.declared.past.patch.Patch.TheVariants as patch
+use Rattle.pdp_replay.specs.declared.past.past_edit.PastEdit.{PastEdit}
+use Rattle.pdp_replay.specs.declared.past.past_edit.PastEdit.TheVariants.{Script, Word}
 use Rattle.pdp_store.specs.declared.part.Part.{Part}
 use Rattle.pdp_store.specs.declared.part.Part.TheVariants as part
 use Rattle.pdp_store.specs.declared.part.WordAt.{WordAt}
@@ -47,8 +49,16 @@ edited_at (Ok number) edited = edited number
 edited_at (Err fault) edited = Err fault
 
 -- a word is patched: one that has a patch keeps its place among the patches, a new one comes last
+abbrev pub setup_with_patch : ℕ → SetupData → WordAt → SetupData
+setup_with_patch word s at = record s {
+  patches = insert_entry is_same_word s.patches at word;
+}
+
 abbrev pub with_patch : ℕ → SetupData → WordAt → Result SetupData Fault
-with_patch word s at = Ok (record s { patches = insert_entry is_same_word s.patches at word })
+with_patch word s at = Ok (setup_with_patch word s at)
+
+abbrev pub past_with_patch : WordAt → ℕ → Past → Past
+past_with_patch at word p = with_setup p (setup_with_patch word p.setup at)
 
 unfoldable pub core_edit : ℕ → ℕ → Past → Result Past Fault
 core_edit address word p = of_setup p (edited_at (core_word_at address p.setup)
@@ -58,6 +68,16 @@ unfoldable pub disk_edit : ℕ → ℕ → ℕ → Past → Result Past Fault
 disk_edit drive number word p =
     of_setup p (edited_at (disk_word_at drive number p.setup) (λ number. with_patch word p.setup
     (word_at (part.Drive drive) number)))
+
+-- the word of a patch is patched
+abbrev pub patch_edit : Patch → Past → Result Past Fault
+patch_edit (patch.Core address word) p = core_edit address word p
+patch_edit (patch.Disk drive number word) p = disk_edit drive number word p
+
+-- an edit of the past that can be asked about before it is made
+abbrev pub past_edit : PastEdit → Past → Result Past Fault
+past_edit (Script edit) p = of_script p (script_edited edit p.script)
+past_edit (Word patch) p = patch_edit patch p
 
 -- a word loses its patch, if it has one; the other patches keep their order
 abbrev pub without_patch : SetupData → WordAt → Result SetupData Fault

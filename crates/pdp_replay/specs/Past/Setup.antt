@@ -1,6 +1,6 @@
 -- What a run starts from, as plain data [P].
-use Rattle.std.specs.Prelude.{ℕ, ◌<◌, ◌≤◌, ◌*◌, ◌%◌, ◌==◌, ◌&&◌, Bool, List, [], Result, Ok, Err}
-use Rattle.std.specs.Prelude.{length, map, nat_le, slice_index_or, if◌then◌else◌}
+use Rattle.std.specs.Prelude.{ℕ, ◌≡◌, ◌<◌, ◌≤◌, ◌*◌, ◌%◌, ◌==◌, ◌&&◌, Bool, List, [], Result, Ok}
+use Rattle.std.specs.Prelude.{Err, length, map, nat_le, slice_index_or, if◌then◌else◌}
 use Rattle.std.specs.List.{All, list_all}
 use Rattle.std.specs.Global.{Vec}
 use Rattle.indexmap.specs.IndexMap.{IndexMap}
@@ -106,6 +106,11 @@ first_setup base_setup tape = setup_of base_setup tape standard_delays []
 abbrev pub setup_from : BaseSetup → List ℕ → Delays → IndexMap WordAt ℕ
     (BuildHasherDefault FoldHasher) → SetupData
 setup_from base_setup tape delays patches = setup_of base_setup tape delays patches.entries
+
+-- this setup has as many units of core and as many drives as a base setup
+pub record IsOfSize (base : BaseSetup) (s : SetupData) : Type 0 where
+  pub units : s.units ≡ base.units
+  pub drives : s.drives ≡ drive_count base.drives
 
 -- units and stride within their limits, and an even start
 abbrev pub has_good_numbers : SetupData → Bool

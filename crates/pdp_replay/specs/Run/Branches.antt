@@ -1,13 +1,16 @@
 -- Branches: a machine beside that of a run, in a state of the run of another past [P].
-use Rattle.std.specs.Prelude.{ℕ, ◌≡◌, ◌*◌, ◌≤◌, ◌<◌, List, [], length, map, max, replicate}
+use Rattle.std.specs.Prelude.{ℕ, ◌≡◌, ◌*◌, ◌/◌, ◌≤◌, ◌<◌, List, [], length, map, max, replicate}
 use Rattle.pdp_cpu.specs.Saved.{SavedMachineData, SavedMeet, saved_machine}
 use Rattle.pdp_cpu.specs.Turns.MachineState.{MachineWithTexts}
 use Rattle.pdp_script.specs.Entries.{events_at}
 use Rattle.pdp_script.specs.Script.{ScriptData}
 use Rattle.pdp_store.specs.FirstTouches.{first_touches_of}
 use Rattle.pdp_store.specs.Stored.{no_touch_in}
+use Rattle.pdp_store.specs.declared.part.WordAt.{WordAt}
 use Rattle.pdp_replay.specs.Past.{Past}
 use Rattle.pdp_replay.specs.Past.Setup.{drive_count, drive_words, unit_words}
+use Rattle.pdp_replay.specs.Past.FirstWords.{IsThere}
+use Rattle.pdp_replay.specs.Run.FirstTouches.{first_touch}
 use Rattle.pdp_replay.specs.Run.KeptRuns.{IsKeptRun, IsUnderWay, KeepsStride}
 use Rattle.pdp_replay.specs.Run.States.{at}
 use Rattle.pdp_replay.specs.declared.past.base_setup.BaseSetup.{BaseSetup}
@@ -72,11 +75,30 @@ pub record IsRunOfSize (base : BaseSetup) (script : ScriptData) (r : KeptRun) : 
   pub past : Past
   pub is : IsKeptOfSize past base script r
 
+-- each run with this script that is kept, of a machine of this size, has this word
+abbrev pub HasWordInEach : WordAt → BaseSetup → ScriptData → KeptRun → Type 0
+HasWordInEach at base script r = (p : Past) → IsKeptOfSize p base script r → IsThere p.setup at
+
 -- the branch has this other script, and the state and what came out of each such run before this
 -- turn
 abbrev pub BranchesOff : ℕ → BaseSetup → ScriptData → ScriptData → KeptRun → Branch → Type 0
 BranchesOff turn base script other r b =
     (b.script ≡ other) × ((p : Past) → IsKeptOfSize p base script r → IsUnderWay p turn b.machine)
+
+-- the branch is in the state of the run of q before this turn, with what came out of it; no turn
+-- before this one touched the page of the word, which is there
+pub record IsUntouchedBranch (at : WordAt) (turn : ℕ) (q : Past) (b : Branch) : Type 0 where
+  pub script : q.script ≡ b.script
+  pub way : IsUnderWay q turn b.machine
+  pub here : b.machine.state.turn ≡ turn
+  pub there : IsThere q.setup at
+  pub known : ℕ
+  pub untouched : turn ≤ first_touch q at.part (at.number / 256) known
+
+-- so it is of some run
+pub record IsSomewhereUntouched (at : WordAt) (turn : ℕ) (b : Branch) : Type 0 where
+  pub past : Past
+  pub is : IsUntouchedBranch at turn past b
 
 -- both runs have the same state before turn n, except for stamps and what came out
 abbrev pub AreAlikeAt : ℕ → Past → Past → Type 0

@@ -13,11 +13,12 @@ ghost use Rattle.pdp_replay.specs.Run.KeptRuns.{KeepsRun};
 ghost use Rattle.pdp_replay.specs.Run.States.{at};
 ghost use Rattle.pdp_replay.specs.declared.ask.question.Question.TheVariants.{Regs};
 
+use crate::ask::patch_fading::find_patch_fading;
 use crate::engine::Engine;
-use crate::past::BaseSetup;
+use crate::past::{BaseSetup, PastEdit};
 use crate::run::{Branch, KeptRun, Likeness};
 use pdp_cpu::Saved;
-use pdp_script::{Fault, Script, ScriptEdit};
+use pdp_script::{Fault, Script};
 use pdp_unibus::LAST_TURN;
 use pdp_word::NoMemory;
 use std::alloc::Global;
@@ -35,7 +36,7 @@ pub struct Fading {
     pub stride: u32,
 }
 
-/// How many turns after the last difference of the scripts both runs are compared first.
+/// How many turns after the last one in which both runs surely differ they are compared first.
 const FIRST_STEP: u32 = 1024;
 
 /// In turn `apart` the runs are not one yet, with this state of the branch; in turn `alike` they
@@ -48,15 +49,16 @@ struct Bracket {
 }
 
 impl Engine {
-    /// The least turn up to turn `to` from which on the run with this edit of the script would be
-    /// the run as it is: before it both machines are in the same state, except for when words were
-    /// last written and what was printed or punched so far, and from it on both scripts have the
-    /// same events. So both runs stay the same for ever. The edit isn't made.
+    /// The least turn up to turn `to` from which on the run with this edit would be the run as it
+    /// is: before it both machines are in the same state, except for when words were last written
+    /// and what was printed or punched so far, and from it on both scripts have the same events. So
+    /// both runs stay the same for ever. The edit isn't made.
     ///
     /// Err(TurnTooLarge) if `to` is above 1,000,000,000; else the refusal of the edit, as `insert`,
-    /// `alter` and `drop_event` have it; else Err(NoMemory) if memory was refused. No refusal
-    /// changes the past, and one for another cause than memory changes nothing. [P]
-    pub fn fades(&mut self, alloc: Global, edit: ScriptEdit, to: u32) -> Result<Fading, Fault>
+    /// `alter`, `drop_event`, `set_core` and `set_disk` have it; else Err(NoMemory) if memory was
+    /// refused. No refusal changes the past, and one for another cause than memory changes nothing.
+    /// [P]
+    pub fn fades(&mut self, alloc: Global, edit: PastEdit, to: u32) -> Result<Fading, Fault>
         ensures turn { result_map (λ f. f.turn) result
             ≡ question_answer (fading edit to self.old.past) (for_memory result) }
 
@@ -71,17 +73,8 @@ impl Engine {
         if to > LAST_TURN {
             return Err(Fault::TurnTooLarge);
         }
-        let other = self.script.edited(alloc, edit)?;
-        let from = self.script.first_turn_of(edit);
-        let found = find_fading(
-            alloc,
-            &mut self.run,
-            &self.base_setup,
-            &self.script,
-            other,
-            from,
-            to,
-        );
+        let (base_setup, script) = (&self.base_setup, &self.script);
+        let found = find_fading(alloc, &mut self.run, base_setup, script, edit, to);
         self.highest = self.highest.max(self.run.known);
         let turn = found?;
         Ok(Fading {
@@ -93,11 +86,43 @@ impl Engine {
     }
 }
 
+/// The least turn up to turn `to` from which on the run with this edit is the run without it.
+///
+/// Err is the refusal of the edit; or memory was refused, and what was kept until then stays.
+fn find_fading(
+    alloc: Global,
+    run: &mut KeptRun,
+    base_setup: &BaseSetup,
+    script: &Script,
+    edit: PastEdit,
+    to: u32,
+) -> Result<Option<u32>, Fault>
+    requires run { IsRunOfSize base_setup.now script.now run.old }
+    requires limit { to ≤ LAST_TURN }
+    ensures turn { (p : Past) → IsKeptOfSize p base_setup.now script.now run.old
+        → result ≡ question_answer (fading edit to p) (for_memory result) }
+    ensures kept { KeepsRun script.now run.old run.new }
+    ensures looked { IsLookedAt to run.old run.new }
+    ensures refused { IsErr result → for_memory result ≡ false → run.new ≡ run.old }
+{
+    match edit {
+        PastEdit::Script(edit) => {
+            let other = script.edited(alloc, edit)?;
+            let from = script.first_turn_of(edit);
+            Ok(find_script_fading(alloc, run, base_setup, script, other, from, to)?)
+        }
+        PastEdit::Word(patch) => {
+            let place = patch.place(base_setup)?;
+            Ok(find_patch_fading(alloc, run, base_setup, script, place, to)?)
+        }
+    }
+}
+
 /// The least turn up to turn `to` from which on both runs are one: that with this script, and that
 /// with the other one, which has the same events before turn `from`.
 ///
 /// Err if memory was refused; what was kept until then stays.
-fn find_fading(
+fn find_script_fading(
     alloc: Global,
     run: &mut KeptRun,
     base_setup: &BaseSetup,
@@ -129,7 +154,7 @@ fn find_fading(
 /// turn `apart`, and their scripts have the same events after it.
 ///
 /// Err if memory was refused; what was kept until then stays.
-fn find_edge(
+pub(crate) fn find_edge(
     alloc: Global,
     run: &mut KeptRun,
     script: &Script,

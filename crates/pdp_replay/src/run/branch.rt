@@ -3,8 +3,11 @@
 ghost use Rattle.std.specs.Prelude.{◌≡◌, ◌≤◌, length, map, replicate, IfOk, OnOk};
 ghost use Rattle.pdp_store.specs.Stored.{no_touch_in};
 ghost use Rattle.pdp_replay.specs.Past.{Past};
+ghost use Rattle.pdp_replay.specs.Past.Edit.{past_with_patch};
 ghost use Rattle.pdp_replay.specs.Run.Branches.{AreBeside, BranchesOff, Compares, IsBlank, IsBranchAt};
-ghost use Rattle.pdp_replay.specs.Run.Branches.{IsLookedAt, IsRunOfSize, KeepsBranch, WasAt};
+ghost use Rattle.pdp_replay.specs.Run.Branches.{IsBranchOf, IsLookedAt, IsRunOfSize};
+ghost use Rattle.pdp_replay.specs.Run.Branches.{IsSomewhereUntouched, IsUntouchedBranch};
+ghost use Rattle.pdp_replay.specs.Run.Branches.{KeepsBranch, WasAt};
 ghost use Rattle.pdp_replay.specs.Run.KeptRuns.{KeepsRun};
 
 use crate::past::{BaseSetup, DRIVE_WORDS, UNIT_WORDS};
@@ -12,7 +15,7 @@ use crate::run::{KeptRun, run_part};
 use pdp_cpu::{Machine, Meter, PagedMachine, Saved, WordTable};
 use pdp_icache::Lines;
 use pdp_script::Script;
-use pdp_store::{Paged, PagedDrive};
+use pdp_store::{Paged, PagedDrive, WordAt};
 use pdp_unibus::{Delays, LAST_TURN};
 use pdp_word::NoMemory;
 use std::alloc::Global;
@@ -50,6 +53,30 @@ impl Branch {
         ensures counted { meter.old ≤ meter.new }
     {
         run_part(&mut self.machine, words, &self.script, meter, to)
+    }
+
+    /// Gives a word this value as of power-up. No turn before that of the machine, which is `turn`,
+    /// touched the word's page.
+    ///
+    /// Err if memory was refused.
+    pub(crate) fn set_word(
+        &mut self,
+        alloc: Global,
+        at: WordAt,
+        word: u16,
+        turn: u32,
+    ) -> Result<(), NoMemory>
+        requires untouched { IsSomewhereUntouched at turn self.old }
+        ensures branch { OnOk result ((q : Past) → IsUntouchedBranch at turn q self.old
+            → IsBranchOf (past_with_patch at word q) self.new) }
+        ensures turn { OnOk result (self.new.machine.state.turn ≡ turn) }
+    {
+        let mut here = self.machine.save(alloc)?;
+        let page = here.patched_page(alloc, &mut self.machine, at, word)?;
+        let pages = here.new_pages(alloc, &page)?;
+        here.put_pages(&page, pages);
+        self.machine.load(&here);
+        Ok(())
     }
 
     /// Makes the machine the one that was saved, of an earlier turn.
@@ -145,7 +172,7 @@ fn blank_machine(
     Ok(Machine::power(alloc, lines, start, core, drives, tape, delays))
 }
 
-/// So many drives, all words 0.
+/// `count` drives, whose words are all 0.
 ///
 /// Err if there is no memory for them.
 fn blank_drives(alloc: Global, count: usize) -> Result<Vec<PagedDrive>, NoMemory>

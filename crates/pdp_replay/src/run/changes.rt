@@ -178,11 +178,12 @@ impl KeptRun {
         Ok(())
     }
 
-    // How far back a patch of a word reaches: to the first touch of its page, or to the known turn
-    // if there is none.
+    /// How far back a patch of a word reaches: to the first touch of its page, or to the known turn
+    /// if there is none.
     #[tactic(auto, using(crate::proofs::run::RunFirstTouches::first_is_told))]
-    fn reached_by(&self, at: WordAt) -> u32
-        ensures { result ≡ reached_by at self.now }
+    pub(crate) fn reached_by(&self, at: WordAt) -> u32
+        ensures reached { result ≡ reached_by at self.now }
+        ensures small { self.now.known ≤ never }
     {
         let known = self.known;
         match self.machine.first(at.part, at.number / PAGE_WORDS) {

@@ -1,10 +1,9 @@
-use Rattle.std.proofs.Common.{◌≡◌, ◌∙◌, ◌≤◌, ℕ, None, Some, ap, arith, subst, sym}
+use Rattle.std.proofs.Common.{◌≡◌, ◌≤◌, ℕ, Some, arith, subst, sym}
 use Rattle.pdp_cpu.specs.Saved.{saved_machine}
 use Rattle.pdp_cpu.specs.Turns.MachineState.{MachineWithTexts}
 use Rattle.pdp_replay.specs.Past.{Past}
-use Rattle.pdp_replay.specs.Ask.Fadings.{AreApart, AreBesideIn, IsBracket, IsBracketIn, IsBracketOrNone}
+use Rattle.pdp_replay.specs.Ask.Fadings.{AreApart, AreBesideIn, IsBracketOrNone}
 use Rattle.pdp_replay.specs.Run.Branches.{IsBranchOf, IsLookedAt}
-use Rattle.pdp_replay.specs.Run.KeptRuns.{IsKeptRun}
 use Rattle.pdp_replay.specs.Run.States.{at}
 use Rattle.pdp_replay.specs.declared.run.branch.Branch.{Branch}
 use Rattle.pdp_replay.specs.declared.run.kept_run.KeptRun.{KeptRun}
@@ -63,7 +62,7 @@ returns-in_ok-halve-in-Some-clause-looked c =
 still_apart : (c : In_ok-state) (p q : Past) → AreApart c.args.apart p q c.args.script.now c.args.run.now c.args.branch.now
     → AreApart c.args.apart p q c.args.script.now (record c.args.run.now { meter = c.run.new.meter }) (record c.run.new.self { machine = c.save.new.self })
 still_apart c p q apart = record {
-  setup = apart.setup;
+  tape = apart.tape;
   same = apart.same;
   run = kept_metered p c.args.run.now c.run.new.meter apart.run;
   branch = same_branch q c.run.new.self c.save.new.self c.save.ensures.same (c.in_ok-run.ensures.branch q apart.branch);
@@ -81,17 +80,17 @@ returns-in_ok-halve-in-Some-clause-found c = λ p q apart.
     let in_bracket : AreBesideIn c.args.apart c.args.to c.args.script.now c.gallop.new.run c.gallop.new.branch (Some c.in-Some.bracket) = subst (AreBesideIn c.args.apart c.args.to c.args.script.now c.gallop.new.run c.gallop.new.branch) c.in-Some.is c.in_ok-bracket.ensures.beside in
     let bracket : IsBracketOrNone c.args.to p q (Some c.in-Some.bracket) = subst (IsBracketOrNone c.args.to p q) c.in-Some.is (c.in_ok-bracket.ensures.found p q now (state_is b p q apart)) in
     let after : AreApart c.args.apart p q c.args.script.now c.gallop.new.run c.gallop.new.branch = record {
-      setup = now.setup;
+      tape = now.tape;
       same = now.same;
       run = c.gallop.ensures.kept p now.same now.run;
       branch = c.gallop.ensures.branch q now.branch;
       apart = now.apart;
       events = now.events;
     } in
-    edge_is_first p q c.args.to c.in_ok-halve-in-Some.field-0 apart.setup (c.in_ok-halve-in-Some.ensures.found c.args.apart c.args.to p q after in_bracket.least bracket)
+    edge_is_first p q c.args.to c.in_ok-halve-in-Some.field-0 apart.tape (c.in_ok-halve-in-Some.ensures.found c.args.apart c.args.to p q after in_bracket.least bracket)
 
 pub returns-in-None-clause-found : goal.returns-in-None-clause-found
 returns-in-None-clause-found c = λ p q apart.
     let b = (goal.at.returns-in-None-clause-found c).In_ok-state in
-    none_joined p q c.args.to apart.setup
+    none_joined p q c.args.to apart.tape
     (subst (IsBracketOrNone c.args.to p q) c.in-None.is (c.in_ok-bracket.ensures.found p q (still_apart b p q apart) (state_is b p q apart)))

@@ -1,62 +1,63 @@
-use Rattle.std.proofs.Common.{◌≡◌, ◌+◌, Err, IfOk, Ok, Result, arith, refl, sym}
-use Rattle.pdp_replay.specs.Past.{Past, with_script}
-use Rattle.pdp_replay.proofs.ask.Fadings.{branch_of_other, joined_at_once, none_joined, not_joined_before, not_joined_from, of_pasts, one_from_the_start}
-use Rattle.pdp_replay.proofs.run.Branches.{looked_further, looked_on}
+use Rattle.std.proofs.Common.{◌∙◌, Err, Ok, Option, ap, refl, subst, sym, ℕ}
+use Rattle.std.proofs.lemmas.Result.{err_from_is_err_and}
+use Rattle.pdp_script.specs.Script.{script_edited}
+use Rattle.pdp_replay.specs.Past.{with_script}
+use Rattle.pdp_replay.specs.Past.Edit.{past_with_patch}
+use Rattle.pdp_replay.specs.Run.Branches.{SameEventsBefore}
+use Rattle.pdp_replay.proofs.ask.FadingEdits.{edit_made, edit_refused, patch_fading, patch_refused, same_before_edit, script_fading}
 use Rattle.pdp_replay.proofs.ask.fading.find_fading.Goals as goal
 
-pub returns-in_default-clause-found : goal.returns-in_default-clause-found
-returns-in_default-clause-found c = λ p q is script setup.
-    joined_at_once p q c.args.to (one_from_the_start p q (sym setup) (of_pasts p q c.args.script.now c.args.other 0 is.same script c.in_default.ensures))
+pub returns-in_err-other-in-Script-clause-turn : goal.returns-in_err-other-in-Script-clause-turn
+returns-in_err-other-in-Script-clause-turn c = λ p is.
+    let told = rw c.in_err-other-in-Script.was at c.edited.ensures in
+    let out = err_from_is_err_and c.from_residual.result c.from_residual.ensures.1 in
+    let error = out.1 ∙ ap Err out.2 in
+    rw (c.in-Script.is, error)
+    (edit_refused (Option ℕ) c.in-Script.edit c.args.to p (script_edited c.in-Script.edit c.args.script.now) c.in_err-other-in-Script.field-0.0 c.requires.limit
+    (ap (script_edited c.in-Script.edit) is.same) told)
 
-pub returns-then-to-apart-clause-found : goal.returns-then-to-apart-clause-found
-returns-then-to-apart-clause-found c = λ p q is script setup.
-    none_joined p q c.args.to (sym setup)
-    (not_joined_before p q c.in-Some.apart c.args.to (sym setup) c.if-to-apart.true
-    (not_joined_from p q c.args.script.now c.args.other c.in-Some.apart is.same script c.in-Some.ensures.0))
+pub find_script_fading-requires-clause-same : goal.find_script_fading-requires-clause-same
+find_script_fading-requires-clause-same c =
+    let told = rw c.in_ok-other-in-Script.was at c.edited.ensures in
+    let made = edit_made (script_edited c.in-Script.edit c.args.script.now) c.in_ok-other-in-Script.other told in
+    subst (λ n. SameEventsBefore n c.args.script.now c.in_ok-other-in-Script.other) (sym c.first_turn_of-from.ensures)
+    (same_before_edit c.in-Script.edit c.args.script.now c.in_ok-other-in-Script.other made)
 
-pub find_edge-requires-clause-beside : goal.find_edge-requires-clause-beside
-find_edge-requires-clause-beside c =
-    let some = c.requires.run in
-    let p = some.past in
-    let q : Past = with_script p c.args.other in
-    record {
-      past = p;
-      other = q;
-      same = some.is.same;
-      run = c.in_ok-branch.ensures.kept p some.is.same some.is.run;
-      branch = branch_of_other p q c.args.base_setup.now c.args.script.now c.args.other c.args.run.now c.in_ok-branch.branch c.min.result c.args.from some.is refl refl c.requires.same
-          (omega (arith, c.min.ensures)) c.in_ok-branch.ensures.turn c.in_ok-branch.ensures.branch;
-      units = refl;
-      drives = refl;
-    }
+pub returns-in_err-find_script_fading-in-Script-clause-turn : goal.returns-in_err-find_script_fading-in-Script-clause-turn
+returns-in_err-find_script_fading-in-Script-clause-turn c = λ p is.
+    let told = rw c.in_ok-other-in-Script.was at c.edited.ensures in
+    let made = edit_made (script_edited c.in-Script.edit c.args.script.now) c.in_ok-other-in-Script.other told in
+    let out = err_from_is_err_and c.from_residual-in_err-find_script_fading-in-Script.result c.from_residual-in_err-find_script_fading-in-Script.ensures.1 in
+    let error = out.1 ∙ ap Err out.2 in
+    let due = script_fading c.in-Script.edit c.args.to p c.in_ok-other-in-Script.other c.requires.limit (ap (script_edited c.in-Script.edit) is.same ∙ made) in
+    rw (c.in-Script.is, error, due) refl
 
-pub find_edge-requires-clause-behind : goal.find_edge-requires-clause-behind
-find_edge-requires-clause-behind c = let turn = c.in_ok-branch.ensures.turn in omega (arith, turn, c.min.ensures)
+pub returns-in_ok-find_script_fading-in-Script-clause-turn : goal.returns-in_ok-find_script_fading-in-Script-clause-turn
+returns-in_ok-find_script_fading-in-Script-clause-turn c = λ p is.
+    let told = rw c.in_ok-other-in-Script.was at c.edited.ensures in
+    let made = edit_made (script_edited c.in-Script.edit c.args.script.now) c.in_ok-other-in-Script.other told in
+    let due = script_fading c.in-Script.edit c.args.to p c.in_ok-other-in-Script.other c.requires.limit (ap (script_edited c.in-Script.edit) is.same ∙ made) in
+    rw (c.in-Script.is, due) (ap Ok (c.in_ok-find_script_fading-in-Script.ensures.found p (with_script p c.in_ok-other-in-Script.other) is refl refl))
 
--- what follows from what a success says
-if_ok_weaker : {T E : Type 0} (P Q : T → Type 0) (r : Result T E) → ((value : T) → P value → Q value) → IfOk r P → IfOk r Q
-if_ok_weaker P Q (Ok value) gives is = gives value is
-if_ok_weaker P Q (Err refused) gives is = tt
+pub returns-in_err-place-in-Word-clause-turn : goal.returns-in_err-place-in-Word-clause-turn
+returns-in_err-place-in-Word-clause-turn c = λ p is.
+    let told = c.in_err-place-in-Word.ensures.past p (record { units = is.units; drives = is.drives }) in
+    let out = err_from_is_err_and c.from_residual-in_err-place-in-Word.result c.from_residual-in_err-place-in-Word.ensures.1 in
+    let error = out.1 ∙ ap Err out.2 in
+    rw (c.in-Word.is, error) (patch_refused (Option ℕ) c.in-Word.patch c.args.to p c.in_err-place-in-Word.field-0.0 c.requires.limit told)
 
-pub returns-clause-found : goal.returns-clause-found
-returns-clause-found c =
-    if_ok_weaker _ _ c.find_edge.result
-    (λ found told p q is script setup. told p q (record {
-      setup = sym setup;
-      same = is.same;
-      run = c.in_ok-branch.ensures.kept p is.same is.run;
-      branch = branch_of_other p q c.args.base_setup.now c.args.script.now c.args.other c.args.run.now c.in_ok-branch.branch c.min.result c.args.from is script (sym setup) c.requires.same
-          (omega (arith, c.min.ensures)) c.in_ok-branch.ensures.turn c.in_ok-branch.ensures.branch;
-      apart = not_joined_from p q c.args.script.now c.args.other c.in-Some.apart is.same script c.in-Some.ensures.0;
-      events = of_pasts p q c.args.script.now c.args.other (c.in-Some.apart + 1) is.same script c.in-Some.ensures.1;
-    }))
-    c.find_edge.ensures.found
+pub returns-in_err-find_patch_fading-in-Word-clause-turn : goal.returns-in_err-find_patch_fading-in-Word-clause-turn
+returns-in_err-find_patch_fading-in-Word-clause-turn c = λ p is.
+    let place = c.in_ok-place-in-Word.place in
+    let made = c.in_ok-place-in-Word.ensures.past p (record { units = is.units; drives = is.drives }) in
+    let out = err_from_is_err_and c.from_residual-in_err-find_patch_fading-in-Word.result c.from_residual-in_err-find_patch_fading-in-Word.ensures.1 in
+    let error = out.1 ∙ ap Err out.2 in
+    let due = patch_fading c.in-Word.patch c.args.to p (past_with_patch place.0 place.1 p) c.requires.limit made in
+    rw (c.in-Word.is, error, due) refl
 
-pub returns-clause-kept : goal.returns-clause-kept
-returns-clause-kept c = λ p same run. c.find_edge.ensures.kept p same (c.in_ok-branch.ensures.kept p same run)
-
-pub returns-clause-looked : goal.returns-clause-looked
-returns-clause-looked c =
-    let later = c.if-to-apart.false in
-    looked_on c.args.to c.args.run.now c.branch-run.new.self c.find_edge.new.run
-    (looked_further c.min.result c.args.to c.args.run.now c.branch-run.new.self c.in_ok-branch.ensures.looked (omega (arith, c.min.ensures, later))) c.find_edge.ensures.looked
+pub returns-in_ok-find_patch_fading-in-Word-clause-turn : goal.returns-in_ok-find_patch_fading-in-Word-clause-turn
+returns-in_ok-find_patch_fading-in-Word-clause-turn c = λ p is.
+    let place = c.in_ok-place-in-Word.place in
+    let made = c.in_ok-place-in-Word.ensures.past p (record { units = is.units; drives = is.drives }) in
+    let due = patch_fading c.in-Word.patch c.args.to p (past_with_patch place.0 place.1 p) c.requires.limit made in
+    rw (c.in-Word.is, due) (ap Ok (c.in_ok-find_patch_fading-in-Word.ensures.found p is))

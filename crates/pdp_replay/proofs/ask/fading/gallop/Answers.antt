@@ -1,7 +1,5 @@
-use Rattle.std.proofs.Common.{◌≡◌, ◌<◌, ◌≤◌, ap, arith, false, subst}
-use Rattle.pdp_replay.specs.Past.{Past}
-use Rattle.pdp_replay.specs.Ask.Fadings.{AreApart, are_joined}
-use Rattle.pdp_replay.specs.Run.Branches.{AreAlikeAt, Compares, IsTold}
+use Rattle.std.proofs.Common.{◌<◌, arith, subst}
+use Rattle.pdp_replay.specs.Run.Branches.{AreAlikeAt, Compares}
 use Rattle.pdp_replay.specs.declared.run.branch.Likeness.TheVariants.{Alike, Apart}
 use Rattle.pdp_replay.proofs.ask.Fadings.{beside_apart, beside_at_after, joined_if_alike, not_joined}
 use Rattle.pdp_replay.proofs.run.Branches.{looked_further, looked_on}

@@ -1,4 +1,4 @@
-use Rattle.std.proofs.Common.{◌≡◌, ◌-◌, ◌<◌, ◌≤◌, ℕ}
+use Rattle.std.proofs.Common.{◌-◌, ◌<◌, ◌≤◌, ℕ}
 use Rattle.pdp_replay.specs.Ask.Fadings.{AreApart, IsBracket}
 use Rattle.pdp_replay.specs.Past.{Past}
 use Rattle.pdp_replay.specs.Run.Branches.{AreBesideAt, IsBranchOf, IsLookedAt}

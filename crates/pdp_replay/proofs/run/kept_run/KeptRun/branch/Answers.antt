@@ -1,7 +1,6 @@
-use Rattle.std.proofs.Common.{◌≡◌, ◌∙◌, ◌≤◌, List, ℕ, ap, arith, max, refl, subst, sym}
-use Rattle.pdp_store.specs.FirstTouches.{FirstTouches}
+use Rattle.std.proofs.Common.{◌≡◌, ◌∙◌, ℕ, ap, arith, refl, subst, sym}
 use Rattle.pdp_unibus.specs.SavedTouches.{HasPagesOf}
-use Rattle.pdp_cpu.specs.Saved.{SavedMachineData, saved_machine}
+use Rattle.pdp_cpu.specs.Saved.{saved_machine}
 use Rattle.pdp_cpu.specs.SavedOutput.{OutputData, TakesOutput, output_from}
 use Rattle.pdp_cpu.specs.Turns.MachineState.{MachineState, MachineWithTexts}
 use Rattle.pdp_replay.specs.Past.{Past}

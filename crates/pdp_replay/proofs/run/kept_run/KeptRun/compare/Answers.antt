@@ -1,7 +1,7 @@
-use Rattle.std.proofs.Common.{◌≡◌, ◌∙◌, ap, arith, subst, sym}
+use Rattle.std.proofs.Common.{subst, sym}
 use Rattle.pdp_cpu.specs.Saved.{SavedMeet, saved_machine}
 use Rattle.pdp_replay.specs.Run.States.{at}
-use Rattle.pdp_replay.proofs.run.Branches.{fits_beside, kept_metered, looked_at, looked_metered, state_of_branch}
+use Rattle.pdp_replay.proofs.run.Branches.{fits_beside, kept_metered, state_of_branch}
 use Rattle.pdp_replay.proofs.run.kept_run.KeptRun.compare.Goals as goal
 
 pub meets-requires : goal.meets-requires
