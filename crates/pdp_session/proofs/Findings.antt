@@ -1,13 +1,20 @@
 -- A search that the engine made is answered as its definition says.
-use Rattle.std.proofs.Common.{◌≡◌, ℕ, List, nat_lt, Result, Ok, Err, Bool, true, false, refl, ap, ◌∙◌}
-use Rattle.pdp_script.specs.Refusal.{for_memory, question_answer, result_map}
+use Rattle.std.proofs.Common.{◌≡◌, ℕ, List, Option, cond, nat_le, nat_lt, Result, Ok, Err, Bool, true, false, refl, ap, ◌∙◌}
+use Rattle.pdp_script.specs.Refusal.{for_memory, past_left, question_answer, result_map}
 use Rattle.pdp_script.specs.declared.faults.Fault.{Fault}
 use Rattle.pdp_replay.specs.Ask.Writes.{turn_listed}
+use Rattle.pdp_replay.specs.Ask.Fadings.{fading, fading_checked, joined_by}
 use Rattle.pdp_replay.specs.Past.{Past}
+use Rattle.pdp_replay.specs.Past.Edit.{past_edit}
+use Rattle.pdp_replay.specs.declared.ask.fading.Fading.{Fading}
 use Rattle.pdp_replay.specs.declared.ask.last_write.LastWrite.{LastWrite}
+use Rattle.pdp_replay.specs.declared.past.past_edit.PastEdit.{PastEdit}
+use Rattle.pdp_unibus.specs.LastTurn.{last_turn}
+use Rattle.pdp_script.specs.declared.faults.Fault.TheVariants.{TurnTooLarge}
 use Rattle.pdp_session.specs.declared.search.Finding.{Finding}
-use Rattle.pdp_session.specs.declared.search.Finding.TheVariants.{Writes}
+use Rattle.pdp_session.specs.declared.search.Finding.TheVariants.{Fades, Writes}
 use Rattle.pdp_session.specs.declared.search.Search.{Search}
+use Rattle.pdp_session.specs.declared.search.Search.TheVariants as search
 use Rattle.pdp_session.specs.Search.{finding, search_permitted, search_result, writes_found}
 
 answered : {Y : Type 0} (permitted : Result (Unit {0}) Fault) (refused : Bool) (due : Y) → Ok tt ≡ question_answer permitted refused
@@ -37,3 +44,33 @@ search_refused wanted past fault refused =
 pub first_writes : (writes listed all : List LastWrite) (reached to : ℕ) → writes ≡ listed → listed ≡ all → reached ≡ turn_listed listed to
     → Writes writes (nat_lt reached to) ≡ writes_found all to
 first_writes writes listed all reached to same is ends = rw (ends, same, is) refl
+
+-- the past with an edit that is asked about, by whether the turn is in range
+abbrev checked : Bool → Result Past Fault → Result Past Fault
+checked within due = cond within due (Err TurnTooLarge)
+
+fading_told : (within : Bool) (due : Result Past Fault) (to : ℕ) (past : Past) (turn : Option ℕ)
+    → Ok turn ≡ question_answer (result_map (joined_by to past) (checked within due)) false
+    → Ok (Fades turn) ≡ question_answer (result_map (λ _. Fades (joined_by to past (past_left due false past))) (result_map (λ _. tt {0}) (checked within due))) false
+fading_told true (Ok other) to past turn is = let same : turn ≡ joined_by to past other = cc is in ap (λ t. Ok (Fades t)) same
+fading_told true (Err fault) to past turn is = absurd cc
+fading_told false due to past turn is = absurd cc
+
+refusal_told : (within flag : Bool) (due : Result Past Fault) (to : ℕ) (past : Past) (fault : Fault)
+    → Err fault ≡ question_answer (result_map (joined_by to past) (checked within due)) flag
+    → Err fault ≡ question_answer (result_map (λ _. Fades (joined_by to past (past_left due false past))) (result_map (λ _. tt {0}) (checked within due))) flag
+refusal_told true true (Ok other) to past fault is = cc
+refusal_told true false (Ok other) to past fault is = absurd cc
+refusal_told true flag (Err other) to past fault is = cc
+refusal_told false flag due to past fault is = cc
+
+-- a fading that the engine told is the one that is defined, and so is its refusal
+pub fading_answered : (edit : PastEdit) (to : ℕ) (past : Past) (turn : Option ℕ) → Ok turn ≡ question_answer (fading edit to past) false
+    → Ok (Fades turn) ≡ question_answer (search_result (search.Fades to edit) past) false
+unfolding fading search_result
+fading_answered edit to past turn is = fading_told (nat_le to last_turn) (past_edit edit past) to past turn is
+
+pub fading_refused : (edit : PastEdit) (to : ℕ) (past : Past) (fault : Fault) → Err fault ≡ question_answer (fading edit to past) (for_memory {X = Fading} (Err fault))
+    → Err fault ≡ question_answer (search_result (search.Fades to edit) past) (for_memory {X = Finding} (Err fault))
+unfolding fading search_result
+fading_refused edit to past fault is = refusal_told (nat_le to last_turn) (for_memory {X = Finding} (Err fault)) (past_edit edit past) to past fault is

@@ -2,47 +2,29 @@
 -- or the refusal of its form. Ranges are no part of the grammar.
 use Rattle.std.specs.Prelude.{ℕ, Bool, ◌==◌, nat_lt, if◌then◌else◌, List, [], ◌∷◌, length}
 use Rattle.std.specs.Prelude.{slice_index, codes, Option, None, Some, Result, Ok, Err}
-use Rattle.std.specs.Option.{option_map, ok_or}
+use Rattle.std.specs.Option.{option_map, option_or, ok_or}
 use Rattle.std.specs.Str.{bytes_eq}
 use Rattle.arrayvec.specs.ArrayVec.{ArrayVec}
 use Rattle.pdp_word.specs.Number.{number_of}
 use Rattle.pdp_script.specs.declared.faults.Fault.{Fault}
 use Rattle.pdp_script.specs.declared.faults.Fault.TheVariants.{BadLine, LineTooLong}
 use Rattle.pdp_session.specs.declared.command.Command.{Command}
-use Rattle.pdp_session.specs.declared.command.Command.TheVariants.{SetCore, RevertCore, SetDisk}
-use Rattle.pdp_session.specs.declared.command.Command.TheVariants.{SetTape, SetDelay}
-use Rattle.pdp_session.specs.declared.command.Command.TheVariants.{UseEightDrives, Insert, Alter}
-use Rattle.pdp_session.specs.declared.command.Command.TheVariants.{DropEvent, ListPatches, Ask}
+use Rattle.pdp_session.specs.declared.command.Command.TheVariants.{EditPast, RevertCore, SetTape}
+use Rattle.pdp_session.specs.declared.command.Command.TheVariants.{SetDelay, UseEightDrives}
+use Rattle.pdp_session.specs.declared.command.Command.TheVariants.{ListPatches, Ask}
 use Rattle.pdp_session.specs.declared.version.Version.{Version}
 use Rattle.pdp_session.specs.Grammar.Arguments.{◌>>=◌, first_of, one_of, two_of, drive_first}
-use Rattle.pdp_session.specs.Grammar.Arguments.{word_named, bytes_named, device_named, event_named}
-use Rattle.pdp_session.specs.Grammar.Arguments.{turn_named}
-use Rattle.pdp_session.specs.Grammar.Events.{event_of}
+use Rattle.pdp_session.specs.Grammar.Arguments.{word_named, bytes_named, device_named, turn_named}
+use Rattle.pdp_session.specs.Grammar.PastEdits.{past_edit_with}
 use Rattle.pdp_session.specs.Grammar.Questions.{question_with}
 use Rattle.pdp_session.specs.Grammar.Words.{words_of_line}
 use Rattle.pdp_session.specs.Lines.{longest_line}
 pub mod Arguments
 pub mod Events
+pub mod PastEdits
 pub mod Questions
 pub mod Searches
 pub mod Words
-
--- `core A W`: an address and a word, in octal
-abbrev pub core_form : List (List ℕ) → Option Command
-core_form arguments = do
-  (address, word) ← two_of arguments
-  a ← number_of 8 address
-  w ← word_named word
-  Some (SetCore a w)
-
--- `disk I W`, in version 2 `disk D I W`: a drive, the number of a word of it and a word, in octal
-abbrev pub disk_form : Version → List (List ℕ) → Option Command
-disk_form version arguments = do
-  (d, others) ← drive_first version arguments
-  (number, word) ← two_of others
-  i ← number_of 8 number
-  w ← word_named word
-  Some (SetDisk d i w)
 
 -- `uncore A`: an address, in octal
 abbrev pub uncore_form : List (List ℕ) → Option Command
@@ -66,31 +48,6 @@ delay_form arguments = do
   n ← turn_named turns
   Some (SetDelay device n)
 
--- `at T event`: a turn, in decimal, and an event
-abbrev pub at_form : List (List ℕ) → Option Command
-at_form arguments = do
-  (turn, event) ← first_of arguments
-  t ← turn_named turn
-  e ← event_of event
-  Some (Insert t e)
-
--- `alter E T event`: the number of an event and a turn, in decimal, and an event
-abbrev pub alter_form : List (List ℕ) → Option Command
-alter_form arguments = do
-  (number, others) ← first_of arguments
-  (turn, event) ← first_of others
-  n ← event_named number
-  t ← turn_named turn
-  e ← event_of event
-  Some (Alter n t e)
-
--- `drop E`: the number of an event, in decimal
-abbrev pub drop_form : List (List ℕ) → Option Command
-drop_form arguments = do
-  number ← one_of arguments
-  n ← event_named number
-  Some (DropEvent n)
-
 -- `version 2`, in decimal: no other version can be asked for
 abbrev pub version_form : List (List ℕ) → Option Command
 version_form arguments = do
@@ -103,21 +60,17 @@ abbrev pub patches_form : List (List ℕ) → Option Command
 patches_form [] = Some ListPatches
 patches_form _ = None
 
--- a command by its name and the words that follow it; a name that is none of these may be a
--- question's
+-- a command by its name and the words that follow it; a name that is none of these may be that of
+-- another edit, or of a question
 unfoldable pub command_with : Version → List ℕ → List (List ℕ) → Option Command
 command_with version name arguments =
-    if bytes_eq name (codes "core") then core_form arguments
-    else if bytes_eq name (codes "uncore") then uncore_form arguments
-    else if bytes_eq name (codes "disk") then disk_form version arguments
+    if bytes_eq name (codes "uncore") then uncore_form arguments
     else if bytes_eq name (codes "tape") then tape_form arguments
     else if bytes_eq name (codes "delay") then delay_form arguments
     else if bytes_eq name (codes "version") then version_form arguments
-    else if bytes_eq name (codes "at") then at_form arguments
-    else if bytes_eq name (codes "alter") then alter_form arguments
-    else if bytes_eq name (codes "drop") then drop_form arguments
     else if bytes_eq name (codes "patches") then patches_form arguments
-    else option_map Ask (question_with version name arguments)
+    else option_or (option_map EditPast (past_edit_with version name arguments))
+    (option_map Ask (question_with version name arguments))
 
 -- its first byte is `#`
 abbrev pub is_comment : List ℕ → Bool

@@ -3,14 +3,16 @@ use Rattle.std.specs.Prelude.{ℕ, ◌-◌, ◌/◌, ◌++◌, Bool, true, false
 use Rattle.std.specs.Prelude.{nat_lt, take, Option, None, Some, Result, Ok, Err}
 use Rattle.std.specs.List.{flat_map}
 use Rattle.pdp_unibus.specs.LastTurn.{last_turn}
-use Rattle.pdp_script.specs.Refusal.{result_map}
+use Rattle.pdp_script.specs.Refusal.{past_left, result_map}
 use Rattle.pdp_script.specs.declared.faults.Fault.{Fault}
 use Rattle.pdp_replay.specs.Ask.DiskChanges.{change_checked, word_changes}
+use Rattle.pdp_replay.specs.Ask.Fadings.{fading_checked, joined_by}
 use Rattle.pdp_replay.specs.Ask.Searches.{first_turn_of, search_checked}
 use Rattle.pdp_replay.specs.Ask.SoughtTurns.{is_sought_at}
 use Rattle.pdp_replay.specs.Ask.TextParts.{byte_checked, bytes_at, comes_out, turn_checked}
 use Rattle.pdp_replay.specs.Ask.Writes.{turn_listed, writes_checked, writes_in_turns}
 use Rattle.pdp_replay.specs.Past.{Past}
+use Rattle.pdp_replay.specs.Past.Edit.{past_edit}
 use Rattle.pdp_replay.specs.declared.ask.last_write.LastWrite.{LastWrite}
 use Rattle.pdp_replay.specs.declared.ask.text_part.TextKind.{TextKind}
 use Rattle.pdp_replay.specs.declared.ask.text_part.TextKind.TheVariants.{Printed, Punched}
@@ -40,6 +42,8 @@ finding (search.TextFrom kind turn first) past = found.TextFrom kind (drop first
     (bytes_at kind past turn))
 finding (search.When number) past = found.When (first_turn_of (comes_out Printed number past) 0
     last_turn)
+finding (search.Fades to edit) past = found.Fades (joined_by to past
+    (past_left (past_edit edit past) false past))
 
 -- can the search be made?
 abbrev pub search_permitted : Search → Past → Result (Unit {0}) Fault
@@ -49,6 +53,7 @@ search_permitted (search.Change from to drive number) past = change_checked driv
     past.setup
 search_permitted (search.TextFrom kind turn first) past = turn_checked turn
 search_permitted (search.When number) past = byte_checked
+search_permitted (search.Fades to edit) past = result_map (λ _. tt) (fading_checked edit to past)
 
 -- what it finds, or why it can't be made
 unfoldable pub search_result : Search → Past → Result Finding Fault
@@ -88,6 +93,7 @@ finding_text (found.Writes writes more) = writes_text writes more
 finding_text (found.Change turn) = turn_line (codes "change") turn
 finding_text (found.TextFrom kind bytes) = bytes_line (text_name kind) bytes
 finding_text (found.When turn) = turn_line (codes "when") turn
+finding_text (found.Fades turn) = turn_line (codes "fades") turn
 
 -- the text that a search is answered
 abbrev pub found_text : Result Finding Fault → List ℕ

@@ -1,26 +1,24 @@
 //! The grammar of the session language: what a line means. A command is one row of [`read_command`]
-//! and one form below it; a question is one row of `read_question` and one form below that.
+//! and one form below it; an edit that can also be asked about is one row of `read_past_edit` and one
+//! form below that, and a question one row of `read_question` and one form below that.
 
 ghost use Rattle.std.specs.Prelude.{◌≡◌, ◌≤◌, length};
-ghost use Rattle.pdp_session.specs.Grammar.{core_form, uncore_form, disk_form, at_form, alter_form};
-ghost use Rattle.pdp_session.specs.Grammar.{drop_form, version_form, patches_form, tape_form};
-ghost use Rattle.pdp_session.specs.Grammar.{delay_form, command_with, line_means};
+ghost use Rattle.pdp_session.specs.Grammar.{uncore_form, tape_form, delay_form, version_form};
+ghost use Rattle.pdp_session.specs.Grammar.{patches_form, command_with, line_means};
 ghost use Rattle.pdp_session.specs.Lines.{longest_line};
 ghost use Rattle.pdp_session.specs.Grammar.Words.{words_of_line};
 
 mod arguments;
 mod events;
+mod past_edits;
 mod questions;
 mod searches;
 mod words;
 
 use crate::command::Command;
 use crate::version::Version;
-use arguments::{
-    drive_first, one_word, read_bytes, read_device_name, read_event_number, read_turn, read_word,
-    two_words,
-};
-use events::read_event;
+use arguments::{one_word, read_bytes, read_device_name, read_turn, two_words};
+use past_edits::read_past_edit;
 use pdp_replay::Fault;
 use pdp_word::{read_decimal, read_octal};
 use questions::read_question;
@@ -58,40 +56,22 @@ fn read_command(version: Version, name: &[u8], arguments: &[u8]) -> Option<Comma
     requires { length arguments.now ≤ longest_line }
     ensures { result ≡ command_with version name.now (words_of_line arguments.now) }
 {
-    if name == b"core".as_slice() {
-        read_core(arguments)
-    } else if name == b"uncore".as_slice() {
+    if name == b"uncore".as_slice() {
         read_uncore(arguments)
-    } else if name == b"disk".as_slice() {
-        read_disk(version, arguments)
     } else if name == b"tape".as_slice() {
         read_tape(arguments)
     } else if name == b"delay".as_slice() {
         read_delay(arguments)
     } else if name == b"version".as_slice() {
         read_version(arguments)
-    } else if name == b"at".as_slice() {
-        read_at(arguments)
-    } else if name == b"alter".as_slice() {
-        read_alter(arguments)
-    } else if name == b"drop".as_slice() {
-        read_drop(arguments)
     } else if name == b"patches".as_slice() {
         read_patches(arguments)
+    } else if let Some(edit) = read_past_edit(version, name, arguments) {
+        Some(Command::EditPast(edit))
     } else {
         let question = read_question(version, name, arguments)?;
         Some(Command::Ask(question))
     }
-}
-
-// `core A W`
-fn read_core(arguments: &[u8]) -> Option<Command>
-    ensures { result ≡ core_form (words_of_line arguments.now) }
-{
-    let (address, word) = two_words(arguments)?;
-    let address = read_octal(address)?;
-    let word = read_word(word)?;
-    Some(Command::SetCore { address, word })
 }
 
 // `uncore A`
@@ -100,21 +80,6 @@ fn read_uncore(arguments: &[u8]) -> Option<Command>
 {
     let address = read_octal(one_word(arguments)?)?;
     Some(Command::RevertCore { address })
-}
-
-// `disk I W`, in version 2 `disk D I W`
-fn read_disk(version: Version, arguments: &[u8]) -> Option<Command>
-    ensures { result ≡ disk_form version (words_of_line arguments.now) }
-{
-    let (drive, others) = drive_first(version, arguments)?;
-    let (number, word) = two_words(others)?;
-    let number = read_octal(number)?;
-    let word = read_word(word)?;
-    Some(Command::SetDisk {
-        drive,
-        number,
-        word,
-    })
 }
 
 // `tape B B ..`
@@ -134,40 +99,6 @@ fn read_delay(arguments: &[u8]) -> Option<Command>
     let device = read_device_name(name)?;
     let delay = read_turn(delay)?;
     Some(Command::SetDelay { device, delay })
-}
-
-// `at T event`
-fn read_at(arguments: &[u8]) -> Option<Command>
-    ensures { result ≡ at_form (words_of_line arguments.now) }
-{
-    let (turn, event) = next_word(arguments)?;
-    let turn = read_turn(turn)?;
-    let event = read_event(event)?;
-    Some(Command::Insert { turn, event })
-}
-
-// `alter E T event`
-fn read_alter(arguments: &[u8]) -> Option<Command>
-    ensures { result ≡ alter_form (words_of_line arguments.now) }
-{
-    let (number, others) = next_word(arguments)?;
-    let (turn, event) = next_word(others)?;
-    let number = read_event_number(number)?;
-    let turn = read_turn(turn)?;
-    let event = read_event(event)?;
-    Some(Command::Alter {
-        number,
-        turn,
-        event,
-    })
-}
-
-// `drop E`
-fn read_drop(arguments: &[u8]) -> Option<Command>
-    ensures { result ≡ drop_form (words_of_line arguments.now) }
-{
-    let number = read_event_number(one_word(arguments)?)?;
-    Some(Command::DropEvent { number })
 }
 
 // `version 2`; there is no line that leads back to version 1

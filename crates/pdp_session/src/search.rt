@@ -7,8 +7,8 @@ ghost use Rattle.pdp_session.specs.Search.{search_result};
 mod finders;
 mod write_list;
 
-use finders::{find_change, find_first, find_text, find_turn_of_byte, find_writes};
-use pdp_replay::{Bytes, Engine, Fault, Sought, TextKind};
+use finders::{find_change, find_fading, find_first, find_text, find_turn_of_byte, find_writes};
+use pdp_replay::{Bytes, Engine, Fault, PastEdit, Sought, TextKind};
 use std::alloc::Global;
 pub use write_list::WriteList;
 
@@ -45,6 +45,11 @@ pub enum Search {
     When {
         number: u32,
     },
+    // The turn, up to one, from which on an edit would change nothing.
+    Fades {
+        to: u32,
+        edit: PastEdit,
+    },
 }
 
 // What a search found.
@@ -56,6 +61,7 @@ pub enum Finding {
     Change(Option<u32>),
     TextFrom(TextKind, Bytes),
     When(Option<u32>),
+    Fades(Option<u32>),
 }
 
 impl Search {
@@ -76,6 +82,7 @@ impl Search {
             } => find_change(alloc, engine, from, to, drive, number),
             Search::TextFrom { kind, turn, first } => find_text(alloc, engine, kind, turn, first),
             Search::When { number } => find_turn_of_byte(alloc, engine, number),
+            Search::Fades { to, edit } => find_fading(alloc, engine, to, edit),
         }
     }
 }

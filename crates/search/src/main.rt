@@ -35,6 +35,9 @@ the turns from N on and before M are searched; F is a byte, counted from 0:
   punched N from F     what was punched before turn N, from byte F on
   when F               the turn in which byte F was printed; the run goes on to
                        that turn, or to turn 1000000000
+  fades N EDIT         the turn, up to N, from which on the run with this edit
+                       would be the run as it is; EDIT is a line core, disk,
+                       at, alter or drop, and isn't made
 ";
 
 fn main(rt: HostRuntime) -> ExitCode {

@@ -12,10 +12,11 @@ use Rattle.pdp_replay.specs.declared.ask.text_part.TextKind.{TextKind}
 use Rattle.pdp_replay.specs.declared.ask.text_part.TextKind.TheVariants.{Printed, Punched}
 use Rattle.pdp_session.specs.declared.search.Search.{Search}
 use Rattle.pdp_session.specs.declared.search.Search.TheVariants.{First, Writes, Change, TextFrom}
-use Rattle.pdp_session.specs.declared.search.Search.TheVariants.{When}
+use Rattle.pdp_session.specs.declared.search.Search.TheVariants.{When, Fades}
 use Rattle.pdp_session.specs.declared.version.Version.{Version}
 use Rattle.pdp_session.specs.Grammar.Arguments.{◌>>=◌, first_of, one_of, two_of, drive_first}
 use Rattle.pdp_session.specs.Grammar.Arguments.{turn_named, count_named, word_named}
+use Rattle.pdp_session.specs.Grammar.PastEdits.{past_edit_with}
 
 -- two turns, and the words that say what
 abbrev pub turns_first : List (List ℕ) → Option (ℕ × ℕ × List (List ℕ))
@@ -100,6 +101,15 @@ when_form arguments = do
   f ← count_named number
   Some (When f)
 
+-- `fades N EDIT`: a turn, in decimal, and an edit as the session language has it
+abbrev pub fades_form : Version → List (List ℕ) → Option Search
+fades_form version arguments = do
+  (turn, words) ← first_of arguments
+  (name, others) ← first_of words
+  n ← turn_named turn
+  edit ← past_edit_with version name others
+  Some (Fades n edit)
+
 -- a search by its name and the words that follow it
 unfoldable pub search_with : Version → List ℕ → List (List ℕ) → Option Search
 search_with version name arguments =
@@ -109,6 +119,7 @@ search_with version name arguments =
     else if bytes_eq name (codes "text") then text_from_form Printed arguments
     else if bytes_eq name (codes "punched") then text_from_form Punched arguments
     else if bytes_eq name (codes "when") then when_form arguments
+    else if bytes_eq name (codes "fades") then fades_form version arguments
     else None
 
 -- the search that some words are

@@ -2,7 +2,8 @@
 
 ghost use Rattle.std.specs.Prelude.{◌≡◌};
 ghost use Rattle.std.specs.Option.{option_map};
-ghost use Rattle.pdp_session.specs.Grammar.Searches.{change_form, first_form, mode_named};
+ghost use Rattle.pdp_session.specs.Grammar.Searches.{change_form, fades_form, first_form};
+ghost use Rattle.pdp_session.specs.Grammar.Searches.{mode_named};
 ghost use Rattle.pdp_session.specs.Grammar.Searches.{part_named, search_named, search_with};
 ghost use Rattle.pdp_session.specs.Grammar.Searches.{sought_in_any_mode, sought_in_mode};
 ghost use Rattle.pdp_session.specs.Grammar.Searches.{sought_named, text_from_form, turns_first};
@@ -11,6 +12,7 @@ ghost use Rattle.pdp_session.specs.Grammar.Words.{words_of_line};
 ghost use Rattle.pdp_session.specs.Language.{language_with, search_of};
 
 use super::arguments::{drive_first, one_word, read_count, read_turn, read_word, two_words};
+use super::past_edits::read_past_edit;
 use super::read_line;
 use super::words::next_word;
 use crate::search::Search;
@@ -59,6 +61,8 @@ fn read_named(version: Version, name: &[u8], arguments: &[u8]) -> Option<Search>
         read_text_from(TextKind::Punched, arguments)
     } else if name == b"when".as_slice() {
         read_when(arguments)
+    } else if name == b"fades".as_slice() {
+        read_fades(version, arguments)
     } else {
         None
     }
@@ -203,4 +207,15 @@ fn read_when(arguments: &[u8]) -> Option<Search>
 {
     let number = read_count(one_word(arguments)?)?;
     Some(Search::When { number })
+}
+
+// `fades N EDIT`
+fn read_fades(version: Version, arguments: &[u8]) -> Option<Search>
+    ensures { result ≡ fades_form version (words_of_line arguments.now) }
+{
+    let (turn, words) = next_word(arguments)?;
+    let (name, others) = next_word(words)?;
+    let to = read_turn(turn)?;
+    let edit = read_past_edit(version, name, others)?;
+    Some(Search::Fades { to, edit })
 }

@@ -32,6 +32,7 @@ fn send_finding<W: Drain>(finding: &Finding, writer: &mut W) -> Result<(), Faile
         Finding::Change(turn) => send(writer, turn_text("change", *turn).as_slice()),
         Finding::TextFrom(kind, bytes) => send_bytes(text_name(*kind), bytes.items(), writer),
         Finding::When(turn) => send(writer, turn_text("when", *turn).as_slice()),
+        Finding::Fades(turn) => send(writer, turn_text("fades", *turn).as_slice()),
     }
 }
 

@@ -3,7 +3,7 @@ ghost use Rattle.pdp_script.specs.Refusal.{for_memory, question_answer};
 ghost use Rattle.pdp_session.specs.Search.{search_result};
 
 use crate::search::{Finding, Search, WriteList};
-use pdp_replay::{Engine, Fault, Sought, TextKind};
+use pdp_replay::{Engine, Fault, PastEdit, Sought, TextKind};
 use std::alloc::Global;
 
 // The first turn that is sought.
@@ -80,4 +80,19 @@ pub fn find_turn_of_byte(alloc: Global, engine: &mut Engine, number: u32) -> Res
 {
     let found = engine.turn_of_byte(alloc, TextKind::Printed, number)?;
     Ok(Finding::When(found.turn))
+}
+
+// The turn, up to turn `to`, from which on an edit would change nothing.
+pub fn find_fading(
+    alloc: Global,
+    engine: &mut Engine,
+    to: u32,
+    edit: PastEdit,
+) -> Result<Finding, Fault>
+    ensures finding { result ≡ question_answer
+        (search_result (Search.Fades to edit) engine.old.past) (for_memory result) }
+    ensures past { engine.new.past ≡ engine.old.past }
+{
+    let fading = engine.fades(alloc, edit, to)?;
+    Ok(Finding::Fades(fading.turn))
 }
