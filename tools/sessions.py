@@ -131,6 +131,13 @@ SEARCHES = [
         "the turn in which byte F was printed; the run goes on to that turn, or to turn "
         "1000000000",
     ),
+    Line(
+        "fades N EDIT",
+        SEARCH,
+        "fades T",
+        "the first turn up to N from which on the run with this edit is the run as it is; EDIT is "
+        "a line of at, alter or drop, and isn't made",
+    ),
 ]
 # The events that `at` and `alter` name, each with the letter of its number, if it has one.
 EVENTS = {
@@ -165,8 +172,9 @@ def command_of(line: Line) -> bytes:
 
 
 def pattern_of(line: Line) -> str:
-    """What fits such a line. A word in capitals stands for any word."""
-    return " ".join(r"\S+" if it.isupper() else it for it in line.form.split())
+    """What fits such a line. A word in capitals stands for any word, EDIT for any words."""
+    words = line.form.replace("EDIT", "..").split()
+    return " ".join(".+" if it == ".." else r"\S+" if it.isupper() else it for it in words)
 
 
 QUESTIONS = {command_of(line) for line in LANGUAGE if line.kind == QUESTION}

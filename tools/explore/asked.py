@@ -8,7 +8,8 @@ import sessions
 
 from .language import is_decimal
 
-SEARCHES = [it for it in sessions.SEARCHES if it.form.split()[1] == "N"]  # not `when F`
+# Not `when F`. `fades` leaves the machine wherever it was found out.
+SEARCHES = [it for it in sessions.SEARCHES if it.form.split()[1] == "N" and "EDIT" not in it.form]
 QUESTIONS = sessions.QUESTIONS | {sessions.command_of(it) for it in SEARCHES}
 NAMES = frozenset(it.decode() for it in QUESTIONS)
 MOST_DIGITS = 10
@@ -28,12 +29,14 @@ def turns_of_question(line: str) -> Optional[tuple[int, int]]:
 
 @dataclass
 class Asked:
-    """The turn of the last question, the greatest one, and how many questions were about an
-    earlier turn than the question before them."""
+    """The turn of the last question, the greatest one, how many questions were about an earlier
+    turn than the question before them, and how many there were. A program that was started again
+    is at turn 0."""
 
     turn: int = 0
     greatest: int = 0
     went_back: int = 0
+    questions: int = 0
 
     def reach(self, turn: int) -> None:
         """A search took the machine to this turn."""
@@ -45,6 +48,7 @@ class Asked:
             turns = turns_of_question(line)
             if turns is not None:
                 first, last = turns
+                self.questions += 1
                 self.went_back += first < self.turn
                 self.turn = last
                 self.greatest = max(self.greatest, last)

@@ -6,6 +6,7 @@ from typing import Callable, Iterator, Optional
 
 from .disassembly import Disassembler
 from .errors import ExploreError
+from .fades import Fading
 from .finder import Finder
 from .language import comma_fault
 from .machine import LAST_TURN, Machine, Start
@@ -82,6 +83,7 @@ class Explorer:
     steps: Steps = field(default_factory=Steps)
     saved: list[str] = field(default_factory=list)
     sitting: Sitting = field(default_factory=Sitting)
+    fading: Fading = field(default_factory=Fading)
 
     @property
     def finder(self) -> Finder:

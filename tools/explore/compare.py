@@ -4,10 +4,9 @@ import re
 from dataclasses import dataclass
 from typing import Iterator, Optional
 
-from sessions import words_of
-
 from .commands import Arguments, Explorer, command, turn_range
 from .crew import Progress
+from .fades import fade_of, turns_to_ask
 from .in_words import span
 from .machine import Machine
 from .past import Past
@@ -109,15 +108,14 @@ def differences(before: str, after: str) -> str:
     return ", ".join(f"{name} {words}" for name, words in names.items())
 
 
-def first_turn(line: str, before: Past) -> int:
-    """The first turn that the edit can change: the event's turn, old or new, otherwise 0."""
-    words = words_of(line)
-    if words[0] == "at":
-        return int(words[1])
-    if words[0] in ("alter", "drop"):
-        old = before.events[int(words[1])].turn
-        return min(old, int(words[2])) if words[0] == "alter" else old
-    return 0
+def same_from(without: Machine, line: str, turns: range) -> Optional[int]:
+    """The turn up to the end of these from which on both machines are the same, if there is one and
+    the program says so."""
+    edited = turns_to_ask(line, without.past)
+    if edited is None or edited.stop > turns.stop:
+        return None
+    fade = fade_of(without, line, turns.stop)
+    return None if fade is None else fade.turn
 
 
 @command(
@@ -131,17 +129,22 @@ def compare(explorer: Explorer, arguments: Arguments) -> Iterator[str]:
     the first turn that the edit can change, without `to` M is N + 99999. The first 512 turns are
     looked at one by one; from then on a stride is looked at, and halved where the two differ. So
     a parting may have come and gone before: the reply says 'at the latest', or how many turns were
-    looked at."""
+    looked at. If the edit fades before M, the last line says from which turn on the two are the
+    same, and no later turn is looked at: only what was printed before stays different."""
     machine = explorer.machine
     if not machine.journal:
         yield "no edit was made"
         return
     line = machine.journal[-1]
     before = Past.of(machine.journal[:-1], machine.replies)
-    turns = turn_range(arguments, first_turn(line, before), COMPARED_TURNS)
+    edited = turns_to_ask(line, before)
+    turns = turn_range(arguments, edited.start if edited else 0, COMPARED_TURNS)
     without = machine.twin(machine.journal[:-1])
     try:
         yield f"without | with: {line}"
+        same = same_from(without, line, turns)
+        if same is not None:
+            turns = range(turns.start, max(turns.start + 1, same))
         for aspect in ASPECTS:
             found = parting(without, machine, aspect, turns)
             if found is None:
@@ -149,5 +152,7 @@ def compare(explorer: Explorer, arguments: Arguments) -> Iterator[str]:
             else:
                 what = differences(found.before, found.after)
                 yield f"{aspect.title} {found.where}: {what}"
+        if same is not None:
+            yield f"the same from turn {same} on"
     finally:
         without.close()

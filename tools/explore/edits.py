@@ -7,6 +7,8 @@ from .in_words import counted
 from .interrupts import INTERRUPTS
 from .restart import begin_as
 
+MOST_LOOKED_AT = 64  # edits that are made at once
+
 
 def step_in_words(step: Step) -> str:
     count = len(step.edits)
@@ -54,6 +56,13 @@ def redo(explorer: Explorer, arguments: Arguments) -> Iterator[str]:
 def drop_from(explorer: Explorer, arguments: Arguments) -> Iterator[str]:
     """Takes out each event whose turn is T or later. `undo` takes that back as one."""
     machine, turn = explorer.machine, arguments.decimal("turn")
-    found = [it.number for it in machine.past.script() if it.turn >= turn]
-    machine.edit_all([f"drop {it}" for it in found])
+    found = [f"drop {it.number}" for it in machine.past.script() if it.turn >= turn]
+    is_looked_at = explorer.is_terminal and 0 < len(found) <= MOST_LOOKED_AT
+    with INTERRUPTS.held():
+        if is_looked_at:
+            explorer.fading.make(machine, found)
+        else:
+            machine.edit_all(found)
     yield f"{counted(len(found), 'event')} dropped"
+    if is_looked_at:
+        yield from explorer.fading.said(machine)

@@ -118,6 +118,7 @@ class Machine:
         kept are lost."""
         if self._running is not None:
             running, self._running = self._running, None
+            self.asked.turn = 0
             running.close()
 
     def twin(

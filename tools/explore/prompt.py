@@ -21,7 +21,7 @@ from .in_words import counted
 from .interrupts import INTERRUPTS, typed_line
 from .journal import state_folder
 from .language import FORMS, SEARCHES, SUMMARIES
-from .language import explanation, form_of, forms_of_searches, is_decimal
+from .language import explanation, form_of, forms_of_searches, is_decimal, is_edit
 from .machine import is_refused
 from .output import Unwritable, fault_in_words, flush, put
 from .quotes import RULE, begun_word, in_quotes, is_plain
@@ -40,16 +40,16 @@ SEARCH_HELP = (
 # With `!` these overwrite a file that this run hasn't written.
 WRITING = {"save", "page", "export", "sweep", "core", "disk"}
 # The replies of these lines of the language begin with the turn that they have found.
-FINDING = ("last", "first", "change", "when")
+FINDING = ("last", "first", "change", "when", "fades")
 NUMBERS = (
     "A, X, I, D, W and B are octal, N, M, T, C, K and E decimal. A and X may be a symbol, with "
     "octal numbers after + and -. A question about turn N is about the machine before it."
 )
 CURRENT_TURN = (
-    "The current turn is the one that a line found (until, next, where, first, last, change, when) "
-    "or showed (show, step, back, see, list, screen) last, or where you left the console. The "
-    "lines that show begin there if they name no turn. Other lines, edits too, leave it as it is. "
-    "The prompt at a terminal names it, if it isn't turn 0."
+    "The current turn is the one that a line found (until, next, where, first, last, change, when, "
+    "fades) or showed (show, step, back, see, list, screen) last, or where you left the console. "
+    "The lines that show begin there if they name no turn. Other lines, edits too, leave it as it "
+    "is. The prompt at a terminal names it, if it isn't turn 0."
 )
 
 
@@ -161,9 +161,13 @@ class Prompt:
     def pass_on(self, line: str) -> None:
         machine = self.explorer.machine
         line = self.explorer.symbols.line_in_octal(line, machine.past)
-        reply = machine.ask(line)
+        is_looked_at = self.explorer.is_terminal and is_edit(line)
+        fading = self.explorer.fading
+        reply = fading.make(machine, [line])[0] if is_looked_at else machine.ask(line)
         why = explanation(line, reply, machine.past) if is_refused(reply) else ""
         self.show([reply, f"  {why}"] if why else [reply])
+        if is_looked_at and not is_refused(reply):
+            self.show(fading.said(machine))
         found = re.match(rf"({'|'.join(FINDING)}) ([0-9]+)", reply)
         if found:
             self.explorer.turn = int(found[2])

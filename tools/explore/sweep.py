@@ -23,9 +23,11 @@ from .language import MOST_DIGITS, SEARCHES, comma_fault, explanation, is_decima
 from .machine import Machine, is_refused
 from .quotes import WORD, file_of, files_of, quote_fault
 from .script import session_lines
+from .sweep_fades import HEADING, Fades, end_of, parted, together
 
 SWEEP = re.compile(
-    r"(?P<event>[0-9]{1,10}|[a-z].*?) from (?P<first>[0-9]{1,10}) to (?P<last>[0-9]{1,10})"
+    r"(?P<fades>--fades )?(?P<event>[0-9]{1,10}|[a-z].*?)"
+    r" from (?P<first>[0-9]{1,10}) to (?P<last>[0-9]{1,10})"
     r"( step (?P<step>[0-9]{1,10}))? ?: ?(?P<question>.+)"
 )
 QUESTIONS = SEARCHES | {it.decode() for it in sessions.QUESTIONS}
@@ -42,6 +44,7 @@ class Sweep:
     turns: range
     question: str
     last_event: int  # of the script, before the sweep
+    fades: Optional[Fades] = None
 
     @classmethod
     def of(cls, machine: Machine, text: str) -> "Sweep":
@@ -64,12 +67,19 @@ class Sweep:
         if not turns:
             raise ExploreError(f"turn {match['last']} comes before turn {match['first']}")
         check_question(question)
-        return cls(event, number, turns, question, max(machine.past.events, default=0))
+        fades = Fades(end_of(question)) if match["fades"] else None
+        return cls(event, number, turns, question, max(machine.past.events, default=0), fades)
 
     def check(self, machine: Machine) -> None:
         """Tries the event and the question, once, on a twin."""
         with closing(machine.twin()) as twin:
             self.with_event(twin, f"at {self.turns[0]} {self.event}")
+
+    def row(self, twin: Machine, turn: int) -> str:
+        """The reply with the event at this turn, and with --fades where the edit fades."""
+        reply = self.work(twin, turn)
+        word = "at" if self.number is None else f"alter {self.number}"
+        return reply + (self.fades.of(twin, f"{word} {turn} {self.event}") if self.fades else "")
 
     def work(self, twin: Machine, turn: int) -> str:
         """The reply with the event at this turn. A twin has the event once, and moves it on. Back
@@ -110,7 +120,8 @@ class Sweep:
         moved = ""
         if self.number is not None:
             moved = f" moved from turn {machine.past.events[self.number].turn}"
-        return f"# sweep {self.event}{moved}: {self.question}, past {digest}"
+        heading = HEADING if self.fades else "# sweep "
+        return f"{heading}{self.event}{moved}: {self.question}, past {digest}"
 
 
 def check_question(question: str) -> None:
@@ -122,6 +133,16 @@ def check_question(question: str) -> None:
         raise ExploreError("an edit is no question")
     if word not in QUESTIONS:
         raise ExploreError(f"'{word}' is no question; these are: {', '.join(sorted(QUESTIONS))}")
+
+
+@dataclass
+class Run:
+    """Turns that follow one another with equal replies, and where their edits fade."""
+
+    first: int
+    last: int
+    reply: str
+    fades: list[int]
 
 
 @dataclass
@@ -160,16 +181,18 @@ class Results:
 
     def lines(self, step: int) -> Iterator[str]:
         """Runs of turns with equal replies, each `step` turns after the one before."""
-        runs: list[tuple[int, int, str]] = []
-        for turn, reply in sorted(self.replies.items()):
-            if runs and runs[-1][2] == reply and turn - runs[-1][1] == step:
-                runs[-1] = (runs[-1][0], turn, reply)
-            else:
-                runs.append((turn, turn, reply))
+        runs: list[Run] = []
+        for turn, text in sorted(self.replies.items()):
+            reply, fades = parted(self.heading, text)
+            if not runs or runs[-1].reply != reply or turn - runs[-1].last != step:
+                runs.append(Run(turn, turn, reply, []))
+            runs[-1].last = turn
+            runs[-1].fades += [] if fades is None else [fades]
         by = f" step {step}" if step > 1 else ""
-        for begin, end, reply in runs:
-            where = f"turn {begin}" if begin == end else f"turns {begin} to {end}{by}"
-            yield f"{where}: {reply}"
+        for run in runs:
+            is_one = run.first == run.last
+            where = f"turn {run.first}" if is_one else f"turns {run.first} to {run.last}{by}"
+            yield f"{where}: {together(run.reply, run.fades)}"
         yield f"{counted(len(self.replies), 'turn')}, {counted(len(runs), 'run')} of equal replies"
 
 
@@ -229,9 +252,13 @@ def swept(
         return
     hands = min(hands, count)
     with Progress(count, "turns") as progress:
-        for turn, reply in each_of(machine, wanted, sweep.work, hands, sweep.stride()):
-            progress.step()
-            yield turn, reply
+        try:
+            for turn, reply in each_of(machine, wanted, sweep.row, hands, sweep.stride()):
+                progress.step()
+                yield turn, reply
+        finally:
+            if sweep.fades:
+                sweep.fades.close()
 
 
 def sweep_lines(
@@ -278,7 +305,8 @@ def job_lines(explorer: Explorer, sweep: Sweep, path: Path) -> Iterator[str]:
     parts = [sweep.turns[at : at + size] for at in range(0, len(sweep.turns), size)]
     lines = []
     for part in parts:
-        text = f"{event} from {part[0]} to {part[-1]} step {part.step}: {sweep.question}"
+        fades = "--fades " if sweep.fades else ""
+        text = f"{fades}{event} from {part[0]} to {part[-1]} step {part.step}: {sweep.question}"
         lines.append(f"./explore --sweep {shlex.quote(text)} {shlex.quote(str(session))}")
     write_whole(path, "".join(f"{it}\n" for it in lines))
     results = shlex.quote(f"{path}.out")
@@ -304,7 +332,7 @@ def gathered(paths: Sequence[str]) -> Iterator[str]:
         yield f"missing between the first and the last: {counted(missing, 'turn')}"
 
 
-OPTIONS = re.compile(rf"(-j|-o|--jobs)[ \t]+({WORD})[ \t]+|(-y)()[ \t]+")
+OPTIONS = re.compile(rf"(-j|-o|--jobs)[ \t]+({WORD})[ \t]+|(-y|--fades)()[ \t]+")
 MOST_TURNS_UNASKED, MOST_HANDS = 100_000, 256
 
 
@@ -322,7 +350,7 @@ def ask_first(explorer: Explorer, turns: range) -> None:
 
 
 @command(
-    "sweep [-j N] [-o FILE] [-y] [--jobs FILE] EVENT|E from N to M [step K]: QUESTION"
+    "sweep [-j N] [-o FILE] [-y] [--fades] [--jobs FILE] EVENT|E from N to M [step K]: QUESTION"
     "  or  sweep --gather FILE ..",
     r"(?P<words>.+)",
     "a question with an event at each of these turns",
@@ -333,6 +361,8 @@ def sweep_command(explorer: Explorer, arguments: Arguments) -> Iterator[str]:
     follow one another are one line. The past stays as it is. -j N takes N processes (without it one
     for each processor). -o FILE keeps each reply at once: after Ctrl-C the same line goes on. Two
     sweeps can't write to one FILE. More than 100000 turns want a `y`, or -y.
+    --fades adds to each reply from which turn on the run is the old one again, if it is by the turn
+    of QUESTION. For turns with equal replies it names the first and the last of these turns.
     --jobs FILE writes commands for GNU parallel instead, on this machine or on others with the same
     folders, and --gather FILE .. reads what they have written."""
     words = arguments.text("words")
@@ -353,7 +383,8 @@ def sweep_command(explorer: Explorer, arguments: Arguments) -> Iterator[str]:
         raise ExploreError(f"N of -j is 1 to {MOST_HANDS}")
     head, colon, question = words.partition(":")
     question = explorer.symbols.line_in_octal(question, explorer.machine.past)
-    sweep = Sweep.of(explorer.machine, f"{head}{colon}{question}")
+    fades = "--fades " if "--fades" in options else ""
+    sweep = Sweep.of(explorer.machine, f"{fades}{head}{colon}{question}")
     if len(sweep.turns) > MOST_TURNS_UNASKED and not options.keys() & {"-y", "--jobs"}:
         ask_first(explorer, sweep.turns)
     if "--jobs" in options:

@@ -1,0 +1,134 @@
+"""Where edits end to matter: from which turn on the run after them is the one before them again."""
+from dataclasses import dataclass, field
+from typing import Optional, Sequence
+
+from sessions import words_of
+
+from .errors import ExploreError
+from .interrupts import INTERRUPTS
+from .language import MOST_DIGITS, is_decimal
+from .machine import Machine, is_refused
+from .past import Past
+
+MOST_TURNS = 20_000_000  # that edits are asked about from one question to the next
+LEAST_TURNS = 10_000  # that one edit counts for: to ask about it takes up to a stride
+
+
+def turns_to_ask(line: str, past: Past) -> Optional[range]:
+    """The turns from the first that an edit can change to the last in which the scripts differ, or
+    None if the line `fades` can't be asked about the edit: it takes `at`, `alter` and `drop`."""
+    word, *words = words_of(line) or [""]
+    numbers = [int(it) for it in words[:2] if is_decimal(it) and len(it) <= MOST_DIGITS]
+    event = past.events.get(numbers[0]) if numbers else None
+    if word == "at" and numbers:
+        turns = numbers[:1]
+    elif word in ("alter", "drop") and event:
+        turns = [event.turn, *(numbers[1:] if word == "alter" else [])]
+    else:
+        return None
+    return range(min(turns), max(turns) + 1)
+
+
+@dataclass(frozen=True)
+class Fade:
+    """What the program says of an edit: the turn from which on the run is the old one again, or
+    None if there is no such turn up to `end`."""
+
+    turn: Optional[int]
+    end: int
+
+
+def fade_of(machine: Machine, line: str, end: int) -> Optional[Fade]:
+    """Asks about an edit that isn't made. None if the program doesn't say: it refuses the edit, or
+    is an older one, without the line `fades`."""
+    words = machine.ask(" ".join(["fades", str(end), *words_of(line)])).split()
+    if len(words) != 2 or words[0] != "fades":
+        return None
+    if is_decimal(words[1]):
+        return Fade(int(words[1]), end)
+    return Fade(None, end) if words[1] == "none" else None
+
+
+@dataclass
+class Together:
+    """The edits since the last question, and what is known of them together. If each of them fades,
+    the run after them all is the one before them all from the last of these turns on. If one
+    doesn't fade up to a turn, and all others do by then, they don't together."""
+
+    questions: int  # that were answered before these edits
+    journal: int  # how many edits the machine had after the last of these
+    left: int  # how many turns may still be asked about
+    count: int = 0
+    again: int = 0
+    unlike: list[Fade] = field(default_factory=list)
+    is_known: bool = True
+
+    def add(self, fade: Optional[Fade]) -> None:
+        self.count += 1
+        if fade is None:
+            self.is_known = False
+        elif fade.turn is None:
+            self.unlike.append(fade)
+        else:
+            self.again = max(self.again, fade.turn)
+
+    def said(self, asked: int) -> list[str]:
+        """What is true of them, in a line, or nothing. The last question was about turn `asked`."""
+        these = "" if self.count == 1 else f"with these {self.count} edits "
+        if not self.is_known:
+            return []
+        if not self.unlike:
+            return [f"{these}the old run again from turn {self.again} on"]
+        end = self.unlike[0].end
+        if len(self.unlike) > 1 or self.again > end:
+            return []
+        further = "" if end == asked else "; no further turn was looked at"
+        return [f"{these}not the old run again before turn {end}{further}"]
+
+
+class Fading:
+    """Makes edits, and asks about each before, as far as the machine has run already."""
+
+    def __init__(self, most: int = MOST_TURNS) -> None:
+        self.most = most
+        self.together = Together(-1, 0, most)
+
+    def make(self, machine: Machine, lines: Sequence[str]) -> list[str]:
+        """The replies to edits."""
+        return [self._make(machine, it) for it in lines]
+
+    def said(self, machine: Machine) -> list[str]:
+        return self.together.said(machine.asked.turn)
+
+    def _make(self, machine: Machine, line: str) -> str:
+        if machine.asked.questions != self.together.questions:
+            self.together = Together(machine.asked.questions, len(machine.journal), self.most)
+        if len(machine.journal) != self.together.journal:
+            self.together.is_known = False  # others were made, or taken back
+        fade = self._fade(machine, line) if self.together.is_known else None
+        reply = machine.ask(line)
+        if not is_refused(reply):
+            self.together.add(fade)
+            self.together.journal = len(machine.journal)
+        return reply
+
+    def _fade(self, machine: Machine, line: str) -> Optional[Fade]:
+        """What the program says of an edit, if the run is known beyond its turns. Ctrl-C ends the
+        question, and the edit is made."""
+        turns = turns_to_ask(line, machine.past)
+        if turns is None:
+            return None
+        end = min(machine.asked.turn, turns.start + self.together.left)
+        if turns.stop > end:
+            return None
+        try:
+            fade = fade_of(machine, line, end)
+        except ExploreError:
+            return None
+        except KeyboardInterrupt:
+            INTERRUPTS.again()
+            return None
+        if fade is not None:
+            looked_at = (end if fade.turn is None else fade.turn) - turns.start
+            self.together.left -= max(LEAST_TURNS, looked_at)
+        return fade
