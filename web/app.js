@@ -7,6 +7,7 @@ import { NOTHING_SAMPLED, notesOf } from "./lanes.js";
 import { Ended, Machine, Stopped } from "./machine.js";
 import { Differences } from "./differences.js";
 import { Edits } from "./edits.js";
+import { sameFrom } from "./fades.js";
 import {
   filesTogether, pageOfPast, saveFile, savedName, sessionOfFiles, textOfPast,
 } from "./files.js";
@@ -331,7 +332,7 @@ export class App {
 
   compare() {
     const { run, old, end } = this;
-    this.timeline.part = null;
+    this.timeline.part = this.timeline.same = null;
     const token = this.token("comparison");
     if (!old || !run.changes.length) {
       this.differences.showNone();
@@ -342,7 +343,9 @@ export class App {
       await this.oldIsLoaded;
       const comparison = new Comparison(run, old, token);
       try {
-        this.timeline.part = await this.differences.show(comparison, end);
+        this.timeline.same = await sameFrom(old, run.past, end, token);
+        this.timeline.draw();
+        this.timeline.part = await this.differences.show(comparison, end, this.timeline.same);
         this.timeline.draw();
         await this.differences.showWords(comparison, end);
       } catch (error) {

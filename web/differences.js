@@ -26,11 +26,20 @@ export class Differences {
       make("p", { class: "faint" }, "Stopped: what isn't here wasn't compared."));
   }
 
-  /** Shows the first turn in which the pasts part; returns it for the timeline, or null. */
-  async show(comparison, end) {
-    const part = await comparison.part(end);
-    this.place.replaceChildren(this.partLine(part, end), atWork());
+  /** Shows the first turn in which the pasts part; returns it for the timeline, or null. From turn
+      `same` on they are the same, if that isn't null. */
+  async show(comparison, end, same) {
+    const last = Math.min(end, same || end);
+    const part = await comparison.part(last);
+    const again = same === null ? [] : [this.sameLine(same)];
+    const line = this.partLine(part, part.later ? last : end);
+    this.place.replaceChildren(line, ...again, atWork());
     return part.turn === null ? null : { turn: part.turn, isExact: !part.later };
+  }
+
+  sameLine(same) {
+    const go = link(`turn ${same}`, "Go there", () => this.onTurn(same));
+    return make("p", {}, "From ", go, " on the run is the old one again.");
   }
 
   partLine({ edited, turn, single, later }, end) {

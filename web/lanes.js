@@ -72,8 +72,9 @@ export class LanesDrawing {
     this.pen = canvas.getContext("2d");
   }
 
-  /** Draws it all. `ghost` is the picture of the old past, or null. */
-  draw({ view, lanes, height, width, picture, ghost, symbols, events, part, sweep }) {
+  /** Draws it all. `ghost` is the picture of the old past, or null. It is drawn up to turn `same`,
+      if that isn't null. */
+  draw({ view, lanes, height, width, picture, ghost, symbols, events, part, same, sweep }) {
     const ratio = window.devicePixelRatio || 1;
     const { canvas, pen } = this;
     canvas.width = Math.round(width * ratio);
@@ -83,7 +84,7 @@ export class LanesDrawing {
     const style = getComputedStyle(canvas);
     this.colours = Object.fromEntries(
       COLOURS.map(it => [it, style.getPropertyValue(`--${it}`).trim()]));
-    Object.assign(this, { view, width, symbols, picture });
+    Object.assign(this, { view, width, symbols, picture, same });
     pen.font = FONT;
     for (const lane of lanes) this.drawFrame(lane);
     const strip = lanes.find(it => it.kind === "sweep");
@@ -164,7 +165,10 @@ export class LanesDrawing {
   /** The old past in grey and then the new one, each as far as it is known. */
   drawBoth(lane, picture, ghost, draw) {
     for (const [it, isGhost] of [[ghost, true], [picture, false]]) {
-      if (it) this.clipped(lane, () => draw(it, isGhost), knownTurns(lane, it));
+      if (!it) continue;
+      const { from, to } = knownTurns(lane, it);
+      const end = isGhost ? Math.min(to, this.same ?? to) : to;
+      this.clipped(lane, () => draw(it, isGhost), { from, to: end });
     }
   }
 

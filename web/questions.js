@@ -5,7 +5,7 @@ import { wordsOfLine } from "./past.js";
 import { LAST_TURN, isRefused, turnOf } from "./replies.js";
 
 const OF_A_TURN = new Set(
-  ["regs", "mem", "dsk", "text", "punched", "last", "trail", "devices", "pages"]);
+  ["regs", "mem", "dsk", "text", "punched", "last", "trail", "devices", "pages", "fades"]);
 const OF_TURNS = new Set(["first", "writes", "change"]);
 const MOST_WRITES = 256;
 const LONGEST_LINE = 200;

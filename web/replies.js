@@ -215,7 +215,7 @@ export const wordsOf = reply => fieldsOf(reply, "mem", "dsk").map(it => parseInt
 
 /** The turn of a reply such as `first 11` or `when none`, or null. */
 export function turnOf(reply) {
-  const [turn] = fieldsOf(reply, "first", "change", "when");
+  const [turn] = fieldsOf(reply, "first", "change", "when", "fades");
   return turn === "none" ? null : Number(turn);
 }
 

@@ -230,7 +230,8 @@ export class Run {
   /** What a question that was answered leaves known. */
   learn(line, reply) {
     const [begin, end] = turnsAsked(line);
-    if (end === 0) return;
+    // how far `fades` ran isn't said
+    if (end === 0 || wordsOfLine(line)[0] === "fades") return;
     const [, printed] = wordsOfLine(line).length === 2 ? /^text (\d+)/.exec(reply) ?? [] : [];
     this.printed = Math.max(this.printed, Number(printed ?? 0));
     // a search may have ended before its last turn

@@ -9,11 +9,12 @@ const MOST_OF_A_LANE = 100;
 /**
  * @typedef {{turn: number, lane: string, what: string}} Row
  * @typedef {{first: number, end: number, events: object[], gone: object[], picture: object | null,
- *   ghost: object | null, part: {turn: number, isExact: boolean} | null}} Drawn
+ *   ghost: object | null, part: {turn: number, isExact: boolean} | null,
+ *   same?: number | null}} Drawn
  */
 
 /** All rows of what is drawn, by their turns. @param {Drawn} drawn @returns {Row[]} */
-export function rowsOf({ first, end, events, gone, picture, ghost, part }) {
+export function rowsOf({ first, end, events, gone, picture, ghost, part, same }) {
   const isInSight = it => it.turn >= first && it.turn <= end;
   // of many events only the first are shown: only these are put into words
   const rows = events.filter(isInSight).map(it => ({
@@ -27,7 +28,7 @@ export function rowsOf({ first, end, events, gone, picture, ghost, part }) {
   const keyOf = it => `${it.turn} ${it.lane} ${it.what}`;
   const known = new Set(now.map(keyOf));
   const old = isBeside(picture, ghost)
-    ? rowsOfPicture(ghost).filter(it => !known.has(keyOf(it))) : [];
+    ? rowsOfPicture(ghost).filter(it => !known.has(keyOf(it)) && it.turn < (same ?? Infinity)) : [];
   const olds = old.map(it => ({ ...it, lane: `${it.lane}, old past` }));
   return [...rows, ...lost, ...now, ...olds].filter(isInSight).sort((a, b) => a.turn - b.turn);
 }

@@ -37,6 +37,8 @@ export class Timeline {
     this.whole = 1000;
     this.cursor = 0;
     this.picture = this.ghost = this.part = null;
+    /** The turn from which on the old past and the new one are the same, or null. */
+    this.same = null;
     this.past = this.oldPast = new Past();
     this.sweep = null;
     this.wanted = 0;
@@ -127,10 +129,10 @@ export class Timeline {
     if (!this.width) return;
     const { lanes, height } = lanesOf(this.words, this.sweep !== null);
     this.lanes = lanes;
-    const { view, width, picture, ghost, symbols, part, sweep } = this;
+    const { view, width, picture, ghost, symbols, part, same, sweep } = this;
     const events = this.eventsInSight(this.past);
     this.drawing.draw(
-      { view, lanes, height, width, picture, ghost, symbols, events, part, sweep });
+      { view, lanes, height, width, picture, ghost, symbols, events, part, same, sweep });
     this.cursorLine.style.height = `${height}px`;
     this.placeMarks(events);
     this.placeCursor();
@@ -143,10 +145,10 @@ export class Timeline {
 
   /** What is drawn, by those who show it otherwise. @returns {import("./sight.js").Drawn} */
   drawn() {
-    const { view, picture, ghost, part } = this;
+    const { view, picture, ghost, part, same } = this;
     return {
       first: view.first, end: view.end, events: this.eventsInSight(this.past),
-      gone: this.goneEvents(), picture, ghost, part,
+      gone: this.goneEvents(), picture, ghost, part, same,
     };
   }
 

@@ -3,6 +3,7 @@
 import { Comparison } from "/comparison.js";
 import { byteOfKey } from "/console.js";
 import { marked } from "/differences.js";
+import { editBetween, sameFrom } from "/fades.js";
 import { sumOf } from "/kept.js";
 import { LanesDrawing, View, lanesOf, notesOf, ticksOf } from "/lanes.js";
 import { optionLines, optionText, shellWords } from "/options.js";
@@ -163,8 +164,8 @@ export function test_the_table_says_what_it_leaves_out() {
     { turn, word: it, writer: "" })) };
   const picture = { first: 0, end: 200, isMade: true, interrupts, disk, words: [word] };
   const old = { ...picture, interrupts: [...interrupts, { turn: 190, vector: 0o60 }] };
-  const rows = ghost => boundedRows(rowsOf(
-    { first: 0, end: 200, events: [], gone: [], picture, ghost, part: null }));
+  const rows = (ghost, same = null) => boundedRows(rowsOf(
+    { first: 0, end: 200, events: [], gone: [], picture, ghost, part: null, same }));
   const { shown, left } = rows(old);
   equal([shown.length, left], [104, ["50 rows of 'interrupt'"]]);
   equal(shown.filter(it => it.lane !== "interrupt").map(it => it.what),
@@ -172,6 +173,8 @@ export function test_the_table_says_what_it_leaves_out() {
       "000006 (a sample)", "060 keyboard"]);
   const lanes = ghost => rows(ghost).shown.map(it => it.lane);
   equal([lanes(old).at(-1), lanes({ ...old, isMade: false }).at(-1)],
+    ["interrupt, old past", "interrupt"]);
+  equal([rows(old, 191), rows(old, 190)].map(it => it.shown.at(-1).lane),
     ["interrupt, old past", "interrupt"]);
 }
 
@@ -232,6 +235,29 @@ export async function test_two_equal_refusals_are_no_equal_registers() {
   const refused = () => "refused 1 NoMemory";
   const comparison = new Comparison(runOf(now, refused), runOf(old, refused), null);
   equal(await comparison.part(90).catch(it => it.name + it.reply), "Errorrefused 1 NoMemory");
+}
+
+export async function test_from_which_turn_two_pasts_are_the_same() {
+  const edited = (old, ...lines) => {
+    const now = pastOf(...old);
+    now.touched.clear();
+    for (const line of lines) now.apply(line, "event 3");
+    return [pastOf(...old), now];
+  };
+  const two = ["at 20 key 66", "at 50 tick"], lineOf = (...lines) =>
+    editBetween(...edited(two, ...lines))?.line ?? null;
+  equal([lineOf("alter 1 90 key 66", "alter 1 50 key 66"), lineOf("drop 2"), lineOf("at 50 tick"),
+    lineOf("drop 2", "at 9 tick"), lineOf("drop 1", "at 20 key 66")],
+  ["alter 1 50 key 66", "drop 2", "at 50 tick", "alter 2 9 tick", ""]);
+  // two edits, a delay, and an event that comes before another of its turn
+  equal([lineOf("drop 1", "drop 2"), lineOf("delay disk 5", "drop 1"),
+    lineOf("alter 1 50 key 66", "alter 2 20 tick", "alter 2 50 tick")], [null, null, null]);
+  const [old, now] = edited(two, "drop 2"), asked = [];
+  const found = (end, ...replies) => sameFrom(
+    { past: old, askOne: async line => asked.push(line) && replies.shift() }, now, end, null);
+  equal([await found(99_999_999, "fades none", "fades 70000"), await found(50),
+    await found(90, "fades none"), await found(90, "refused 10 BadLine")], [70_000, null, null, null]);
+  equal(asked, [65_586, 131_122, 90, 90].map(it => `fades ${it} drop 2`));
 }
 
 /** A machine that notes what it is asked, and the turns that each message runs, with checkpoints as
@@ -369,12 +395,11 @@ export function test_keys_and_their_bytes() {
 }
 
 /** What is drawn of a picture: each text, and each colour that is in the column of a turn. */
-function drawn(picture, { first, span, ghost = null }) {
+function drawn(picture, { first, span, ghost = null, same = null }) {
   const canvas = document.createElement("canvas");
   document.body.append(canvas);
-  for (const [name, it] of [["faint", "#f00"], ["disk", "#0f0"], ["grid", "#00f"]]) {
-    canvas.style.setProperty(`--${name}`, it);
-  }
+  const colours = { faint: "#f00", ghost: "#f00", disk: "#0f0", grid: "#00f" };
+  for (const name of Object.keys(colours)) canvas.style.setProperty(`--${name}`, colours[name]);
   const drawing = new LanesDrawing(canvas), view = new View(first, span), texts = [];
   Object.assign(view, { left: 100, width: 1000 });
   const write = drawing.pen.fillText;
@@ -384,7 +409,7 @@ function drawn(picture, { first, span, ghost = null }) {
   };
   const { lanes, height } = lanesOf(picture.words.map(it => it.name));
   drawing.draw({
-    view, lanes, height, width: 1110, picture, ghost, symbols: {}, events: [], part: null,
+    view, lanes, height, width: 1110, picture, ghost, symbols: {}, events: [], part: null, same,
     sweep: null,
   });
   const coloursOf = (lane, turn) => {
@@ -413,6 +438,13 @@ export function test_no_part_of_a_picture_is_drawn_for_other_turns() {
   equal(["kernel PC", "disk", "console"].map(it => drawn(growing, { first: 0, span: 100 })
     .coloursOf(it, 30)), [[], ["grid"], ["grid"]]);
   equal(drawn(growing, { first: 0, span: 100 }).coloursOf("kernel PC", 80), ["grid"]);
+}
+
+export function test_the_old_past_is_drawn_up_to_where_both_are_the_same() {
+  const picture = { ...PICTURE, disk: { bars: [], busy: [] } };
+  const coloursAt = same => [60, 90].map(turn =>
+    drawn(picture, { first: 0, span: 100, ghost: PICTURE, same }).coloursOf("disk", turn));
+  equal([coloursAt(null), coloursAt(70)], [[["faint"], ["faint"]], [["faint"], []]]);
 }
 
 export function test_letters_that_do_not_fit_are_no_text() {

@@ -1,0 +1,70 @@
+// From which turn on the old past and the new one are the same again.
+
+import { isRefused, turnOf } from "./replies.js";
+import { Priority } from "./run.js";
+
+// The program is asked up to so many turns after the edit at first, then twice as many, and so on.
+const [FIRST_TURNS, MOST_TURNS] = [65_536, 4_194_304];
+
+/** A script in which one event is gone and another came, if there are such. */
+function scriptWith(script, gone, come) {
+  if (gone && come?.turn === gone.turn) return script.map(it => it === gone ? come : it);
+  const rest = script.filter(it => it !== gone);
+  const at = come ? rest.findIndex(it => it.turn > come.turn) : -1;
+  if (come) rest.splice(at < 0 ? rest.length : at, 0, come);
+  return rest;
+}
+
+const lineOf = ({ turn, text }) => `${turn} ${text}`;
+
+const linesOf = script => script.map(lineOf).join("\n");
+
+/** The events of `touched` numbers that one past has and the other lacks. */
+function withoutEqual(touched, past, other) {
+  const eventsOf = it => [...touched].map(number => it.events.get(number)).filter(Boolean);
+  const left = eventsOf(other).map(lineOf);
+  return eventsOf(past).filter(it => {
+    const at = left.indexOf(lineOf(it));
+    if (at >= 0) left.splice(at, 1);
+    return at < 0;
+  });
+}
+
+/**
+ * The one edit that makes an old past the one now, and the last turn whose events it changes; an
+ * empty line if they are the same. Null if it takes more edits, or one that the line `fades` of the
+ * program doesn't take: it takes `at`, `alter` and `drop`.
+ * @returns {{line: string, last: number} | null}
+ */
+export function editBetween(old, now) {
+  if (!now.hasSetupOf(old)) return null;
+  const goneEvents = withoutEqual(now.touched, old, now);
+  const newEvents = withoutEqual(now.touched, now, old);
+  if (goneEvents.length > 1 || newEvents.length > 1) return null;
+  const [[gone], [come]] = [goneEvents, newEvents];
+  if (linesOf(scriptWith(old.script, gone, come)) !== linesOf(now.script)) return null;
+  const last = Math.max(gone?.turn ?? 0, come?.turn ?? 0);
+  if (gone && come) return { line: `alter ${gone.number} ${lineOf(come)}`, last };
+  if (gone) return { line: `drop ${gone.number}`, last };
+  return { line: come ? `at ${lineOf(come)}` : "", last };
+}
+
+/**
+ * The turn from which on a run and the old one are the same, or null if that isn't known: there is
+ * none up to `end`, it is far from the edit, or the program is an older one without the line.
+ * @param {import("./run.js").Run} old
+ */
+export async function sameFrom(old, now, end, token) {
+  const edit = editBetween(old.past, now);
+  if (edit === null) return null;
+  if (edit.line === "") return 0;
+  for (let turns = FIRST_TURNS; turns <= MOST_TURNS; turns *= 2) {
+    const to = Math.min(end, edit.last + turns);
+    if (to <= edit.last) return null;
+    const reply = await old.askOne(`fades ${to} ${edit.line}`, Priority.COMPARISON, token);
+    if (isRefused(reply)) return null;
+    const turn = turnOf(reply);
+    if (turn !== null || to === end) return turn;
+  }
+  return null;
+}
