@@ -22,11 +22,12 @@ const linesOf = script => script.map(lineOf).join("\n");
 /** The events of `touched` numbers that one past has and the other lacks. */
 function withoutEqual(touched, past, other) {
   const eventsOf = it => [...touched].map(number => it.events.get(number)).filter(Boolean);
-  const left = eventsOf(other).map(lineOf);
+  const left = new Map();
+  for (const line of eventsOf(other).map(lineOf)) left.set(line, (left.get(line) ?? 0) + 1);
   return eventsOf(past).filter(it => {
-    const at = left.indexOf(lineOf(it));
-    if (at >= 0) left.splice(at, 1);
-    return at < 0;
+    const count = left.get(lineOf(it)) ?? 0;
+    left.set(lineOf(it), count - 1);
+    return count <= 0;
   });
 }
 

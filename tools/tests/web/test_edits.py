@@ -115,6 +115,17 @@ class TheLostDeposit(PageCase):
         self.assertEqual(replies[0], replies[3])
         self.assertNotEqual(replies[1], replies[4])
 
+    def test_the_old_past_ends_where_both_are_the_same(self) -> None:
+        """The key comes while the disk reads, and is taken a little later: nothing else changes."""
+        if "refused 10" in self.type_line("fades 5 drop 1"):
+            self.skipTest("search.wasm is older than the line fades")
+        for line in ("alter 15 127100 key 66", "alter 15 127164 key 66"):
+            self.type_line(line)
+        self.wait_text("#difference", "From turn 127179 on the run is the old one again.")
+        self.type_line("alter 15 127250 key 66")
+        self.wait_text("#difference", "000170 \u2192 000176")
+        self.assertNotIn("again", self.browser.text("#difference"))
+
 
 class Lines(PageCase):
     def test_an_event_is_typed(self) -> None:
