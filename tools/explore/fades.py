@@ -1,12 +1,12 @@
 """Where edits end to matter: from which turn on the run after them is the one before them again."""
-from dataclasses import dataclass, field
+from dataclasses import dataclass
 from typing import Optional, Sequence
 
 from sessions import words_of
 
 from .errors import ExploreError
 from .interrupts import INTERRUPTS
-from .language import MOST_DIGITS, is_decimal
+from .language import FADING, MOST_DIGITS, is_decimal
 from .machine import Machine, is_refused
 from .past import Past
 
@@ -16,17 +16,14 @@ LEAST_TURNS = 10_000  # that one edit counts for: to ask about it takes up to a 
 
 def turns_to_ask(line: str, past: Past) -> Optional[range]:
     """The turns from the first that an edit can change to the last in which the scripts differ, or
-    None if the line `fades` can't be asked about the edit: it takes `at`, `alter` and `drop`."""
+    None if the line `fades` can't be asked about the edit."""
     word, *words = words_of(line) or [""]
+    if word not in FADING:
+        return None
     numbers = [int(it) for it in words[:2] if is_decimal(it) and len(it) <= MOST_DIGITS]
     event = past.events.get(numbers[0]) if numbers else None
-    if word == "at" and numbers:
-        turns = numbers[:1]
-    elif word in ("alter", "drop") and event:
-        turns = [event.turn, *(numbers[1:] if word == "alter" else [])]
-    else:
-        return None
-    return range(min(turns), max(turns) + 1)
+    turns = numbers[:1] if word == "at" else [event.turn, *numbers[1:]] if event else []
+    return range(min(turns), max(turns) + 1) if turns else None
 
 
 @dataclass(frozen=True)
@@ -59,8 +56,8 @@ class Together:
     journal: int  # how many edits the machine had after the last of these
     left: int  # how many turns may still be asked about
     count: int = 0
-    again: int = 0
-    unlike: list[Fade] = field(default_factory=list)
+    again: int = 0  # the last turn in which one of them fades
+    unlike: Optional[Fade] = None  # what was said of the one that doesn't fade
     is_known: bool = True
 
     def add(self, fade: Optional[Fade]) -> None:
@@ -68,7 +65,8 @@ class Together:
         if fade is None:
             self.is_known = False
         elif fade.turn is None:
-            self.unlike.append(fade)
+            self.is_known = self.unlike is None  # two that don't fade may together
+            self.unlike = self.unlike or fade
         else:
             self.again = max(self.again, fade.turn)
 
@@ -77,13 +75,12 @@ class Together:
         these = "" if self.count == 1 else f"with these {self.count} edits "
         if not self.is_known:
             return []
-        if not self.unlike:
+        if self.unlike is None:
             return [f"{these}the old run again from turn {self.again} on"]
-        end = self.unlike[0].end
-        if len(self.unlike) > 1 or self.again > end:
+        if self.again > self.unlike.end:
             return []
-        further = "" if end == asked else "; no further turn was looked at"
-        return [f"{these}not the old run again before turn {end}{further}"]
+        further = "" if self.unlike.end == asked else "; no further turn was looked at"
+        return [f"{these}not the old run again before turn {self.unlike.end}{further}"]
 
 
 class Fading:

@@ -73,6 +73,7 @@ FORMS_OF_EIGHT_DRIVES = {
 SUMMARIES = {word_of(it): it.summary for it in sessions.LANGUAGE[: SINCE_VERSION_2 + 1]}
 SEARCHES = frozenset(word_of(it) for it in sessions.SEARCHES)
 EDITS = frozenset(it.decode() for it in sessions.EDITS)
+FADING = ("at", "alter", "drop")  # the edits that the line `fades` takes
 EVENTS, MEANINGS = sessions.EVENTS, sessions.REFUSALS
 
 
@@ -139,6 +140,8 @@ def explanation(line: str, reply: str, past: Past) -> str:
     if control:
         return f"the line has a control character, {visible(control[0])}"
     word, *words = words_of(line)
+    if word == "fades":
+        return f"the form is: fades N EDIT, and EDIT is a line of {', '.join(FADING)}"
     if word in SEARCHES and (word not in FORMS or len(words) > 1):
         return f"the forms are: {'; '.join(forms_of_searches(word))}"
     if word not in FORMS:

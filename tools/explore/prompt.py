@@ -20,7 +20,7 @@ from .files import OUTPUT
 from .in_words import counted
 from .interrupts import INTERRUPTS, typed_line
 from .journal import state_folder
-from .language import FORMS, SEARCHES, SUMMARIES
+from .language import FADING, FORMS, SEARCHES, SUMMARIES
 from .language import explanation, form_of, forms_of_searches, is_decimal, is_edit
 from .machine import is_refused
 from .output import Unwritable, fault_in_words, flush, put
@@ -36,6 +36,11 @@ ENDS = {"quit", "q", "exit"}
 SEARCH_HELP = (
     "Searches of the turns from N on and before M; `when` may go on to turn 1000000000."
     " Details: docs/LANGUAGE.md, Searches"
+)
+FADES_HELP = (
+    f"EDIT is a line of {', '.join(FADING)}, and isn't made. At a terminal explore asks this "
+    "before each such edit that you type, up to the turn that was asked about last, and says what "
+    "is true of all edits since then. Details: docs/LANGUAGE.md, Searches"
 )
 # With `!` these overwrite a file that this run hasn't written.
 WRITING = {"save", "page", "export", "sweep", "core", "disk"}
@@ -178,7 +183,8 @@ class Prompt:
         if word in FORMS:
             lines += [form_of(word, past), "", f"{SUMMARIES[word]}. Details: docs/LANGUAGE.md"]
         if word in SEARCHES:
-            lines += [*([""] if lines else []), *forms_of_searches(word), "", SEARCH_HELP]
+            lines += [*([""] if lines else []), *forms_of_searches(word), ""]
+            lines.append(FADES_HELP if word == "fades" else SEARCH_HELP)
         if word in COMMANDS:
             found = COMMANDS[word]
             lines += [*([""] if lines else []), found.form, "", *found.detail.splitlines()]
