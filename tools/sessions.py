@@ -135,8 +135,8 @@ SEARCHES = [
         "fades N EDIT",
         SEARCH,
         "fades T",
-        "the first turn up to N from which on the run with this edit is the run as it is; EDIT is "
-        "a line of at, alter or drop, and isn't made",
+        "the turn, up to N, from which on the run with this edit would be the run as it is; EDIT "
+        "is a line core, disk, at, alter or drop, and isn't made",
     ),
 ]
 # The events that `at` and `alter` name, each with the letter of its number, if it has one.

@@ -6,7 +6,7 @@ from sessions import words_of
 
 from .errors import ExploreError
 from .interrupts import INTERRUPTS
-from .language import FADING, MOST_DIGITS, is_decimal
+from .language import FADING, MOST_DIGITS, PATCHES, is_decimal
 from .machine import Machine, is_refused
 from .past import Past
 
@@ -16,10 +16,13 @@ LEAST_TURNS = 10_000  # that one edit counts for: to ask about it takes up to a 
 
 def turns_to_ask(line: str, past: Past) -> Optional[range]:
     """The turns from the first that an edit can change to the last in which the scripts differ, or
-    None if the line `fades` can't be asked about the edit."""
+    None if the line `fades` can't be asked about the edit. A patch counts from turn 0: the turn in
+    which the run first touches the word isn't known here."""
     word, *words = words_of(line) or [""]
     if word not in FADING:
         return None
+    if word in PATCHES:
+        return range(1)
     numbers = [int(it) for it in words[:2] if is_decimal(it) and len(it) <= MOST_DIGITS]
     event = past.events.get(numbers[0]) if numbers else None
     turns = numbers[:1] if word == "at" else [event.turn, *numbers[1:]] if event else []

@@ -73,7 +73,8 @@ FORMS_OF_EIGHT_DRIVES = {
 SUMMARIES = {word_of(it): it.summary for it in sessions.LANGUAGE[: SINCE_VERSION_2 + 1]}
 SEARCHES = frozenset(word_of(it) for it in sessions.SEARCHES)
 EDITS = frozenset(it.decode() for it in sessions.EDITS)
-FADING = ("at", "alter", "drop")  # the edits that the line `fades` takes
+PATCHES = ("core", "disk")
+FADING = (*PATCHES, "at", "alter", "drop")  # the edits that the line `fades` takes
 EVENTS, MEANINGS = sessions.EVENTS, sessions.REFUSALS
 
 

@@ -16,6 +16,7 @@ from . import images, load, simh  # noqa: F401
 from .at_work import AtWork
 from .commands import COMMANDS, Explorer
 from .errors import ExploreError
+from .fades import MOST_TURNS
 from .files import OUTPUT
 from .in_words import counted
 from .interrupts import INTERRUPTS, typed_line
@@ -39,8 +40,9 @@ SEARCH_HELP = (
 )
 FADES_HELP = (
     f"EDIT is a line of {', '.join(FADING)}, and isn't made. At a terminal explore asks this "
-    "before each such edit that you type, up to the turn that was asked about last, and says what "
-    "is true of all edits since then. Details: docs/LANGUAGE.md, Searches"
+    "before each such edit that you type, up to the turn that was asked about last and for "
+    f"{MOST_TURNS} turns at most, and says what is true of all edits since then. Details: "
+    "docs/LANGUAGE.md, Searches"
 )
 # With `!` these overwrite a file that this run hasn't written.
 WRITING = {"save", "page", "export", "sweep", "core", "disk"}

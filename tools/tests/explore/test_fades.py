@@ -14,6 +14,7 @@ LEDGER = "examples/ledger/ledger.session"
 SAME, LATER = "alter 15 127100 key 66", "alter 15 127164 key 66"
 EARLIER = "alter 15 126400 key 66"
 SWITCHES = "at 127000 switches 0"  # as they are
+PATCH = "core 30000 5"  # the disk is the first to write the word, in turn 18522
 SAME_TURNS = "the old run again from turns 126968 to 127151 on"
 AGAIN, NOT_AGAIN = "the old run again from turn {} on", "not the old run again before turn {}"
 # A program without the line: what it is given goes to the one that is tested.
@@ -58,8 +59,8 @@ class Fades(Case):
         self.machine.read("regs 127164")
         self.assertEqual(self.said(LATER), [])  # the edit's turn wasn't run
         self.machine.read("regs 128500")
-        self.assertEqual(self.said("core 60000 5"), [])
-        self.assertEqual(self.said(SAME), [])  # core's line is among them
+        self.assertEqual(self.said("delay punch 5"), [])
+        self.assertEqual(self.said(SAME), [])  # the line of the delay is among them
         self.machine.read("regs 128500")
         self.assertEqual(self.said(SWITCHES), [AGAIN.format(127001)])
         self.machine.ask("at 60000 key 60")  # as other commands make edits
@@ -67,6 +68,21 @@ class Fades(Case):
         self.machine.read("regs 128500")
         self.machine.take_back(1)
         self.assertEqual(self.said(LATER), [])  # the program was started again
+
+    def test_patches(self) -> None:
+        """They count from turn 0. One of a value that the word has anyway changes nothing."""
+        self.assertEqual(self.said(PATCH), [])  # nothing was run
+        self.machine.read("regs 20000")
+        self.assertEqual(self.said("core 30000 6"), [AGAIN.format(18523)])
+        these = "with these 2 edits "
+        self.assertEqual(self.said("disk 0 100"), [these + AGAIN.format(18523)])
+        self.machine.read("regs 20000")
+        self.assertEqual(self.said("core 60000 0", "disk 100 1"), [these + NOT_AGAIN.format(20000)])
+        self.machine.read("regs 20000")
+        self.assertEqual(self.said("core 60000 0"), [AGAIN.format(0)])
+        self.fading = Fading(15_000)
+        further = "; no further turn was looked at"
+        self.assertEqual(self.said("core 30000 5"), [NOT_AGAIN.format(15_000) + further])
 
     def test_edits_have_a_bound(self) -> None:
         self.machine.read("regs 128500")
@@ -125,6 +141,13 @@ class Told(Case):
         self.assertTrue(first.endswith("\nthe same from turn 127101 on\n"))
         self.assertIn("registers part in turn ", second)
         self.assertNotIn("the same", second)
+
+    def test_compare_of_a_patch_ends_there(self) -> None:
+        written = self.explore(f"{PATCH}\ncompare\ndisk 0 100\ncompare\n", LEDGER)
+        first, second = written.split("ok\n")[1:]
+        self.assertIn("registers: no difference found in the turns 0 to 18522, of which", first)
+        self.assertTrue(first.endswith("\nthe same from turn 18523 on\n"))
+        self.assertTrue(second.endswith("\nthe same from turn 0 on\n"))
 
     def test_a_sweep_of_edits_that_fade(self) -> None:
         line = "15 from 126950 to 127250 step 100: dsk 128500 0 1"
