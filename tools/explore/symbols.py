@@ -8,7 +8,7 @@ import sessions
 from sessions import words_of
 
 from .errors import ExploreError
-from .language import FORMS, form_of
+from .language import FADING, FORMS, form_of
 from .past import Past
 from .replies import Mode
 from .symbol_files import Symbol
@@ -97,16 +97,18 @@ class Symbols:
         core."""
         words = words_of(line)
         for form in forms_of(words[0], past) if words else []:
-            if len(form) == len(words) and all(it.isupper() or it in words for it in form[1:]):
-                found = [
-                    self.in_octal(word) if it == "A" else word for it, word in zip(form, words)
-                ]
+            pairs = list(zip(form, words))
+            if len(form) == len(words) and all(it.isupper() or it == word for it, word in pairs):
+                found = [self.in_octal(word) if it == "A" else word for it, word in pairs]
                 return line if found == words else " ".join(found)
         return line
 
 
 def forms_of(word: str, past: Past) -> list[list[str]]:
-    """The forms of the lines that begin with this word, word by word."""
+    """The forms of the lines that begin with this word, word by word. For EDIT stand the edits that
+    `fades` takes."""
     own = [form_of(word, past)] if word in FORMS else []
     searches = [it.form for it in sessions.SEARCHES if it.form.split()[0] == word]
-    return [it.split() for it in (*own, *searches)]
+    edits = [form_of(it, past) for it in FADING]
+    found = [form.replace("EDIT", it) for form in searches for it in edits]
+    return [it.split() for it in (*own, *dict.fromkeys(found))]

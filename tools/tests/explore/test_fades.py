@@ -149,6 +149,14 @@ class Told(Case):
         self.assertTrue(first.endswith("\nthe same from turn 18523 on\n"))
         self.assertTrue(second.endswith("\nthe same from turn 0 on\n"))
 
+    def test_the_line_has_symbols(self) -> None:
+        (self.folder / "names").write_text("BALANCE 30000\ncore 20000\n")
+        lines = [f"fades 20000 {it}" for it in ("core BALANCE 5", "disk core 5", "uncore BALANCE")]
+        written = self.explore("\n".join(["symbols names", *lines, ""]), LEDGER)
+        why = "  the form is: fades N EDIT, and EDIT is a line of core, disk, at, alter, drop"
+        refused = ["refused 10 BadLine", why]
+        self.assertEqual(written.splitlines()[1:], ["fades 18523", *refused, *refused])
+
     def test_a_sweep_of_edits_that_fade(self) -> None:
         line = "15 from 126950 to 127250 step 100: dsk 128500 0 1"
         written = self.explore(f"sweep --fades -j 2 -o kept {line}\nsweep --gather kept\n", LEDGER)
