@@ -32,13 +32,20 @@ function withoutEqual(touched, past, other) {
 }
 
 /**
- * The one edit that makes an old past the one now, and the last turn whose events it changes; an
- * empty line if they are the same. Null if it takes more edits, or one that the line `fades` of the
- * program doesn't take: it takes `at`, `alter` and `drop`.
+ * The one edit that makes an old past the one now, and the last turn whose events it changes, 0 for
+ * a patch; an empty line if they are the same. Null if it takes more edits, or one that the line
+ * `fades` of the program doesn't take: it takes `core`, `disk`, `at`, `alter` and `drop`.
  * @returns {{line: string, last: number} | null}
  */
 export function editBetween(old, now) {
-  if (!now.hasSetupOf(old)) return null;
+  const patches = now.patchesFrom(old);
+  if (patches === null || patches.length > 1) return null;
+  if (patches.length === 0) return eventBetween(old, now);
+  return linesOf(old.script) === linesOf(now.script) ? { line: patches[0], last: 0 } : null;
+}
+
+/** The same of two pasts whose setups are equal. */
+function eventBetween(old, now) {
   const goneEvents = withoutEqual(now.touched, old, now);
   const newEvents = withoutEqual(now.touched, now, old);
   if (goneEvents.length > 1 || newEvents.length > 1) return null;

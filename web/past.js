@@ -143,9 +143,23 @@ export class Past {
 
   /** Whether another past has the same version, patches, tape and delays. */
   hasSetupOf(past) {
+    return this.patchesFrom(past)?.length === 0;
+  }
+
+  /** The lines of the patches that make the setup of another past this one, or null if it takes
+      further edits. */
+  patchesFrom(past) {
     const rest = it => JSON.stringify([it.version, it.tape, it.delays]);
-    return rest(past) === rest(this) && past.patches.size === this.patches.size
-      && [...this.patches].every(([name, word]) => past.patches.get(name) === word);
+    const lacks = [...past.patches.keys()].some(it => !this.patches.has(it));
+    if (lacks || rest(past) !== rest(this)) return null;
+    return [...this.patches].filter(([name, word]) => past.patches.get(name) !== word)
+      .map(it => this.lineOfPatch(it));
+  }
+
+  lineOfPatch([name, word]) {
+    const [kind, ...where] = name.split(" ");
+    const at = kind === "disk" && this.version === 1 ? where.slice(1) : where;
+    return [kind, ...at, word.toString(8)].join(" ");
   }
 
   /** A session that gives the same machine. Its events are numbered anew, in their order. */
@@ -156,12 +170,8 @@ export class Past {
     for (const [device, turns] of Object.entries(this.delays)) {
       if (turns !== DELAYS[device]) found.push(`delay ${device} ${turns}`);
     }
-    for (const [name, word] of this.patches) {
-      const [kind, ...where] = name.split(" ");
-      const at = kind === "disk" && this.version === 1 ? where.slice(1) : where;
-      found.push([kind, ...at, word.toString(8)].join(" "));
-    }
-    return [...found, ...this.script.map(it => `at ${it.turn} ${it.text}`)];
+    const patches = [...this.patches].map(it => this.lineOfPatch(it));
+    return [...found, ...patches, ...this.script.map(it => `at ${it.turn} ${it.text}`)];
   }
 }
 

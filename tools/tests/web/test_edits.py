@@ -117,14 +117,23 @@ class TheLostDeposit(PageCase):
 
     def test_the_old_past_ends_where_both_are_the_same(self) -> None:
         """The key comes while the disk reads, and is taken a little later: nothing else changes."""
-        if "refused 10" in self.type_line("fades 5 drop 1"):
-            self.skipTest("search.wasm is older than the line fades")
+        self.skip_if_older("fades 5 drop 1")
         for line in ("alter 15 127100 key 66", "alter 15 127164 key 66"):
             self.type_line(line)
         self.wait_text("#difference", "From turn 127179 on the run is the old one again.")
         self.type_line("alter 15 127250 key 66")
         self.wait_text("#difference", "000170 \u2192 000176")
         self.assertNotIn("again", self.browser.text("#difference"))
+
+    def test_the_old_past_ends_where_a_patch_fades(self) -> None:
+        """The disk is the first to write the word."""
+        self.skip_if_older("fades 5 core 0 0")
+        self.type_line("core 30000 5")
+        self.wait_text("#difference", "From turn 18523 on the run is the old one again.")
+
+    def skip_if_older(self, line: str) -> None:
+        if "refused 10" in self.type_line(line):
+            self.skipTest("search.wasm is older than this line fades")
 
 
 class Lines(PageCase):

@@ -238,21 +238,22 @@ export async function test_two_equal_refusals_are_no_equal_registers() {
 }
 
 export async function test_from_which_turn_two_pasts_are_the_same() {
-  const edited = (old, ...lines) => {
-    const now = pastOf(...old);
+  const edited = text => {
+    const [old, now] = [1, 2].map(() => pastOf("core 1000 5", "at 20 key 66", "at 50 tick"));
     now.touched.clear();
-    for (const line of lines) now.apply(line, "event 3");
-    return [pastOf(...old), now];
+    for (const line of text.split(", ")) now.apply(line, "event 3");
+    return [old, now];
   };
-  const two = ["at 20 key 66", "at 50 tick"], lineOf = (...lines) =>
-    editBetween(...edited(two, ...lines))?.line ?? null;
-  equal([lineOf("alter 1 90 key 66", "alter 1 50 key 66"), lineOf("drop 2"), lineOf("at 50 tick"),
-    lineOf("drop 2", "at 9 tick"), lineOf("drop 1", "at 20 key 66")],
-  ["alter 1 50 key 66", "drop 2", "at 50 tick", "alter 2 9 tick", ""]);
-  // two edits, a delay, and an event that comes before another of its turn
-  equal([lineOf("drop 1", "drop 2"), lineOf("delay disk 5", "drop 1"),
-    lineOf("alter 1 50 key 66", "alter 2 20 tick", "alter 2 50 tick")], [null, null, null]);
-  const [old, now] = edited(two, "drop 2"), asked = [];
+  const lineOf = text => editBetween(...edited(text))?.line ?? null;
+  equal(["alter 1 90 key 66, alter 1 50 key 66", "drop 2", "at 50 tick", "drop 2, at 9 tick"]
+    .map(lineOf), ["alter 1 50 key 66", "drop 2", "at 50 tick", "alter 2 9 tick"]);
+  equal(["core 1000 7", "disk 010 1, disk 10 7", "drop 1, at 20 key 66, core 1000 6, core 1000 5"]
+    .map(lineOf), ["core 1000 7", "disk 10 7", ""]);
+  // two edits, what `fades` doesn't take, and an event that comes before another of its turn
+  equal(["drop 1, drop 2", "core 2 3, drop 1", "core 2 3, disk 0 1", "uncore 1000",
+    "delay disk 5", "alter 1 50 key 66, alter 2 20 tick, alter 2 50 tick"].map(lineOf),
+  Array(6).fill(null));
+  const [old, now] = edited("drop 2"), asked = [];
   const found = (end, ...replies) => sameFrom(
     { past: old, askOne: async line => asked.push(line) && replies.shift() }, now, end, null);
   equal([await found(99_999_999, "fades none", "fades 70000"), await found(50),
