@@ -121,6 +121,7 @@ export class Sweep {
     Object.assign(this, { question, event: { ...event }, past, taken: taken.length });
     const turns = spreadTurns(Number(from), Number(to));
     // at once: what the outcomes take of the page doesn't move the button later
+    this.showTable();
     this.show(turns.length);
     await run.takeUp(app.run.taken);
     const refusal = await run.refusalOf(question);
@@ -165,22 +166,47 @@ export class Sweep {
     this.say(`${known} of ${all} turns: ${state}. ${outcomes}`);
     this.app.timeline.sweep = { runs, isWhole: known === all };
     this.app.timeline.draw();
-    const rows = runs.slice(0, MOST_ROWS).map(it => this.row(it));
-    const left = runs.length - rows.length;
-    const more = left ? [make("p", {}, `and ${left} more`)] : [];
-    element("outcomes").replaceChildren(
-      table("Turns with equal outcomes", ["", "turns", "outcome"], rows), ...more);
+    this.showRows(runs.slice(0, MOST_ROWS));
+    const left = runs.length - MOST_ROWS;
+    this.more.textContent = left > 0 ? `and ${left} more` : "";
   }
 
-  row({ from, to, outcome }) {
+  /** A table without rows. */
+  showTable() {
+    const outcomes = element("outcomes");
+    this.more = make("p");
+    outcomes.replaceChildren(
+      table("Turns with equal outcomes", ["", "turns", "outcome"], []), this.more);
+    this.body = outcomes.querySelector("tbody");
+    this.rows = new Map();
+  }
+
+  /** A row for each of these runs. One that stays is left in place, so a click on it counts. */
+  showRows(runs) {
+    const { body, rows } = this, firsts = new Set(runs.map(it => it.from));
+    for (const [from, { place }] of [...rows].filter(it => !firsts.has(it[0]))) {
+      place.remove();
+      rows.delete(from);
+    }
+    let next = body.firstElementChild;
+    for (const it of runs) {
+      const row = rows.get(it.from) ?? this.row(it);
+      if (rows.has(it.from)) next = row.place.nextElementSibling;
+      else body.insertBefore(row.place, next);
+      rows.set(it.from, row);
+      row.turns.textContent = `${it.from} to ${it.to}`;
+      row.reply.textContent = this.shortReply(it.outcome);
+    }
+  }
+
+  row({ from, outcome }) {
     const { number, text } = this.event;
     const colour = `outcome outcome-${outcome % SWEEP_COLOURS}`;
     const put = () => this.app.edits.edit(`alter ${number} ${from} ${text}`);
-    return [
-      make("span", { class: colour }, letterOf(outcome)),
-      link(`${from} to ${to}`, "Put the event into the first of these turns", put),
-      this.shortReply(outcome),
-    ];
+    const turns = link("", "Put the event into the first of these turns", put);
+    const reply = make("td"), letter = make("span", { class: colour }, letterOf(outcome));
+    const place = make("tr", {}, make("td", {}, letter), make("td", {}, turns), reply);
+    return { place, turns, reply };
   }
 
   /** The reply from where it begins to differ from the first one. */

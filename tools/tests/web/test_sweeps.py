@@ -1,4 +1,6 @@
 """The console pane and the sweep."""
+import json
+
 from .common import PageCase, ledger_lines, replies_of
 
 # echoes what is typed: TSTB @#TKS; BPL .-4; MOVB @#TKB,R0; MOVB R0,@#TPB; BR to the start
@@ -111,6 +113,16 @@ class TheSweep(PageCase):
         self.browser.click("#sweep-stop")
         self.wait_still()
         self.assertIn("between them isn't known", self.browser.text("#sweep-status"))
+
+    def test_a_row_that_stays_is_left_in_place(self) -> None:
+        """So a press on it and the release are one click, though outcomes come in between."""
+        self.sweep(100_000, 119_000)
+        self.browser.wait("(window.row = document.querySelector('#outcomes .link')) !== null")
+        said = json.dumps(self.browser.text("#sweep-status"))
+        self.browser.wait(f"document.querySelector('#sweep-status').textContent !== {said}")
+        self.assertTrue(self.browser.value("window.row.isConnected"))
+        self.browser.click("#sweep-stop")
+        self.wait_still()
 
     def test_another_edit_takes_the_outcomes_away(self) -> None:
         self.sweep(126_600, 126_603)
