@@ -1,4 +1,5 @@
-"""Tests of the page's modules, which run in the browser: each is a function of units.js."""
+"""Tests of the page's modules, which run in the browser: each is a function of units.js or of
+bar_units.js."""
 import http.server
 import re
 import threading
@@ -9,11 +10,12 @@ from typing import Any, Callable
 from .browser import BrowserError
 from .common import ROOT, the_browser
 
-UNITS = Path(__file__).with_name("units.js")
+UNITS = tuple(Path(__file__).with_name(it) for it in ("units.js", "bar_units.js"))
 KINDS = {".js": "text/javascript", ".html": "text/html"}
 PAGE = (
     b'<!DOCTYPE html><meta charset="utf-8"><script type="module">'
-    b'import * as units from "/units.js"; window.units = units;'
+    b'import * as units from "/units.js"; import * as bar from "/bar_units.js";'
+    b"window.units = { ...units, ...bar };"
     b'document.documentElement.dataset.state = "ready";</script>'
 )
 
@@ -23,7 +25,8 @@ class Handler(http.server.BaseHTTPRequestHandler):
 
     def do_GET(self) -> None:
         name = self.path.lstrip("/")
-        path = UNITS if name == UNITS.name else ROOT / "web" / Path(name).name
+        units = {it.name: it for it in UNITS}
+        path = units.get(name, ROOT / "web" / Path(name).name)
         body = PAGE if not name else path.read_bytes() if path.is_file() else None
         self.send_response(404 if body is None else 200)
         self.send_header("Content-Type", KINDS.get(path.suffix if name else ".html", "text/plain"))
@@ -62,8 +65,8 @@ def unit(name: str) -> Callable[[Units], None]:
 
 
 def names() -> tuple[str, ...]:
-    found = re.findall(r"^export (?:async )?function (test_\w+)", UNITS.read_text(), re.MULTILINE)
-    return tuple(found)
+    texts = "".join(it.read_text() for it in UNITS)
+    return tuple(re.findall(r"^export (?:async )?function (test_\w+)", texts, re.MULTILINE))
 
 
 for _name in names():
