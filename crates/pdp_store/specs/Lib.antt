@@ -9,5 +9,6 @@ pub mod DriveBackings
 pub mod PageLaws
 pub mod PageLists
 pub mod Unchanged
+pub mod LastStamps
 pub mod Stamps
 pub mod Overlays

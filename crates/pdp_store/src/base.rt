@@ -3,7 +3,7 @@
 ghost use Rattle.std.specs.Prelude.{◌≡◌, ◌<◌, length, IfOk};
 ghost use Rattle.pdp_store.specs.Bases.{Holds, IsBaseOf, IsPageOf, serial_of};
 
-use crate::Stamp;
+use crate::LastStamp;
 use crate::page::Page;
 use pdp_word::NoMemory;
 use std::alloc::Global;
@@ -47,7 +47,7 @@ impl Base {
         &self,
         alloc: Global,
         words: &[u16],
-        stamps: &[Option<Stamp>],
+        stamps: &[LastStamp],
     ) -> Result<Rc<Page>, NoMemory>
         requires full { length words.now ≡ 256 }
         requires stamped { 0 < length stamps.now → length stamps.now ≡ 256 }
@@ -70,7 +70,7 @@ pub(crate) fn new_page(
     alloc: Global,
     serial: u64,
     words: &[u16],
-    stamps: &[Option<Stamp>],
+    stamps: &[LastStamp],
 ) -> Result<Rc<Page>, NoMemory>
     requires full { length words.now ≡ 256 }
     requires stamped { 0 < length stamps.now → length stamps.now ≡ 256 }

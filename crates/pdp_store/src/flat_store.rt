@@ -5,7 +5,7 @@ ghost use Rattle.pdp_store.specs.Stored.{blank_store, with_word};
 
 use crate::page::PAGE_WORDS;
 use crate::touches::StoreTouches;
-use crate::{Stamp, Store};
+use crate::{LastStamp, Stamp, Store};
 use pdp_word::NoMemory;
 use std::alloc::Global;
 use std::marker::Model;
@@ -17,7 +17,7 @@ pub struct Flat {
     words: Vec<u16>,
 
     // As many as the words; or empty, in a store without stamps.
-    stamps: Vec<Option<Stamp>>,
+    stamps: Vec<LastStamp>,
 
     // The first touch of each page of 256 words; the last page may have fewer.
     touches: StoreTouches,
@@ -46,7 +46,7 @@ impl Flat {
     {
         let words = vec![in alloc; 0; len]?;
         let stamps = if stamped {
-            vec![in alloc; None; len]?
+            vec![in alloc; LastStamp::none(); len]?
         } else {
             Vec::new(alloc)
         };
@@ -60,7 +60,7 @@ impl Flat {
 
     // Makes word `i` equal to `w`, and its last stamp, if the store has stamps, equal to `last`.
     #[inline(always)]
-    fn replace(&mut self, i: usize, w: u16, last: Option<Stamp>)
+    fn replace(&mut self, i: usize, w: u16, last: LastStamp)
         requires { i < length self.old.words }
         ensures { self.new ≡ with_word self.old i w last }
     {
@@ -90,17 +90,17 @@ impl Store for Flat {
 
     #[inline(always)]
     fn write(&mut self, i: usize, w: u16, stamp: Stamp) {
-        self.replace(i, w, Some(stamp));
+        self.replace(i, w, LastStamp::of(Some(stamp)));
     }
 
     #[inline(always)]
     fn last(&self, i: usize) -> Option<Stamp> {
-        self.stamps.get(i).copied().flatten()
+        self.stamps.get(i)?.stamp()
     }
 
     #[inline(always)]
     fn set(&mut self, i: usize, w: u16) {
-        self.replace(i, w, None);
+        self.replace(i, w, LastStamp::none());
     }
 
     #[inline(always)]

@@ -40,6 +40,7 @@ ghost use Rattle.pdp_store.specs.FirstTouches.{first_touches_before, never, firs
 
 mod base;
 mod flat_store;
+mod last_stamp;
 mod laws;
 mod overlay;
 mod page;
@@ -52,6 +53,7 @@ mod part;
 mod touches;
 
 pub use flat_store::Flat;
+pub use last_stamp::LastStamp;
 pub use laws::{overlays_are_flat, serials_are_given_once, traces_leave_last_writes};
 pub use page::{PAGE_WORDS, Page, Pages};
 pub use page_lists::{page_with_word, with_page};

@@ -8,24 +8,24 @@ ghost use Rattle.pdp_store.specs.Overlays.{laid_to, later_turn, latest_turn, sta
 ghost use Rattle.pdp_store.specs.Overlays.{stamps_over};
 ghost use Rattle.pdp_store.specs.Pages.{page_stamps, page_words, stamps_of, words_of};
 
-use crate::Stamp;
+use crate::LastStamp;
 use crate::base::Base;
 use crate::page::{PAGE_WORDS, Page};
 use crate::page_runs::{are_same_words, piece_at, stamps_in, words_in};
 use std::rc::Rc;
 
 // A last stamp of this turn or a later one; otherwise the one under it.
-fn stamp_over(turn: u32, under: Option<Stamp>, over: Option<Stamp>) -> Option<Stamp>
+fn stamp_over(turn: u32, under: LastStamp, over: LastStamp) -> LastStamp
     ensures { result ≡ stamp_over turn under over }
 {
-    match over {
+    match over.stamp() {
         Some(stamp) => if turn <= stamp.turn { over } else { under },
         None => under,
     }
 }
 
 // The greatest turn of these last stamps; 0 if there are none.
-pub(crate) fn latest_turn(stamps: &[Option<Stamp>]) -> u32
+pub(crate) fn latest_turn(stamps: &[LastStamp]) -> u32
     ensures { result ≡ latest_turn stamps.now }
 {
     let mut latest = 0;
@@ -37,10 +37,10 @@ pub(crate) fn latest_turn(stamps: &[Option<Stamp>]) -> u32
 
 // The later of this turn and that of a last stamp.
 #[inline(always)]
-fn later_turn(latest: u32, last: Option<Stamp>) -> u32
+fn later_turn(latest: u32, last: LastStamp) -> u32
     ensures { result ≡ later_turn latest last }
 {
-    match last {
+    match last.stamp() {
         Some(stamp) => latest.max(stamp.turn),
         None => latest,
     }
@@ -48,7 +48,7 @@ fn later_turn(latest: u32, last: Option<Stamp>) -> u32
 
 // Lays the last stamps of these pages over those that are there.
 #[tactic(auto, unfolding(crate::specs::Pages::stamps_of))]
-pub(crate) fn lay_over(stamps: &mut [Option<Stamp>], pages: &[Rc<Page>], turn: u32)
+pub(crate) fn lay_over(stamps: &mut [LastStamp], pages: &[Rc<Page>], turn: u32)
     requires { length (stamps_of pages.now) ≡ length stamps.old }
     ensures { stamps.new ≡ stamps_over turn stamps.old (stamps_of pages.now) }
 {
@@ -60,7 +60,7 @@ pub(crate) fn lay_over(stamps: &mut [Option<Stamp>], pages: &[Rc<Page>], turn: u
 
 // Lays the last stamps of a page over those from word `start` on, and returns where they end. It
 // doesn't look at stamps that are all of earlier turns.
-fn lay_page(stamps: &mut [Option<Stamp>], start: usize, page: &Rc<Page>, turn: u32) -> usize
+fn lay_page(stamps: &mut [LastStamp], start: usize, page: &Rc<Page>, turn: u32) -> usize
     requires { start + length (page_stamps page.now) ≤ length stamps.old }
     ensures end { result ≡ start + length (page_stamps page.now) }
     ensures laid { (under all : List (Option Stamp)) → length all ≡ length under
@@ -77,7 +77,7 @@ fn lay_page(stamps: &mut [Option<Stamp>], start: usize, page: &Rc<Page>, turn: u
 }
 
 // Lays these last stamps over those from word `start` on, and returns where they end.
-fn lay_each(stamps: &mut [Option<Stamp>], start: usize, over: &[Option<Stamp>], turn: u32) -> usize
+fn lay_each(stamps: &mut [LastStamp], start: usize, over: &[LastStamp], turn: u32) -> usize
     requires { start + length over.now ≤ length stamps.old }
     ensures end { result ≡ start + length over.now }
     ensures laid { (under all : List (Option Stamp)) → length all ≡ length under
@@ -94,12 +94,12 @@ fn lay_each(stamps: &mut [Option<Stamp>], start: usize, over: &[Option<Stamp>], 
 
 // Lays a last stamp over that of word `i`.
 #[inline(always)]
-fn lay_one(stamps: &mut [Option<Stamp>], i: usize, over: Option<Stamp>, turn: u32)
+fn lay_one(stamps: &mut [LastStamp], i: usize, over: LastStamp, turn: u32)
     requires { i < length stamps.old }
     ensures { stamps.new ≡ slice_set stamps.old i
         (stamp_over turn (slice_index_or stamps.old i None) over) }
 {
-    if let Some(stamp) = over {
+    if let Some(stamp) = over.stamp() {
         if turn <= stamp.turn {
             stamps[i] = over;
         }
@@ -115,7 +115,7 @@ pub(crate) fn put_bases_over(
     bases: &mut Vec<Base>,
     written: &mut Vec<bool>,
     words: &[u16],
-    stamps: &[Option<Stamp>],
+    stamps: &[LastStamp],
     pages: &[Rc<Page>],
     turn: u32,
 )
@@ -142,7 +142,7 @@ fn keeps_base(
     is_written: bool,
     turn: u32,
     words: &[u16],
-    under: &[Option<Stamp>],
+    under: &[LastStamp],
     page: &Rc<Page>,
 ) -> bool
     requires { length (page_stamps page.now) ≡ length under.now }
@@ -153,7 +153,7 @@ fn keeps_base(
 }
 
 // Whether the stamps stay if those of this page are laid over them.
-fn is_page_hidden(turn: u32, under: &[Option<Stamp>], page: &Rc<Page>) -> bool
+fn is_page_hidden(turn: u32, under: &[LastStamp], page: &Rc<Page>) -> bool
     requires { length (page_stamps page.now) ≡ length under.now }
     ensures { result ≡ true → stamps_over turn under.now (page_stamps page.now) ≡ under.now }
 {
@@ -161,7 +161,7 @@ fn is_page_hidden(turn: u32, under: &[Option<Stamp>], page: &Rc<Page>) -> bool
 }
 
 // Whether the stamps stay if these are laid over them.
-fn are_hidden(turn: u32, under: &[Option<Stamp>], over: &[Option<Stamp>]) -> bool
+fn are_hidden(turn: u32, under: &[LastStamp], over: &[LastStamp]) -> bool
     requires { length over.now ≡ length under.now }
     ensures { result ≡ true → stamps_over turn under.now over.now ≡ under.now }
 {
@@ -175,41 +175,25 @@ fn are_hidden(turn: u32, under: &[Option<Stamp>], over: &[Option<Stamp>]) -> boo
 
 // Whether a last stamp stays if this one is laid over it.
 #[inline(always)]
-fn is_hidden(turn: u32, under: Option<Stamp>, over: Option<Stamp>) -> bool
+fn is_hidden(turn: u32, under: LastStamp, over: LastStamp) -> bool
     ensures { result ≡ true → stamp_over turn under over ≡ under }
 {
-    match over {
+    match over.stamp() {
         None => true,
-        Some(stamp) => stamp.turn < turn || is_same_stamp(over, under),
+        Some(stamp) => stamp.turn < turn || over.is_same(under),
     }
 }
 
 // Whether the stamps laid over those under them come to these.
-fn is_laid(
-    turn: u32,
-    under: &[Option<Stamp>],
-    over: &[Option<Stamp>],
-    these: &[Option<Stamp>],
-) -> bool
+fn is_laid(turn: u32, under: &[LastStamp], over: &[LastStamp], these: &[LastStamp]) -> bool
     requires over { length over.now ≡ length under.now }
     requires these { length these.now ≡ length under.now }
     ensures { result ≡ true → stamps_over turn under.now over.now ≡ these.now }
 {
     for k in 0..under.len() {
-        if !is_same_stamp(stamp_over(turn, under[k], over[k]), these[k]) {
+        if !stamp_over(turn, under[k], over[k]).is_same(these[k]) {
             return false;
         }
     }
     true
-}
-
-// Whether two last stamps are the same.
-fn is_same_stamp(some: Option<Stamp>, other: Option<Stamp>) -> bool
-    ensures { result ≡ true → some ≡ other }
-{
-    match (some, other) {
-        (None, None) => true,
-        (Some(a), Some(b)) => a.turn == b.turn && a.agent == b.agent,
-        _ => false,
-    }
 }

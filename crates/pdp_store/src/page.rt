@@ -3,7 +3,7 @@
 ghost use Rattle.std.specs.Prelude.{◌≡◌, ◌<◌, length, slice_set, IfOk};
 ghost use Rattle.pdp_store.specs.Overlays.{latest_turn};
 
-use crate::Stamp;
+use crate::LastStamp;
 use crate::overlay::latest_turn;
 use pdp_word::NoMemory;
 use std::alloc::Global;
@@ -24,7 +24,7 @@ pub struct Page {
     pub words: Vec<u16>,
     /// As many as the words; or none, if the store is without stamps. The pages that are made of
     /// this one with a word changed share them.
-    pub stamps: Rc<Vec<Option<Stamp>>>,
+    pub stamps: Rc<Vec<LastStamp>>,
     /// The greatest turn of these stamps; 0 if there are none.
     pub latest: u32,
     ghost full: { length words.items ≡ 256 },
@@ -40,7 +40,7 @@ impl Page {
         alloc: Global,
         serial: u64,
         words: &[u16],
-        stamps: &[Option<Stamp>],
+        stamps: &[LastStamp],
     ) -> Result<Page, NoMemory>
         requires full { length words.now ≡ 256 }
         requires stamped { 0 < length stamps.now → length stamps.now ≡ 256 }

@@ -5,7 +5,7 @@ ghost use Rattle.pdp_store.specs.Bases.{AreBases};
 ghost use Rattle.pdp_store.specs.Pages.{stamps_of, page_stamps, page_words, words_of};
 ghost use Rattle.pdp_store.specs.Pieces.{piece, with_items_at};
 
-use crate::Stamp;
+use crate::LastStamp;
 use crate::base::Base;
 use crate::page::{PAGE_WORDS, Page};
 use std::rc::Rc;
@@ -39,7 +39,7 @@ pub(crate) fn put_words(words: &mut [u16], pages: &[Rc<Page>])
 // Puts the last stamps of these pages, one page after the other, in place of the stamps that are
 // there.
 #[tactic(auto, unfolding(crate::specs::Pages::stamps_of), using(crate::proofs::Rules::item_runs))]
-pub(crate) fn put_stamps(stamps: &mut [Option<Stamp>], pages: &[Rc<Page>])
+pub(crate) fn put_stamps(stamps: &mut [LastStamp], pages: &[Rc<Page>])
     requires { length (stamps_of pages.now) ≡ length stamps.old }
     ensures { stamps.new ≡ stamps_of pages.now }
 {
@@ -59,7 +59,7 @@ pub(crate) fn words_in(page: &Rc<Page>) -> &[u16]
 
 // The last stamps of a page.
 #[inline(always)]
-pub(crate) fn stamps_in(page: &Rc<Page>) -> &[Option<Stamp>]
+pub(crate) fn stamps_in(page: &Rc<Page>) -> &[LastStamp]
     ensures { result.now ≡ page_stamps page.now }
 {
     &page.stamps

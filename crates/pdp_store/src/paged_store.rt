@@ -16,7 +16,7 @@ use crate::overlay::{lay_over, put_bases_over};
 use crate::page::{PAGE_WORDS, Page};
 use crate::page_runs::{have_words, piece_at, put_bases, put_stamps, put_words};
 use crate::touches::StoreTouches;
-use crate::{Paging, Stamp, Store};
+use crate::{LastStamp, Paging, Stamp, Store};
 use pdp_word::NoMemory;
 use std::alloc::Global;
 use std::marker::Model;
@@ -31,7 +31,7 @@ pub struct Paged {
     words: Vec<u16>,
 
     // As many as the words; or empty, in a store without stamps.
-    stamps: Vec<Option<Stamp>>,
+    stamps: Vec<LastStamp>,
 
     // The base of each place, which counts only if the place isn't marked as written since.
     bases: Vec<Base>,
@@ -93,11 +93,11 @@ impl Paged {
 // The stamps of a number of words that weren't written yet; none if not `stamped`.
 //
 // Err(NoMemory) if memory was refused.
-fn no_stamps(alloc: Global, len: usize, stamped: bool) -> Result<Vec<Option<Stamp>>, NoMemory>
+fn no_stamps(alloc: Global, len: usize, stamped: bool) -> Result<Vec<LastStamp>, NoMemory>
     ensures { IfOk result (λ stamps. stamps.items ≡ (if stamped then replicate len None else [])) }
 {
     if stamped {
-        Ok(vec![in alloc; None; len]?)
+        Ok(vec![in alloc; LastStamp::none(); len]?)
     } else {
         Ok(Vec::new(alloc))
     }
@@ -118,7 +118,7 @@ fn no_bases(alloc: Global, places: usize) -> Result<Vec<Base>, NoMemory>
 
 // Makes the last stamp of word `i`, if there are stamps, equal to `last`.
 #[inline(always)]
-fn put_last(stamps: &mut Vec<Option<Stamp>>, i: usize, last: Option<Stamp>)
+fn put_last(stamps: &mut Vec<LastStamp>, i: usize, last: LastStamp)
     ensures { stamps.new.items ≡ slice_set stamps.old.items i last }
 {
     if let Some(stamp) = stamps.get_mut(i) {
@@ -129,7 +129,7 @@ fn put_last(stamps: &mut Vec<Option<Stamp>>, i: usize, last: Option<Stamp>)
 impl Paged {
     // Makes word `i` equal to `w`, and its last stamp, if the store has stamps, equal to `last`.
     #[inline(always)]
-    fn replace(&mut self, i: usize, w: u16, last: Option<Stamp>)
+    fn replace(&mut self, i: usize, w: u16, last: LastStamp)
         requires { i < length self.old.words }
         ensures words { self.new.words ≡ slice_set self.old.words i w }
         ensures stamps { self.new.stamps ≡ slice_set self.old.stamps i last }
@@ -169,12 +169,12 @@ impl Store for Paged {
         ensures given { self.new.given ≡ self.old.given }
         ensures first_touches { self.new.first_touches ≡ self.old.first_touches }
     {
-        self.replace(i, w, Some(stamp));
+        self.replace(i, w, LastStamp::of(Some(stamp)));
     }
 
     #[inline(always)]
     fn last(&self, i: usize) -> Option<Stamp> {
-        self.stamps.get(i).copied().flatten()
+        self.stamps.get(i)?.stamp()
     }
 
     #[inline(always)]
@@ -186,7 +186,7 @@ impl Store for Paged {
         ensures given { self.new.given ≡ self.old.given }
         ensures first_touches { self.new.first_touches ≡ self.old.first_touches }
     {
-        self.replace(i, w, None);
+        self.replace(i, w, LastStamp::none());
     }
 
     #[inline(always)]

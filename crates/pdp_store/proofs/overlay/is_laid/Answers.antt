@@ -1,12 +1,19 @@
-use Rattle.std.proofs.Common.{◌∙◌, None, sym}
+use Rattle.std.proofs.Common.{◌∙◌, None, ap, arith, get_or, sym}
+use Rattle.std.proofs.lemmas.List.{get_or_read}
+use Rattle.pdp_store.specs.Overlays.{stamp_over}
 use Rattle.pdp_store.proofs.Overlays.{all_laid_so, one_laid_more}
 use Rattle.pdp_store.proofs.overlay.is_laid.Goals as goal
 
 -- src/overlay.rt
 pub loop-k-preserved : goal.loop-k-preserved
 loop-k-preserved c =
-    one_laid_more c.args.turn c.loop-k.k c.args.under.now c.args.over.now c.args.these.now None None None c.loop-k-test.true c.requires.over c.requires.these c.loop-k.invariant
-    (sym c.stamp_over.ensures ∙ c.is_same_stamp.ensures c.if-not-is_same_stamp.false)
+    let turn = c.args.turn in
+    let below = c.loop-k-test.true in
+    let under = get_or_read c.args.under.now c.loop-k.k c.index-under-k.result below c.index-under-k.is None in
+    let over = get_or_read c.args.over.now c.loop-k.k c.index-over-k.result (omega (arith, c.requires.over, below)) c.index-over-k.is None in
+    let these = get_or_read c.args.these.now c.loop-k.k c.index-these-k.result (omega (arith, c.requires.these, below)) c.index-these-k.is None in
+    one_laid_more turn c.loop-k.k c.args.under.now c.args.over.now c.args.these.now None None None below c.requires.over c.requires.these c.loop-k.invariant
+    (ap (λ x. stamp_over turn x (get_or c.args.over.now c.loop-k.k None)) (sym under) ∙ ap (stamp_over turn c.index-under-k.result) (sym over) ∙ sym c.stamp_over.ensures ∙ c.is_same.ensures c.if-not-is_same.false ∙ these)
 
 pub returns : goal.returns
 returns c = λ yes. all_laid_so c.args.turn c.loop-k.k c.args.under.now c.args.over.now c.args.these.now c.loop-k-test.false c.requires.over c.requires.these c.loop-k.invariant
