@@ -9,4 +9,5 @@ pub mod Writes
 pub mod TextParts
 pub mod DiskChanges
 pub mod Watches
+pub mod Backwards
 pub mod Fadings

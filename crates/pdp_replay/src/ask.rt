@@ -1,6 +1,7 @@
 //! Questions about the run, and their answers: registers, words, bytes, last writes and trails; and
 //! searches of the run.
 
+mod backwards;
 mod disk_change;
 mod fading;
 mod items;

@@ -9,5 +9,5 @@ mod turns;
 
 pub(crate) use branch::{Branch, Likeness};
 pub(crate) use kept_run::KeptRun;
-pub(crate) use pauses::{next_pause, pause_on_the_way};
+pub(crate) use pauses::{next_pause, next_taken};
 pub(crate) use turns::{quiet_until, run_part};

@@ -133,7 +133,7 @@ fn known_turns_of_patches_of_the_drive(rt: HostRuntime) -> Result<(), Fail> {
     follow(&rt, rt.alloc(), &mut engine, 1, &PATCHES_OF_THE_DRIVE)
 }
 
-// On the way to a turn far off states are kept each 16,384 turns. They are dropped as what is known
+// On the way to a turn far off states are kept each 8,192 turns. They are dropped as what is known
 // is, so that no question goes on from a state of another past.
 const STATES_NEAR_A_TURN: [Step; 10] = [
     Step::Ran(Question::Regs(90_000), 90_000, 90_000),
@@ -154,8 +154,8 @@ fn states_near_a_turn(rt: HostRuntime) -> Result<(), Fail> {
     follow(&rt, rt.alloc(), &mut engine, 100_000, &STATES_NEAR_A_TURN)
 }
 
-// A key that no program reads leaves the same machine a turn later, but for which key it was. A run
-// that meets the run before the edit takes its states back, and runs no more turns.
+// A key that no program reads changes the machine only in which key waits. A run that meets the run
+// before the edit takes its states back, and runs no more turns.
 const KEY: Event = Event::Key(0o101);
 
 const OTHER_KEY: Event = Event::Key(0o102);
@@ -168,7 +168,7 @@ const EDITS_THAT_FADE: [Step; 8] = [
     Step::Edit(Edit::Alter(1, 101, OTHER_KEY), Ok(0)),
     Step::Ran(Question::Regs(200_000), 199_899, 200_000),
     Step::Edit(Edit::Alter(1, 101, OTHER_KEY), Ok(0)),
-    Step::Ran(Question::Regs(200_000), 9_899, 200_000),
+    Step::Ran(Question::Regs(200_000), 8_192, 200_000),
 ];
 
 #[test]

@@ -5,6 +5,7 @@ use Rattle.std.specs.List.{flat_map}
 use Rattle.pdp_unibus.specs.LastTurn.{last_turn}
 use Rattle.pdp_script.specs.Refusal.{past_left, result_map}
 use Rattle.pdp_script.specs.declared.faults.Fault.{Fault}
+use Rattle.pdp_replay.specs.Ask.Backwards.{last_of_turns}
 use Rattle.pdp_replay.specs.Ask.DiskChanges.{change_checked, word_changes}
 use Rattle.pdp_replay.specs.Ask.Fadings.{fading_checked, joined_by}
 use Rattle.pdp_replay.specs.Ask.Searches.{first_turn_of, search_checked}
@@ -34,6 +35,8 @@ writes_found writes to = found.Writes writes (nat_lt (turn_listed writes to) to)
 abbrev pub finding : Search → Past → Finding
 finding (search.First from to sought) past = found.First (first_turn_of (is_sought_at past sought)
     from (to - from))
+finding (search.Latest from to sought) past = found.Latest (last_of_turns
+    (is_sought_at past sought) from (to - from))
 finding (search.Writes from to address) past = writes_found (take most_listed
     (writes_in_turns past (address / 2) from (to - from))) to
 finding (search.Change from to drive number) past = found.Change (first_turn_of
@@ -48,6 +51,7 @@ finding (search.Fades to edit) past = found.Fades (joined_by to past
 -- can the search be made?
 abbrev pub search_permitted : Search → Past → Result (Unit {0}) Fault
 search_permitted (search.First from to sought) past = search_checked from to
+search_permitted (search.Latest from to sought) past = search_checked from to
 search_permitted (search.Writes from to address) past = writes_checked address from to past.setup
 search_permitted (search.Change from to drive number) past = change_checked drive number from to
     past.setup
@@ -89,6 +93,7 @@ text_name Punched = codes "punched"
 -- what was found, in lines: one row for each kind of search
 abbrev pub finding_text : Finding → List ℕ
 finding_text (found.First turn) = turn_line (codes "first") turn
+finding_text (found.Latest turn) = turn_line (codes "latest") turn
 finding_text (found.Writes writes more) = writes_text writes more
 finding_text (found.Change turn) = turn_line (codes "change") turn
 finding_text (found.TextFrom kind bytes) = bytes_line (text_name kind) bytes

@@ -7,7 +7,8 @@ ghost use Rattle.pdp_session.specs.Search.{search_result};
 mod finders;
 mod write_list;
 
-use finders::{find_change, find_fading, find_first, find_text, find_turn_of_byte, find_writes};
+use finders::{find_change, find_fading, find_first, find_latest};
+use finders::{find_text, find_turn_of_byte, find_writes};
 use pdp_replay::{Bytes, Engine, Fault, PastEdit, Sought, TextKind};
 use std::alloc::Global;
 pub use write_list::WriteList;
@@ -18,6 +19,12 @@ pub use write_list::WriteList;
 pub enum Search {
     // The first turn that is sought.
     First {
+        from: u32,
+        to: u32,
+        sought: Sought,
+    },
+    // The last turn that is sought.
+    Latest {
         from: u32,
         to: u32,
         sought: Sought,
@@ -56,6 +63,7 @@ pub enum Search {
 #[derive(Drop)]
 pub enum Finding {
     First(Option<u32>),
+    Latest(Option<u32>),
     // The first writes, and whether turns were left that may have more.
     Writes(WriteList, bool),
     Change(Option<u32>),
@@ -73,6 +81,7 @@ impl Search {
     {
         match self {
             Search::First { from, to, sought } => find_first(alloc, engine, from, to, sought),
+            Search::Latest { from, to, sought } => find_latest(alloc, engine, from, to, sought),
             Search::Writes { from, to, address } => find_writes(alloc, engine, from, to, address),
             Search::Change {
                 from,

@@ -1,6 +1,7 @@
 -- Where a run goes on from: the machine, or the best checkpoint.
-use Rattle.std.proofs.Common.{◌≡◌, ℕ, ◌+◌, ◌-◌, ◌*◌, ◌/◌, ◌<◌, ◌≤◌, ◌&&◌, if◌then◌else◌, Bool, ap, arith, false, ltb-false, ltb-true, max, min, nat_le, nat_lt, refl, subst, sym, true}
-use Rattle.std.proofs.lemmas.Bool.{leb-false}
+use Rattle.std.proofs.Common.{◌≡◌, ◌∙◌, ℕ, ◌+◌, ◌-◌, ◌*◌, ◌/◌, ◌<◌, ◌≤◌, ◌&&◌, if◌then◌else◌, Bool, ap, arith, false, ltb-false, ltb-true, max, min, nat_le, nat_lt, refl, subst, sym, true}
+use Rattle.std.proofs.Math.Nat.{div-eq_of_lt-le, lt-div-mul-add}
+use Rattle.std.proofs.lemmas.Bool.{leb-false, leb-true}
 use Rattle.pdp_checkpoint.specs.Ladder.{best_of, next_of}
 use Rattle.pdp_replay.specs.Run.KeptRuns.{Advances, ComesTo, IsSomeRun, is_current_by, resumed_at, resumed_turn}
 use Rattle.pdp_replay.specs.Run.Checkpoints.{AreStatesOf}
@@ -59,6 +60,39 @@ kept_turn_is p r to are =
 pub resumed_is : (p : Past) (r : KeptRun) (to : ℕ) → AreStatesOf p r.known r.ladder
     → resumed_turn r to ≡ resumed_at r.is_current r.machine.state.turn (min to r.known / r.ladder.stride * r.ladder.stride) to
 resumed_is p r to are = ap (λ n. resumed_at r.is_current r.machine.state.turn (n * r.ladder.stride) to) (kept_turn_is p r to are)
+
+-- a run goes on from the best checkpoint or from a later turn
+resumed_least : (r : KeptRun) (to : ℕ) → best_of r.ladder (min to r.known) * r.ladder.stride ≤ resumed_turn r to
+resumed_least r to = by (nat_le best r.machine.state.turn) (is_current_by r to) refl
+  where
+    best : ℕ
+    best = best_of r.ladder (min to r.known) * r.ladder.stride
+
+    by : (above stays : Bool) → nat_le best r.machine.state.turn ≡ above → best ≤ (if above && stays then r.machine.state.turn else best)
+    by true true above = leb-true best r.machine.state.turn above
+    by true false above = omega arith
+    by false stays above = omega arith
+
+-- that is less than a stride before a known turn
+pub resumed_near : (r : KeptRun) (to : ℕ) → IsSomeRun r → to ≤ r.known → to < resumed_turn r to + r.ladder.stride
+resumed_near r to some known =
+    let states = some.run.kept.states in
+    let all : min to r.known ≡ to = omega (arith, known) in
+    let best = ap (λ n. n * r.ladder.stride) (kept_turn_is some.past r to states ∙ ap (λ n. n / r.ladder.stride) all) in
+    let least = resumed_least r to in
+    let over : to < to / r.ladder.stride * r.ladder.stride + r.ladder.stride = lt-div-mul-add states.checkpoints.positive in
+    omega (arith, best, least, over)
+
+-- and at that turn or later, if it is a multiple of the stride
+pub resumed_there : (r : KeptRun) (k to : ℕ) → IsSomeRun r → to ≡ k * r.ladder.stride → to ≤ r.known → to ≤ resumed_turn r to
+resumed_there r k to some is known =
+    let states = some.run.kept.states in
+    let positive = states.checkpoints.positive in
+    let all : min to r.known ≡ to = omega (arith, known) in
+    let quotient : to / r.ladder.stride ≡ k = div-eq_of_lt-le r.ladder.stride (omega (arith, is)) (omega (arith, is, positive)) in
+    let best = ap (λ n. n * r.ladder.stride) (kept_turn_is some.past r to states ∙ ap (λ n. n / r.ladder.stride) all ∙ quotient) in
+    let least = resumed_least r to in
+    omega (arith, best, least, is)
 
 -- the known turn, by whether the machine is in a state of the run
 known_as : (current : Bool) (known before turn next : ℕ) → current ≡ nat_lt turn next → turn ≤ next → known ≡ max before (min turn (next - 1))

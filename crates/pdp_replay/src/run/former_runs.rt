@@ -12,7 +12,7 @@ ghost use Rattle.pdp_replay.specs.Run.FormerRuns.{MeetsSomewhere};
 ghost use Rattle.pdp_replay.specs.Run.KeptRuns.{Advances, ArrivesAt, CanGoOn, IsKeptRun, IsOnWay};
 ghost use Rattle.pdp_replay.specs.Past.{Past};
 
-use crate::run::{KeptRun, pause_on_the_way};
+use crate::run::{KeptRun, next_taken};
 use pdp_checkpoint::{Checkpoint, Former};
 use pdp_unibus::LAST_TURN;
 use pdp_word::NoMemory;
@@ -115,7 +115,8 @@ impl KeptRun {
         self.machine.meets(&there.saved) && self.machine.has_touches_of(former.output())
     }
 
-    // Goes on from later states of the former run, which the run meets in this one.
+    // Goes on from later states of the former run, which the run meets in this one. The state in
+    // which it meets it is kept.
     //
     // Err as above.
     fn go_on(
@@ -136,6 +137,7 @@ impl KeptRun {
         ensures arrives { OnOk result (ArrivesAt self.new.machine.state.turn self.old self.new) }
         ensures advances { Advances self.old.machine.state.turn to self.old self.new }
     {
+        self.keep_between(alloc);
         let mut met = there;
         while let Some(next) = self.later_state(former, met, to) {
             self.adopt_and_keep(alloc, former, met, next)?;
@@ -145,7 +147,7 @@ impl KeptRun {
     }
 
     // A state of the former run that is later than this one, up to turn `to` and to the next turn
-    // whose state is to be kept: the last one up to where a run would pause, or if there is none,
+    // whose state is to be kept: the first that is far enough (`next_taken`), or if there is none,
     // the last one.
     fn later_state<'a>(
         &self,
@@ -155,25 +157,9 @@ impl KeptRun {
     ) -> Option<&'a Checkpoint>
         ensures { IfSome result (λ next. IsLaterState to former.now there.now next.now self.now) }
     {
-        let stride = self.ladder.stride();
-        let pause = pause_on_the_way(self.machine.turns(), former.edited(), to, stride);
-        match self.last_later(former, there, pause) {
-            Some(next) => Some(next),
-            None => self.last_later(former, there, to),
-        }
-    }
-
-    // The last state of the former run that is later than this one, up to turn `to` and to the next
-    // turn whose state is to be kept.
-    fn last_later<'a>(
-        &self,
-        former: &'a Former,
-        there: &Checkpoint,
-        to: u32,
-    ) -> Option<&'a Checkpoint>
-        ensures { IfSome result (λ next. IsLaterState to former.now there.now next.now self.now) }
-    {
-        let next = former.last_by(to.min(self.ladder.next()))?;
+        let far = next_taken(self.machine.turns(), former.edited());
+        let most = former.first_from(far).unwrap_or(to).min(to);
+        let next = former.last_by(most.min(self.ladder.next()))?;
         if next.turn > there.turn {
             Some(next)
         } else {

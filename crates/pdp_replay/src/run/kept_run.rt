@@ -180,13 +180,14 @@ impl KeptRun {
         }
     }
 
-    /// Keeps the state of the machine beside the checkpoints, if it isn't of the turn of one of
-    /// them, and if there is memory for it: no answer depends on it.
+    /// Keeps the state of the machine beside the checkpoints, if no state of this turn is kept, and
+    /// if there is memory for it: no answer depends on it.
     pub(crate) fn keep_between(&mut self, alloc: Global)
         ensures same { self.new ≡ with_near self.new.ladder.near self.old }
         ensures way { (p : Past) → IsOnWay p self.old → IsOnWay p self.new }
     {
-        if self.machine.turns() % self.ladder.stride() != 0 {
+        let turn = self.machine.turns();
+        if self.ladder.closest(turn).turn != turn {
             let _ = self.ladder.take_near(alloc, &mut self.machine);
         }
     }

@@ -11,8 +11,8 @@ use Rattle.pdp_replay.specs.declared.ask.sought.Sought.TheVariants.{Instruction,
 use Rattle.pdp_replay.specs.declared.ask.text_part.TextKind.{TextKind}
 use Rattle.pdp_replay.specs.declared.ask.text_part.TextKind.TheVariants.{Printed, Punched}
 use Rattle.pdp_session.specs.declared.search.Search.{Search}
-use Rattle.pdp_session.specs.declared.search.Search.TheVariants.{First, Writes, Change, TextFrom}
-use Rattle.pdp_session.specs.declared.search.Search.TheVariants.{When, Fades}
+use Rattle.pdp_session.specs.declared.search.Search.TheVariants.{First, Latest, Writes, Change}
+use Rattle.pdp_session.specs.declared.search.Search.TheVariants.{TextFrom, When, Fades}
 use Rattle.pdp_session.specs.declared.version.Version.{Version}
 use Rattle.pdp_session.specs.Grammar.Arguments.{◌>>=◌, first_of, one_of, two_of, drive_first}
 use Rattle.pdp_session.specs.Grammar.Arguments.{turn_named, count_named, word_named}
@@ -62,6 +62,13 @@ first_form arguments = do
   (n, m, what) ← turns_first arguments
   sought ← sought_named what
   Some (First n m sought)
+
+-- `latest N M at A` and so on: the same, for the last turn
+abbrev pub latest_form : List (List ℕ) → Option Search
+latest_form arguments = do
+  (n, m, what) ← turns_first arguments
+  sought ← sought_named what
+  Some (Latest n m sought)
 
 -- `writes N M A`: an address, in octal
 abbrev pub writes_form : List (List ℕ) → Option Search
@@ -114,6 +121,7 @@ fades_form version arguments = do
 unfoldable pub search_with : Version → List ℕ → List (List ℕ) → Option Search
 search_with version name arguments =
     if bytes_eq name (codes "first") then first_form arguments
+    else if bytes_eq name (codes "latest") then latest_form arguments
     else if bytes_eq name (codes "writes") then writes_form arguments
     else if bytes_eq name (codes "change") then change_form version arguments
     else if bytes_eq name (codes "text") then text_from_form Printed arguments

@@ -3,6 +3,7 @@
 ghost use Rattle.std.specs.Prelude.{◌≡◌};
 ghost use Rattle.std.specs.Option.{option_map};
 ghost use Rattle.pdp_session.specs.Grammar.Searches.{change_form, fades_form, first_form};
+ghost use Rattle.pdp_session.specs.Grammar.Searches.{latest_form};
 ghost use Rattle.pdp_session.specs.Grammar.Searches.{mode_named};
 ghost use Rattle.pdp_session.specs.Grammar.Searches.{part_named, search_named, search_with};
 ghost use Rattle.pdp_session.specs.Grammar.Searches.{sought_in_any_mode, sought_in_mode};
@@ -51,6 +52,8 @@ fn read_named(version: Version, name: &[u8], arguments: &[u8]) -> Option<Search>
 {
     if name == b"first".as_slice() {
         read_first(arguments)
+    } else if name == b"latest".as_slice() {
+        read_latest(arguments)
     } else if name == b"writes".as_slice() {
         read_writes(arguments)
     } else if name == b"change".as_slice() {
@@ -87,6 +90,15 @@ fn read_first(arguments: &[u8]) -> Option<Search>
     let (from, to, what) = turns_first(arguments)?;
     let sought = read_sought(what)?;
     Some(Search::First { from, to, sought })
+}
+
+// `latest N M at A` and so on
+fn read_latest(arguments: &[u8]) -> Option<Search>
+    ensures { result ≡ latest_form (words_of_line arguments.now) }
+{
+    let (from, to, what) = turns_first(arguments)?;
+    let sought = read_sought(what)?;
+    Some(Search::Latest { from, to, sought })
 }
 
 // What a search looks for.

@@ -28,6 +28,7 @@ fn send_finding<W: Drain>(finding: &Finding, writer: &mut W) -> Result<(), Faile
 {
     match finding {
         Finding::First(turn) => send(writer, turn_text("first", *turn).as_slice()),
+        Finding::Latest(turn) => send(writer, turn_text("latest", *turn).as_slice()),
         Finding::Writes(writes, more) => send_writes(writes, *more, writer),
         Finding::Change(turn) => send(writer, turn_text("change", *turn).as_slice()),
         Finding::TextFrom(kind, bytes) => send_bytes(text_name(*kind), bytes.items(), writer),

@@ -22,6 +22,22 @@ pub fn find_first(
     Ok(Finding::First(found.turn))
 }
 
+// The last turn that is sought.
+pub fn find_latest(
+    alloc: Global,
+    engine: &mut Engine,
+    from: u32,
+    to: u32,
+    sought: Sought,
+) -> Result<Finding, Fault>
+    ensures finding { result ≡ question_answer
+        (search_result (Search.Latest from to sought) engine.old.past) (for_memory result) }
+    ensures past { engine.new.past ≡ engine.old.past }
+{
+    let found = engine.last_at(alloc, sought, from, to)?;
+    Ok(Finding::Latest(found.turn))
+}
+
 // The writes to the word of core at an address.
 pub fn find_writes(
     alloc: Global,

@@ -1,14 +1,19 @@
 use Rattle.std.proofs.Common.{arith}
-use Rattle.pdp_replay.proofs.run.Coming.{advances_further, advances_nowhere, advances_on, arrives_nowhere, arrives_on, arrives_where, can_go_on}
+use Rattle.pdp_replay.proofs.run.Coming.{advances_further, advances_near, advances_nowhere, advances_on, arrives_near, arrives_nowhere, arrives_on, arrives_where, can_go_on}
+use Rattle.pdp_replay.proofs.run.FormerRuns.{meets_near}
 use Rattle.pdp_replay.proofs.run.UnderWay.{kept_of_way}
 use Rattle.pdp_replay.proofs.run.kept_run.KeptRun.go_on.Goals as goal
 
 pub loop-next-init : goal.loop-next-init
-loop-next-init c = record {
-  meets = λ p meets. meets;
-  there = arrives_nowhere c.args.self.now c.requires.ready;
-  on = advances_nowhere c.args.self.now c.args.to c.requires.ready c.requires.forward;
-}
+loop-next-init c =
+    let kept = c.keep_between.ensures in
+    let there = arrives_near _ _ c.args.self.now c.args.self.now _ kept.same (arrives_nowhere c.args.self.now c.requires.ready) in
+    record {
+      meets = λ p meets. meets_near p c.args.former.now c.args.there.now _ c.args.self.now _ kept.same (kept.way p meets.way) meets;
+      there = arrives_where _ _ _ there;
+      on = advances_near _ _ _ c.args.self.now c.args.self.now _ kept.same
+          (advances_nowhere c.args.self.now c.args.to c.requires.ready c.requires.forward);
+    }
 
 pub adopt_and_keep-requires-clause-ready : goal.adopt_and_keep-requires-clause-ready
 adopt_and_keep-requires-clause-ready c =
