@@ -8,7 +8,7 @@ pub mod TextParts
 pub mod DiskChanges
 pub mod Resuming
 pub mod Watches
-pub mod Backwards
+pub mod LastTurns
 pub mod Fadings
 pub mod FadingEdits
 pub mod PatchFadings

@@ -13,8 +13,9 @@
 //!   bytes that are kept are those that came out before the known turn (`kept_states`, `machine`).
 //! - A last write is that of the trace of the whole run, and a trail has the run's turns.
 //! - **Searches**: [`Engine::first_at`] returns the first turn of the run that begins with the act
-//!   that is sought, and [`Engine::writes`] the writes to a word of core, for every past and
-//!   whatever is kept. The turns run for them are bounded as those of an answer.
+//!   that is sought, [`Engine::last_at`] the last one, and [`Engine::writes`] the writes to a word
+//!   of core, for every past and whatever is kept. The turns run for them are bounded: those of
+//!   `last_at` are the ones from the turn found on and two strides, where they were known.
 //! - **An edit that fades**: [`Engine::fades`] returns the least turn from which on the run with an
 //!   edit of the script, or with a word patched, would be the run as it is: the same state, except
 //!   for stamps and what came out, and the same events from then on. Runs that are one so stay one

@@ -19,6 +19,8 @@ const LETTERS: [u16; 9] = [
 enum Asked {
     /// The first turn that is sought, from a turn on and before another.
     First(Sought, u32, u32),
+    /// The last turn that is sought, from a turn on and before another.
+    Last(Sought, u32, u32),
     /// The writes to the word at 2000 (octal), from a turn on and before another.
     Writes(u32, u32),
     /// The first change of the first word of the drive, from a turn on and before another.
@@ -36,7 +38,7 @@ const INCREMENT: Sought = Sought::Instruction {
 
 // What is asked, how many turns are run for it, and the known turn after it. The state of turn 0
 // alone is kept, and the machine goes on from where it is if that isn't past the first turn.
-const SEARCHES: [(Asked, u64, u32); 8] = [
+const SEARCHES: [(Asked, u64, u32); 10] = [
     (Asked::First(INCREMENT, 0, 100), 4, 4),
     (Asked::Writes(4, 100), 96, 100),
     (Asked::Change(50, 60), 60, 100),
@@ -47,6 +49,9 @@ const SEARCHES: [(Asked, u64, u32); 8] = [
     (Asked::Byte(26), 7, 107),
     (Asked::First(INCREMENT, 107, 200), 1, 108),
     (Asked::First(Sought::PendingTrap, 0, 10), 10, 108),
+    (Asked::Last(INCREMENT, 50, 60), 50, 108),
+    // The turns up to 120 are made known, and then run again from the state of turn 0 on.
+    (Asked::Last(INCREMENT, 0, 120), 180, 120),
 ];
 
 /// How many turns are run for a search, and the known turn after it.
@@ -54,6 +59,10 @@ fn ran_for(engine: &mut Engine, alloc: Global, asked: Asked) -> Result<(u64, u32
     match asked {
         Asked::First(sought, from, to) => {
             let found = engine.first_at(alloc, sought, from, to)?;
+            Ok((found.ran, found.known))
+        }
+        Asked::Last(sought, from, to) => {
+            let found = engine.last_at(alloc, sought, from, to)?;
             Ok((found.ran, found.known))
         }
         Asked::Writes(from, to) => {
@@ -90,6 +99,24 @@ fn assert_runs(rt: &impl Abort, alloc: Global, engine: &mut Engine) -> Result<()
 fn turns_run_for_searches(rt: HostRuntime) -> Result<(), Fail> {
     let mut engine = engine_of(rt.alloc(), &LETTERS, WIDEST)?;
     assert_runs(&rt, rt.alloc(), &mut engine)
+}
+
+// Turn 99 runs the INC, turn 0 alone the first MOV. From the end on the parts between two states
+// that are kept are run, each once, up to the one in which a turn is found.
+#[test]
+fn turns_run_backwards(rt: HostRuntime) -> Result<(), Fail> {
+    let alloc = rt.alloc();
+    let mut engine = engine_of(alloc, &LETTERS, 10)?;
+    engine.ask(alloc, Question::Regs(100))?;
+    let late = engine.last_at(alloc, INCREMENT, 0, 100)?;
+    assert_eq!(&rt; (late.turn, late.ran), (Some(99), 10));
+    let begin = Sought::Instruction {
+        address: 0o1000,
+        mode: None,
+    };
+    let early = engine.last_at(alloc, begin, 0, 100)?;
+    assert_eq!(&rt; (early.turn, early.ran), (Some(0), 100));
+    Ok(())
 }
 
 // MOV #400,SP; MOV R0,-(SP), into the yellow zone. The stack trap is turn 2, and goes to 0, where

@@ -7,8 +7,9 @@ ghost use Rattle.pdp_session.specs.Search.{search_result};
 mod finders;
 mod write_list;
 
-use finders::{find_change, find_fading, find_first, find_latest};
-use finders::{find_text, find_turn_of_byte, find_writes};
+use finders::{
+    find_change, find_fading, find_first, find_latest, find_text, find_turn_of_byte, find_writes,
+};
 use pdp_replay::{Bytes, Engine, Fault, PastEdit, Sought, TextKind};
 use std::alloc::Global;
 pub use write_list::WriteList;

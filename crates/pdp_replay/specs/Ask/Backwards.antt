@@ -4,7 +4,7 @@ use Rattle.std.specs.Prelude.{max, min, unwrap_or, if◌then◌else◌}
 use Rattle.pdp_script.specs.Script.{ScriptData}
 use Rattle.pdp_replay.specs.Past.{Past}
 use Rattle.pdp_replay.specs.Timeline.{Timeline}
-use Rattle.pdp_replay.specs.Run.KeptRuns.{IsKeptRun, IsOnWay, KeepsStride}
+use Rattle.pdp_replay.specs.Run.KeptRuns.{IsKeptRun, IsOnWay}
 use Rattle.pdp_replay.specs.Ask.Searches.{HoldsNowhere}
 use Rattle.pdp_replay.specs.Ask.SoughtTurns.{is_sought_at}
 use Rattle.pdp_replay.specs.Ask.Watches.{is_watched_at}
@@ -48,13 +48,6 @@ IsLastSought from to script sought r found = (p : Past) → p.script ≡ script 
 pub record IsWithinBack (from to known before after stride : ℕ) : Type 0 where
   pub known_all : to ≤ known → after + from ≤ before + to + 2 * stride
   pub known_less : after + from + min to known ≤ before + to + to + 3 * stride
-
--- what is known of a run rose to turn `to` at most, and no turn was taken from the count
-pub record KnowsUpTo (to : ℕ) (before after : KeptRun) : Type 0 where
-  pub known_least : before.known ≤ after.known
-  pub known_most : after.known ≤ max before.known to
-  pub stride : KeepsStride before after
-  pub counted : before.meter ≤ after.meter
 
 -- the same bound of a run that is kept, and of a timeline
 abbrev pub RunsBack : ℕ → ℕ → KeptRun → KeptRun → Type 0

@@ -12,7 +12,8 @@ ghost use Rattle.pdp_replay.specs.Ask.SoughtTurns.{is_sought_at};
 ghost use Rattle.pdp_replay.specs.Ask.Watches.{IsInside};
 ghost use Rattle.pdp_replay.specs.Ask.Backwards.{last_of_turns, IsFoundBackwards, IsLastOf};
 ghost use Rattle.pdp_replay.specs.Ask.Backwards.{IsLastSought, IsLastTo, IsWithinBackwards};
-ghost use Rattle.pdp_replay.specs.Ask.Backwards.{KnowsUpTo, RunsBack};
+ghost use Rattle.pdp_replay.specs.Ask.Backwards.{RunsBack};
+ghost use Rattle.pdp_replay.specs.Run.Branches.{IsLookedAt};
 
 use crate::ask::search::{check_search, search};
 use crate::ask::watch::Watchpoint;
@@ -91,7 +92,7 @@ fn find_last(
     requires limit { to ≤ LAST_TURN }
     ensures found { IfOk result (IsLastSought from to script.now sought run.old) }
     ensures kept { KeepsRun script.now run.old run.new }
-    ensures knows { KnowsUpTo to run.old run.new }
+    ensures looked { IsLookedAt to run.old run.new }
     ensures known { OnOk result (run.new.known ≡ max run.old.known to) }
     ensures bound { RunsBack from to run.old run.new }
     ensures ran { IfOk result (λ found. RunsBack (unwrap_or found from) to run.old run.new) }
@@ -103,16 +104,11 @@ fn find_last(
 /// Runs the turns up to turn `to` that aren't known.
 ///
 /// Err if memory was refused; what was kept until then stays.
-fn make_known(
-    alloc: Global,
-    run: &mut KeptRun,
-    script: &Script,
-    to: u32,
-) -> Result<(), NoMemory>
+fn make_known(alloc: Global, run: &mut KeptRun, script: &Script, to: u32) -> Result<(), NoMemory>
     requires run { IsRunOf script.now run.old }
     requires limit { to ≤ LAST_TURN }
     ensures kept { KeepsRun script.now run.old run.new }
-    ensures knows { KnowsUpTo to run.old run.new }
+    ensures looked { IsLookedAt to run.old run.new }
     ensures known { OnOk result (run.new.known ≡ max run.old.known to) }
     ensures none { to ≤ run.old.known → run.new ≡ run.old }
     ensures bound { run.new.meter + min to run.old.known
@@ -142,7 +138,7 @@ fn search_back(
     requires known { to ≤ run.old.known }
     ensures found { IfOk result (IsLastSought from to script.now sought run.old) }
     ensures kept { KeepsRun script.now run.old run.new }
-    ensures knows { KnowsUpTo to run.old run.new }
+    ensures looked { IsLookedAt to run.old run.new }
     ensures bound { run.new.meter + from
         ≤ run.old.meter + to + 2 * run.new.ladder.stride }
     ensures ran { IfOk result (λ found. run.new.meter + unwrap_or found from
@@ -163,7 +159,7 @@ fn search_back(
 fn part_before(end: u32, from: u32, stride: u32) -> u32
     requires order { from < end }
     requires some { 0 < stride }
-    ensures { result ≡ max ((end - 1) / stride * stride) from }
+    ensures begin { result ≡ max ((end - 1) / stride * stride) from }
     ensures before { result < end }
     ensures near { end ≤ result + stride }
 {

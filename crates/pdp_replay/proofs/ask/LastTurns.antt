@@ -1,15 +1,14 @@
 -- Searches for the last of some turns that has a property, part by part from the end on.
-use Rattle.std.proofs.Common.{◌≡◌, ◌∙◌, ℕ, ◌+◌, ◌-◌, ◌*◌, ◌/◌, ◌<◌, ◌≤◌, ⊎_elim, Bool, Option, None, Some, ap, arith, false, max, min, refl, subst, suc, sym, true, unwrap_or, zero}
+use Rattle.std.proofs.Common.{◌≡◌, ℕ, ◌+◌, ◌-◌, ◌*◌, ◌/◌, ◌^◌, ◌<◌, ◌≤◌, ⊎_elim, Bool, Option, None, Some, ap, arith, false, max, min, refl, subst, suc, sym, true, unwrap_or, zero}
 use Rattle.std.proofs.Math.Nat.{lt-div-mul-add, mul-le-mul_left, mul-le-mul_right}
 use Rattle.std.proofs.lemmas.Bool.{cases_lt}
 use Rattle.std.proofs.lemmas.Nat.{pow_pos}
 use Rattle.std.specs.Option.{option_or}
-use Rattle.pdp_replay.specs.Run.KeptRuns.{Advances, IsSomeRun, KeepsStride, resumed_turn}
+use Rattle.pdp_replay.specs.Run.KeptRuns.{IsSomeRun, KeepsStride}
 use Rattle.pdp_replay.specs.Run.Strides.{IsStride}
 use Rattle.pdp_replay.specs.Ask.Backwards.{IsLastOf, IsWithinBack, last_of_turns}
 use Rattle.pdp_replay.specs.Ask.Searches.{HoldsNowhere, IsFirst, turn_reached}
 use Rattle.pdp_replay.specs.declared.run.kept_run.KeptRun.{KeptRun}
-use Rattle.pdp_replay.proofs.ask.Resuming.{resumed_near, resumed_there}
 use Rattle.pdp_replay.proofs.ask.Searches.{nowhere_on}
 
 -- what a part found, or what was found before it
@@ -63,12 +62,18 @@ last_some_of holds from (suc n) t least below there none =
     ⊎_elim
     (λ earlier.
     let here : holds (from + n) ≡ false = none (from + n) (omega (arith, earlier)) (omega arith) in
-    rw here (last_some_of holds from n t least earlier there (λ turn low high. none turn low (omega (arith, high)))))
+    let fewer : HoldsNowhere holds (t + 1) (from + n) = λ turn low high. none turn low (omega (arith, high)) in
+    let rest : last_of_turns holds from n ≡ Some t = last_some_of holds from n t least earlier there fewer in
+    rw here rest)
     (λ late.
     let last : t ≡ from + n = omega (arith, late, below) in
     let is : holds (from + n) ≡ true = subst (λ u. holds u ≡ true) last there in
     rw is (ap (λ u. Some u) (sym last)))
     (cases_lt t (from + n))
+
+-- a turn that is found is before the end
+pub last_before : (holds : ℕ → Bool) (from to : ℕ) (found : Option ℕ) (t : ℕ) → found ≡ Some t → IsLastOf holds from to found → t < to
+last_before holds from to found t is last = let here = subst (IsLastOf holds from to) is last in here.most
 
 -- what is the last is what is computed
 pub last_is : (holds : ℕ → Bool) (from to : ℕ) (found : Option ℕ) → from ≤ to → IsLastOf holds from to found
@@ -112,3 +117,11 @@ pub found_near : (found : Option ℕ) (from start stride meter most : ℕ) → f
     → meter + start ≤ most + stride → meter + unwrap_or found from ≤ most + 2 * stride
 found_near None from start stride meter most order near ran = omega (arith, order, ran)
 found_near (Some t) from start stride meter most order near ran = let below = near t refl in omega (arith, below, ran)
+
+-- a search back to turn n ran so many turns, if the turns up to `to` were made known before it
+pub within_back : (n to known before made after stride now : ℕ) → (to ≤ known → made ≡ before) → made + min to known ≤ before + to + stride
+    → stride ≤ now → after + n ≤ made + to + 2 * now → IsWithinBack n to known before after now
+within_back n to known before made after stride now same bound grows ran = record {
+  known_all = λ all. let is = same all in omega (arith, is, ran);
+  known_less = omega (arith, bound, grows, ran);
+}
