@@ -108,6 +108,19 @@ SEARCHES = [
         "first T",
         "the first turn that serves an interrupt through V",
     ),
+    Line("latest N M at A", SEARCH, "latest T", "the last turn that runs the instruction at A"),
+    Line(
+        "latest N M at A MODE",
+        SEARCH,
+        "latest T",
+        "the same in one mode of the processor, kernel or user",
+    ),
+    Line(
+        "latest N M vector V",
+        SEARCH,
+        "latest T",
+        "the last turn that serves an interrupt through V",
+    ),
     Line(
         "writes N M A",
         SEARCH,

@@ -6,7 +6,7 @@ import { LAST_TURN, isRefused, turnOf } from "./replies.js";
 
 const OF_A_TURN = new Set(
   ["regs", "mem", "dsk", "text", "punched", "last", "trail", "devices", "pages", "fades"]);
-const OF_TURNS = new Set(["first", "writes", "change"]);
+const OF_TURNS = new Set(["first", "latest", "writes", "change"]);
 const MOST_WRITES = 256;
 const LONGEST_LINE = 200;
 // In the first turns of a run a question is answered at once. A trail has at most so many turns.
@@ -48,11 +48,13 @@ export function byteAsked(line) {
 }
 
 /**
- * A search that is asked in parts, from its first turn on; null for any other line.
- * `line(from, to)` asks about turns, `add(reply, to)` takes the reply. It returns that of the whole
- * search, or null if the turns from `to` on are to be searched.
- * @typedef {{from: number, end: number, line: (from: number, to: number) => string,
- *   add: (reply: string, to: number) => string | null}} Search
+ * A search that is asked in parts; null for any other line. The turns from `from` on and before
+ * `end` are left: the first of them come next, or of a search backwards the last.
+ * `line(from, to)` asks about turns, `add(reply, isLast)` takes the reply, `isLast` if no turns are
+ * left. It returns the reply to the whole search, or null if the search goes on.
+ * @typedef {{from: number, end: number, isBackwards: boolean,
+ *   line: (from: number, to: number) => string,
+ *   add: (reply: string, isLast: boolean) => string | null}} Search
  * @returns {Search | null}
  */
 export function searchOf(line) {
@@ -61,20 +63,20 @@ export function searchOf(line) {
   if (!OF_TURNS.has(word) || to === from) return null;
   const part = (low, high) => [word, low, high, ...rest].join(" ");
   const found = [];
-  const add = (reply, high) => {
+  const add = (reply, isLast) => {
     if (isRefused(reply)) return reply;
-    if (word === "writes") return addWrites(found, reply, high, to);
-    return turnOf(reply) === null && high < to ? null : reply;
+    if (word === "writes") return addWrites(found, reply, isLast, to);
+    return turnOf(reply) === null && !isLast ? null : reply;
   };
-  return { from, end: to, line: part, add };
+  return { from, end: to, isBackwards: word === "latest", line: part, add };
 }
 
 /** Adds the writes of a part; returns the reply to the whole search if it is known. */
-function addWrites(found, reply, high, end) {
+function addWrites(found, reply, isLast, end) {
   found.push(...reply.split("\n").slice(1));
   const lines = found.slice(0, MOST_WRITES);
   const isFull = lines.length === MOST_WRITES;
-  if (!isFull && high < end) return null;
+  if (!isFull && !isLast) return null;
   const hasMore = isFull && Number(lines.at(-1).split(" ")[0]) + 1 < end;
   return [`writes ${lines.length}${hasMore ? " or more" : ""}`, ...lines].join("\n");
 }

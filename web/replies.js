@@ -213,9 +213,9 @@ export function lastOf(reply) {
 /** The words of a reply of `mem` or `dsk`. */
 export const wordsOf = reply => fieldsOf(reply, "mem", "dsk").map(it => parseInt(it, 8));
 
-/** The turn of a reply such as `first 11` or `when none`, or null. */
+/** The turn of a reply such as `first 11` or `latest none`, or null. */
 export function turnOf(reply) {
-  const [turn] = fieldsOf(reply, "first", "change", "when", "fades");
+  const [turn] = fieldsOf(reply, "first", "latest", "change", "when", "fades");
   return turn === "none" ? null : Number(turn);
 }
 

@@ -115,11 +115,12 @@ export class Run {
   async askPart(job) {
     if (this.isEditNext(job)) return this.sendEdits(job);
     const line = job.lines[job.replies.length];
-    const [turn] = turnsAsked(line), byte = byteAsked(line);
+    const search = job.search ??= searchOf(line), byte = byteAsked(line);
+    const turn = search ? this.turnBefore(search) : turnsAsked(line)[0];
     const left = this.turnsToRun(this.at, turn) - this.turnsAtOnce;
     if (left > 0) await this.goOn(job, line, turn - left);
     else if (byte !== null && byte >= this.printed) await this.goOnToByte(job, byte);
-    else if (job.search ??= searchOf(line)) await this.searchOn(job);
+    else if (search) await this.searchOn(job, line);
     else await this.askLines(job);
     return undefined;
   }
@@ -144,15 +145,28 @@ export class Run {
   async goOn(job, line, turn) {
     const isTried = job.tried === job.replies.length;
     job.tried = job.replies.length;
-    const done = turn - this.turnsAtOnce;
-    this.onProgress({ done, all: turnsAsked(line)[0], what: "turns" });
+    this.showTurns(line, job.search, turn - this.turnsAtOnce);
     if (isTried) {
       const [reply] = await this.timed([`regs ${turn}`], this.turnsAtOnce);
       mustBeTaken(reply);
       return;
     }
     const [reply] = await this.send([earlyQuestion(line)]);
-    if (isRefused(reply)) job.replies.push(reply);
+    if (isRefused(reply)) this.endLine(job, reply);
+  }
+
+  /** Takes the reply to the job's next line. */
+  endLine(job, reply) {
+    job.search = null;
+    job.replies.push(reply);
+  }
+
+  /** Says how far a line is: at which turn the machine is, or how many turns were searched back. */
+  showTurns(line, search, turn) {
+    const [begin, end] = turnsAsked(line);
+    const goesBack = search?.isBackwards && end <= this.known;
+    const [done, all] = goesBack ? [end - search.end, end - begin] : [turn, end];
+    this.onProgress({ done, all, what: "turns" });
   }
 
   /** Runs on until the byte is printed that is asked about. */
@@ -163,17 +177,31 @@ export class Run {
     if (reply !== "text 0:" || turn === LAST_TURN) this.printed = byte + 1;
   }
 
+  /** The turn that the machine goes to before it searches on. A search backwards begins when the
+      turns before its end are known. */
+  turnBefore(search) {
+    const { end, isBackwards } = search;
+    return isBackwards && end > this.known ? end : this.partOf(search)[0];
+  }
+
+  /** The turns that are searched next. A part backwards begins at a checkpoint, if it has one: the
+      program goes on from there. */
+  partOf({ from, end, isBackwards }) {
+    if (!isBackwards) return [from, Math.min(end, from + this.turnsAtOnce)];
+    const turn = end - this.turnsAtOnce;
+    const checkpoint = Math.ceil(turn / this.stride) * this.stride;
+    return [Math.max(from, checkpoint < end ? checkpoint : turn), end];
+  }
+
   /** Searches some turns more. */
-  async searchOn(job) {
-    const { search } = job, { from, end } = search;
-    const to = Math.min(end, from + this.turnsAtOnce);
-    this.onProgress({ done: from, all: end, what: "turns" });
+  async searchOn(job, line) {
+    const { search } = job, [from, to] = this.partOf(search);
+    this.showTurns(line, search, from);
     const [reply] = await this.timed([search.line(from, to)], to - from);
-    const whole = search.add(reply, to);
-    search.from = to;
-    if (whole === null) return;
-    job.search = null;
-    job.replies.push(whole);
+    if (search.isBackwards) search.end = from;
+    else search.from = to;
+    const whole = search.add(reply, search.from === search.end);
+    if (whole !== null) this.endLine(job, whole);
   }
 
   async askLines(job) {

@@ -47,16 +47,16 @@ FADES_HELP = (
 # With `!` these overwrite a file that this run hasn't written.
 WRITING = {"save", "page", "export", "sweep", "core", "disk"}
 # The replies of these lines of the language begin with the turn that they have found.
-FINDING = ("last", "first", "change", "when", "fades")
+FINDING = ("last", "first", "latest", "change", "when", "fades")
 NUMBERS = (
     "A, X, I, D, W and B are octal, N, M, T, C, K and E decimal. A and X may be a symbol, with "
     "octal numbers after + and -. A question about turn N is about the machine before it."
 )
 CURRENT_TURN = (
-    "The current turn is the one that a line found (until, next, where, first, last, change, when, "
-    "fades) or showed (show, step, back, see, list, screen) last, or where you left the console. "
-    "The lines that show begin there if they name no turn. Other lines, edits too, leave it as it "
-    "is. The prompt at a terminal names it, if it isn't turn 0."
+    "The current turn is the one that a line found (until, next, where, first, latest, last, "
+    "change, when, fades) or showed (show, step, back, see, list, screen) last, or where you left "
+    "the console. The lines that show begin there if they name no turn. Other lines, edits too, "
+    "leave it as it is. The prompt at a terminal names it, if it isn't turn 0."
 )
 
 

@@ -50,6 +50,8 @@ class Depth(Case):
         for line in ("regs 9999999999", "mem 900 1 1"):
             self.assertTrue(machine.ask(line).startswith("refused"))
         self.assertEqual(machine.asked.greatest, 9)
+        machine.read("latest 2 40 at 1000")
+        self.assertEqual((machine.asked.turn, machine.asked.greatest), (40, 40))
 
     def test_see(self) -> None:
         explorer = self.explorer(LEDGER)

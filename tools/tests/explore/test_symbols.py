@@ -310,6 +310,8 @@ class Named(Media):
             ("writes 0 4000 NOW", "writes 0 4000 1520"),
             ("first 0 4000 at TICK", "first 0 4000 at 1102"),
             ("first 0 4000 at TICK kernel", "first 0 4000 at 1102 kernel"),
+            ("latest 0 4000 at TICK", "latest 0 4000 at 1102"),
+            ("latest 0 4000 at TICK kernel", "latest 0 4000 at 1102 kernel"),
             ("sweep 3 from 9 to 11: mem 4000 NOW 1", "sweep 3 from 9 to 11: mem 4000 1520 1"),
             ("core QUEUE 5", "core 2000 5"),
             ("uncore QUEUE", "uncore 2000"),

@@ -263,7 +263,7 @@ export async function test_from_which_turn_two_pasts_are_the_same() {
 
 /** A machine that notes what it is asked, and the turns that each message runs, with checkpoints as
     the program has them. A word is written every 20,000 turns, and no PC is 2. */
-class NotingMachine {
+export class NotingMachine {
   constructor() {
     Object.assign(this, { sent: [], runs: [], at: 0, known: 0, stride: 10_000, events: 0 });
   }
@@ -307,7 +307,7 @@ class NotingMachine {
   }
 }
 
-class NotingRun extends Run {
+export class NotingRun extends Run {
   start() {
     this.forget();
     this.machine = new NotingMachine();
