@@ -3,7 +3,7 @@ use Rattle.std.proofs.Common.{◌≡◌, ℕ, List, Option, cond, nat_le, nat_lt
 use Rattle.pdp_script.specs.Refusal.{for_memory, past_left, question_answer, result_map}
 use Rattle.pdp_script.specs.declared.faults.Fault.{Fault}
 use Rattle.pdp_replay.specs.Ask.Writes.{turn_listed}
-use Rattle.pdp_replay.specs.Ask.Fadings.{fading, fading_checked, joined_by}
+use Rattle.pdp_replay.specs.Ask.Fadings.{fading, joined_by}
 use Rattle.pdp_replay.specs.Past.{Past}
 use Rattle.pdp_replay.specs.Past.Edit.{past_edit}
 use Rattle.pdp_replay.specs.declared.ask.fading.Fading.{Fading}
