@@ -20,7 +20,7 @@ LONG_TASK = 50
 def last_turn(question: str) -> int:
     """The last turn that a question is about."""
     word, *numbers = question.split()
-    return int(numbers[1 if word in ("first", "writes", "change") else 0])
+    return int(numbers[1 if word in ("first", "latest", "writes", "change") else 0])
 
 
 class Edits(PageCase):
@@ -101,6 +101,10 @@ class LongQuestions(PageCase):
         self.wait_text("#instructions", "4999")
         self.browser.click("#stop")
         self.wait_text("#reply", "Stopped")
+
+    def test_a_search_goes_back_to_the_first_turn(self) -> None:
+        """The instruction at 1000 is run in turn 0 alone."""
+        self.assertIn("latest 0", self.type_line("latest 0 200000 at 1000").split(": ")[1])
 
     def test_lines_are_shown_as_lines(self) -> None:
         self.type_line("trail 100 2")
