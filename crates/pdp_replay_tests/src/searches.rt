@@ -36,6 +36,12 @@ const INCREMENT: Sought = Sought::Instruction {
     mode: None,
 };
 
+// Turn 0 alone runs it.
+const BEGIN: Sought = Sought::Instruction {
+    address: 0o1000,
+    mode: None,
+};
+
 // What is asked, how many turns are run for it, and the known turn after it. The state of turn 0
 // alone is kept, and the machine goes on from where it is if that isn't past the first turn.
 const SEARCHES: [(Asked, u64, u32); 10] = [
@@ -52,6 +58,14 @@ const SEARCHES: [(Asked, u64, u32); 10] = [
     (Asked::Last(INCREMENT, 50, 60), 50, 108),
     // The turns up to 120 are made known, and then run again from the state of turn 0 on.
     (Asked::Last(INCREMENT, 0, 120), 180, 120),
+];
+
+// With a state at each tenth turn: 100 turns are made known, and then turns are searched from the
+// end on, part by part, up to the part in which one is found.
+const SEARCHES_BACKWARDS: [(Asked, u64, u32); 3] = [
+    (Asked::Last(INCREMENT, 0, 100), 110, 100),
+    (Asked::Last(INCREMENT, 0, 100), 10, 100),
+    (Asked::Last(BEGIN, 0, 100), 100, 100),
 ];
 
 /// How many turns are run for a search, and the known turn after it.
@@ -84,8 +98,13 @@ fn ran_for(engine: &mut Engine, alloc: Global, asked: Asked) -> Result<(u64, u32
     }
 }
 
-fn assert_runs(rt: &impl Abort, alloc: Global, engine: &mut Engine) -> Result<(), Fail> {
-    for (number, (asked, ran, known)) in SEARCHES.iter().enumerate() {
+fn assert_runs(
+    rt: &impl Abort,
+    alloc: Global,
+    engine: &mut Engine,
+    searches: &[(Asked, u64, u32)],
+) -> Result<(), Fail> {
+    for (number, (asked, ran, known)) in searches.iter().enumerate() {
         assert_eq!(rt;
             ran_for(engine, alloc, *asked)?,
             (*ran, *known),
@@ -98,25 +117,13 @@ fn assert_runs(rt: &impl Abort, alloc: Global, engine: &mut Engine) -> Result<()
 #[test]
 fn turns_run_for_searches(rt: HostRuntime) -> Result<(), Fail> {
     let mut engine = engine_of(rt.alloc(), &LETTERS, WIDEST)?;
-    assert_runs(&rt, rt.alloc(), &mut engine)
+    assert_runs(&rt, rt.alloc(), &mut engine, &SEARCHES)
 }
 
-// Turn 99 runs the INC, turn 0 alone the first MOV. From the end on the parts between two states
-// that are kept are run, each once, up to the one in which a turn is found.
 #[test]
-fn turns_run_backwards(rt: HostRuntime) -> Result<(), Fail> {
-    let alloc = rt.alloc();
-    let mut engine = engine_of(alloc, &LETTERS, 10)?;
-    engine.ask(alloc, Question::Regs(100))?;
-    let late = engine.last_at(alloc, INCREMENT, 0, 100)?;
-    assert_eq!(&rt; (late.turn, late.ran), (Some(99), 10));
-    let begin = Sought::Instruction {
-        address: 0o1000,
-        mode: None,
-    };
-    let early = engine.last_at(alloc, begin, 0, 100)?;
-    assert_eq!(&rt; (early.turn, early.ran), (Some(0), 100));
-    Ok(())
+fn turns_run_for_searches_backwards(rt: HostRuntime) -> Result<(), Fail> {
+    let mut engine = engine_of(rt.alloc(), &LETTERS, 10)?;
+    assert_runs(&rt, rt.alloc(), &mut engine, &SEARCHES_BACKWARDS)
 }
 
 // MOV #400,SP; MOV R0,-(SP), into the yellow zone. The stack trap is turn 2, and goes to 0, where
