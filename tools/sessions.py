@@ -172,7 +172,8 @@ REFUSALS = {
     "5": "no event has this number; events lists them",
     "6": "the script is full",
     "7": "the turn or the delay is above 1000000000",
-    "8": "the count is not 1 to 256; of a trail not 1 to 64, or above its turn",
+    "8": "the count is not 1 to 256; of a trail not 1 to 64, or above its turn; of a search N is "
+    "above M",
     "9": "this core word has no patch; patches lists them",
     "11": f"the line has more than {LONGEST_LINE} bytes",
     "16": "the drive's number is above 7",
