@@ -22,7 +22,7 @@ use crate::regs::Regs;
 use crate::take_due::take_what_is_due;
 use pdp_icache::Lines;
 use pdp_instruction::instruct;
-use pdp_kt11::Mode;
+use pdp_kt11::{MappingRegisters, Mode};
 use pdp_operand::{Processor, RegisterId, RunState};
 use pdp_quick::Computer;
 use pdp_store::{Stamp, Store};
@@ -343,6 +343,14 @@ impl<S: Store, D: Store> Machine<S, D> {
         ensures { result ≡ page_registers_of self.now.state.world.bus }
     {
         self.computer.bus.pages()
+    }
+
+    /// Memory management, in its parts (DEC PDP-11/40 Processor Handbook (1972), Memory
+    /// management).
+    pub fn mapping_registers(&self) -> MappingRegisters
+        ensures { result ≡ self.now.state.world.bus.io_page.mapping }
+    {
+        self.computer.bus.mapping_registers()
     }
 
     // A turn begins that has events, or in which something comes of the devices.

@@ -6,7 +6,7 @@ ghost use Rattle.pdp_unibus.specs.declared.register.Register.TheVariants.{Mappin
 
 use crate::bus::Bus;
 use crate::register::Register;
-use pdp_kt11::{KtRegister, PageNumber, Space};
+use pdp_kt11::{KtRegister, MappingRegisters, PageNumber, Space};
 use pdp_store::Store;
 
 /// The registers of memory management, as reads would give them (DEC PDP-11/40 Processor Handbook
@@ -42,6 +42,13 @@ impl<S: Store, D: Store> Bus<S, D> {
             user_descriptors: self.descriptors(Space::User),
             user_addresses: self.addresses(Space::User),
         }
+    }
+
+    /// Memory management, in its parts (DEC PDP-11/40 Processor Handbook (1972), Memory management).
+    pub fn mapping_registers(&self) -> MappingRegisters
+        ensures { result ≡ self.now.io_page.mapping }
+    {
+        self.io_page.mapping.registers()
     }
 
     // What a read of a register of memory management would give.
