@@ -275,6 +275,13 @@ impl<S: Store, D: Store> Machine<S, D> {
         self.computer.bus.mode()
     }
 
+    /// How many words core has.
+    pub fn core_len(&self) -> usize
+        ensures { result ≡ length self.now.state.world.bus.core }
+    {
+        self.computer.bus.core_len()
+    }
+
     /// The core word of this number (half its byte address), without a bus cycle.
     pub fn word(&self, number: usize) -> u16
         requires { number < length self.now.state.world.bus.core }
