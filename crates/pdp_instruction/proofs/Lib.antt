@@ -1,5 +1,6 @@
 pub mod Steps
 pub mod Endings
+pub mod FetchTraps
 pub mod PlanSizes
 pub mod StatusKept
 pub mod PlansKeepStatus

@@ -6,7 +6,7 @@
 //!
 //! - An instruction is its fetch, one plan for each row of the opcode table, and what follows a
 //!   trap of either, for every store of core and of the drives. While T is set it leaves a trace
-//!   trap pending (`instruct`, `execute`).
+//!   trap pending (`instruct`, `execute`). Which trap it was can be told (`instruct_and_tell`).
 //! - The sequence of a trap or an interrupt saves PC and the program status and takes new ones from
 //!   its vector. If it can't go on, it becomes the red sequence, and if that can't go on, the
 //!   processor halts (`begin_sequence`, `SavedContext::of`).
@@ -21,6 +21,7 @@ mod control;
 mod extended;
 mod finish;
 mod instruction;
+mod instruction_trap;
 mod jump;
 mod laws;
 mod moves;
@@ -34,6 +35,7 @@ mod trap_sequence;
 mod two_operands;
 
 pub use instruction::{execute, instruct};
+pub use instruction_trap::instruct_and_tell;
 pub use laws::what_cannot_go_on_leaves_the_codes;
 pub use return_from_trap::returned;
 pub use saved_context::SavedContext;
