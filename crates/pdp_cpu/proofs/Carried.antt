@@ -23,6 +23,8 @@ use Rattle.pdp_cpu.specs.Turns.MachineState.{world_with_first_touches}
 use Rattle.pdp_cpu.specs.Turns.Turn.{act_end, beginning, clear_latch, course_at, one_turn}
 use Rattle.pdp_cpu.specs.Turns.Turn.{printed_in, processor_after_events, punched_in, initial_state}
 use Rattle.pdp_cpu.specs.Turns.Turn.{turn_act, turn_trace}
+use Rattle.pdp_cpu.specs.Turns.TurnTrap.{trap_of_due, turn_trap}
+use Rattle.pdp_cpu.proofs.CarriedTraps.{trap_carried}
 
 -- the same world with other notes of accesses
 abbrev world_noting : World → AccessNotes → World
@@ -33,11 +35,12 @@ record TurnNoted (t : ℕ) (events : List Event) (w : World) (notes : AccessNote
   world_is : one_turn t events (world_noting w notes) ≡ world_noting (one_turn t events w) (notes_after (turn_trace t events w) notes)
   trace : turn_trace t events (world_noting w notes) ≡ turn_trace t events w
   act : turn_act t events (world_noting w notes) ≡ turn_act t events w
+  trap : turn_trap t events (world_noting w notes) ≡ turn_trap t events w
   printed : printed_in t events (world_noting w notes) ≡ printed_in t events w
   punched : punched_in t events (world_noting w notes) ≡ punched_in t events w
 
 turn_noted : (t : ℕ) (events : List Event) (w : World) (notes : AccessNotes) → TurnNoted t events w notes
-unfolding one_turn turn_trace turn_act printed_in punched_in
+unfolding one_turn turn_trace turn_act turn_trap printed_in punched_in
 turn_noted t events w notes =
     let xs = begun_touches t events w.bus in
     let first = begun_carried t events w.bus notes in
@@ -52,6 +55,8 @@ turn_noted t events w notes =
       trace = ap₂ ◌++◌ first.trace
           (ap (λ u. trace_of (course_at (initial_state u)) (initial_state u)) begins ∙ course.trace);
       act = ap (λ u. act_of (due_of (inner_of (initial_state u)))) begins;
+      trap = ap (λ u. trap_of_due (due_of (inner_of (initial_state u))) (initial_state u)) begins
+          ∙ trap_carried (due_of (inner_of (initial_state v))) (initial_state v) (notes_after xs notes);
       printed = ap (λ q. q.printed) first.is;
       punched = ap (λ q. q.punched) first.is;
     }
@@ -66,6 +71,7 @@ pub record TurnCarried (t : ℕ) (events : List Event) (w : World) (first_touche
       ≡ world_with_first_touches (one_turn t events w) (first_touches_after (turn_trace t events w) first_touches)
   pub trace : turn_trace t events (world_with_first_touches w first_touches) ≡ turn_trace t events w
   pub act : turn_act t events (world_with_first_touches w first_touches) ≡ turn_act t events w
+  pub trap : turn_trap t events (world_with_first_touches w first_touches) ≡ turn_trap t events w
   pub printed : printed_in t events (world_with_first_touches w first_touches) ≡ printed_in t events w
   pub punched : punched_in t events (world_with_first_touches w first_touches) ≡ punched_in t events w
 
@@ -79,6 +85,7 @@ turn_carried t events w first_touches =
           ∙ ap (λ (n : AccessNotes). world_noting (one_turn t events w) (access_notes n.stamps left)) (sym (notes_next t events w));
       trace = so.trace;
       act = so.act;
+      trap = so.trap;
       printed = so.printed;
       punched = so.punched;
     }

@@ -1,3 +1,4 @@
+pub mod CarriedTraps
 pub mod Carried
 pub mod PendingTraps
 pub mod Events

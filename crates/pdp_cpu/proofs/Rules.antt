@@ -7,6 +7,7 @@ use Rattle.pdp_cpu.proofs.KeptTexts.{kept_one, length_before, text_and_one, text
 use Rattle.pdp_cpu.proofs.TurnLaws.{turn_keeps_stamps, turn_keeps_words}
 use Rattle.pdp_cpu.specs.Turns.Due.{serve, serving, take_stack, take_trace}
 use Rattle.pdp_cpu.specs.Turns.Turn.{one_turn, printed_in, punched_in, turn_act}
+use Rattle.pdp_cpu.specs.Turns.TurnTrap.{turn_trap}
 
 -- for goals on a burst, before its first turn and after each
 pub ruleset bursts = (calm_start, calm_later)
@@ -37,3 +38,8 @@ whole_turn = Unit {0}
 unfoldable pub what_is_due : Type 0
 unfolding serving take_trace take_stack serve run follow
 what_is_due = Unit {0}
+
+-- opens a turn and its trap
+unfoldable pub whole_turn_with_trap : Type 0
+unfolding one_turn turn_act turn_trap printed_in punched_in
+whole_turn_with_trap = Unit {0}

@@ -6,7 +6,8 @@
 //! - A turn takes the machine to the next state of its definition, for every store of core and of
 //!   the drives: its events, and then what is due (a trap, an interrupt, an instruction or
 //!   nothing), with the plans of pdp_instruction. It tells with which act it began, and the meter
-//!   counts it (`Machine::turn`, `ready`).
+//!   counts it (`Machine::turn`, `ready`). The vector of the turn's trap can be told too
+//!   (`Machine::turn_and_tell`).
 //! - A burst of n turns of a calm machine is n turns of the definition without events, each of them
 //!   an instruction, and the meter counts n (`Machine::run_calmly`). A burst that is to stop before
 //!   an address runs no turn that begins with PC there (`run_calmly_before`).
@@ -45,6 +46,7 @@ mod regs;
 mod saved;
 mod take_due;
 mod touched_pages;
+mod turn_trap;
 
 pub use act::Act;
 pub use kept_text::KeptByte;
@@ -61,3 +63,4 @@ pub use pdp_quick::WordTable;
 pub use pdp_unibus::{DeviceRegisters, LAST_TURN, PageRegisters};
 pub use regs::Regs;
 pub use saved::{PagedMachine, Saved, SavedOutput};
+pub use turn_trap::ActWithTrap;

@@ -187,7 +187,7 @@ impl<S: Store, D: Store> Machine<S, D> {
     // A turn begins, with or without events.
     #[inline(always)]
     #[tactic(auto, unfolding(crate::proofs::Rules::texts_of_turn))]
-    fn begin_any(&mut self, events: &[Event])
+    pub(crate) fn begin_any(&mut self, events: &[Event])
         requires ready { IsReady self.old }
         ensures state { (touched_machine self.new).state
             ≡ with_begun events.now (touched_machine self.old).state }

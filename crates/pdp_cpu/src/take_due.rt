@@ -1,15 +1,20 @@
 //! What is due in a turn takes place.
 
-ghost use Rattle.std.specs.Prelude.{◌≡◌, true, false};
+ghost use Rattle.std.specs.Prelude.{◌≡◌, true, false, option_map};
 ghost use Rattle.pdp_operand.specs.Contract.{Follows};
+ghost use Rattle.pdp_operand.specs.Phases.Phase.{Latch, state_of};
+ghost use Rattle.pdp_instruction.specs.Handbook.Instruction.{instruction, instruction_trap};
+ghost use Rattle.pdp_instruction.specs.Handbook.TrapSequence.{trap_vector};
 ghost use Rattle.pdp_cpu.specs.Turns.Due.{act_of, course_of, due_now, serve, serving};
 ghost use Rattle.pdp_cpu.specs.Turns.Due.{take_stack as stack_taken, take_trace as trace_taken};
 ghost use Rattle.pdp_cpu.specs.Turns.Due.{without_stack_trap, without_trace_trap};
+ghost use Rattle.pdp_cpu.specs.Turns.TurnTrap.{trap_of_due};
 ghost use Rattle.pdp_unibus.specs.Source.{vector_of};
 
 use crate::act::Act;
 use crate::due::Due;
-use pdp_instruction::{SavedContext, begin_sequence, instruct};
+use crate::turn_trap::ActWithTrap;
+use pdp_instruction::{SavedContext, begin_sequence, instruct, instruct_and_tell, vector};
 use pdp_operand::{Processor, RunState};
 use pdp_store::Store;
 use pdp_unibus::{Bus, Source};
@@ -95,5 +100,68 @@ fn run_due<S: Store, D: Store>(processor: &mut Processor, bus: &mut Bus<S, D>, d
         Due::StackTrap => stack_trap(processor, bus),
         Due::Interrupt(source) => interrupt(processor, bus, source),
         Due::Nothing => {}
+    }
+}
+
+/// What is due takes place, as in `take_what_is_due`; returns the act with its trap.
+pub fn take_due_and_tell<S: Store, D: Store>(
+    processor: &mut Processor,
+    bus: &mut Bus<S, D>,
+) -> ActWithTrap
+    ensures act { result.act ≡ act_of (due_now processor.old bus.old.io_page) }
+    ensures trap { (latch : Latch) → result.trap ≡ trap_of_due
+        (due_now processor.old bus.old.io_page) (state_of processor.old bus.old latch) }
+    ensures follows { Follows (course_of (due_now processor.old bus.old.io_page)) processor.old
+        bus.old processor.new bus.new }
+{
+    let due = Due::of(processor, bus);
+    let trap = run_due_and_tell(processor, bus, due);
+    ActWithTrap {
+        act: due.act(),
+        trap,
+    }
+}
+
+/// What is due takes place; returns the vector of its trap.
+#[tactic(auto, unfolding(pdp_operand::specs::Phases::Course::follow))]
+fn run_due_and_tell<S: Store, D: Store>(
+    processor: &mut Processor,
+    bus: &mut Bus<S, D>,
+    due: Due,
+) -> Option<u16>
+    ensures trap { (latch : Latch) → result ≡ trap_of_due due
+        (state_of processor.old bus.old latch) }
+    ensures follows { Follows (course_of due) processor.old bus.old processor.new bus.new }
+{
+    match due {
+        Due::Instruction => instruct_and_tell_vector(processor, bus),
+        Due::TraceTrap => {
+            trace_trap(processor, bus);
+            Some(0o14)
+        }
+        Due::StackTrap => {
+            stack_trap(processor, bus);
+            Some(0o4)
+        }
+        Due::Interrupt(source) => {
+            interrupt(processor, bus, source);
+            None
+        }
+        Due::Nothing => None,
+    }
+}
+
+/// One instruction; returns the vector of its trap.
+fn instruct_and_tell_vector<S: Store, D: Store>(
+    processor: &mut Processor,
+    bus: &mut Bus<S, D>,
+) -> Option<u16>
+    ensures trap { (latch : Latch) → result ≡ option_map trap_vector
+        (instruction_trap (state_of processor.old bus.old latch)) }
+    ensures follows { Follows instruction processor.old bus.old processor.new bus.new }
+{
+    match instruct_and_tell(processor, bus) {
+        Some(trap) => Some(vector(trap)),
+        None => None,
     }
 }
