@@ -1,8 +1,10 @@
 pub mod LastWrites
 pub mod Trails
 pub mod Searches
+pub mod TurnConditions
 pub mod SoughtTurns
 pub mod ListedWrites
+pub mod CountedTurns
 pub mod TurnWrites
 pub mod TextParts
 pub mod DiskChanges
@@ -12,3 +14,5 @@ pub mod LastTurns
 pub mod Fadings
 pub mod FadingEdits
 pub mod PatchFadings
+pub mod VirtualReads
+pub mod WordsFound

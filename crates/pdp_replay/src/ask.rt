@@ -1,9 +1,11 @@
-//! Questions about the run, and their answers: registers, words, bytes, last writes and trails; and
-//! searches of the run.
+//! Questions about the run, and their answers: registers, words, bytes, virtual addresses, last
+//! writes and trails; and searches of the run.
 
 mod backwards;
+mod counts;
 mod disk_change;
 mod fading;
+mod find_words;
 mod items;
 mod last_write;
 mod patch_fading;
@@ -13,10 +15,14 @@ mod search_turns;
 mod sought;
 mod text_part;
 mod trail;
+mod turn_condition;
+mod virtual_words;
 mod watch;
 mod writes;
 
+pub use counts::{Counted, CountedWords};
 pub use fading::Fading;
+pub use find_words::{FoundWords, Numbers, WantedWords, WordPattern};
 pub use items::{Bytes, Items, Words};
 pub use last_write::LastWrite;
 pub use question::{Answer, Question, Value};
@@ -24,4 +30,6 @@ pub use search::Found;
 pub use sought::Sought;
 pub use text_part::{TextKind, TextPart};
 pub use trail::{Trail, TrailEntry};
+pub use turn_condition::{MOST_CONDITIONS, Quantity, Relation, TurnCondition, TurnConditions};
+pub use virtual_words::{Cause, Unreadable, VirtualWords};
 pub use writes::Written;

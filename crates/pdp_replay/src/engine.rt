@@ -100,13 +100,14 @@ impl Engine {
     /// known turn is the larger of what it was and the turn asked about.
     ///
     /// The refusals, in their order: Err(TurnTooLarge) if its turn is above 1,000,000,000;
-    /// Err(CountOutOfRange) if a count of words is not 1 to 256, or one of turns of a trail not 1
-    /// to 64 or above the turn asked about; Err(OutsideCore) if a word of core that is asked for is
-    /// not in core, else Err(OddAddress) if its address is odd; Err(NoSuchDrive) if the drive that
-    /// is asked for is not below the number of drives, else Err(OutsideDisk) if the number of a
-    /// word of the drive is 4604000 (octal; 1,247,232) or above; Err(NoMemory) if memory was
-    /// refused. No refusal changes the past, and one for another cause than memory changes nothing.
-    /// [P]
+    /// Err(CountOutOfRange) if a count of words is not 1 to 256, a word at a virtual address would
+    /// be past address 177776 (octal), the first of wanted words is above the last, or a count of
+    /// turns of a trail is not 1 to 64 or above the turn asked about; Err(OutsideCore) if a word of
+    /// core that is asked for is not in core, else Err(OddAddress) if its address is odd, or that
+    /// of a word at a virtual address; Err(NoSuchDrive) if the drive that is asked for is not below
+    /// the number of drives, else Err(OutsideDisk) if the number of a word of the drive is 4604000
+    /// (octal; 1,247,232) or above; Err(NoMemory) if memory was refused. No refusal changes the
+    /// past, and one for another cause than memory changes nothing. [P]
     #[tactic(auto, unfolding(crate::specs::Ask::Answer::answer_to))]
     pub fn ask(&mut self, alloc: Global, question: Question) -> Result<Answer, Fault>
         // The answer is that of the run from power-up, and out of memory is the last refusal.

@@ -15,6 +15,7 @@ ghost use Rattle.pdp_replay.specs.Past.Edit.{TapeNeedsNoMemory, DelayNeedsNoMemo
 ghost use Rattle.pdp_replay.specs.Ask.Fadings.{JoinedIsDecided, JoinedStayJoined};
 ghost use Rattle.pdp_replay.specs.Ask.LastWrites.{StampsOfCheckpointsAreLastWrites};
 ghost use Rattle.pdp_replay.specs.Ask.LastWrites.{StampsOfStatesAreLastWrites};
+ghost use Rattle.pdp_replay.specs.Ask.VirtualReads.{VirtualWordsAreRead};
 ghost use Rattle.pdp_replay.specs.Run.States.{TextOnlyGrows, PunchedOnlyGrows};
 
 /// A law of setups: core as of power-up has the words of its units, each of which is its patch,
@@ -161,4 +162,14 @@ pub fn adopted_runs_go_on()
 pub fn joined_runs_stay_joined()
     ensures stay { JoinedStayJoined }
     ensures decided { JoinedIsDecided }
+{}
+
+/// A law of virtual addresses: the word that a question is told is the one that a bus cycle reads
+/// at the physical address (DATI). Where it is told none, the cycle times out, a register answers
+/// it, or memory management aborts the read, as the cause says.
+///
+/// DEC PDP-11/40 Processor Handbook (1972), Memory management; PDP-11 Peripherals Handbook, Unibus.
+#[tactic(auto, using(crate::proofs::ask::VirtualReads::virtual_words_read))]
+pub fn virtual_words_are_read()
+    ensures { VirtualWordsAreRead }
 {}

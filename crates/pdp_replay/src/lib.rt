@@ -12,10 +12,16 @@
 //!   run's, at turn 0 and at each multiple of the stride up to the known turn and at no other; the
 //!   bytes that are kept are those that came out before the known turn (`kept_states`, `machine`).
 //! - A last write is that of the trace of the whole run, and a trail has the run's turns.
-//! - **Searches**: [`Engine::first_at`] returns the first turn of the run that begins with the act
-//!   that is sought, [`Engine::last_at`] the last one, and [`Engine::writes`] the writes to a word
-//!   of core, for every past and whatever is kept. The turns run for them are bounded: those of
-//!   `last_at` are the ones from the turn found on and two strides, where they were known.
+//! - A virtual address goes where memory management sends a read, and the word there is the one
+//!   that a bus cycle reads (`virtual_words_are_read`). Words that are looked for in core or on a
+//!   drive are the first 256 that there are.
+//! - **Searches**: [`Engine::first_at`] returns the first turn of the run that is sought, by its
+//!   act, by its trap, or by conditions on the state before it, [`Engine::last_at`] the last one,
+//!   and [`Engine::writes`] the writes to a word of core, for every past and whatever is kept. The
+//!   turns run for them are bounded: those of `last_at` are the ones from the turn found on and two
+//!   strides, where they were known.
+//! - **Counts**: [`Engine::counts`] returns for each of some words of virtual addresses how many
+//!   turns began an instruction there, in the mode that is given. It runs each of the turns once.
 //! - **An edit that fades**: [`Engine::fades`] returns the least turn from which on the run with an
 //!   edit of the script, or with a word patched, would be the run as it is: the same state, except
 //!   for stamps and what came out, and the same events from then on. Runs that are one so stay one
@@ -52,8 +58,10 @@ mod past;
 mod run;
 
 pub use ask::{
-    Answer, Bytes, Fading, Found, Items, LastWrite, Question, Sought, TextKind, TextPart, Trail,
-    TrailEntry, Value, Words, Written,
+    Answer, Bytes, Cause, Counted, CountedWords, Fading, Found, FoundWords, Items, LastWrite,
+    MOST_CONDITIONS, Numbers, Quantity, Question, Relation, Sought, TextKind, TextPart, Trail,
+    TrailEntry, TurnCondition, TurnConditions, Unreadable, Value, VirtualWords, WantedWords,
+    WordPattern, Words, Written,
 };
 pub use engine::Engine;
 pub use laws::{
@@ -61,7 +69,7 @@ pub use laws::{
     first_touches_are_taken, first_touches_are_told, joined_runs_stay_joined,
     patches_reach_the_first_touch, saved_machines_are_taken, some_edits_need_no_memory,
     stamps_of_states_are_last_writes, texts_only_grow, turns_run_again_touch_nothing_new,
-    untouched_pages_are_alike,
+    untouched_pages_are_alike, virtual_words_are_read,
 };
 pub use past::{DEFAULT_STRIDE, PastEdit, Patch, Setup};
 pub use pdp_cpu::{Act, DeviceRegisters, PageRegisters, Regs, RunState};

@@ -1,6 +1,7 @@
 //! How many turns are run for a question, and how far back each edit lowers the known turn.
 
 use crate::steps::{Edit, Step, WIDEST, engine_of, follow};
+use pdp_cpu::Mode;
 use pdp_replay::*;
 use std::alloc::Global;
 use std::process::Abort;
@@ -21,9 +22,44 @@ const READS_DISK_OVER_ITSELF: [u16; 10] = [
 
 const POWER_UP: Question = Question::Regs(0);
 
+const TRANSLATION: Question = Question::Translate {
+    turn: 301,
+    mode: Mode::Kernel,
+    address: 0o177560,
+};
+
+const AT_VIRTUAL_ADDRESSES: Question = Question::Virtual {
+    turn: 301,
+    words: VirtualWords {
+        mode: Mode::User,
+        address: 0o1000,
+        count: 256,
+    },
+};
+
+const BRANCHES: WantedWords = WantedWords {
+    first: 0,
+    last: 0o1000,
+    pattern: WordPattern {
+        word: 0o777,
+        mask: 0o177777,
+    },
+};
+
+const BRANCHES_IN_CORE: Question = Question::FindCore {
+    turn: 301,
+    wanted: BRANCHES,
+};
+
+const BRANCHES_ON_DRIVE: Question = Question::FindDisk {
+    turn: 301,
+    drive: 0,
+    wanted: BRANCHES,
+};
+
 // No state but that of turn 0 is kept. The machine stays where the last question left it, until an
 // edit reaches back before that turn.
-const QUESTIONS: [Step; 16] = [
+const QUESTIONS: [Step; 20] = [
     Step::Ran(Question::Regs(300), 300, 300),
     Step::Ran(Question::Regs(5), 5, 300),
     Step::Ran(Question::Regs(0), 0, 300),
@@ -33,6 +69,10 @@ const QUESTIONS: [Step; 16] = [
     Step::Ran(Question::Core(301, 0o1000, 4), 0, 301),
     Step::Ran(Question::Disk(301, 0, 0, 256), 0, 301),
     Step::Ran(Question::Last(301, 0o1000), 0, 301),
+    Step::Ran(TRANSLATION, 0, 301),
+    Step::Ran(AT_VIRTUAL_ADDRESSES, 0, 301),
+    Step::Ran(BRANCHES_IN_CORE, 0, 301),
+    Step::Ran(BRANCHES_ON_DRIVE, 0, 301),
     Step::Ran(Question::Trail(310, 9), 9, 310),
     Step::Ran(Question::Text(310), 0, 310),
     Step::Edit(Edit::Insert(310, Event::Tick), Ok(1)),

@@ -1,32 +1,26 @@
 -- Turns that a search passes, and the turn that it looks at.
-use Rattle.std.proofs.Common.{◌≡◌, ◌∙◌, ℕ, ◌+◌, ◌-◌, ◌≤◌, ◌==◌, ◌&&◌, [], Bool, Option, ap, arith, false, refl, sym, true}
+use Rattle.std.proofs.Common.{◌≡◌, ◌∙◌, ℕ, ◌+◌, ◌-◌, ◌≤◌, ◌==◌, ◌&&◌, [], List, Option, ap, arith, refl, sym}
 use Rattle.pdp_kt11.specs.declared.mode.Mode.{Mode}
 use Rattle.pdp_operand.specs.Handbook.Processor.{register_of}
 use Rattle.pdp_operand.specs.Phases.World.{World}
 use Rattle.pdp_cpu.specs.Turns.CalmTurns.{InstructsFor, PassesNone, after_calm_turns}
 use Rattle.pdp_cpu.specs.Turns.MachineState.{MachineState, MachineWithTexts}
 use Rattle.pdp_cpu.specs.Turns.Regs.{regs_of}
-use Rattle.pdp_cpu.specs.Turns.Turn.{turn_act}
 use Rattle.pdp_script.specs.Entries.{events_at}
 use Rattle.pdp_replay.specs.Past.{Past}
 use Rattle.pdp_replay.specs.Run.KeptRuns.{IsUnderWay, IsWithoutEvents}
 use Rattle.pdp_replay.specs.Run.States.{at, state_at}
 use Rattle.pdp_replay.specs.Ask.Searches.{HoldsNowhere}
-use Rattle.pdp_replay.specs.Ask.SoughtTurns.{NoneIsSought, is_instruction, is_interrupt, is_mode, is_pending_trap, is_sought_at, turn_is_sought}
+use Rattle.pdp_replay.specs.Ask.SoughtTurns.{NoneIsSought, act_with_trap, is_act_sought, is_interrupt, is_mode, is_pending_trap, is_sought_at, turn_is_sought}
+use Rattle.pdp_replay.specs.Ask.TurnConditions.{AreUnmet}
 use Rattle.pdp_replay.specs.declared.ask.sought.Sought.{Sought}
-use Rattle.pdp_replay.specs.declared.ask.sought.Sought.TheVariants.{Instruction, Interrupt, PendingTrap}
+use Rattle.pdp_replay.specs.declared.ask.sought.Sought.TheVariants.{Instruction, Interrupt, PendingTrap, Where}
+use Rattle.pdp_replay.specs.declared.ask.turn_condition.TurnCondition.{TurnCondition}
 use Rattle.pdp_replay.proofs.run.CalmWays.{turn_after, way_on_calmly}
 
 pc_of : (w : World) → (regs_of w).pc ≡ w.processor.counter
 unfolding register_of
 pc_of w = refl
-
-not_and : (a : Bool) → (a && false) ≡ false
-not_and true = refl
-not_and false = refl
-
-elsewhere : (a b c : Bool) → b ≡ false → (a && (b && c)) ≡ false
-elsewhere a b c is = rw is (not_and a)
 
 -- no turn that begins with PC elsewhere is the instruction at an address
 pub none_there : (address : ℕ) (asked : Option Mode) (n : ℕ) (m : MachineWithTexts) → PassesNone address n m
@@ -34,9 +28,16 @@ pub none_there : (address : ℕ) (asked : Option Mode) (n : ℕ) (m : MachineWit
 none_there address asked n m none =
     λ k below.
     let now : MachineState = (after_calm_turns k m).state in
-    elsewhere (is_instruction (turn_act now.turn [] now.world)) ((regs_of now.world).pc == address)
-    (is_mode asked now.world.bus.io_page.status.mode)
+    ap (λ here. (here && is_mode asked now.world.bus.io_page.status.mode) && is_act_sought (Instruction address asked) (act_with_trap now.turn [] now.world))
     (ap (λ pc. pc == address) (pc_of now.world) ∙ none k below)
+
+-- no turn is that isn't met by the machine before it
+pub none_met : (conditions : List (Option TurnCondition)) (n : ℕ) (m : MachineWithTexts) → AreUnmet conditions n m
+    → NoneIsSought (Where conditions) n m
+none_met conditions n m unmet =
+    λ k below.
+    let now : MachineState = (after_calm_turns k m).state in
+    ap (λ met. met && is_act_sought (Where conditions) (act_with_trap now.turn [] now.world)) (unmet k below)
 
 -- no instruction is an interrupt or a pending trap
 pub none_interrupts : (vector n : ℕ) (m : MachineWithTexts) → InstructsFor n m → NoneIsSought (Interrupt vector) n m

@@ -1,26 +1,23 @@
 -- Turns that a search passes, and the turn that it looks at.
-use Rattle.std.proofs.Common.{◌≡◌, ◌∙◌, ℕ, zero, suc, ◌+◌, ◌-◌, ◌<◌, ◌≤◌, Bool, List, None, ap, arith, length, nat_lt, slice_index_or, subst, sym}
+use Rattle.std.proofs.Common.{◌≡◌, ◌∙◌, ℕ, zero, suc, ◌+◌, ◌-◌, ◌<◌, ◌≤◌, ◌&&◌, Bool, List, None, ap, arith, length, nat_lt, slice_index_or, subst, sym}
 use Rattle.std.proofs.lemmas.Bool.{le-ltb}
-use Rattle.pdp_kt11.specs.declared.mode.Mode.{Mode}
 use Rattle.pdp_store.specs.TracedAccess.{last_write}
 use Rattle.pdp_unibus.specs.declared.event.Event.{Event}
 use Rattle.pdp_cpu.proofs.CalmTurns.{size_stays}
 use Rattle.pdp_cpu.proofs.TurnLaws.{turn_keeps_words}
 use Rattle.pdp_cpu.specs.Turns.CalmTurns.{StampStays, after_calm_turns, word_stamp}
 use Rattle.pdp_cpu.specs.Turns.MachineState.{MachineState, MachineWithTexts, after_turn}
-use Rattle.pdp_cpu.specs.Turns.Regs.{regs_of}
-use Rattle.pdp_cpu.specs.Turns.Turn.{turn_act}
 use Rattle.pdp_cpu.specs.KeptTexts.{without_turns}
-use Rattle.pdp_cpu.specs.declared.act.Act.{Act}
+use Rattle.pdp_cpu.specs.declared.turn_trap.ActWithTrap.{ActWithTrap}
 use Rattle.pdp_cpu.specs.declared.kept_text.KeptByte.{KeptByte}
 use Rattle.pdp_script.specs.Entries.{events_at}
 use Rattle.pdp_replay.specs.Past.{Past}
 use Rattle.pdp_replay.specs.Run.KeptRuns.{IsUnderWay, IsWithoutEvents}
 use Rattle.pdp_replay.specs.Run.States.{at, state_at, trace_at}
 use Rattle.pdp_replay.specs.Ask.Searches.{HoldsNowhere, IsFirst, or_turn}
-use Rattle.pdp_replay.specs.Ask.SoughtTurns.{is_sought, turn_is_sought}
+use Rattle.pdp_replay.specs.Ask.SoughtTurns.{act_with_trap, is_act_sought, turn_is_sought}
 use Rattle.pdp_replay.specs.Ask.TextParts.{bytes_at}
-use Rattle.pdp_replay.specs.Ask.Watches.{IsInside, PassesTo, bytes_of, is_met, is_met_last, is_watched_at}
+use Rattle.pdp_replay.specs.Ask.Watches.{IsInside, PassesTo, bytes_of, is_act_watched, is_met, is_met_last, is_possible, is_watched_at}
 use Rattle.pdp_replay.specs.declared.ask.text_part.TextKind.{TextKind}
 use Rattle.pdp_replay.specs.declared.ask.text_part.TextKind.TheVariants.{Printed, Punched}
 use Rattle.pdp_replay.specs.declared.ask.watch.Watchpoint.{Watchpoint}
@@ -88,39 +85,38 @@ few_out kind number n m now count is text punched counted few =
     subst (λ (w : MachineWithTexts). length (bytes_of kind w.state) ≤ number) is (omega (arith, size, counted, few))
 
 -- whether a turn is watched for, told by its act and what it left
-pub met_there : (p : Past) (watching : Watchpoint) (known : ℕ) (events : List Event) (before ready now : MachineWithTexts) (turn pc : ℕ) (mode : Mode) (act : Act)
+pub met_there : (p : Past) (watching : Watchpoint) (known : ℕ) (events : List Event) (before ready now : MachineWithTexts) (turn : ℕ) (possible : Bool) (told : ActWithTrap)
     → events ≡ events_at p.script.entries before.state.turn → IsUnderWay p known before → IsUnderWay p known now → ready.state ≡ before.state
-    → turn ≡ ready.state.turn → pc ≡ (regs_of ready.state.world).pc → mode ≡ ready.state.world.bus.io_page.status.mode
-    → act ≡ turn_act ready.state.turn events ready.state.world → now.state.turn ≡ before.state.turn + 1 → IsInside watching now
-    → is_watched_at p watching before.state.turn ≡ is_met watching turn act pc mode now
-met_there p (watch.Act sought) known events before ready now turn pc mode act happen way on same number pc_is mode_is act_is next inside =
+    → turn ≡ ready.state.turn → possible ≡ is_possible watching ready
+    → is_act_watched watching told ≡ is_act_watched watching (act_with_trap ready.state.turn events ready.state.world) → now.state.turn ≡ before.state.turn + 1 → IsInside watching now
+    → is_watched_at p watching before.state.turn ≡ is_met watching possible turn told now
+met_there p (watch.Act sought) known events before ready now turn possible told happen way on same number possible_is told_is next inside =
     let t : ℕ = before.state.turn in
     ap (λ es. turn_is_sought sought t es (state_at p t)) (sym happen)
     ∙ ap (λ (s : MachineState). turn_is_sought sought t events s.world) (sym way.here)
     ∙ ap (λ (s : MachineState). turn_is_sought sought s.turn events s.world) (sym same)
-    ∙ ap (λ k. is_sought sought (turn_act ready.state.turn events ready.state.world) (regs_of ready.state.world).pc k) (sym mode_is)
-    ∙ ap (λ c. is_sought sought (turn_act ready.state.turn events ready.state.world) c mode) (sym pc_is)
-    ∙ ap (λ a. is_sought sought a pc mode) (sym act_is)
-met_there p (watch.Write number) known events before ready now turn pc mode act happen way on same is pc_is mode_is act_is next inside =
+    ∙ ap (λ b. b && is_act_sought sought (act_with_trap ready.state.turn events ready.state.world)) (sym possible_is)
+    ∙ ap (λ a. possible && a) (sym told_is)
+met_there p (watch.Write number) known events before ready now turn possible told happen way on same is possible_is told_is next inside =
     let there : now.state ≡ at p (before.state.turn + 1) = on.here ∙ ap (at p) next in
     let here : before.state.turn ≡ turn = sym (is ∙ ap (λ (s : MachineState). s.turn) same) in
-    subst (λ t. is_watched_at p (watch.Write number) before.state.turn ≡ is_met (watch.Write number) t act pc mode now) here
+    subst (λ t. is_watched_at p (watch.Write number) before.state.turn ≡ is_met (watch.Write number) possible t told now) here
     (written_if p number before.state.turn (word_stamp number now) (stamp_there p number (before.state.turn + 1) now there inside))
-met_there p (watch.Output kind number) known events before ready now turn pc mode act happen way on same is pc_is mode_is act_is next inside =
+met_there p (watch.Output kind number) known events before ready now turn possible told happen way on same is possible_is told_is next inside =
     let there : now.state ≡ at p (before.state.turn + 1) = on.here ∙ ap (at p) next in
     ap (λ bytes. nat_lt number (length bytes)) (sym (bytes_there kind p (before.state.turn + 1) now.state there))
 
 -- and so the first of one turn
-pub first_met : (p : Past) (watching : Watchpoint) (known : ℕ) (events : List Event) (before ready now : MachineWithTexts) (turn pc : ℕ) (mode : Mode) (act : Act)
+pub first_met : (p : Past) (watching : Watchpoint) (known : ℕ) (events : List Event) (before ready now : MachineWithTexts) (turn : ℕ) (possible : Bool) (told : ActWithTrap)
     (met : Bool) → events ≡ events_at p.script.entries before.state.turn → IsUnderWay p known before → IsUnderWay p known now
-    → ready.state ≡ before.state → turn ≡ ready.state.turn → pc ≡ (regs_of ready.state.world).pc
-    → mode ≡ ready.state.world.bus.io_page.status.mode → act ≡ turn_act ready.state.turn events ready.state.world
-    → met ≡ is_met watching turn act pc mode now → now.state.turn ≡ before.state.turn + 1 → IsInside watching now
+    → ready.state ≡ before.state → turn ≡ ready.state.turn → possible ≡ is_possible watching ready
+    → is_act_watched watching told ≡ is_act_watched watching (act_with_trap ready.state.turn events ready.state.world)
+    → met ≡ is_met watching possible turn told now → now.state.turn ≡ before.state.turn + 1 → IsInside watching now
     → IsFirst (is_watched_at p watching) before.state.turn now.state.turn (or_turn None met turn)
-first_met p watching known events before ready now turn pc mode act met happen way on same number pc_is mode_is act_is met_is next inside =
+first_met p watching known events before ready now turn possible told met happen way on same number possible_is told_is met_is next inside =
     let t : ℕ = before.state.turn in
     let there : is_watched_at p watching t ≡ met =
-    met_there p watching known events before ready now turn pc mode act happen way on same number pc_is mode_is act_is next inside ∙ sym met_is in
+    met_there p watching known events before ready now turn possible told happen way on same number possible_is told_is next inside ∙ sym met_is in
     let here : t ≡ turn = sym (number ∙ ap (λ (s : MachineState). s.turn) same) in
     subst (λ u. IsFirst (is_watched_at p watching) t now.state.turn (or_turn None met u)) here
     (first_turn (is_watched_at p watching) t now.state.turn met there next)

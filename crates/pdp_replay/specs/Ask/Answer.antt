@@ -1,6 +1,7 @@
 -- What a question must be answered, from the run from power-up alone [P].
-use Rattle.std.specs.Prelude.{ℕ, ◌≡◌, ◌+◌, ◌-◌, ◌/◌, ◌%◌, ◌==◌, ◌<◌, ◌≤◌, ◌&&◌, List, length, map}
-use Rattle.std.specs.Prelude.{replicate, take, drop, Result, Ok, Err, nat_le, nat_lt, if◌then◌else◌}
+use Rattle.std.specs.Prelude.{ℕ, ◌≡◌, ◌+◌, ◌*◌, ◌-◌, ◌/◌, ◌%◌, ◌==◌, ◌<◌, ◌≤◌, ◌&&◌, List, length}
+use Rattle.std.specs.Prelude.{map, replicate, take, drop, Result, Ok, Err, nat_le, nat_lt}
+use Rattle.std.specs.Prelude.{if◌then◌else◌}
 use Rattle.pdp_cpu.specs.Turns.MachineState.{MachineState}
 use Rattle.pdp_unibus.specs.Shown.{devices_of, page_registers_of}
 use Rattle.pdp_cpu.specs.Turns.Regs.{regs_of}
@@ -13,10 +14,14 @@ use Rattle.pdp_script.specs.declared.faults.Fault.TheVariants.{NoSuchDrive}
 use Rattle.pdp_script.specs.Script.{ScriptData}
 use Rattle.pdp_replay.specs.Past.Edit.{core_word_at}
 use Rattle.pdp_replay.specs.Ask.LastWrites.{last_write_at}
+use Rattle.pdp_replay.specs.Ask.Limits.{most_words_of_answer}
 use Rattle.pdp_replay.specs.Past.{Past}
 use Rattle.pdp_replay.specs.Past.Setup.{SetupData, core_size, drive_words}
 use Rattle.pdp_replay.specs.Run.States.{at, disk_of, punched_at, state_at, text_at}
 use Rattle.pdp_replay.specs.Ask.Trails.{trail_of}
+use Rattle.pdp_replay.specs.Ask.VirtualReads.{place_of_read, virtual_addresses, virtual_checked}
+use Rattle.pdp_replay.specs.Ask.VirtualReads.{virtual_words}
+use Rattle.pdp_replay.specs.Ask.WordsFound.{core_search_checked, disk_search_checked, words_found}
 use Rattle.pdp_replay.specs.declared.ask.question.Answer.{Answer}
 use Rattle.pdp_replay.specs.declared.ask.question.Question.{Question}
 use Rattle.pdp_replay.specs.declared.ask.question.Question.TheVariants as question
@@ -34,6 +39,10 @@ turn_asked (question.Devices turn) = turn
 turn_asked (question.Pages turn) = turn
 turn_asked (question.Last turn address) = turn
 turn_asked (question.Trail turn count) = turn
+turn_asked (question.Translate turn mode address) = turn
+turn_asked (question.Virtual turn words) = turn
+turn_asked (question.FindCore turn wanted) = turn
+turn_asked (question.FindDisk turn drive wanted) = turn
 
 -- the first turn whose state the answer needs: that of the first turn listed for a trail, else the
 -- one asked about
@@ -58,10 +67,14 @@ answer (question.Devices turn) p = value.Devices (devices_of (state_at p turn).b
 answer (question.Pages turn) p = value.Pages (page_registers_of (state_at p turn).bus)
 answer (question.Last turn address) p = value.Last (last_write_at p turn (address / 2))
 answer (question.Trail turn count) p = value.Trail (trail_of p (turn - count) count)
-
--- the most words that a question asks for
-abbrev pub most_words_of_answer : ℕ
-most_words_of_answer = 256
+answer (question.Translate turn mode address) p = value.Translation (place_of_read mode address
+    (state_at p turn).bus)
+answer (question.Virtual turn words) p = value.Virtual (virtual_words words.mode words.address
+    words.count (state_at p turn).bus)
+answer (question.FindCore turn wanted) p = value.FoundCore (words_found wanted.pattern
+    (wanted.first / 2) (wanted.last / 2) (state_at p turn).bus.core)
+answer (question.FindDisk turn drive wanted) p = value.FoundDisk (words_found wanted.pattern
+    wanted.first wanted.last (disk_of (state_at p turn) drive))
 
 -- can so many words from this address on be asked for? From one to the most, each in core, and at
 -- even addresses
@@ -101,6 +114,9 @@ range_rule (question.Core turn address count) s = range_checked address count s
 range_rule (question.Disk turn drive first count) s = disk_range_checked drive first count s
 range_rule (question.Last turn address) s = result_map (λ _. tt) (core_word_at address s)
 range_rule (question.Trail turn count) s = trail_checked turn count
+range_rule (question.Virtual turn words) s = virtual_checked words
+range_rule (question.FindCore turn wanted) s = core_search_checked wanted s
+range_rule (question.FindDisk turn drive wanted) s = disk_search_checked drive wanted s
 range_rule _ s = Ok tt
 
 -- can the question be asked? Its turn is told first
@@ -112,14 +128,20 @@ question_checked q p = (if nat_le (turn_asked q) last_turn then range_rule q p.s
 unfoldable pub answer_to : Question → Past → Result Value Fault
 answer_to q p = result_map (λ _. answer q p) (question_checked q p)
 
--- what a question asks for is there: its words in a core of so many words or on one of so many
--- drives, and its turns before the one asked about
+-- what a question asks for is there: its words in a core of so many words, on one of so many drives
+-- or at virtual addresses, and its turns before the one asked about
 abbrev pub IsWithin : Question → ℕ → ℕ → Type 0
 IsWithin (question.Core turn address count) size drives = address / 2 + count ≤ size
 IsWithin (question.Disk turn drive first count) size drives = (drive < drives) × (first + count
     ≤ drive_words)
 IsWithin (question.Last turn address) size drives = address / 2 < size
 IsWithin (question.Trail turn count) size drives = count ≤ turn
+IsWithin (question.Virtual turn words) size drives =
+    words.address + 2 * words.count ≤ virtual_addresses
+IsWithin (question.FindCore turn wanted) size drives =
+    (wanted.first ≤ wanted.last) × (wanted.last / 2 < size)
+IsWithin (question.FindDisk turn drive wanted) size drives = (drive < drives)
+    × (wanted.first ≤ wanted.last) × (wanted.last < drive_words)
 IsWithin _ size drives = Unit {0}
 
 -- each drive of these has all words of a drive

@@ -1,6 +1,6 @@
 -- The turns that a search looks for [P].
 use Rattle.std.specs.Prelude.{ℕ, ◌≡◌, ◌<◌, ◌==◌, ◌&&◌, Bool, true, false, List, [], Option, None}
-use Rattle.std.specs.Prelude.{Some}
+use Rattle.std.specs.Prelude.{Ok, Result, Some}
 use Rattle.pdp_kt11.specs.Mode.{mode_bits}
 use Rattle.pdp_kt11.specs.declared.mode.Mode.{Mode}
 use Rattle.pdp_unibus.specs.declared.event.Event.{Event}
@@ -9,21 +9,24 @@ use Rattle.pdp_cpu.specs.Turns.CalmTurns.{after_calm_turns}
 use Rattle.pdp_cpu.specs.Turns.MachineState.{MachineWithTexts}
 use Rattle.pdp_cpu.specs.Turns.Regs.{regs_of}
 use Rattle.pdp_cpu.specs.Turns.Turn.{turn_act}
+use Rattle.pdp_cpu.specs.Turns.TurnTrap.{turn_trap}
 use Rattle.pdp_cpu.specs.declared.act.Act.{Act}
-use Rattle.pdp_cpu.specs.declared.act.Act.TheVariants.{Instr, Trace, Stack, Irq}
+use Rattle.pdp_cpu.specs.declared.turn_trap.ActWithTrap.{ActWithTrap}
+use Rattle.pdp_cpu.specs.declared.act.Act.TheVariants.{Trace, Stack, Irq}
 use Rattle.pdp_script.specs.Entries.{events_at}
+use Rattle.pdp_script.specs.declared.faults.Fault.{Fault}
 use Rattle.pdp_replay.specs.Past.{Past}
+use Rattle.pdp_replay.specs.Past.Setup.{SetupData}
 use Rattle.pdp_replay.specs.Run.States.{state_at}
 use Rattle.pdp_replay.specs.declared.ask.sought.Sought.{Sought}
 use Rattle.pdp_replay.specs.declared.ask.sought.Sought.TheVariants.{Instruction, Interrupt}
-use Rattle.pdp_replay.specs.declared.ask.sought.Sought.TheVariants.{PendingTrap}
+use Rattle.pdp_replay.specs.declared.ask.sought.Sought.TheVariants.{PendingTrap, Trap, Where}
+use Rattle.pdp_replay.specs.Ask.Searches.{search_checked}
+use Rattle.pdp_replay.specs.Ask.TurnConditions.{all_fit, all_met_in, conditions_checked}
+use Rattle.pdp_replay.specs.Ask.TurnConditions.{is_instruction}
+use Rattle.pdp_replay.specs.Ask.Writes.{then_checked}
 
--- is the act an instruction?
-abbrev pub is_instruction : Act → Bool
-is_instruction Instr = true
-is_instruction _ = false
-
--- is it the interrupt through this vector (octal, bytes)?
+-- is an act the interrupt through this vector (octal, bytes)?
 abbrev pub is_interrupt : ℕ → Act → Bool
 is_interrupt vector (Irq through) = through == vector
 is_interrupt vector _ = false
@@ -39,17 +42,34 @@ abbrev pub is_mode : Option Mode → Mode → Bool
 is_mode None mode = true
 is_mode (Some asked) mode = mode_bits asked == mode_bits mode
 
--- is a turn what is sought that has this act, with PC and the mode before it?
-abbrev pub is_sought : Sought → Act → ℕ → Mode → Bool
-is_sought (Instruction address asked) act pc mode =
-    is_instruction act && (pc == address && is_mode asked mode)
-is_sought (Interrupt vector) act pc mode = is_interrupt vector act
-is_sought PendingTrap act pc mode = is_pending_trap act
+-- is the trap that a turn has through this vector (octal, bytes)?
+abbrev pub is_trap_through : ℕ → Option ℕ → Bool
+is_trap_through vector None = false
+is_trap_through vector (Some through) = through == vector
 
--- is turn t with these events in this world?
+-- the act of turn t, with its trap
+abbrev pub act_with_trap : ℕ → List Event → World → ActWithTrap
+act_with_trap t events w = record { act = turn_act t events w; trap = turn_trap t events w }
+
+-- is the world before a turn as what is sought asks?
+abbrev pub is_state_sought : Sought → World → Bool
+is_state_sought (Instruction address asked) w =
+    (regs_of w).pc == address && is_mode asked w.bus.io_page.status.mode
+is_state_sought (Where conditions) w = all_met_in conditions w
+is_state_sought _ w = true
+
+-- and its act?
+abbrev pub is_act_sought : Sought → ActWithTrap → Bool
+is_act_sought (Instruction address asked) told = is_instruction told.act
+is_act_sought (Interrupt vector) told = is_interrupt vector told.act
+is_act_sought PendingTrap told = is_pending_trap told.act
+is_act_sought (Trap vector) told = is_trap_through vector told.trap
+is_act_sought (Where conditions) told = all_fit conditions told.act
+
+-- is turn t with these events in this world what is sought?
 abbrev pub turn_is_sought : Sought → ℕ → List Event → World → Bool
 turn_is_sought sought t events w =
-    is_sought sought (turn_act t events w) (regs_of w).pc w.bus.io_page.status.mode
+    is_state_sought sought w && is_act_sought sought (act_with_trap t events w)
 
 -- is turn t in the run of this past?
 abbrev pub is_sought_at : Past → Sought → ℕ → Bool
@@ -60,3 +80,12 @@ abbrev pub NoneIsSought : Sought → ℕ → MachineWithTexts → Type 0
 NoneIsSought sought n m =
     (k : ℕ) → k < n → turn_is_sought sought (after_calm_turns k m).state.turn []
     (after_calm_turns k m).state.world ≡ false
+
+-- can it be sought in turns from one on and before another? The words of core that conditions are
+-- on are in core
+abbrev pub sought_checked : Sought → SetupData → Result (Unit {0}) Fault
+sought_checked (Where conditions) s = conditions_checked conditions s
+sought_checked _ s = Ok tt
+
+abbrev pub seek_checked : Sought → ℕ → ℕ → SetupData → Result (Unit {0}) Fault
+seek_checked sought from to s = then_checked (search_checked from to) (sought_checked sought s)

@@ -1,18 +1,22 @@
 -- What a search watches for, turn by turn [P].
-use Rattle.std.specs.Prelude.{ℕ, ◌≡◌, ◌+◌, ◌<◌, ◌≤◌, ◌==◌, Bool, false, List, length, nat_lt}
+use Rattle.std.specs.Prelude.{ℕ, ◌≡◌, ◌+◌, ◌<◌, ◌≤◌, ◌==◌, ◌&&◌, Bool, true, false, List, length, nat_lt}
 use Rattle.std.specs.Prelude.{Option, None, Some}
-use Rattle.pdp_kt11.specs.declared.mode.Mode.{Mode}
 use Rattle.pdp_store.specs.declared.Stamp.{Stamp}
 use Rattle.pdp_unibus.specs.declared.event.Event.{Event}
 use Rattle.pdp_cpu.specs.Turns.CalmTurns.{StampStays, after_calm_turns, word_stamp}
-use Rattle.pdp_cpu.specs.Turns.MachineState.{MachineState, MachineWithTexts}
-use Rattle.pdp_cpu.specs.declared.act.Act.{Act}
+use Rattle.pdp_cpu.specs.Turns.MachineState.{MachineState, MachineWithTexts, after_turn}
+use Rattle.pdp_cpu.specs.Turns.MachineState.{printed_kept, punched_kept}
+use Rattle.pdp_cpu.specs.declared.turn_trap.ActWithTrap.{ActWithTrap}
+use Rattle.pdp_cpu.specs.Meters.{Counts}
+use Rattle.pdp_cpu.specs.Turns.Turn.{turn_trace}
+use Rattle.pdp_store.specs.FirstTouches.{first_touches_after}
 use Rattle.pdp_script.specs.Entries.{events_at}
 use Rattle.pdp_script.specs.Script.{ScriptData}
 use Rattle.pdp_replay.specs.Past.{Past}
 use Rattle.pdp_replay.specs.Run.KeptRuns.{IsOnWay, IsUnderWay, IsWithoutEvents}
 use Rattle.pdp_replay.specs.Ask.Searches.{IsFirst}
-use Rattle.pdp_replay.specs.Ask.SoughtTurns.{NoneIsSought, is_sought, is_sought_at}
+use Rattle.pdp_replay.specs.Ask.SoughtTurns.{NoneIsSought, is_act_sought, is_sought_at}
+use Rattle.pdp_replay.specs.Ask.SoughtTurns.{is_state_sought}
 use Rattle.pdp_replay.specs.Ask.TextParts.{is_out_after}
 use Rattle.pdp_replay.specs.Ask.Writes.{is_written}
 use Rattle.pdp_replay.specs.declared.ask.text_part.TextKind.{TextKind}
@@ -44,13 +48,32 @@ abbrev pub is_of_turn : ℕ → Option Stamp → Bool
 is_of_turn t None = false
 is_of_turn t (Some stamp) = stamp.turn == t
 
--- was this turn watched for, which had this act, with PC and the mode before it, and left this
--- machine?
-abbrev pub is_met : Watchpoint → ℕ → Act → ℕ → Mode → MachineWithTexts → Bool
-is_met (watch.Act sought) t act pc mode now = is_sought sought act pc mode
-is_met (watch.Write number) t act pc mode now = is_of_turn t (word_stamp number now)
-is_met (watch.Output kind number) t act pc mode now = nat_lt number (length (bytes_of kind
+-- can the turn after a machine be watched for, by what the machine is before it?
+abbrev pub is_possible : Watchpoint → MachineWithTexts → Bool
+is_possible (watch.Act sought) before = is_state_sought sought before.state.world
+is_possible _ before = true
+
+-- is its act as what is watched for asks?
+abbrev pub is_act_watched : Watchpoint → ActWithTrap → Bool
+is_act_watched (watch.Act sought) told = is_act_sought sought told
+is_act_watched _ told = true
+
+-- was this turn watched for, which could be or couldn't, had this act, and left this machine?
+abbrev pub is_met : Watchpoint → Bool → ℕ → ActWithTrap → MachineWithTexts → Bool
+is_met (watch.Act sought) possible t told now = possible && is_act_sought sought told
+is_met (watch.Write number) possible t told now = is_of_turn t (word_stamp number now)
+is_met (watch.Output kind number) possible t told now = nat_lt number (length (bytes_of kind
     now.state))
+
+-- a machine ran its next turn with these events, and a meter counted it
+pub record RunsTurn (events : List Event) (before after : MachineWithTexts)
+    (metered counts : ℕ) : Type 0 where
+  pub turn : after.state ≡ after_turn events before.state
+  pub kept_text : after.kept_text ≡ printed_kept events before
+  pub kept_punched : after.kept_punched ≡ punched_kept events before
+  pub first_touches : after.first_touches ≡ first_touches_after
+      (turn_trace before.state.turn events before.state.world) before.first_touches
+  pub counted : Counts 1 metered counts
 
 -- of a machine's next n turns without events none is watched for, but maybe the last, if that
 -- writes the word

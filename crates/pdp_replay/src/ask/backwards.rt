@@ -7,15 +7,14 @@ ghost use Rattle.pdp_replay.specs.declared.ask.question.Question.TheVariants.{Re
 ghost use Rattle.pdp_replay.specs.Run.KeptRuns.{resumed_turn, Advances, CanGoOn, IsRunOf};
 ghost use Rattle.pdp_replay.specs.Run.KeptRuns.{KeepsRun, LeavesKept};
 ghost use Rattle.pdp_replay.specs.Ask.Known.{LeavesPast};
-ghost use Rattle.pdp_replay.specs.Ask.Searches.{search_checked};
-ghost use Rattle.pdp_replay.specs.Ask.SoughtTurns.{is_sought_at};
+ghost use Rattle.pdp_replay.specs.Ask.SoughtTurns.{is_sought_at, seek_checked};
 ghost use Rattle.pdp_replay.specs.Ask.Watches.{IsInside};
 ghost use Rattle.pdp_replay.specs.Ask.Backwards.{last_of_turns, IsFoundBackwards, IsLastOf};
 ghost use Rattle.pdp_replay.specs.Ask.Backwards.{IsLastSought, IsLastTo, IsWithinBackwards};
 ghost use Rattle.pdp_replay.specs.Ask.Backwards.{RunsBack};
 ghost use Rattle.pdp_replay.specs.Run.Branches.{IsLookedAt};
 
-use crate::ask::search::{check_search, search};
+use crate::ask::search::{check_seek, search};
 use crate::ask::watch::Watchpoint;
 use crate::ask::{Found, Sought};
 use crate::engine::Engine;
@@ -30,9 +29,8 @@ impl Engine {
     /// power-up of the past as it is now. The turns are searched stride by stride from the end on,
     /// each once, up to the stride in which one is found.
     ///
-    /// Err(TurnTooLarge) if a turn is above 1,000,000,000; otherwise Err(CountOutOfRange) if `from`
-    /// is above `to`; otherwise Err(NoMemory) if memory was refused. No refusal changes the past,
-    /// and one for another cause than memory changes nothing. [P]
+    /// It is refused as [`Engine::first_at`] is. No refusal changes the past, and one for another
+    /// cause than memory changes nothing. [P]
     pub fn last_at(
         &mut self,
         alloc: Global,
@@ -40,8 +38,8 @@ impl Engine {
         from: u32,
         to: u32,
     ) -> Result<Found, Fault>
-        ensures refusal { result_map (λ _. tt) result
-            ≡ question_answer (search_checked from to) (for_memory result) }
+        ensures refusal { result_map (λ _. tt) result ≡ question_answer
+            (seek_checked sought from to self.old.past.setup) (for_memory result) }
 
         // The turn is the last, said as what is true of it and as what computes it.
         ensures turn { IfOk result
@@ -51,7 +49,7 @@ impl Engine {
 
         // Of turns that were known it ran at most two strides of turns more than those back to
         // `from`, also if it is then refused, or back to the turn that it found.
-        ensures bound { search_checked from to ≡ Ok tt
+        ensures bound { seek_checked sought from to self.old.past.setup ≡ Ok tt
             → IsWithinBackwards from to self.old self.new }
         ensures found { IfOk result (λ found. IsFoundBackwards from to found self.old self.new) }
 
@@ -62,7 +60,7 @@ impl Engine {
         ensures refused { IsErr result → for_memory result ≡ false → self.new ≡ self.old }
     {
         let before = self.run.meter.count();
-        check_search(from, to)?;
+        check_seek(self.base_setup.units, sought, from, to)?;
         let found = find_last(alloc, &mut self.run, &self.script, sought, from, to);
         self.highest = self.highest.max(self.run.known);
         let turn = found?;

@@ -8,7 +8,10 @@ use pdp_word::NoMemory;
 use std::alloc::Global;
 use std::marker::Model;
 
-/// Words or bytes of an answer, one after another [P]. A contract sees the list of them.
+/// The most words that a question may ask for, or that are listed of those that it finds.
+pub(crate) const MOST_WORDS: u32 = 256;
+
+/// Words, bytes or numbers of an answer, one after another [P]. A contract sees the list of them.
 #[derive(Drop)]
 pub struct Items<T> {
     items: Vec<T>,
@@ -29,7 +32,14 @@ impl<T> Model for Items<T> {
 }
 
 impl<T> Items<T> {
-    /// The words or bytes, in their order [P].
+    /// These, in their order.
+    pub(crate) fn of(items: Vec<T>) -> Items<T>
+        ensures { result ≡ items.items }
+    {
+        Items { items }
+    }
+
+    /// The words, bytes or numbers, in their order [P].
     pub fn items(&self) -> &[T]
         ensures { result.now ≡ self.now }
     {

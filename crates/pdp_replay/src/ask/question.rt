@@ -8,18 +8,20 @@ ghost use Rattle.pdp_replay.specs.Ask.Answer.{answer, question_checked, range_ch
 ghost use Rattle.pdp_replay.specs.Ask.Answer.{disk_range_checked, trail_checked, first_turn_needed};
 ghost use Rattle.pdp_replay.specs.Ask.Answer.{turn_asked, IsWithin, IsAnswerIn};
 
-use crate::ask::items::{read_bytes, read_core, read_disk};
-use crate::ask::{Bytes, LastWrite, Trail, Words};
+use crate::ask::find_words::{check_core_search, check_disk_search, find_core, find_disk};
+use crate::ask::items::{MOST_WORDS, read_bytes, read_core, read_disk};
+use crate::ask::virtual_words::{check_virtual, place_of_read, read_virtual};
+use crate::ask::{
+    Bytes, FoundWords, LastWrite, Trail, Unreadable, VirtualWords, WantedWords, Words,
+};
 use crate::past::{DRIVE_WORDS, UNIT_WORDS, core_word};
 use crate::run::KeptRun;
 use pdp_cpu::{DeviceRegisters, PageRegisters, Regs};
+use pdp_kt11::{Abort, Mode};
 use pdp_script::{Fault, Script};
 use pdp_unibus::LAST_TURN;
 use pdp_word::NoMemory;
 use std::alloc::Global;
-
-/// The most words of core or of a drive that a question may ask for.
-const MOST_WORDS: u32 = 256;
 
 /// The most turns that a trail lists.
 const MOST_TURNS_LISTED: u32 = 64;
@@ -48,6 +50,30 @@ pub enum Question {
     Last(u32, u32),
     /// The last turns before this turn, and how many (1 to 64, and no more than there were).
     Trail(u32, u32),
+    /// The physical address of a virtual address (octal, bytes) in a mode, for a read, by the
+    /// mapping registers before this turn. The read itself doesn't take place.
+    Translate {
+        turn: u32,
+        mode: Mode,
+        address: u16,
+    },
+    /// The words that an instruction of a mode would read at virtual addresses before this turn.
+    /// The reads themselves don't take place.
+    Virtual {
+        turn: u32,
+        words: VirtualWords,
+    },
+    /// The words of core before this turn that are wanted.
+    FindCore {
+        turn: u32,
+        wanted: WantedWords,
+    },
+    /// The words of a drive (counted from 0) before this turn that are wanted.
+    FindDisk {
+        turn: u32,
+        drive: u8,
+        wanted: WantedWords,
+    },
 }
 
 impl Question {
@@ -64,7 +90,11 @@ impl Question {
             | Question::Devices(turn)
             | Question::Pages(turn)
             | Question::Last(turn, _)
-            | Question::Trail(turn, _) => turn,
+            | Question::Trail(turn, _)
+            | Question::Translate { turn, .. }
+            | Question::Virtual { turn, .. }
+            | Question::FindCore { turn, .. }
+            | Question::FindDisk { turn, .. } => turn,
         }
     }
 
@@ -84,7 +114,9 @@ impl Question {
     ///
     /// Err(TurnTooLarge) if its turn is above 1,000,000,000; else of words of core what
     /// `check_range` refuses, of words of a drive what `check_disk_range` does, of a last write
-    /// what `core_word` does, and of a trail what `check_trail` does.
+    /// what `core_word` does, of a trail what `check_trail` does, of words at virtual addresses
+    /// what `check_virtual` does, and of wanted words what `check_core_search` and
+    /// `check_disk_search` do.
     #[tactic(auto, unfolding(crate::specs::Ask::Answer::question_checked))]
     pub(crate) fn check(self, units: u8, drives: usize) -> Result<(), Fault>
         ensures refusal { (p : Past) → p.setup.units ≡ units → p.setup.drives ≡ drives
@@ -103,11 +135,15 @@ impl Question {
                 Ok(())
             }
             Question::Trail(turn, count) => check_trail(turn, count),
+            Question::Virtual { words, .. } => check_virtual(words),
+            Question::FindCore { wanted, .. } => check_core_search(units, wanted),
+            Question::FindDisk { drive, wanted, .. } => check_disk_search(drives, drive, wanted),
             Question::Regs(_)
             | Question::Text(_)
             | Question::Punched(_)
             | Question::Devices(_)
-            | Question::Pages(_) => Ok(()),
+            | Question::Pages(_)
+            | Question::Translate { .. } => Ok(()),
         }
     }
 
@@ -171,6 +207,18 @@ impl Question {
             Question::Trail(_, count) => {
                 let trail = Trail::record(alloc, run, script, count)?;
                 Ok(Value::Trail(trail))
+            }
+            Question::Translate { mode, address, .. } => {
+                Ok(Value::Translation(place_of_read(machine, mode, address)))
+            }
+            Question::Virtual { words, .. } => {
+                Ok(Value::Virtual(read_virtual(alloc, machine, words)?))
+            }
+            Question::FindCore { wanted, .. } => {
+                Ok(Value::FoundCore(find_core(alloc, machine, wanted)?))
+            }
+            Question::FindDisk { drive, wanted, .. } => {
+                Ok(Value::FoundDisk(find_disk(alloc, machine, drive, wanted)?))
             }
         }
     }
@@ -258,6 +306,14 @@ pub enum Value {
     Last(Option<LastWrite>),
     /// The turns that were asked for, each with PC before it and its act.
     Trail(Trail),
+    /// The physical address (bytes, 18 bits), or why memory management doesn't let a read through.
+    Translation(Result<u32, Abort>),
+    /// The words at virtual addresses, or the first of them that can't be read.
+    Virtual(Result<Words, Unreadable>),
+    /// The words of core that are wanted.
+    FoundCore(FoundWords),
+    /// The words of a drive that are wanted.
+    FoundDisk(FoundWords),
 }
 
 /// A question's answer, with what it took.

@@ -8,7 +8,8 @@ ghost use Rattle.pdp_replay.specs.Run.KeptRuns.{IsKeptRun, IsRunOf, KeepsRun, Le
 ghost use Rattle.pdp_replay.specs.Ask.Known.{LeavesPast, RunsFor};
 ghost use Rattle.pdp_replay.specs.Ask.Searches.{first_turn_of, search_checked, turn_reached};
 ghost use Rattle.pdp_replay.specs.Ask.Searches.{EndsAfter, IsFirst, IsFound, IsWithinSearch};
-ghost use Rattle.pdp_replay.specs.Ask.SoughtTurns.{is_sought_at};
+ghost use Rattle.pdp_replay.specs.Past.Setup.{SetupData};
+ghost use Rattle.pdp_replay.specs.Ask.SoughtTurns.{is_sought_at, seek_checked};
 ghost use Rattle.pdp_replay.specs.Ask.Watches.{IsFirstInRun, IsFirstTo, IsInside};
 
 use crate::ask::Sought;
@@ -41,8 +42,10 @@ impl Engine {
     /// power-up of the past as it is now. The machine runs to the end of that turn, or to `to`.
     ///
     /// Err(TurnTooLarge) if a turn is above 1,000,000,000; otherwise Err(CountOutOfRange) if `from`
-    /// is above `to`; otherwise Err(NoMemory) if memory was refused. No refusal changes the past,
-    /// and one for another cause than memory changes nothing. [P]
+    /// is above `to`; otherwise, of the first condition on a word of core that can't be asked,
+    /// Err(OutsideCore) if the word is not in core, else Err(OddAddress) if its address is odd;
+    /// otherwise Err(NoMemory) if memory was refused. No refusal changes the past, and one for
+    /// another cause than memory changes nothing. [P]
     pub fn first_at(
         &mut self,
         alloc: Global,
@@ -50,8 +53,8 @@ impl Engine {
         from: u32,
         to: u32,
     ) -> Result<Found, Fault>
-        ensures refusal { result_map (λ _. tt) result
-            ≡ question_answer (search_checked from to) (for_memory result) }
+        ensures refusal { result_map (λ _. tt) result ≡ question_answer
+            (seek_checked sought from to self.old.past.setup) (for_memory result) }
 
         // The turn is the first, said as what is true of it and as what computes it.
         ensures turn { IfOk result
@@ -66,14 +69,15 @@ impl Engine {
         // What it leaves is what a question about turn `to` leaves, and it goes on from where a
         // question about turn `from` does.
         ensures leaves { LeavesPast (Regs to) self.old self.new }
-        ensures runs { search_checked from to ≡ Ok tt → RunsFor (Regs from) self.old self.new }
+        ensures runs { seek_checked sought from to self.old.past.setup ≡ Ok tt
+            → RunsFor (Regs from) self.old self.new }
         ensures found { IfOk result (λ found. IsFound to found self.old self.new) }
 
         // A refusal for another cause than memory changes nothing.
         ensures refused { IsErr result → for_memory result ≡ false → self.new ≡ self.old }
     {
         let before = self.run.meter.count();
-        check_search(from, to)?;
+        check_seek(self.base_setup.units, sought, from, to)?;
         let found = find_first(alloc, &mut self.run, &self.script, sought, from, to);
         self.highest = self.highest.max(self.run.known);
         let turn = found?;
@@ -102,6 +106,19 @@ pub(crate) fn check_search(from: u32, to: u32) -> Result<(), Fault>
         return Err(Fault::CountOutOfRange);
     }
     Ok(())
+}
+
+/// Whether the turns from one on and before another can be searched for what is sought, in a run
+/// with `units` units of core.
+///
+/// Err as `check_search` has it; otherwise as `check_conditions` does.
+pub(crate) fn check_seek(units: u8, sought: Sought, from: u32, to: u32) -> Result<(), Fault>
+    ensures refusal { (s : SetupData) → s.units ≡ units → seek_checked sought from to s ≡ result }
+    ensures limit { OnOk result (to ≤ LAST_TURN) }
+    ensures order { OnOk result (from ≤ to) }
+{
+    check_search(from, to)?;
+    sought.check(units)
 }
 
 /// Takes the machine to turn `from`, and from there to the end of the first turn that is sought, or

@@ -192,9 +192,11 @@ fn look(
 {
     machine.ready()?;
     let turn = machine.turns();
-    let pc = machine.pc();
-    let mode = machine.mode();
-    let act = machine.turn(meter, events);
-    let found = turn_if(turn, watch.is_met(turn, act, pc, mode, machine));
-    Ok(Looked { act, found })
+    let possible = watch.is_possible(machine);
+    let told = watch.turn(machine, meter, events);
+    let found = turn_if(turn, watch.is_met(possible, turn, told, machine));
+    Ok(Looked {
+        act: told.act,
+        found,
+    })
 }

@@ -1,12 +1,19 @@
 ghost use Rattle.std.specs.Prelude.{◌≡◌, ◌+◌, ◌<◌, ◌≤◌};
 ghost use Rattle.pdp_cpu.specs.Meters.{Counts};
 ghost use Rattle.pdp_cpu.specs.Turns.CalmTurns.{after_calm_turns};
-ghost use Rattle.pdp_replay.specs.Ask.SoughtTurns.{is_instruction, is_interrupt, is_mode};
-ghost use Rattle.pdp_replay.specs.Ask.SoughtTurns.{is_pending_trap, is_sought, NoneIsSought};
+ghost use Rattle.pdp_replay.specs.Past.Setup.{SetupData};
+ghost use Rattle.pdp_replay.specs.Ask.SoughtTurns.{is_act_sought, is_interrupt, is_mode};
+ghost use Rattle.pdp_replay.specs.Ask.SoughtTurns.{is_pending_trap, is_state_sought, is_trap_through};
+ghost use Rattle.pdp_replay.specs.Ask.SoughtTurns.{sought_checked, NoneIsSought};
+ghost use Rattle.pdp_replay.specs.Ask.TurnConditions.{is_instruction, AreUnmet};
 
-use pdp_cpu::{Act, Meter, Mode, PagedMachine, WordTable};
+use crate::ask::turn_condition::{
+    TurnConditions, address_of, are_for, are_met_by, check_conditions,
+};
+use pdp_cpu::{Act, ActWithTrap, Meter, Mode, PagedMachine, WordTable};
+use pdp_script::Fault;
 
-/// What a search looks for: an act by which a turn begins [P].
+/// What a search looks for: an act by which a turn begins, or conditions [P].
 #[derive(Clone, Copy)]
 pub enum Sought {
     /// An instruction with PC at this address (octal, bytes) before it, in this mode of the
@@ -19,21 +26,55 @@ pub enum Sought {
     /// A trap of an instruction, such as EMT or an odd address, belongs to its instruction and
     /// isn't one.
     PendingTrap,
+    /// A trap through this vector (octal, bytes): one of the turn's own instruction or of its fetch,
+    /// such as EMT (30) or an odd address (4), the trace trap (14), or the stack trap (4). If the
+    /// sequence of the trap becomes the red one, through 4, its own vector counts.
+    Trap { vector: u16 },
+    /// A turn that meets all of these conditions.
+    Where { conditions: TurnConditions },
 }
 
 impl Sought {
-    /// Whether a turn with this act, and with PC and the mode before it, is sought.
-    #[inline(always)]
-    pub(crate) fn is_met(self, act: Act, pc: u16, mode: Mode) -> bool
-        ensures { result ≡ is_sought self act pc mode }
+    /// Whether what is sought can be sought in a run with `units` units of core.
+    ///
+    /// Err as `check_conditions` has it.
+    pub(crate) fn check(self, units: u8) -> Result<(), Fault>
+        ensures refusal { (s : SetupData) → s.units ≡ units → sought_checked self s ≡ result }
     {
         match self {
-            Sought::Instruction {
-                address,
-                mode: asked,
-            } => is_instruction(act) && pc == address && is_mode(asked, mode),
-            Sought::Interrupt { vector } => is_interrupt(vector, act),
-            Sought::PendingTrap => is_pending_trap(act),
+            Sought::Where { conditions } => check_conditions(conditions, units),
+            Sought::Instruction { .. }
+            | Sought::Interrupt { .. }
+            | Sought::PendingTrap
+            | Sought::Trap { .. } => Ok(()),
+        }
+    }
+
+    /// Whether the machine before a turn is as what is sought asks; the turn's act isn't looked at.
+    #[inline(always)]
+    pub(crate) fn is_met_by(self, machine: &PagedMachine) -> bool
+        ensures { result ≡ is_state_sought self machine.now.state.world }
+    {
+        match self {
+            Sought::Instruction { address, mode } => {
+                machine.pc() == address && is_mode(mode, machine.mode())
+            }
+            Sought::Interrupt { .. } | Sought::PendingTrap | Sought::Trap { .. } => true,
+            Sought::Where { conditions } => are_met_by(conditions, machine),
+        }
+    }
+
+    /// Whether the act of a turn is as what is sought asks.
+    #[inline(always)]
+    pub(crate) fn is_for(self, told: ActWithTrap) -> bool
+        ensures { result ≡ is_act_sought self told }
+    {
+        match self {
+            Sought::Instruction { .. } => is_instruction(told.act),
+            Sought::Interrupt { vector } => is_interrupt(vector, told.act),
+            Sought::PendingTrap => is_pending_trap(told.act),
+            Sought::Trap { vector } => is_trap_through(vector, told.trap),
+            Sought::Where { conditions } => are_for(conditions, told.act),
         }
     }
 
@@ -59,13 +100,47 @@ impl Sought {
             }
             Sought::Interrupt { .. } => machine.run_calmly(words, meter, to),
             Sought::PendingTrap => machine.run_calmly(words, meter, to),
+            // An instruction may come to a trap, so each turn is looked at.
+            Sought::Trap { .. } => pass_none(meter),
+            Sought::Where { conditions } => pass_unmet(conditions, machine, words, meter, to),
         }
     }
 }
 
+/// `Sought::pass` for conditions: with one on the address of an instruction, turns that begin with
+/// PC elsewhere; without one, none.
+fn pass_unmet(
+    conditions: TurnConditions,
+    machine: &mut PagedMachine,
+    words: &WordTable,
+    meter: &mut Meter,
+    to: u32,
+) -> u32
+    ensures turns { machine.new ≡ after_calm_turns result machine.old }
+    ensures turn { machine.new.state.turn ≡ machine.old.state.turn + result }
+    ensures most { 0 < result → machine.new.state.turn ≤ to }
+    ensures none { AreUnmet conditions result machine.old }
+    ensures counted { Counts result meter.old meter.new }
+{
+    match address_of(conditions) {
+        Some(address) => machine.run_calmly_before(words, meter, to, address),
+        None => pass_none(meter),
+    }
+}
+
+/// Runs no turn.
+fn pass_none(meter: &Meter) -> u32
+    ensures none { result ≡ 0 }
+    ensures counted { Counts 0 meter.now meter.now }
+{
+    // This read gives the prover the range of the count.
+    let _count = meter.count();
+    0
+}
+
 /// Whether the act is an instruction.
 #[inline(always)]
-fn is_instruction(act: Act) -> bool
+pub(crate) fn is_instruction(act: Act) -> bool
     ensures { result ≡ is_instruction act }
 {
     match act {
@@ -85,6 +160,17 @@ fn is_interrupt(vector: u16, act: Act) -> bool
     }
 }
 
+/// Whether a trap that a turn has is through this vector (octal, bytes).
+#[inline(always)]
+fn is_trap_through(vector: u16, trap: Option<u16>) -> bool
+    ensures { result ≡ is_trap_through vector trap }
+{
+    match trap {
+        Some(through) => through == vector,
+        None => false,
+    }
+}
+
 /// Whether the act is a trap that was pending.
 #[inline(always)]
 fn is_pending_trap(act: Act) -> bool
@@ -98,7 +184,7 @@ fn is_pending_trap(act: Act) -> bool
 
 /// Whether a mode is the one that is asked for, if one is.
 #[inline(always)]
-fn is_mode(asked: Option<Mode>, mode: Mode) -> bool
+pub(crate) fn is_mode(asked: Option<Mode>, mode: Mode) -> bool
     ensures { result ≡ is_mode asked mode }
 {
     match asked {

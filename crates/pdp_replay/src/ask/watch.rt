@@ -2,12 +2,16 @@ ghost use Rattle.std.specs.Prelude.{◌≡◌, ◌+◌, ◌-◌, ◌<◌, ◌≤
 ghost use Rattle.pdp_cpu.specs.Turns.CalmTurns.{after_calm_turns};
 ghost use Rattle.pdp_replay.specs.Ask.Searches.{or_turn};
 ghost use Rattle.pdp_replay.specs.Ask.Watches.{bytes_of, is_met, is_met_last, is_of_turn};
+ghost use Rattle.pdp_cpu.specs.Turns.MachineState.{IsReady};
+ghost use Rattle.pdp_replay.specs.Ask.SoughtTurns.{act_with_trap};
+ghost use Rattle.pdp_replay.specs.Ask.Watches.{is_act_watched, is_possible, RunsTurn};
 ghost use Rattle.pdp_replay.specs.Ask.Watches.{IsInside, PassesTo};
 ghost use Rattle.pdp_replay.specs.declared.ask.watch.Watchpoint.TheVariants.{Output};
 
 use crate::ask::{Sought, TextKind};
-use pdp_cpu::{Act, Meter, Mode, PagedMachine, WordTable};
+use pdp_cpu::{ActWithTrap, Meter, PagedMachine, WordTable};
 use pdp_store::Stamp;
+use pdp_unibus::{Event, LAST_TURN};
 
 /// What a search watches for, turn by turn.
 #[derive(Clone, Copy)]
@@ -21,15 +25,56 @@ pub(crate) enum Watchpoint {
 }
 
 impl Watchpoint {
-    /// Whether this turn is watched for, which had this act, with PC and the mode before it, and
-    /// left this machine.
+    /// Whether the next turn of the machine can be watched for, by what the machine is before it.
     #[inline(always)]
-    pub(crate) fn is_met(self, turn: u32, act: Act, pc: u16, mode: Mode, now: &PagedMachine) -> bool
-        requires inside { IsInside self now.now }
-        ensures { result ≡ is_met self turn act pc mode now.now }
+    pub(crate) fn is_possible(self, before: &PagedMachine) -> bool
+        ensures { result ≡ is_possible self before.now }
     {
         match self {
-            Watchpoint::Act(sought) => sought.is_met(act, pc, mode),
+            Watchpoint::Act(sought) => sought.is_met_by(before),
+            Watchpoint::Write { .. } | Watchpoint::Output { .. } => true,
+        }
+    }
+
+    /// Runs the next turn of the machine with these events; the meter counts it. Returns its act,
+    /// with its trap only where a search is for one: to tell it takes longer.
+    #[inline(always)]
+    pub(crate) fn turn(
+        self,
+        machine: &mut PagedMachine,
+        meter: &mut Meter,
+        events: &[Event],
+    ) -> ActWithTrap
+        requires ready { IsReady machine.old }
+        requires limit { machine.old.state.turn < LAST_TURN }
+        ensures told { is_act_watched self result ≡ is_act_watched self
+            (act_with_trap machine.old.state.turn events.now machine.old.state.world) }
+        ensures runs { RunsTurn events.now machine.old machine.new meter.old meter.new }
+    {
+        match self {
+            Watchpoint::Act(Sought::Trap { .. }) => machine.turn_and_tell(meter, events),
+            _ => ActWithTrap {
+                act: machine.turn(meter, events),
+                trap: None,
+            },
+        }
+    }
+
+    /// Whether this turn is watched for, which could be or couldn't (`is_possible`), had this act,
+    /// and left this machine.
+    #[inline(always)]
+    pub(crate) fn is_met(
+        self,
+        possible: bool,
+        turn: u32,
+        told: ActWithTrap,
+        now: &PagedMachine,
+    ) -> bool
+        requires inside { IsInside self now.now }
+        ensures { result ≡ is_met self possible turn told now.now }
+    {
+        match self {
+            Watchpoint::Act(sought) => possible && sought.is_for(told),
             Watchpoint::Write { number } => is_of_turn(turn, now.last(number)),
             Watchpoint::Output { kind, number } => count_out(kind, now) > number as usize,
         }
