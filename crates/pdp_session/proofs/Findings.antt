@@ -2,17 +2,21 @@
 use Rattle.std.proofs.Common.{◌≡◌, ℕ, List, Option, cond, nat_le, nat_lt, Result, Ok, Err, Bool, true, false, refl, ap, ◌∙◌}
 use Rattle.pdp_script.specs.Refusal.{for_memory, past_left, question_answer, result_map}
 use Rattle.pdp_script.specs.declared.faults.Fault.{Fault}
+use Rattle.pdp_replay.specs.Ask.Answer.{answer, answer_to, question_checked}
 use Rattle.pdp_replay.specs.Ask.Writes.{turn_listed}
 use Rattle.pdp_replay.specs.Ask.Fadings.{fading, joined_by}
 use Rattle.pdp_replay.specs.Past.{Past}
 use Rattle.pdp_replay.specs.Past.Edit.{past_edit}
 use Rattle.pdp_replay.specs.declared.ask.fading.Fading.{Fading}
 use Rattle.pdp_replay.specs.declared.ask.last_write.LastWrite.{LastWrite}
+use Rattle.pdp_replay.specs.declared.ask.question.Answer.{Answer}
+use Rattle.pdp_replay.specs.declared.ask.question.Question.{Question}
+use Rattle.pdp_replay.specs.declared.ask.question.Value.{Value}
 use Rattle.pdp_replay.specs.declared.past.past_edit.PastEdit.{PastEdit}
 use Rattle.pdp_unibus.specs.LastTurn.{last_turn}
 use Rattle.pdp_script.specs.declared.faults.Fault.TheVariants.{TurnTooLarge}
 use Rattle.pdp_session.specs.declared.search.Finding.{Finding}
-use Rattle.pdp_session.specs.declared.search.Finding.TheVariants.{Fades, Writes}
+use Rattle.pdp_session.specs.declared.search.Finding.TheVariants.{Answer as AnswerIs, Fades, Writes}
 use Rattle.pdp_session.specs.declared.search.Search.{Search}
 use Rattle.pdp_session.specs.declared.search.Search.TheVariants as search
 use Rattle.pdp_session.specs.Search.{finding, search_permitted, search_result, writes_found}
@@ -74,3 +78,26 @@ pub fading_refused : (edit : PastEdit) (to : ℕ) (past : Past) (fault : Fault) 
     → Err fault ≡ question_answer (search_result (search.Fades to edit) past) (for_memory {X = Finding} (Err fault))
 unfolding fading search_result
 fading_refused edit to past fault is = refusal_told (nat_le to last_turn) (for_memory {X = Finding} (Err fault)) (past_edit edit past) to past fault is
+
+-- a value as what a search found, and its refusal
+value_told : (permitted : Result (Unit {0}) Fault) (value due : Value) → Ok value ≡ question_answer (result_map (λ _. due) permitted) false
+    → Ok (AnswerIs value) ≡ question_answer (result_map (λ _. AnswerIs due) permitted) false
+value_told (Ok tt) value due is = let same : value ≡ due = cc is in ap (λ v. Ok (AnswerIs v)) same
+value_told (Err fault) value due is = absurd cc
+
+value_refused : (permitted : Result (Unit {0}) Fault) (flag : Bool) (due : Value) (fault : Fault) → Err fault ≡ question_answer (result_map (λ _. due) permitted) flag
+    → Err fault ≡ question_answer (result_map (λ _. AnswerIs due) permitted) flag
+value_refused (Ok tt) true due fault is = cc
+value_refused (Ok tt) false due fault is = absurd cc
+value_refused (Err other) flag due fault is = cc
+
+-- a question that the engine answered, or refused, is answered as a search
+pub question_answered : (asked : Question) (past : Past) (value : Value) → Ok value ≡ question_answer (answer_to asked past) false
+    → Ok (AnswerIs value) ≡ question_answer (search_result (search.Ask asked) past) false
+unfolding answer_to search_result
+question_answered asked past value is = value_told (question_checked asked past) value (answer asked past) is
+
+pub question_refused : (asked : Question) (past : Past) (fault : Fault) → Err fault ≡ question_answer (answer_to asked past) (for_memory {X = Answer} (Err fault))
+    → Err fault ≡ question_answer (search_result (search.Ask asked) past) (for_memory {X = Finding} (Err fault))
+unfolding answer_to search_result
+question_refused asked past fault is = value_refused (question_checked asked past) (for_memory {X = Finding} (Err fault)) (answer asked past) fault is

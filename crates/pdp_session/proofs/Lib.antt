@@ -1,8 +1,10 @@
 pub mod ByteLines
+pub mod CountLines
 pub mod WordLines
 pub mod SessionEnds
 pub mod ServedLines
 pub mod Findings
+pub mod FoundLines
 pub mod KeptLines
 pub mod HeldLines
 pub mod ImageWords

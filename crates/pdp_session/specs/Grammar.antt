@@ -20,10 +20,13 @@ use Rattle.pdp_session.specs.Grammar.Questions.{question_with}
 use Rattle.pdp_session.specs.Grammar.Words.{words_of_line}
 use Rattle.pdp_session.specs.Lines.{longest_line}
 pub mod Arguments
+pub mod Conditions
+pub mod Counts
 pub mod Events
 pub mod PastEdits
 pub mod Questions
 pub mod Searches
+pub mod StateQuestions
 pub mod Words
 
 -- `uncore A`: an address, in octal

@@ -1,9 +1,11 @@
 -- What a reply is as text: lines that each end in LF [P].
-use Rattle.std.specs.Prelude.{ℕ, Bool, ◌==◌, ◌&&◌, not, nat_le, if◌then◌else◌, length, List, []}
-use Rattle.std.specs.Prelude.{◌∷◌, ◌++◌, codes, decimal, Option, None, Some, option_to_list}
-use Rattle.std.specs.Prelude.{slice_get, slice_index}
+use Rattle.std.specs.Prelude.{ℕ, Bool, true, false, ◌*◌, ◌==◌, ◌&&◌, not, nat_le, if◌then◌else◌}
+use Rattle.std.specs.Prelude.{List, [], ◌∷◌, ◌++◌, codes, decimal, length, Option, None, Some}
+use Rattle.std.specs.Prelude.{Result, Ok, Err, option_to_list, slice_get, slice_index}
 use Rattle.std.specs.List.{flat_map}
 use Rattle.pdp_word.specs.Number.{octal_digits}
+use Rattle.pdp_kt11.specs.declared.place.Abort.{Abort}
+use Rattle.pdp_kt11.specs.declared.place.Abort.TheVariants.{Resident, Length, ReadOnly}
 use Rattle.pdp_script.specs.Fault.{number_of_fault, name_of_fault}
 use Rattle.pdp_script.specs.declared.faults.Fault.{Fault}
 use Rattle.pdp_store.specs.declared.Agent.{Agent}
@@ -21,6 +23,7 @@ use Rattle.pdp_replay.specs.Past.{Past}
 use Rattle.pdp_replay.specs.declared.past.patch.Patch.{Patch}
 use Rattle.pdp_replay.specs.declared.past.patch.Patch.TheVariants.{Core, Disk}
 use Rattle.pdp_store.specs.declared.part.WordAt.{WordAt}
+use Rattle.pdp_replay.specs.declared.ask.find_words.FoundWords.{FoundWords}
 use Rattle.pdp_replay.specs.declared.ask.last_write.LastWrite.{LastWrite}
 use Rattle.pdp_replay.specs.declared.ask.question.Value.{Value}
 use Rattle.pdp_replay.specs.declared.ask.question.Value.TheVariants.{Regs as RegsAre}
@@ -31,7 +34,16 @@ use Rattle.pdp_replay.specs.declared.ask.question.Value.TheVariants.{Pages as Pa
 use Rattle.pdp_replay.specs.declared.ask.question.Value.TheVariants.{Last as LastIs}
 use Rattle.pdp_replay.specs.declared.ask.question.Value.TheVariants.{Trail as TrailIs}
 use Rattle.pdp_replay.specs.declared.ask.question.Value.TheVariants.{Disk as DiskIs}
+use Rattle.pdp_replay.specs.declared.ask.question.Value.TheVariants.{Translation as TranslationIs}
+use Rattle.pdp_replay.specs.declared.ask.question.Value.TheVariants.{Virtual as VirtualAre}
+use Rattle.pdp_replay.specs.declared.ask.question.Value.TheVariants.{FoundCore as FoundInCore}
+use Rattle.pdp_replay.specs.declared.ask.question.Value.TheVariants.{FoundDisk as FoundOnDrive}
 use Rattle.pdp_replay.specs.declared.ask.trail.TrailEntry.{TrailEntry}
+use Rattle.pdp_replay.specs.declared.ask.virtual_words.Cause.{Cause}
+use Rattle.pdp_replay.specs.declared.ask.virtual_words.Cause.TheVariants as because
+use Rattle.pdp_replay.specs.declared.ask.virtual_words.Unreadable.{Unreadable}
+use Rattle.pdp_session.specs.declared.reply.states.FoundWhere.{FoundWhere}
+use Rattle.pdp_session.specs.declared.reply.states.FoundWhere.TheVariants.{InCore, OnDrive}
 use Rattle.pdp_session.specs.declared.reply.Reply.{Reply}
 use Rattle.pdp_session.specs.declared.reply.Reply.TheVariants.{Nothing, Done, Inserted, Shown}
 use Rattle.pdp_session.specs.declared.reply.Reply.TheVariants.{Listed, Refused}
@@ -110,6 +122,15 @@ word_text word = codes " " ++ octal_digits 6 word
 abbrev pub word_texts : List ℕ → List ℕ
 word_texts [] = []
 word_texts (word ∷ words) = word_text word ++ word_texts words
+
+-- the end of a line that says whether there may be more than are listed
+abbrev pub more_mark : Bool → List ℕ
+more_mark false = codes "\n"
+more_mark true = codes " or more\n"
+
+-- what a list is of, how many are listed, and whether there may be more
+abbrev pub listed_head : List ℕ → ℕ → Bool → List ℕ
+listed_head name count more = name ++ codes " " ++ decimal count ++ more_mark more
 
 -- words, in one line after a name
 unfoldable pub words_line : List ℕ → List ℕ → List ℕ
@@ -195,6 +216,49 @@ entry_line entry = decimal entry.turn ++ word_text entry.pc ++ codes " " ++ act_
 abbrev pub trail_text : List TrailEntry → List ℕ
 trail_text entries = list_text (codes "trail") entry_line entries
 
+-- why memory management doesn't let an access through
+abbrev pub abort_name : Abort → List ℕ
+abort_name Resident = codes "non-resident"
+abort_name Length = codes "length"
+abort_name ReadOnly = codes "read-only"
+
+-- the physical address of a virtual one, or the abort, in one line
+unfoldable pub translation_line : Result ℕ Abort → List ℕ
+translation_line (Ok physical) = codes "translate " ++ octal_digits 6 physical ++ codes "\n"
+translation_line (Err abort) = codes "translate abort " ++ abort_name abort ++ codes "\n"
+
+-- why a word can't be read
+abbrev pub cause_text : Cause → List ℕ
+cause_text (because.Abort abort) = codes "abort " ++ abort_name abort
+cause_text because.Timeout = codes "timeout"
+cause_text because.Device = codes "device"
+
+-- the first word that can't be read, in one line
+unfoldable pub unreadable_line : Unreadable → List ℕ
+unreadable_line unreadable = codes "virtual " ++ cause_text unreadable.cause ++ codes " at " ++
+    octal_digits 6 unreadable.address ++ codes "\n"
+
+-- the words at virtual addresses, or the first that can't be read
+abbrev pub virtual_line : Result (List ℕ) Unreadable → List ℕ
+virtual_line (Ok words) = words_line (codes "virtual") words
+virtual_line (Err unreadable) = unreadable_line unreadable
+
+-- the search for words of core or of a drive, by its name
+abbrev pub search_name : FoundWhere → List ℕ
+search_name InCore = codes "find"
+search_name OnDrive = codes "finddsk"
+
+-- a word that was found, in one line: of core its address, of a drive its number
+abbrev pub found_line : FoundWhere → ℕ → List ℕ
+found_line InCore number = octal_digits 6 (number * 2) ++ codes "\n"
+found_line OnDrive number = octal_digits 7 number ++ codes "\n"
+
+-- the words that were found
+unfoldable pub words_found_text : FoundWhere → FoundWords → List ℕ
+words_found_text place found =
+    listed_head (search_name place) (length found.numbers) found.more
+    ++ flat_map (found_line place) found.numbers
+
 -- the answer to a question as text: one row for each kind of question
 abbrev pub value_text : Value → List ℕ
 value_text (RegsAre regs) = regs_line regs ++ codes "\n"
@@ -206,6 +270,10 @@ value_text (DevicesAre devices) = devices_line devices
 value_text (PagesAre pages) = pages_line pages
 value_text (LastIs last) = last_line last
 value_text (TrailIs trail) = trail_text trail
+value_text (TranslationIs translated) = translation_line translated
+value_text (VirtualAre words) = virtual_line words
+value_text (FoundInCore found) = words_found_text InCore found
+value_text (FoundOnDrive found) = words_found_text OnDrive found
 
 -- a reply as text; a list of patches is that of the past as it is then
 unfoldable pub text_of : Reply → Past → List ℕ

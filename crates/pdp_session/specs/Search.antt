@@ -5,11 +5,13 @@ use Rattle.std.specs.List.{flat_map}
 use Rattle.pdp_unibus.specs.LastTurn.{last_turn}
 use Rattle.pdp_script.specs.Refusal.{past_left, result_map}
 use Rattle.pdp_script.specs.declared.faults.Fault.{Fault}
+use Rattle.pdp_replay.specs.Ask.Answer.{answer, question_checked}
 use Rattle.pdp_replay.specs.Ask.Backwards.{last_of_turns}
+use Rattle.pdp_replay.specs.Ask.Counts.{counts_checked, counts_in_turns}
 use Rattle.pdp_replay.specs.Ask.DiskChanges.{change_checked, word_changes}
 use Rattle.pdp_replay.specs.Ask.Fadings.{fading_checked, joined_by}
-use Rattle.pdp_replay.specs.Ask.Searches.{first_turn_of, search_checked}
-use Rattle.pdp_replay.specs.Ask.SoughtTurns.{is_sought_at}
+use Rattle.pdp_replay.specs.Ask.Searches.{first_turn_of}
+use Rattle.pdp_replay.specs.Ask.SoughtTurns.{is_sought_at, seek_checked}
 use Rattle.pdp_replay.specs.Ask.TextParts.{byte_checked, bytes_at, comes_out, turn_checked}
 use Rattle.pdp_replay.specs.Ask.Writes.{turn_listed, writes_checked, writes_in_turns}
 use Rattle.pdp_replay.specs.Past.{Past}
@@ -21,7 +23,8 @@ use Rattle.pdp_session.specs.declared.search.Finding.{Finding}
 use Rattle.pdp_session.specs.declared.search.Finding.TheVariants as found
 use Rattle.pdp_session.specs.declared.search.Search.{Search}
 use Rattle.pdp_session.specs.declared.search.Search.TheVariants as search
-use Rattle.pdp_session.specs.Reply.{agent_name, bytes_line, refusal_text, word_text}
+use Rattle.pdp_session.specs.Reply.{agent_name, bytes_line, listed_head, refusal_text, value_text}
+use Rattle.pdp_session.specs.Reply.{word_text}
 
 -- the most writes that are listed
 abbrev pub most_listed : ℕ
@@ -47,17 +50,22 @@ finding (search.When number) past = found.When (first_turn_of (comes_out Printed
     last_turn)
 finding (search.Fades to edit) past = found.Fades (joined_by to past
     (past_left (past_edit edit past) false past))
+finding (search.Ask question) past = found.Answer (answer question past)
+finding (search.Counts from to words) past = found.Counts (counts_in_turns past words.mode
+    words.first words.count from (to - from))
 
 -- can the search be made?
 abbrev pub search_permitted : Search → Past → Result (Unit {0}) Fault
-search_permitted (search.First from to sought) past = search_checked from to
-search_permitted (search.Latest from to sought) past = search_checked from to
+search_permitted (search.First from to sought) past = seek_checked sought from to past.setup
+search_permitted (search.Latest from to sought) past = seek_checked sought from to past.setup
 search_permitted (search.Writes from to address) past = writes_checked address from to past.setup
 search_permitted (search.Change from to drive number) past = change_checked drive number from to
     past.setup
 search_permitted (search.TextFrom kind turn first) past = turn_checked turn
 search_permitted (search.When number) past = byte_checked
 search_permitted (search.Fades to edit) past = result_map (λ _. tt) (fading_checked edit to past)
+search_permitted (search.Ask question) past = question_checked question past
+search_permitted (search.Counts from to words) past = counts_checked words from to
 
 -- what it finds, or why it can't be made
 unfoldable pub search_result : Search → Past → Result Finding Fault
@@ -68,14 +76,9 @@ abbrev pub turn_line : List ℕ → Option ℕ → List ℕ
 turn_line name None = name ++ codes " none\n"
 turn_line name (Some turn) = name ++ codes " " ++ decimal turn ++ codes "\n"
 
--- the end of a line that says whether turns were left that may have more
-abbrev pub more_mark : Bool → List ℕ
-more_mark false = codes "\n"
-more_mark true = codes " or more\n"
-
 -- how many writes are listed, and whether turns were left that may have more
 abbrev pub writes_head : ℕ → Bool → List ℕ
-writes_head count more = codes "writes " ++ decimal count ++ more_mark more
+writes_head count more = listed_head (codes "writes") count more
 
 -- a write: its turn, its agent, and the word after the turn
 abbrev pub write_line : LastWrite → List ℕ
@@ -90,6 +93,14 @@ abbrev pub text_name : TextKind → List ℕ
 text_name Printed = codes "text"
 text_name Punched = codes "punched"
 
+-- a count in decimal, after a space
+abbrev pub count_shown : ℕ → List ℕ
+count_shown count = codes " " ++ decimal count
+
+-- counts, in one line after their name
+unfoldable pub counts_line : List ℕ → List ℕ
+counts_line counts = codes "counts" ++ flat_map count_shown counts ++ codes "\n"
+
 -- what was found, in lines: one row for each kind of search
 abbrev pub finding_text : Finding → List ℕ
 finding_text (found.First turn) = turn_line (codes "first") turn
@@ -99,6 +110,8 @@ finding_text (found.Change turn) = turn_line (codes "change") turn
 finding_text (found.TextFrom kind bytes) = bytes_line (text_name kind) bytes
 finding_text (found.When turn) = turn_line (codes "when") turn
 finding_text (found.Fades turn) = turn_line (codes "fades") turn
+finding_text (found.Answer value) = value_text value
+finding_text (found.Counts counts) = counts_line counts
 
 -- the text that a search is answered
 abbrev pub found_text : Result Finding Fault → List ℕ

@@ -9,10 +9,13 @@ ghost use Rattle.pdp_session.specs.Lines.{longest_line};
 ghost use Rattle.pdp_session.specs.Grammar.Words.{words_of_line};
 
 mod arguments;
+mod conditions;
+mod counts;
 mod events;
 mod past_edits;
 mod questions;
 mod searches;
+mod state_questions;
 mod words;
 
 use crate::command::Command;

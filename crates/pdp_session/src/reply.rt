@@ -5,8 +5,10 @@ ghost use Rattle.pdp_session.specs.Inside.Sends.{Sends};
 ghost use Rattle.pdp_session.specs.Version.{version_of};
 
 mod bytes;
+mod counts;
 mod findings;
 mod history;
+mod states;
 mod texts;
 
 use crate::streams::{Drain, Failed, send};
@@ -15,6 +17,7 @@ use bytes::send_bytes;
 pub use findings::send_found;
 use history::{last_text, send_trail};
 use pdp_replay::{Engine, Fault, Value};
+use states::{FoundWhere, send_found_words, send_virtual, translation_text};
 use texts::{
     Text, count_text, devices_text, done_text, insertion_text, pages_text, patch_text,
     refusal_text, regs_text, word_text,
@@ -63,6 +66,10 @@ fn send_value<W: Drain>(value: &Value, writer: &mut W) -> Result<(), Failed>
         Value::Pages(pages) => send(writer, pages_text(*pages).as_slice()),
         Value::Last(last) => send(writer, last_text(*last).as_slice()),
         Value::Trail(trail) => send_trail(trail, writer),
+        Value::Translation(translated) => send(writer, translation_text(*translated).as_slice()),
+        Value::Virtual(words) => send_virtual(words, writer),
+        Value::FoundCore(found) => send_found_words(FoundWhere::InCore, found, writer),
+        Value::FoundDisk(found) => send_found_words(FoundWhere::OnDrive, found, writer),
     }
 }
 

@@ -4,13 +4,16 @@ ghost use Rattle.std.specs.Prelude.{◌≡◌};
 ghost use Rattle.pdp_script.specs.Refusal.{for_memory, question_answer};
 ghost use Rattle.pdp_session.specs.Search.{search_result};
 
+mod count_list;
 mod finders;
 mod write_list;
 
+pub use count_list::CountList;
 use finders::{
-    find_change, find_fading, find_first, find_latest, find_text, find_turn_of_byte, find_writes,
+    find_answer, find_change, find_counts, find_fading, find_first, find_latest, find_text,
+    find_turn_of_byte, find_writes,
 };
-use pdp_replay::{Bytes, Engine, Fault, PastEdit, Sought, TextKind};
+use pdp_replay::{Bytes, CountedWords, Engine, Fault, PastEdit, Question, Sought, TextKind, Value};
 use std::alloc::Global;
 pub use write_list::WriteList;
 
@@ -58,6 +61,14 @@ pub enum Search {
         to: u32,
         edit: PastEdit,
     },
+    // A question that the session language doesn't have.
+    Ask(Question),
+    // How many turns began an instruction at each of some words.
+    Counts {
+        from: u32,
+        to: u32,
+        words: CountedWords,
+    },
 }
 
 // What a search found.
@@ -71,6 +82,8 @@ pub enum Finding {
     TextFrom(TextKind, Bytes),
     When(Option<u32>),
     Fades(Option<u32>),
+    Answer(Value),
+    Counts(CountList),
 }
 
 impl Search {
@@ -93,6 +106,8 @@ impl Search {
             Search::TextFrom { kind, turn, first } => find_text(alloc, engine, kind, turn, first),
             Search::When { number } => find_turn_of_byte(alloc, engine, number),
             Search::Fades { to, edit } => find_fading(alloc, engine, to, edit),
+            Search::Ask(question) => find_answer(alloc, engine, question),
+            Search::Counts { from, to, words } => find_counts(alloc, engine, from, to, words),
         }
     }
 }

@@ -22,26 +22,48 @@ const PROGRAM: Program<'static> = Program {
 
 // The lines of searches, a few words on each.
 const LINES: &str = "
-Lines of searches (A, V, D and I are octal; N, M and F are decimal). With N and M
-the turns from N on and before M are searched; F is a byte, counted from 0:
-  first N M at A        the first turn that runs the instruction at A
-  first N M at A MODE   the same in one mode of the processor, kernel or user
-  first N M vector V    the first turn that serves an interrupt through V
-  latest N M at A       the last turn that runs the instruction at A
-  latest N M at A MODE  the same in one mode of the processor, kernel or user
-  latest N M vector V   the last turn that serves an interrupt through V
-  writes N M A          the writes to the core word at A: turn, who wrote and
-                        the word; after 256 it ends, with 'or more' if turns are
-                        left
-  change N M I          the first turn that changes word I of the drive
-  change N M D I        the same of drive D, in version 2
-  text N from F         what was printed before turn N, from byte F on
-  punched N from F      what was punched before turn N, from byte F on
-  when F                the turn in which byte F was printed; the run goes on to
-                        that turn, or to turn 1000000000
-  fades N EDIT          the turn, up to N, from which on the run with this edit
-                        would be the run as it is; EDIT is a line core, disk,
-                        at, alter or drop, and isn't made
+Lines of searches (A, B, D, I, J, K, V and W are octal; C, F, M and N are
+decimal). With N and M the turns from N on and before M are searched; F is a
+byte, counted from 0; MODE is kernel or user. A CONDITION is one to four of
+these with 'and' between them: X = W, X != W, X < W, X > W, X & W = W, at A,
+kernel or user. X is R0 to R5, KSP, USP, SP, PC, PS or core A:
+  first N M at A              the first turn that runs the instruction at A
+  first N M at A MODE         the same in one mode of the processor
+  first N M vector V          the first turn that serves an interrupt through V
+  first N M trap V            the first turn that has a trap through V
+  first N M where CONDITION   the first turn that meets the CONDITION
+  latest N M at A             the last turn that runs the instruction at A
+  latest N M at A MODE        the same in one mode of the processor
+  latest N M vector V         the last turn that serves an interrupt through V
+  latest N M trap V           the last turn that has a trap through V
+  latest N M where CONDITION  the last turn that meets the CONDITION
+  counts N M MODE A C         how many turns run, in the MODE, the instruction
+                              at each of C words from A on
+  writes N M A                the writes to the core word at A: turn, who wrote
+                              and the word; after 256 it ends, with 'or more' if
+                              turns are left
+  change N M I                the first turn that changes word I of the drive
+  change N M D I              the same of drive D, in version 2
+  text N from F               what was printed before turn N, from byte F on
+  punched N from F            what was punched before turn N, from byte F on
+  when F                      the turn in which byte F was printed; the run goes
+                              on to that turn, or to turn 1000000000
+  translate N MODE A          the physical address of the virtual address A
+                              before turn N, or why a read aborts
+  virtual N MODE A C          C words from the virtual address A on, before turn
+                              N, or the first that can't be read
+  find N A B W                the words of core from A to B that are W before
+                              turn N; after 256 it ends, with 'or more' if there
+                              are more
+  find N A B W mask K         the same in the bits of K alone
+  finddsk N I J W             the words I to J of the drive that are W before
+                              turn N
+  finddsk N I J W mask K      the same in the bits of K alone
+  finddsk N D I J W           the words of drive D, in version 2
+  finddsk N D I J W mask K    the same in the bits of K alone
+  fades N EDIT                the turn, up to N, from which on the run with this
+                              edit would be the run as it is; EDIT is a line
+                              core, disk, at, alter or drop, and isn't made
 ";
 
 fn main(rt: HostRuntime) -> ExitCode {

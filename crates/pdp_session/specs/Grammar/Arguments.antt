@@ -5,6 +5,8 @@ use Rattle.std.specs.Option.{option_map, option_and_then}
 use Rattle.std.specs.Str.{bytes_eq}
 use Rattle.pdp_word.specs.Number.{number_of}
 use Rattle.pdp_word.specs.Size.{span}
+use Rattle.pdp_kt11.specs.declared.mode.Mode.{Mode}
+use Rattle.pdp_kt11.specs.declared.mode.Mode.TheVariants.{Kernel, User}
 use Rattle.pdp_unibus.specs.declared.delays.DelayedDevice.{DelayedDevice}
 use Rattle.pdp_unibus.specs.declared.delays.DelayedDevice.TheVariants.{Printer, Reader, Punch, Disk}
 use Rattle.pdp_unibus.specs.declared.delays.DelayedDevice.TheVariants.{Clock}
@@ -69,6 +71,13 @@ bytes_named (word ∷ words) = do
   bytes ← bytes_named words
   Some (byte ∷ bytes)
 
+-- a mode of the processor, by its name
+unfoldable pub mode_named : List ℕ → Option Mode
+mode_named name =
+    if bytes_eq name (codes "kernel") then Some Kernel
+    else if bytes_eq name (codes "user") then Some User
+    else None
+
 -- a device that has a delay, by its name
 unfoldable pub device_named : List ℕ → Option DelayedDevice
 device_named name =
@@ -91,3 +100,12 @@ turn_named text = option_map (λ number. min number largest_number) (number_of 1
 -- a count, in decimal: one that 32 bits can't hold stands for the largest that they hold
 abbrev pub count_named : List ℕ → Option ℕ
 count_named text = option_map (λ number. min number largest_number) (number_of 10 text)
+
+-- two turns, and the words that say what
+abbrev pub turns_first : List (List ℕ) → Option (ℕ × ℕ × List (List ℕ))
+turns_first words = do
+  (from, others) ← first_of words
+  (to, what) ← first_of others
+  n ← turn_named from
+  m ← turn_named to
+  Some (n, m, what)

@@ -4,41 +4,30 @@ use Rattle.std.specs.Prelude.{ℕ, if◌then◌else◌, List, [], ◌∷◌, cod
 use Rattle.std.specs.Option.{option_map}
 use Rattle.std.specs.Str.{bytes_eq}
 use Rattle.pdp_word.specs.Number.{number_of}
-use Rattle.pdp_kt11.specs.declared.mode.Mode.{Mode}
-use Rattle.pdp_kt11.specs.declared.mode.Mode.TheVariants.{Kernel, User}
 use Rattle.pdp_replay.specs.declared.ask.sought.Sought.{Sought}
-use Rattle.pdp_replay.specs.declared.ask.sought.Sought.TheVariants.{Instruction, Interrupt}
+use Rattle.pdp_replay.specs.declared.ask.sought.Sought.TheVariants.{Instruction, Interrupt, Trap}
+use Rattle.pdp_replay.specs.declared.ask.sought.Sought.TheVariants.{Where}
 use Rattle.pdp_replay.specs.declared.ask.text_part.TextKind.{TextKind}
 use Rattle.pdp_replay.specs.declared.ask.text_part.TextKind.TheVariants.{Printed, Punched}
 use Rattle.pdp_session.specs.declared.search.Search.{Search}
 use Rattle.pdp_session.specs.declared.search.Search.TheVariants.{First, Latest, Writes, Change}
-use Rattle.pdp_session.specs.declared.search.Search.TheVariants.{TextFrom, When, Fades}
+use Rattle.pdp_session.specs.declared.search.Search.TheVariants.{TextFrom, When, Fades, Ask}
 use Rattle.pdp_session.specs.declared.version.Version.{Version}
 use Rattle.pdp_session.specs.Grammar.Arguments.{◌>>=◌, first_of, one_of, two_of, drive_first}
-use Rattle.pdp_session.specs.Grammar.Arguments.{turn_named, count_named, word_named}
+use Rattle.pdp_session.specs.Grammar.Arguments.{turn_named, turns_first, count_named, mode_named}
+use Rattle.pdp_session.specs.Grammar.Arguments.{word_named}
+use Rattle.pdp_session.specs.Grammar.Conditions.{conditions_named}
+use Rattle.pdp_session.specs.Grammar.Counts.{counts_form}
 use Rattle.pdp_session.specs.Grammar.PastEdits.{past_edit_with}
+use Rattle.pdp_session.specs.Grammar.StateQuestions.{state_question_with}
 
--- two turns, and the words that say what
-abbrev pub turns_first : List (List ℕ) → Option (ℕ × ℕ × List (List ℕ))
-turns_first words = do
-  (from, others) ← first_of words
-  (to, what) ← first_of others
-  n ← turn_named from
-  m ← turn_named to
-  Some (n, m, what)
-
-unfoldable pub mode_named : List ℕ → Option Mode
-mode_named name =
-    if bytes_eq name (codes "kernel") then Some Kernel
-    else if bytes_eq name (codes "user") then Some User
-    else None
-
--- `at A`, an address, or `vector V`, both in octal
+-- `at A`, an address, `vector V` or `trap V`, all in octal
 unfoldable pub sought_in_any_mode : List ℕ → List ℕ → Option Sought
 sought_in_any_mode word number =
     if bytes_eq word (codes "at") then
     option_map (λ address. Instruction address None) (word_named number)
     else if bytes_eq word (codes "vector") then option_map Interrupt (word_named number)
+    else if bytes_eq word (codes "trap") then option_map Trap (word_named number)
     else None
 
 -- `at A kernel` or `at A user`
@@ -51,12 +40,21 @@ sought_in_mode word number name =
       Some (Instruction address (Some mode)))
     else None
 
-abbrev pub sought_named : List (List ℕ) → Option Sought
-sought_named (word ∷ number ∷ []) = sought_in_any_mode word number
-sought_named (word ∷ number ∷ mode ∷ []) = sought_in_mode word number mode
-sought_named _ = None
+-- `at A` and so on
+abbrev pub plainly_sought : List ℕ → List (List ℕ) → Option Sought
+plainly_sought word (number ∷ []) = sought_in_any_mode word number
+plainly_sought word (number ∷ mode ∷ []) = sought_in_mode word number mode
+plainly_sought word _ = None
 
--- `first N M at A`, also `first N M at A kernel`, `first N M at A user` and `first N M vector V`
+-- what a search looks for; `where C` and so on are conditions
+unfoldable pub sought_named : List (List ℕ) → Option Sought
+sought_named [] = None
+sought_named (word ∷ others) =
+    if bytes_eq word (codes "where") then option_map Where (conditions_named others)
+    else plainly_sought word others
+
+-- `first N M at A`, also `first N M at A kernel`, `first N M at A user`, `first N M vector V`,
+-- `first N M trap V` and `first N M where C`
 abbrev pub first_form : List (List ℕ) → Option Search
 first_form arguments = do
   (n, m, what) ← turns_first arguments
@@ -128,7 +126,8 @@ search_with version name arguments =
     else if bytes_eq name (codes "punched") then text_from_form Punched arguments
     else if bytes_eq name (codes "when") then when_form arguments
     else if bytes_eq name (codes "fades") then fades_form version arguments
-    else None
+    else if bytes_eq name (codes "counts") then counts_form arguments
+    else option_map Ask (state_question_with version name arguments)
 
 -- the search that some words are
 abbrev pub search_named : Version → List (List ℕ) → Option Search

@@ -3,13 +3,14 @@ ghost use Rattle.std.specs.Option.{option_map};
 ghost use Rattle.pdp_session.specs.Grammar.Arguments.{one_of, two_of, drive_named, drive_first};
 ghost use Rattle.pdp_session.specs.Grammar.Arguments.{word_named, byte_named, bytes_named};
 ghost use Rattle.pdp_session.specs.Grammar.Arguments.{device_named, event_named, turn_named};
-ghost use Rattle.pdp_session.specs.Grammar.Arguments.{count_named};
+ghost use Rattle.pdp_session.specs.Grammar.Arguments.{count_named, mode_named, turns_first};
 ghost use Rattle.pdp_session.specs.Grammar.Words.{words_of_line};
 ghost use Rattle.pdp_session.specs.Lines.{longest_line};
 
 use super::words::next_word;
 use crate::command::TapeBytes;
 use crate::version::Version;
+use pdp_kt11::Mode;
 use pdp_replay::DelayedDevice;
 use pdp_word::{read_decimal, read_octal};
 
@@ -89,6 +90,20 @@ pub fn read_bytes(text: &[u8]) -> Option<TapeBytes>
     Some(bytes)
 }
 
+// A mode of the processor, by its name.
+#[tactic(auto, unfolding(crate::specs::Grammar::Arguments::mode_named))]
+pub fn read_mode(name: &[u8]) -> Option<Mode>
+    ensures { result ≡ mode_named name.now }
+{
+    if name == b"kernel".as_slice() {
+        Some(Mode::Kernel)
+    } else if name == b"user".as_slice() {
+        Some(Mode::User)
+    } else {
+        None
+    }
+}
+
 // A device that has a delay, by its name.
 #[tactic(auto, unfolding(crate::specs::Grammar::Arguments::device_named))]
 pub fn read_device_name(name: &[u8]) -> Option<DelayedDevice>
@@ -133,4 +148,16 @@ pub fn read_count(text: &[u8]) -> Option<u32>
 {
     let number = read_decimal(text)?;
     Some(u32::try_from(number).unwrap_or(u32::MAX))
+}
+
+// Two turns, and the words that say what.
+pub fn turns_first(text: &[u8]) -> Option<(u32, u32, &[u8])>
+    ensures { option_map (λ found. (found.0, found.1, words_of_line found.2.now)) result
+        ≡ turns_first (words_of_line text.now) }
+{
+    let (from, others) = next_word(text)?;
+    let (to, what) = next_word(others)?;
+    let from = read_turn(from)?;
+    let to = read_turn(to)?;
+    Some((from, to, what))
 }

@@ -1,24 +1,28 @@
-//! The grammar of searches: a search is one row of [`read_named`] and one form below it.
+//! The grammar of searches: a search is one row of [`read_named`] and one form below it, and a
+//! question that the search language alone has one row of `read_state_question` and one form below
+//! that.
 
 ghost use Rattle.std.specs.Prelude.{◌≡◌};
-ghost use Rattle.std.specs.Option.{option_map};
 ghost use Rattle.pdp_session.specs.Grammar.Searches.{change_form, fades_form, first_form};
-ghost use Rattle.pdp_session.specs.Grammar.Searches.{latest_form};
-ghost use Rattle.pdp_session.specs.Grammar.Searches.{mode_named};
-ghost use Rattle.pdp_session.specs.Grammar.Searches.{part_named, search_named, search_with};
+ghost use Rattle.pdp_session.specs.Grammar.Searches.{latest_form, part_named, plainly_sought};
+ghost use Rattle.pdp_session.specs.Grammar.Searches.{search_named, search_with};
 ghost use Rattle.pdp_session.specs.Grammar.Searches.{sought_in_any_mode, sought_in_mode};
-ghost use Rattle.pdp_session.specs.Grammar.Searches.{sought_named, text_from_form, turns_first};
+ghost use Rattle.pdp_session.specs.Grammar.Searches.{sought_named, text_from_form};
 ghost use Rattle.pdp_session.specs.Grammar.Searches.{when_form, writes_form};
 ghost use Rattle.pdp_session.specs.Grammar.Words.{words_of_line};
 ghost use Rattle.pdp_session.specs.Language.{language_with, search_of};
 
-use super::arguments::{drive_first, one_word, read_count, read_turn, read_word, two_words};
+use super::arguments::{
+    drive_first, one_word, read_count, read_mode, read_turn, read_word, turns_first, two_words,
+};
+use super::conditions::read_conditions;
+use super::counts::read_counts;
 use super::past_edits::read_past_edit;
 use super::read_line;
+use super::state_questions::read_state_question;
 use super::words::next_word;
 use crate::search::Search;
 use crate::version::Version;
-use pdp_kt11::Mode;
 use pdp_replay::{Fault, Sought, TextKind};
 use pdp_word::read_octal;
 
@@ -66,24 +70,16 @@ fn read_named(version: Version, name: &[u8], arguments: &[u8]) -> Option<Search>
         read_when(arguments)
     } else if name == b"fades".as_slice() {
         read_fades(version, arguments)
+    } else if name == b"counts".as_slice() {
+        read_counts(arguments)
     } else {
-        None
+        let question = read_state_question(version, name, arguments)?;
+        Some(Search::Ask(question))
     }
 }
 
-// Two turns, and the words that say what.
-fn turns_first(text: &[u8]) -> Option<(u32, u32, &[u8])>
-    ensures { option_map (λ found. (found.0, found.1, words_of_line found.2.now)) result
-        ≡ turns_first (words_of_line text.now) }
-{
-    let (from, others) = next_word(text)?;
-    let (to, what) = next_word(others)?;
-    let from = read_turn(from)?;
-    let to = read_turn(to)?;
-    Some((from, to, what))
-}
-
-// `first N M at A`, also `first N M at A kernel`, `first N M at A user` and `first N M vector V`
+// `first N M at A`, also `first N M at A kernel`, `first N M at A user`, `first N M vector V`,
+// `first N M trap V` and `first N M where C`
 fn read_first(arguments: &[u8]) -> Option<Search>
     ensures { result ≡ first_form (words_of_line arguments.now) }
 {
@@ -101,12 +97,24 @@ fn read_latest(arguments: &[u8]) -> Option<Search>
     Some(Search::Latest { from, to, sought })
 }
 
-// What a search looks for.
+// What a search looks for; `where C` and so on are conditions.
+#[tactic(auto, unfolding(crate::specs::Grammar::Searches::sought_named))]
 fn read_sought(text: &[u8]) -> Option<Sought>
     ensures { result ≡ sought_named (words_of_line text.now) }
 {
-    let (word, rest) = next_word(text)?;
-    let (number, rest) = next_word(rest)?;
+    let (word, others) = next_word(text)?;
+    if word == b"where".as_slice() {
+        let conditions = read_conditions(others)?;
+        return Some(Sought::Where { conditions });
+    }
+    read_plainly_sought(word, others)
+}
+
+// `at A` and so on.
+fn read_plainly_sought(word: &[u8], text: &[u8]) -> Option<Sought>
+    ensures { result ≡ plainly_sought word.now (words_of_line text.now) }
+{
+    let (number, rest) = next_word(text)?;
     match next_word(rest) {
         None => sought_in_any_mode(word, number),
         Some((mode, rest)) => {
@@ -118,7 +126,7 @@ fn read_sought(text: &[u8]) -> Option<Sought>
     }
 }
 
-// `at A`, or `vector V`
+// `at A`, `vector V` or `trap V`
 #[tactic(auto, unfolding(crate::specs::Grammar::Searches::sought_in_any_mode))]
 fn sought_in_any_mode(word: &[u8], number: &[u8]) -> Option<Sought>
     ensures { result ≡ sought_in_any_mode word.now number.now }
@@ -132,6 +140,9 @@ fn sought_in_any_mode(word: &[u8], number: &[u8]) -> Option<Sought>
     } else if word == b"vector".as_slice() {
         let vector = read_word(number)?;
         Some(Sought::Interrupt { vector })
+    } else if word == b"trap".as_slice() {
+        let vector = read_word(number)?;
+        Some(Sought::Trap { vector })
     } else {
         None
     }
@@ -151,20 +162,6 @@ fn sought_in_mode(word: &[u8], number: &[u8], name: &[u8]) -> Option<Sought>
         address,
         mode: Some(mode),
     })
-}
-
-// A mode of the processor, by its name.
-#[tactic(auto, unfolding(crate::specs::Grammar::Searches::mode_named))]
-fn read_mode(name: &[u8]) -> Option<Mode>
-    ensures { result ≡ mode_named name.now }
-{
-    if name == b"kernel".as_slice() {
-        Some(Mode::Kernel)
-    } else if name == b"user".as_slice() {
-        Some(Mode::User)
-    } else {
-        None
-    }
 }
 
 // `writes N M A`

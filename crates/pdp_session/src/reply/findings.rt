@@ -1,11 +1,13 @@
 ghost use Rattle.std.specs.Prelude.{◌≡◌, ◌≤◌, length};
-ghost use Rattle.pdp_session.specs.Reply.{line_at};
+ghost use Rattle.pdp_session.specs.Reply.{line_at, listed_head, more_mark};
 ghost use Rattle.pdp_session.specs.Search.{finding_text, found_text, text_name, turn_line};
-ghost use Rattle.pdp_session.specs.Search.{more_mark, write_line, writes_head, writes_text};
+ghost use Rattle.pdp_session.specs.Search.{write_line, writes_head, writes_text};
 ghost use Rattle.pdp_session.specs.Inside.Sends.{Sends};
 
 use super::bytes::send_bytes;
+use super::counts::send_counts;
 use super::history::agent_name;
+use super::send_value;
 use super::texts::{Text, add, add_word, refusal_text};
 use crate::search::{Finding, WriteList};
 use crate::streams::{Drain, Failed, send};
@@ -34,6 +36,8 @@ fn send_finding<W: Drain>(finding: &Finding, writer: &mut W) -> Result<(), Faile
         Finding::TextFrom(kind, bytes) => send_bytes(text_name(*kind), bytes.items(), writer),
         Finding::When(turn) => send(writer, turn_text("when", *turn).as_slice()),
         Finding::Fades(turn) => send(writer, turn_text("fades", *turn).as_slice()),
+        Finding::Answer(value) => send_value(value, writer),
+        Finding::Counts(counts) => send_counts(counts, writer),
     }
 }
 
@@ -83,9 +87,18 @@ fn send_writes<W: Drain>(writes: &WriteList, more: bool, writer: &mut W) -> Resu
 fn writes_head(count: usize, more: bool) -> Text
     ensures { result.items ≡ writes_head count more }
 {
+    listed_head("writes", count, more)
+}
+
+// What a list is of, how many are listed, and whether there may be more.
+pub fn listed_head(name: &str, count: usize, more: bool) -> Text
+    requires { length name.now ≤ 7 }
+    ensures { result.items ≡ listed_head name.now count more }
+{
     let mut text = Text::new();
     let mut buffer = Buffer::new();
-    add(&mut text, b"writes ");
+    add(&mut text, name.as_bytes());
+    add(&mut text, b" ");
     add(&mut text, buffer.format(count).as_bytes());
     add(&mut text, more_mark(more).as_bytes());
     text

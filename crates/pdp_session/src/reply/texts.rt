@@ -127,7 +127,7 @@ fn add_drive(text: &mut Text, version: Version, drive: u8)
 
 // The last seven octal digits of a number: all of those of the number of a word of the drive.
 #[tactic(auto, unfolding(pdp_word::specs::Number::octal_digits))]
-fn add_octal7(text: &mut Text, number: u32)
+pub fn add_octal7(text: &mut Text, number: u32)
     requires { length text.old.items + 7 ≤ LONGEST_TEXT }
     ensures octal_digits { text.new.items ≡ text.old.items ++ octal_digits 7 number }
     ensures length { length text.new.items ≡ length text.old.items + 7 }

@@ -2,8 +2,8 @@ ghost use Rattle.std.specs.Prelude.{◌≡◌};
 ghost use Rattle.pdp_script.specs.Refusal.{for_memory, question_answer};
 ghost use Rattle.pdp_session.specs.Search.{search_result};
 
-use crate::search::{Finding, Search, WriteList};
-use pdp_replay::{Engine, Fault, PastEdit, Sought, TextKind};
+use crate::search::{CountList, Finding, Search, WriteList};
+use pdp_replay::{CountedWords, Engine, Fault, PastEdit, Question, Sought, TextKind};
 use std::alloc::Global;
 
 // The first turn that is sought.
@@ -111,4 +111,30 @@ pub fn find_fading(
 {
     let fading = engine.fades(alloc, edit, to)?;
     Ok(Finding::Fades(fading.turn))
+}
+
+// The answer to a question.
+pub fn find_answer(alloc: Global, engine: &mut Engine, question: Question) -> Result<Finding, Fault>
+    ensures finding { result ≡ question_answer
+        (search_result (Search.Ask question) engine.old.past) (for_memory result) }
+    ensures past { engine.new.past ≡ engine.old.past }
+{
+    let answer = engine.ask(alloc, question)?;
+    Ok(Finding::Answer(answer.value))
+}
+
+// How many turns began an instruction at each of some words.
+pub fn find_counts(
+    alloc: Global,
+    engine: &mut Engine,
+    from: u32,
+    to: u32,
+    words: CountedWords,
+) -> Result<Finding, Fault>
+    ensures finding { result ≡ question_answer
+        (search_result (Search.Counts from to words) engine.old.past) (for_memory result) }
+    ensures past { engine.new.past ≡ engine.old.past }
+{
+    let counted = engine.counts(alloc, words, from, to)?;
+    Ok(Finding::Counts(CountList::new(counted.counts)))
 }
