@@ -96,30 +96,40 @@ LANGUAGE = [
 # The further lines of the program search.
 SEARCHES = [
     Line("first N M at A", SEARCH, "first T", "the first turn that runs the instruction at A"),
-    Line(
-        "first N M at A MODE",
-        SEARCH,
-        "first T",
-        "the same in one mode of the processor, kernel or user",
-    ),
+    Line("first N M at A MODE", SEARCH, "first T", "the same in one mode of the processor"),
     Line(
         "first N M vector V",
         SEARCH,
         "first T",
         "the first turn that serves an interrupt through V",
     ),
-    Line("latest N M at A", SEARCH, "latest T", "the last turn that runs the instruction at A"),
+    Line("first N M trap V", SEARCH, "first T", "the first turn that has a trap through V"),
     Line(
-        "latest N M at A MODE",
+        "first N M where CONDITION",
         SEARCH,
-        "latest T",
-        "the same in one mode of the processor, kernel or user",
+        "first T",
+        "the first turn that meets the CONDITION",
     ),
+    Line("latest N M at A", SEARCH, "latest T", "the last turn that runs the instruction at A"),
+    Line("latest N M at A MODE", SEARCH, "latest T", "the same in one mode of the processor"),
     Line(
         "latest N M vector V",
         SEARCH,
         "latest T",
         "the last turn that serves an interrupt through V",
+    ),
+    Line("latest N M trap V", SEARCH, "latest T", "the last turn that has a trap through V"),
+    Line(
+        "latest N M where CONDITION",
+        SEARCH,
+        "latest T",
+        "the last turn that meets the CONDITION",
+    ),
+    Line(
+        "counts N M MODE A C",
+        SEARCH,
+        "counts c",
+        "how many turns run, in the MODE, the instruction at each of C words from A on",
     ),
     Line(
         "writes N M A",
@@ -145,6 +155,35 @@ SEARCHES = [
         "1000000000",
     ),
     Line(
+        "translate N MODE A",
+        SEARCH,
+        "translate a",
+        "the physical address of the virtual address A before turn N, or why a read aborts",
+    ),
+    Line(
+        "virtual N MODE A C",
+        SEARCH,
+        "virtual w",
+        "C words from the virtual address A on, before turn N, or the first that can't be read",
+    ),
+    Line(
+        "find N A B W",
+        SEARCH,
+        "find C",
+        "the words of core from A to B that are W before turn N; after 256 it ends, with "
+        "'or more' if there are more",
+    ),
+    Line("find N A B W mask K", SEARCH, "find C", "the same in the bits of K alone"),
+    Line(
+        "finddsk N I J W",
+        SEARCH,
+        "finddsk C",
+        "the words I to J of the drive that are W before turn N",
+    ),
+    Line("finddsk N I J W mask K", SEARCH, "finddsk C", "the same in the bits of K alone"),
+    Line("finddsk N D I J W", SEARCH, "finddsk C", "the words of drive D, in version 2"),
+    Line("finddsk N D I J W mask K", SEARCH, "finddsk C", "the same in the bits of K alone"),
+    Line(
         "fades N EDIT",
         SEARCH,
         "fades T",
@@ -152,6 +191,12 @@ SEARCHES = [
         "is a line core, disk, at, alter or drop, and isn't made",
     ),
 ]
+# What a CONDITION is, in which W is an octal word, and the words of it before an address.
+CONDITIONS = (
+    "one to four of these with 'and' between them: X = W, X != W, X < W, X > W, X & W = W, at A, "
+    "kernel or user. X is R0 to R5, KSP, USP, SP, PC, PS or core A"
+)
+BEFORE_ADDRESS = ("at", "core")
 # The events that `at` and `alter` name, each with the letter of its number, if it has one.
 EVENTS = {
     "key": "B",
@@ -172,8 +217,8 @@ REFUSALS = {
     "5": "no event has this number; events lists them",
     "6": "the script is full",
     "7": "the turn or the delay is above 1000000000",
-    "8": "the count is not 1 to 256; of a trail not 1 to 64, or above its turn; of a search N is "
-    "above M",
+    "8": "the count is not 1 to 256; of a trail not 1 to 64, or above its turn; of a search the "
+    "first number is above the second, or a word is past address 177776",
     "9": "this core word has no patch; patches lists them",
     "11": f"the line has more than {LONGEST_LINE} bytes",
     "16": "the drive's number is above 7",
@@ -186,8 +231,9 @@ def command_of(line: Line) -> bytes:
 
 
 def pattern_of(line: Line) -> str:
-    """What fits such a line. A word in capitals stands for any word, EDIT for any words."""
-    words = line.form.replace("EDIT", "..").split()
+    """What fits such a line. A word in capitals stands for any word, EDIT and CONDITION for any
+    words."""
+    words = line.form.replace("EDIT", "..").replace("CONDITION", "..").split()
     return " ".join(".+" if it == ".." else r"\S+" if it.isupper() else it for it in words)
 
 

@@ -4,9 +4,11 @@
 import { wordsOfLine } from "./past.js";
 import { LAST_TURN, isRefused, turnOf } from "./replies.js";
 
-const OF_A_TURN = new Set(
-  ["regs", "mem", "dsk", "text", "punched", "last", "trail", "devices", "pages", "fades"]);
-const OF_TURNS = new Set(["first", "latest", "writes", "change"]);
+const OF_A_TURN = new Set([
+  "regs", "mem", "dsk", "text", "punched", "last", "trail", "devices", "pages", "translate",
+  "virtual", "find", "finddsk", "fades",
+]);
+const OF_TURNS = new Set(["first", "latest", "counts", "writes", "change"]);
 const MOST_WRITES = 256;
 const LONGEST_LINE = 200;
 // In the first turns of a run a question is answered at once. A trail has at most so many turns.
@@ -66,6 +68,7 @@ export function searchOf(line) {
   const add = (reply, isLast) => {
     if (isRefused(reply)) return reply;
     if (word === "writes") return addWrites(found, reply, isLast, to);
+    if (word === "counts") return addCounts(found, reply, isLast);
     return turnOf(reply) === null && !isLast ? null : reply;
   };
   return { from, end: to, isBackwards: word === "latest", line: part, add };
@@ -79,4 +82,10 @@ function addWrites(found, reply, isLast, end) {
   if (!isFull && !isLast) return null;
   const hasMore = isFull && Number(lines.at(-1).split(" ")[0]) + 1 < end;
   return [`writes ${lines.length}${hasMore ? " or more" : ""}`, ...lines].join("\n");
+}
+
+/** Adds the counts of a part; returns the reply to the whole search after its last part. */
+function addCounts(found, reply, isLast) {
+  reply.split(" ").slice(1).forEach((it, at) => { found[at] = (found[at] ?? 0) + Number(it); });
+  return isLast ? ["counts", ...found].join(" ") : null;
 }

@@ -17,8 +17,8 @@ MOST_DIGITS = 10
 
 def turns_of_question(line: str) -> Optional[tuple[int, int]]:
     """The turns that the machine must be at before and after its reply, or None for another line.
-    A trail begins at the first turn that it lists. Where a search ends its reply tells; `latest`
-    first runs to the end of its turns."""
+    A trail begins at the first turn that it lists. Where a search ends its reply tells; `counts`
+    runs to the end of its turns, and so does `latest` at first."""
     words = sessions.words_of(line) if sessions.first_word(line) in NAMES else []
     if len(words) < 2 or not is_decimal(words[1]):
         return None
@@ -27,7 +27,7 @@ def turns_of_question(line: str) -> Optional[tuple[int, int]]:
         number = int(words[2][:MOST_DIGITS])
         if words[0] == "trail" and len(words) == 3:
             return max(0, turn - number), turn
-        if words[0] == "latest":
+        if words[0] in ("latest", "counts"):
             return turn, number
     return turn, turn
 

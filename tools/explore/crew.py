@@ -108,14 +108,3 @@ def each_of(
         stop.set()
         for twin in twins:
             twin.close()
-
-
-def in_order(results: Iterator[tuple[int, Result]]) -> Iterator[tuple[int, Result]]:
-    """The results of the tasks 0, 1 and so on in this order."""
-    kept: dict[int, Result] = {}
-    wanted = 0
-    for number, result in results:
-        kept[number] = result
-        while wanted in kept:
-            yield wanted, kept.pop(wanted)
-            wanted += 1

@@ -1,44 +1,13 @@
 """Finds turns, by the searches of the program search, by questions upwards, or by halving. None
 goes back and forth between a turn and the next."""
-import re
 from dataclasses import dataclass
-from typing import Callable, Iterator, Optional
+from typing import Iterator, Optional
 
-from .crew import Progress, each_of, in_order, processors
+from .crew import Progress
 from .machine import Machine
-from .replies import LastWrite, Mode
+from .replies import LastWrite
 
-BLOCK, BLOCKS_OF_ONE = 65_536, 4
-TURNS_OF_A_LOOK = 10  # how many turns run in the time in which one is looked at
 TURNS_OF_A_SEARCH = 10_000_000  # searched at once, in a tenth of a second or more
-REGISTERS_BYTES = 120
-# A search of some turns that follow one another: the first of them that has what is looked for.
-Search = Callable[[Machine, range], Optional[int]]
-OF_MODE = {Mode.KERNEL: rb"PS 0[0-3]", Mode.USER: rb"PS 1[4-7]"}
-
-
-def in_registers(text: bytes) -> Search:
-    """A turn before which the reply of `regs` has this text."""
-    pattern = re.compile(text)
-
-    def search(machine: Machine, turns: range) -> Optional[int]:
-        first = turns.start
-        for block in machine.blocks([f"regs {it}" for it in turns], REGISTERS_BYTES):
-            found = pattern.search(block)
-            if found:
-                return first + block.count(b"\n", 0, found.start())
-            first += block.count(b"\n")
-        return None
-
-    return search
-
-
-def register_with(name: str, word: int) -> Search:
-    return in_registers(b"%s %06o " % (name.encode(), word))
-
-
-def mode_is(mode: Mode) -> Search:
-    return in_registers(OF_MODE[mode])
 
 
 def parts_of(turns: range) -> Iterator[range]:
@@ -55,37 +24,6 @@ class Finder:
     """Searches in the run of a machine."""
 
     machine: Machine
-
-    def first_turn(self, turns: range, search: Search) -> Optional[int]:
-        """The first of the turns that has it. The first blocks of the turns are looked at on this
-        machine; the others on twins, unless these had to run longer up to them than it saves."""
-        starts = range(turns.start, turns.stop, BLOCK)
-        blocks = [range(at, min(at + BLOCK, turns.stop)) for at in starts]
-        are_far = turns.start > TURNS_OF_A_LOOK * len(turns)
-        alone = len(blocks) if are_far else BLOCKS_OF_ONE
-        with Progress(len(turns), "turns") as progress:
-            for block in blocks[:alone]:
-                found = search(self.machine, block)
-                if found is not None:
-                    return found
-                progress.step(len(block))
-            for block, found in self._on_twins(blocks[alone:], search):
-                if found is not None:
-                    return found
-                progress.step(len(block))
-        return None
-
-    def _on_twins(
-        self, blocks: list[range], search: Search
-    ) -> Iterator[tuple[range, Optional[int]]]:
-        """What is found in each of the blocks, in their order."""
-
-        def work(twin: Machine, number: int) -> Optional[int]:
-            return search(twin, blocks[number])
-
-        numbers = range(len(blocks))
-        for number, found in in_order(each_of(self.machine, numbers, work, processors())):
-            yield blocks[number], found
 
     def first(self, turns: range, sought: str) -> Optional[int]:
         """The first of the turns that is sought, in the words of the line `first`."""

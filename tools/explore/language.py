@@ -144,7 +144,8 @@ def explanation(line: str, reply: str, past: Past) -> str:
     if word == "fades":
         return f"the form is: fades N EDIT, and EDIT is a line of {', '.join(FADING)}"
     if word in SEARCHES and (word not in FORMS or len(words) > 1):
-        return f"the forms are: {'; '.join(forms_of_searches(word))}"
+        more = f"; a CONDITION is {sessions.CONDITIONS}" if "where" in words else ""
+        return f"the forms are: {'; '.join(forms_of_searches(word))}{more}"
     if word not in FORMS:
         return f"there is no line '{word}'; help lists the commands"
     form = form_of(word, past)

@@ -35,8 +35,8 @@ OWN_HELP = {
 }
 ENDS = {"quit", "q", "exit"}
 SEARCH_HELP = (
-    "Searches of the turns from N on and before M; `when` may go on to turn 1000000000."
-    " Details: docs/LANGUAGE.md, Searches"
+    "With N and M it is about the turns from N on and before M, with N alone about the machine "
+    "before turn N; `when` may go on to turn 1000000000. Details: docs/LANGUAGE.md, Searches"
 )
 FADES_HELP = (
     f"EDIT is a line of {', '.join(FADING)}, and isn't made. At a terminal explore asks this "
@@ -48,9 +48,11 @@ FADES_HELP = (
 WRITING = {"save", "page", "export", "sweep", "core", "disk"}
 # The replies of these lines of the language begin with the turn that they have found.
 FINDING = ("last", "first", "latest", "change", "when", "fades")
+CONDITION_HELP = f"A CONDITION is {sessions.CONDITIONS}"
 NUMBERS = (
-    "A, X, I, D, W and B are octal, N, M, T, C, K and E decimal. A and X may be a symbol, with "
-    "octal numbers after + and -. A question about turn N is about the machine before it."
+    "A, X, I, J, D, V, W, B and a mask K are octal, N, M, T, C, E, F and other K decimal. A and X "
+    "may be a symbol, with octal numbers after + and -. A question about turn N is about the "
+    "machine before it."
 )
 CURRENT_TURN = (
     "The current turn is the one that a line found (until, next, where, first, latest, last, "
@@ -186,6 +188,7 @@ class Prompt:
             lines += [form_of(word, past), "", f"{SUMMARIES[word]}. Details: docs/LANGUAGE.md"]
         if word in SEARCHES:
             lines += [*([""] if lines else []), *forms_of_searches(word), ""]
+            lines += [CONDITION_HELP, ""] if any("CONDITION" in it for it in lines) else []
             lines.append(FADES_HELP if word == "fades" else SEARCH_HELP)
         if word in COMMANDS:
             found = COMMANDS[word]
@@ -207,7 +210,7 @@ class Prompt:
         lines += ["", "lines of the session language (docs/LANGUAGE.md):"]
         lines += [f"  {form_of(word, past):<16}  {text}" for word, text in SUMMARIES.items()]
         lines += ["", "lines of searches (docs/LANGUAGE.md):"]
-        lines += [f"  {it.form}" for it in sessions.SEARCHES]
+        lines += [*(f"  {it.form}" for it in sessions.SEARCHES), f"{CONDITION_HELP}."]
         return [*lines, "", NUMBERS, f"{RULE[0].upper()}{RULE[1:]}.", "", CURRENT_TURN]
 
 

@@ -4,11 +4,10 @@ from typing import Iterator, Optional
 from .commands import Arguments, Explorer, command, searched_range
 from .disk_words import DiskWord, change_lines, functions_in_words, last_change
 from .errors import ExploreError
-from .finder import mode_is, register_with
 from .in_words import span
 from .listing import turn_in_words
 from .machine import LAST_TURN
-from .replies import LastWrite, Mode
+from .replies import LastWrite
 from .script import typed_bytes
 
 LARGEST_WORD = 0o177777
@@ -29,15 +28,19 @@ def not_found(turns: range, line: str, what: str = "not") -> str:
 
 def turn_of(explorer: Explorer, arguments: Arguments, turns: range) -> Optional[int]:
     """The first turn that has what `until` looks for."""
-    finder = explorer.finder
+    return explorer.finder.first(turns, sought_in_words(arguments))
+
+
+def sought_in_words(arguments: Arguments) -> str:
+    """What `until` looks for, in the words of the line `first`."""
     if arguments.optional("address"):
-        return finder.first(turns, f"at {word_of(arguments, 'address'):o}")
+        return f"at {word_of(arguments, 'address'):o}"
     if arguments.optional("vector"):
-        return finder.first(turns, f"vector {word_of(arguments, 'vector'):o}")
+        return f"vector {word_of(arguments, 'vector'):o}"
     if arguments.optional("mode"):
-        return finder.first_turn(turns, mode_is(Mode(arguments.text("mode"))))
-    name, word = arguments.text("register").upper(), word_of(arguments, "word")
-    return finder.first_turn(turns, register_with(name, word))
+        return f"where {arguments.text('mode')}"
+    name, relation = arguments.text("register").upper(), arguments.text("relation")
+    return f"where {name} {relation} {word_of(arguments, 'word'):o}"
 
 
 UNTIL = ("PC X", "vector V", "mode user|kernel", "R = W", "text STRING")
@@ -46,18 +49,18 @@ UNTIL = ("PC X", "vector V", "mode user|kernel", "R = W", "text STRING")
 @command(
     "  or  ".join(f"until {it} [from N] [to M]" for it in UNTIL),
     r"(?P<what>(PC|pc) <address:address>|vector <vector:octal>|mode (?P<mode>user|kernel)"
-    r"|(?P<register>[Rr][0-5]|[KUku][Ss][Pp]|[Pp][Ss])( )?=( )?<word:octal>"
+    r"|(?P<register>[Rr][0-5]|[KUku][Ss][Pp]|[Pp][Ss])( )?(?P<relation>=|!=|<|>)( )?<word:octal>"
     r"|text <text:text>){from}{to}",
     "the first turn that runs the instruction at X, or has what is named",
 )
 def until(explorer: Explorer, arguments: Arguments) -> Iterator[str]:
     """Finds the first of the turns N to M that runs an instruction with PC X, an address as
     the program has it; that is an interrupt by vector V; that begins in user or kernel mode; before
-    which R, one of R0 to R5, KSP, USP and PS, is W; or that prints the last byte of STRING, which
-    is written as in `type`. Without `from` N is 0. Without `to` M is a million turns past the
-    greatest turn that was asked so far. It is exact. A mode and a register are looked for by `regs`
-    of each turn, which takes longest. The turn is then the current turn: `show`, `step`, `see` and
-    `list` go on there."""
+    which R, one of R0 to R5, KSP, USP and PS, is W (or !=, <, > W); or that prints the last byte of
+    STRING, which is written as in `type`. Without `from` N is 0. Without `to` M is a million turns
+    past the greatest turn that was asked so far. It is exact, and quick. The turn is then the
+    current turn: `show`, `step`, `see` and `list` go on there. `first N M where CONDITION` takes
+    more conditions at once."""
     turns, what = searched_range(explorer, arguments), arguments.text("what")
     if arguments.optional("text") is not None:
         yield until_text(explorer, arguments.text("text"), what, turns)

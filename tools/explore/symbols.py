@@ -5,7 +5,7 @@ from dataclasses import dataclass, field
 from typing import Iterable, Optional, Sequence
 
 import sessions
-from sessions import words_of
+from sessions import BEFORE_ADDRESS, words_of
 
 from .errors import ExploreError
 from .language import FADING, FORMS, form_of
@@ -18,6 +18,9 @@ OFFSETS = r"([+-][0-7]{1,10})*"
 # What stands for an address: an octal number, or a symbol, with octal numbers after + and -.
 ADDRESS = rf"([0-7]{{1,10}}|[A-Za-z_.$~%?@][^\s=:+-]*){OFFSETS}"
 OCTAL = re.compile(r"[0-7]+")
+# The letters that stand for addresses in the form of a line, by its first word, if not A alone.
+ADDRESSES = {"find": ("A", "B")}
+MODES = (Mode.KERNEL.value, Mode.USER.value)
 
 
 @dataclass
@@ -88,20 +91,33 @@ class Symbols:
             return False
         return bool(offsets) if OCTAL.fullmatch(first) else bool(self.named(first, None))
 
-    def in_octal(self, word: str) -> str:
+    def in_octal(self, word: str, mode: Optional[Mode] = None) -> str:
         """The word, or the number that it names."""
-        return f"{self.number(word):o}" if self.is_named(word) else word
+        return f"{self.number(word, mode):o}" if self.is_named(word) else word
 
     def line_in_octal(self, line: str, past: Past) -> str:
-        """A line of the language or of searches, with numbers for symbols where it has addresses of
-        core."""
+        """A line of the language or of searches, with numbers for symbols where it has addresses.
+        If the line names a mode, the symbols are those of that mode."""
         words = words_of(line)
         for form in forms_of(words[0], past) if words else []:
-            pairs = list(zip(form, words))
-            if len(form) == len(words) and all(it.isupper() or it == word for it, word in pairs):
-                found = [self.in_octal(word) if it == "A" else word for it, word in pairs]
+            pairs = list(zip(in_full(form, words), words))
+            if len(pairs) == len(words) and all(it.isupper() or it == word for it, word in pairs):
+                named = (word for it, word in pairs if it == "MODE" and word in MODES)
+                mode = next(map(Mode, named), None)
+                letters = ADDRESSES.get(words[0], ("A",))
+                found = [self.in_octal(word, mode) if it in letters else word for it, word in pairs]
                 return line if found == words else " ".join(found)
         return line
+
+
+def in_full(form: list[str], words: list[str]) -> list[str]:
+    """A form with a letter for each word of the CONDITION that these words have at its end: A for
+    an address, W for any other word. No form if its length isn't that of the words."""
+    if form[-1] == "CONDITION":
+        begin = len(form) - 1
+        before = words[begin - 1 : -1]
+        form = form[:begin] + ["A" if it in BEFORE_ADDRESS else "W" for it in before]
+    return form if len(form) == len(words) else []
 
 
 def forms_of(word: str, past: Past) -> list[list[str]]:

@@ -52,6 +52,11 @@ class Depth(Case):
         self.assertEqual(machine.asked.greatest, 9)
         machine.read("latest 2 40 at 1000")
         self.assertEqual((machine.asked.turn, machine.asked.greatest), (40, 40))
+        machine.read("counts 3 50 kernel 1000 1")
+        self.assertEqual((machine.asked.turn, machine.asked.greatest), (50, 50))
+        for line in ("translate 7 user 0", "virtual 7 user 0 1", "find 7 0 6 1", "finddsk 7 0 6 1"):
+            machine.read(line)
+            self.assertEqual((machine.asked.turn, machine.asked.greatest), (7, 50), line)
 
     def test_see(self) -> None:
         explorer = self.explorer(LEDGER)

@@ -82,7 +82,7 @@ class Interrupts(AtTerminal):
     def test_no_program_is_left(self) -> None:
         """One has what is at work now, or what is at work next."""
         self.begin("examples/one-key-sooner.session")
-        lines = ("until mode user to 400000\n", "sweep -j 3 key 101 from 5 to 900: regs 900000\n")
+        lines = ("until mode user to 20000000\n", "sweep -j 3 key 101 from 5 to 900: regs 900000\n")
         for number in range(40):
             self.type(lines[number % 2])
             time.sleep(0.01 * number)

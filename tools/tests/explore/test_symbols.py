@@ -312,6 +312,17 @@ class Named(Media):
             ("first 0 4000 at TICK kernel", "first 0 4000 at 1102 kernel"),
             ("latest 0 4000 at TICK", "latest 0 4000 at 1102"),
             ("latest 0 4000 at TICK kernel", "latest 0 4000 at 1102 kernel"),
+            ("first 0 4000 where at TICK", "first 0 4000 where at 1102"),
+            (
+                "first 0 4000 where at TICK and core NOW > 3 and kernel",
+                "first 0 4000 where at 1102 and core 1520 > 3 and kernel",
+            ),
+            ("latest 0 4000 where core NOW+2 & 7 = 0", "latest 0 4000 where core 1522 & 7 = 0"),
+            ("counts 0 4000 kernel TICK 4", "counts 0 4000 kernel 1102 4"),
+            ("translate 131000 user CLERK", "translate 131000 user 0"),
+            ("virtual 131000 kernel NOW 2", "virtual 131000 kernel 1520 2"),
+            ("find 4000 NOW QUEUE 5", "find 4000 1520 2000 5"),
+            ("find 4000 NOW-20 NOW 0 mask 7", "find 4000 1500 1520 0 mask 7"),
             ("sweep 3 from 9 to 11: mem 4000 NOW 1", "sweep 3 from 9 to 11: mem 4000 1520 1"),
             ("core QUEUE 5", "core 2000 5"),
             ("uncore QUEUE", "uncore 2000"),
@@ -339,6 +350,8 @@ class Named(Media):
             ("next disk TICK", "next: the form is: "),
             ("mem 0 NOTHING 1", "refused 10 BadLine"),
             ("regs TICK", "refused 10 BadLine"),
+            ("first 0 9 where R0 = TICK", "refused 10 BadLine"),
+            ("find 0 0 2 TICK", "refused 10 BadLine"),
             ("until PC TICK+200000", "until: 201102 is more than a word has, 177777"),
             ("next 757776+2", "next: last "),
         ):
@@ -348,11 +361,12 @@ class Named(Media):
         self.put("k", b"HERE 1000\n")
         self.put("u", b"HERE 20\n")
         lines = "symbols k kernel\nsymbols u user\nuntil PC HERE\nmem 0 HERE 1\n"
-        lines += "list user HERE 1 at 0\n"
+        lines += "list user HERE 1 at 0\ntranslate 0 user HERE\ntranslate 0 kernel HERE\n"
         written = self.explore(lines).splitlines()
         said = "there are several symbols 'HERE': 1000 of kernel, 20 of user; name a number"
         self.assertEqual(written[2:4], [f"until: {said}", f"mem: {said}"])
         self.assertTrue(written[4].startswith("000020 "), written[4])
+        self.assertEqual(written[5:], ["translate 000020", "translate 001000"])
 
     def test_names_that_look_like_words_of_commands(self) -> None:
         self.put("names", b"disk 20\nfrom 30\nto 40\nwords 50\nat 60\nuser 70\n")

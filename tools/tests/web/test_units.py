@@ -1,5 +1,5 @@
 """Tests of the page's modules, which run in the browser: each is a function of units.js,
-bar_units.js or backwards_units.js."""
+bar_units.js, backwards_units.js or counting_units.js."""
 import http.server
 import re
 import threading
@@ -10,14 +10,15 @@ from typing import Any, Callable
 from .browser import BrowserError
 from .common import ROOT, the_browser
 
-FILES = ("units.js", "bar_units.js", "backwards_units.js")
+FILES = ("units.js", "bar_units.js", "backwards_units.js", "counting_units.js")
 UNITS = tuple(Path(__file__).with_name(it) for it in FILES)
 KINDS = {".js": "text/javascript", ".html": "text/html"}
 PAGE = (
     b'<!DOCTYPE html><meta charset="utf-8"><script type="module">'
     b'import * as units from "/units.js"; import * as bar from "/bar_units.js";'
     b'import * as backwards from "/backwards_units.js";'
-    b"window.units = { ...units, ...bar, ...backwards };"
+    b'import * as counting from "/counting_units.js";'
+    b"window.units = { ...units, ...bar, ...backwards, ...counting };"
     b'document.documentElement.dataset.state = "ready";</script>'
 )
 
