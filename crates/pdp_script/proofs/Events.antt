@@ -4,7 +4,8 @@ use Rattle.std.proofs.lemmas.Bool.{ne_eqb, eq-eqb, ltb-true, cond-true, cond-fal
 use Rattle.std.specs.List.{All, filter}
 use Rattle.std.specs.List.Sorted.{IsNonDecreasingBy}
 use Rattle.pdp_unibus.specs.declared.event.Event.{Event}
-use Rattle.pdp_script.specs.Entries.{Entry, entry_of, events_at, inserted_entries, without, changed_in_place, altered_entries}
+use Rattle.pdp_script.specs.Entries.{entry_of, events_at, inserted_entries, without, changed_in_place, altered_entries}
+use Rattle.pdp_script.specs.declared.entry.Entry.{Entry}
 
 -- an entry of another turn before the others
 pub events_at-other : (e : Entry) (es : List Entry) (t : ℕ) → (e.turn ≡ t → ⊥) → events_at (e ∷ es) t ≡ events_at es t

@@ -4,7 +4,8 @@ use Rattle.std.proofs.lemmas.Bool.{ne_eqb, eq-eqb, eqb-true, cond-true, cond-fal
 use Rattle.std.proofs.lemmas.List.Elements.{All-cons}
 use Rattle.std.specs.List.{All}
 use Rattle.pdp_unibus.specs.declared.event.Event.{Event}
-use Rattle.pdp_script.specs.Entries.{Entry, entry_of, events_at, inserted_entries, without, changed_in_place, altered_entries}
+use Rattle.pdp_script.specs.Entries.{entry_of, events_at, inserted_entries, without, changed_in_place, altered_entries}
+use Rattle.pdp_script.specs.declared.entry.Entry.{Entry}
 use Rattle.pdp_script.specs.EditLaws.{AreInOrder, AreNumberedApart, others, with_event_of}
 use Rattle.pdp_script.proofs.Events.{events_at-inserted_last, events_at-dropped}
 

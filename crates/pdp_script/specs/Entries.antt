@@ -3,12 +3,8 @@
 use Rattle.std.specs.Prelude.{ℕ, ◌≡◌, ◌+◌, ◌<◌, ◌≤◌, cond, eqb, nat_lt, nat_le, Option, Some, None, List}
 use Rattle.std.specs.Prelude.{[], ◌∷◌, map}
 use Rattle.std.specs.List.{filter}
+use Rattle.pdp_script.specs.declared.entry.Entry.{Entry}
 use Rattle.pdp_unibus.specs.declared.event.Event.{Event}
-
-pub record Entry : Type 0 where
-  pub number : ℕ
-  pub turn : ℕ
-  pub event : Event
 
 -- the events of a turn, in list order
 abbrev pub events_at : List Entry → ℕ → List Event

@@ -3,7 +3,7 @@
 use Rattle.std.specs.Prelude.{◌≡◌, ◌<◌, ◌≤◌, ℕ, List, [], ◌∷◌, length}
 use Rattle.std.specs.List.{All, AllPairs, AllWithin, HoldsAt, insert}
 use Rattle.std.specs.List.Sorted.{IsNonDecreasingBy}
-use Rattle.pdp_script.specs.Entries.{Entry}
+use Rattle.pdp_script.specs.declared.entry.Entry.{Entry}
 use Rattle.pdp_script.specs.Script.{most_events}
 use Rattle.pdp_unibus.specs.LastTurn.{last_turn}
 use Rattle.pdp_script.specs.declared.labels.Label.{Label}

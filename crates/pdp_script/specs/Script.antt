@@ -7,7 +7,8 @@ use Rattle.std.specs.List.Sorted.{IsNonDecreasingBy}
 use Rattle.pdp_script.specs.declared.faults.Fault.{Fault}
 use Rattle.pdp_script.specs.declared.faults.Fault.TheVariants.{NoSuchEvent, ScriptFull}
 use Rattle.pdp_script.specs.declared.faults.Fault.TheVariants.{TurnTooLarge}
-use Rattle.pdp_script.specs.Entries.{Entry, entry_of, inserted_entries, without, altered_entries}
+use Rattle.pdp_script.specs.Entries.{entry_of, inserted_entries, without, altered_entries}
+use Rattle.pdp_script.specs.declared.entry.Entry.{Entry}
 use Rattle.pdp_script.specs.Refusal.{edit_answer}
 use Rattle.pdp_script.specs.declared.script.ScriptEdit.{ScriptEdit}
 use Rattle.pdp_script.specs.declared.script.ScriptEdit.TheVariants.{Insert, Alter, Drop}

@@ -9,7 +9,8 @@
 //!   else (`edits_leave_other_turns`, `edits_leave_other_entries`). An edit can also be done to a
 //!   copy (`edited`).
 //! - Whether two scripts have the same events from a turn on (`has_events_of`).
-//! - The events of a turn, and the next turn that has any (`at`, `turn_of`, `next_turn`).
+//! - The events of a turn, the next turn that has any, and all of them with their numbers and turns
+//!   (`at`, `turn_of`, `next_turn`, `entries`).
 //!
 //! # What is only tested
 //!
@@ -18,11 +19,13 @@
 //! What events do is left to pdp_unibus and pdp_cpu, a run of them to pdp_replay.
 #![tactic(auto)]
 
+mod entry;
 mod faults;
 mod labels;
 mod laws;
 mod script;
 
+pub use entry::Entry;
 pub use faults::Fault;
 pub use laws::{edits_leave_other_entries, edits_leave_other_turns};
 pub use pdp_unibus::LAST_TURN;

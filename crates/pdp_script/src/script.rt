@@ -8,6 +8,7 @@ ghost use Rattle.pdp_script.specs.Script.{insert_edit, insert_answer, alter_edit
 ghost use Rattle.pdp_script.specs.Script.{first_turn_of_edit, script_edited, IsScript};
 ghost use Rattle.std.specs.Option.{option_map};
 
+use crate::entry::Entry;
 use crate::faults::Fault;
 use crate::labels::{
     Label, are_same_events, are_same_turns, index_after, index_from, index_of, insert_last,
@@ -87,6 +88,26 @@ impl Script {
         let from = index_from(&self.labels, turn);
         let to = index_after(&self.labels, turn);
         &self.events[from..to]
+    }
+
+    /// All events with their numbers and turns, in the order in which they happen.
+    ///
+    /// # Errors
+    ///
+    /// `NoMemory` if memory was refused.
+    pub fn entries(&self, alloc: Global) -> Result<Vec<Entry>, NoMemory>
+        ensures { IfOk result (λ entries. entries.items ≡ self.now.entries) }
+    {
+        let mut entries = Vec::new(alloc);
+        for index in 0..self.labels.len() {
+            let Label { number, turn } = self.labels[index];
+            entries.push(Entry {
+                number,
+                turn,
+                event: self.events[index],
+            })?;
+        }
+        Ok(entries)
     }
 
     /// A copy of the script, with the same numbers.
