@@ -1,5 +1,6 @@
 pub mod CarriedTraps
 pub mod Carried
+pub mod TurnRuns
 pub mod PendingTraps
 pub mod Events
 pub mod TurnLaws

@@ -2,7 +2,7 @@
 -- `unfolding` of a name opens all that stands on the name's own line.
 use Rattle.pdp_operand.specs.Phases.Course.{follow}
 use Rattle.pdp_operand.specs.Phases.Phase.{run}
-use Rattle.pdp_cpu.proofs.CalmTurns.{calm_later, calm_start, stamp_stays_next, word_stays}
+use Rattle.pdp_cpu.proofs.CalmTurns.{calm_later, calm_start, stamp_stays_next, value_stays_next, word_stays}
 use Rattle.pdp_cpu.proofs.KeptTexts.{kept_one, length_before, text_and_one, text_before}
 use Rattle.pdp_cpu.proofs.TurnLaws.{turn_keeps_stamps, turn_keeps_words}
 use Rattle.pdp_cpu.specs.Turns.Due.{serve, serving, take_stack, take_trace}
@@ -13,7 +13,7 @@ use Rattle.pdp_cpu.specs.Turns.TurnTrap.{turn_trap}
 pub ruleset bursts = (calm_start, calm_later)
 
 -- for goals on a burst that ends with the first write of a word
-pub ruleset stamped_bursts = (stamp_stays_next, word_stays)
+pub ruleset stamped_bursts = (stamp_stays_next, value_stays_next, word_stays)
 
 -- for goals on a text with a byte more
 pub ruleset longer_texts = (kept_one, text_and_one)

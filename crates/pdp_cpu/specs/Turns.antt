@@ -4,4 +4,5 @@ pub mod Turn
 pub mod TurnTrap
 pub mod MachineState
 pub mod Regs
+pub mod TurnRun
 pub mod CalmTurns

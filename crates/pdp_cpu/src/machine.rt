@@ -1,18 +1,17 @@
 ghost use Rattle.std.specs.Prelude.{◌≡◌, ◌<◌, length, map};
 ghost use Rattle.std.specs.Prelude.{slice_index, slice_index_or, take, [], None, Ok, OnOk};
-ghost use Rattle.pdp_store.specs.FirstTouches.{first_touches_after, first_touches_of, no_first_touches};
-ghost use Rattle.pdp_unibus.specs.BusWorld.{bus_at_power_up};
+ghost use Rattle.pdp_store.specs.FirstTouches.{first_touches_of, no_first_touches};
 ghost use Rattle.pdp_operand.specs.Phases.Phase.{inner_of};
 ghost use Rattle.pdp_cpu.specs.KeptTexts.{without_turns};
-ghost use Rattle.pdp_cpu.specs.Meters.{Counts};
 ghost use Rattle.pdp_cpu.specs.Turns.Due.{act_of, due_of};
-ghost use Rattle.pdp_cpu.specs.Turns.MachineState.{IsReady, powered_machine, after_turn};
+ghost use Rattle.pdp_cpu.specs.Turns.MachineState.{IsReady, powered_machine};
 ghost use Rattle.pdp_cpu.specs.Turns.MachineState.{machine_world, printed_kept, punched_kept};
 ghost use Rattle.pdp_cpu.specs.Turns.MachineState.{touched_machine, with_begun};
+ghost use Rattle.pdp_cpu.specs.Turns.TurnRun.{RunsTouched, RunsTurn};
 ghost use Rattle.pdp_store.specs.Parts.{words_of_drive};
 ghost use Rattle.pdp_unibus.specs.Shown.{devices_of, page_registers_of};
 ghost use Rattle.pdp_cpu.specs.Turns.Regs.{regs_of};
-ghost use Rattle.pdp_cpu.specs.Turns.Turn.{act_end, initial_state, turn_act, turn_trace};
+ghost use Rattle.pdp_cpu.specs.Turns.Turn.{act_end, initial_state, turn_act};
 
 use crate::act::Act;
 use crate::due::nothing_is_pending;
@@ -148,13 +147,7 @@ impl<S: Store, D: Store> Machine<S, D> {
         requires ready { IsReady self.old }
         requires limit { self.old.state.turn < LAST_TURN }
         ensures act { result ≡ turn_act self.old.state.turn events.now self.old.state.world }
-        ensures turn { self.new.state ≡ after_turn events.now self.old.state }
-        ensures kept_text { self.new.kept_text ≡ printed_kept events.now self.old }
-        ensures kept_punched { self.new.kept_punched ≡ punched_kept events.now self.old }
-        ensures first_touches { self.new.first_touches ≡ first_touches_after
-            (turn_trace self.old.state.turn events.now self.old.state.world)
-            self.old.first_touches }
-        ensures counted { Counts 1 meter.old meter.new }
+        ensures runs { RunsTurn events.now self.old self.new meter.old meter.new }
     {
         // This read gives the prover the range of the turn.
         let _turn = self.turn;
@@ -168,14 +161,7 @@ impl<S: Store, D: Store> Machine<S, D> {
         requires ready { IsReady self.old }
         requires limit { self.old.state.turn < LAST_TURN }
         ensures act { result ≡ turn_act self.old.state.turn events.now (machine_world self.old) }
-        ensures turn { (touched_machine self.new).state
-            ≡ after_turn events.now (touched_machine self.old).state }
-        ensures without_first_touches { self.new.state.world.bus.first_touches ≡ no_first_touches }
-        ensures kept_text { self.new.kept_text ≡ printed_kept events.now
-            (touched_machine self.old) }
-        ensures kept_punched { self.new.kept_punched
-            ≡ punched_kept events.now (touched_machine self.old) }
-        ensures counted { Counts 1 meter.old meter.new }
+        ensures runs { RunsTouched events.now self.old self.new meter.old meter.new }
     {
         self.begin_any(events);
         let act = self.act();

@@ -1,13 +1,12 @@
 //! A turn, and the trap that it comes to.
 
 ghost use Rattle.std.specs.Prelude.{◌≡◌, ◌<◌};
-ghost use Rattle.pdp_store.specs.FirstTouches.{first_touches_after, no_first_touches};
+ghost use Rattle.pdp_store.specs.FirstTouches.{no_first_touches};
 ghost use Rattle.pdp_operand.specs.Phases.Phase.{inner_of};
-ghost use Rattle.pdp_cpu.specs.Meters.{Counts};
 ghost use Rattle.pdp_cpu.specs.Turns.Due.{act_of, due_of};
-ghost use Rattle.pdp_cpu.specs.Turns.MachineState.{IsReady, after_turn, machine_world};
-ghost use Rattle.pdp_cpu.specs.Turns.MachineState.{printed_kept, punched_kept, touched_machine};
-ghost use Rattle.pdp_cpu.specs.Turns.Turn.{act_end, initial_state, turn_act, turn_trace};
+ghost use Rattle.pdp_cpu.specs.Turns.MachineState.{IsReady, machine_world};
+ghost use Rattle.pdp_cpu.specs.Turns.TurnRun.{RunsTouched, RunsTurn};
+ghost use Rattle.pdp_cpu.specs.Turns.Turn.{act_end, initial_state, turn_act};
 ghost use Rattle.pdp_cpu.specs.Turns.TurnTrap.{trap_of_due, turn_trap};
 
 use crate::act::Act;
@@ -46,13 +45,7 @@ impl<S: Store, D: Store> Machine<S, D> {
         ensures act { result.act ≡ turn_act self.old.state.turn events.now self.old.state.world }
         ensures trap { result.trap ≡ turn_trap self.old.state.turn events.now
             self.old.state.world }
-        ensures turn { self.new.state ≡ after_turn events.now self.old.state }
-        ensures kept_text { self.new.kept_text ≡ printed_kept events.now self.old }
-        ensures kept_punched { self.new.kept_punched ≡ punched_kept events.now self.old }
-        ensures first_touches { self.new.first_touches ≡ first_touches_after
-            (turn_trace self.old.state.turn events.now self.old.state.world)
-            self.old.first_touches }
-        ensures counted { Counts 1 meter.old meter.new }
+        ensures runs { RunsTurn events.now self.old self.new meter.old meter.new }
     {
         // This read gives the prover the range of the turn.
         let _turn = self.turn;
@@ -68,14 +61,7 @@ impl<S: Store, D: Store> Machine<S, D> {
             (machine_world self.old) }
         ensures trap { result.trap ≡ turn_trap self.old.state.turn events.now
             (machine_world self.old) }
-        ensures turn { (touched_machine self.new).state
-            ≡ after_turn events.now (touched_machine self.old).state }
-        ensures without_first_touches { self.new.state.world.bus.first_touches ≡ no_first_touches }
-        ensures kept_text { self.new.kept_text ≡ printed_kept events.now
-            (touched_machine self.old) }
-        ensures kept_punched { self.new.kept_punched
-            ≡ punched_kept events.now (touched_machine self.old) }
-        ensures counted { Counts 1 meter.old meter.new }
+        ensures runs { RunsTouched events.now self.old self.new meter.old meter.new }
     {
         self.begin_any(events);
         let told = self.act_and_tell();
