@@ -6,6 +6,7 @@ pub mod VirtualReads
 pub mod WordsFound
 pub mod Answer
 pub mod Known
+pub mod Told
 pub mod Searches
 pub mod Writes
 pub mod TurnConditions

@@ -1,22 +1,25 @@
 ghost use Rattle.std.specs.Prelude.{◌≡◌, ◌<◌, ◌^◌, IfOk, IsErr, Ok, false, true};
 ghost use Rattle.pdp_script.specs.Refusal.{for_memory, question_answer, result_map};
-ghost use Rattle.pdp_replay.specs.Past.Setup.{given_setup, setup_checked};
-ghost use Rattle.pdp_replay.specs.Ask.Answer.{answer_to, question_checked, value_answered};
+ghost use Rattle.pdp_replay.specs.Past.Setup.{given_setup, setup_checked, setup_numbers};
+ghost use Rattle.pdp_replay.specs.Ask.Answer.{answer_to, first_turn_needed, question_checked};
+ghost use Rattle.pdp_replay.specs.Ask.Answer.{turn_asked, value_answered};
 ghost use Rattle.pdp_replay.specs.Run.Checkpoints.{AreCheckpointsOf, IsBuiltFrom};
 ghost use Rattle.pdp_replay.specs.Run.Checkpoints.{KeepsTexts, ShowsTexts};
-ghost use Rattle.pdp_replay.specs.Ask.Known.{RunsFor, IsAnswered, IsWithinBound, LeavesPast};
+ghost use Rattle.pdp_replay.specs.Ask.Known.{RunsFrom, IsWithinBound, LeavesPast};
+ghost use Rattle.pdp_replay.specs.Ask.Told.{IsAtTurn, IsToldOf};
 ghost use Rattle.pdp_replay.specs.Run.States.{at};
 ghost use Rattle.pdp_replay.specs.Timeline.{fresh};
 
-use crate::ask::{Answer, Question};
-use crate::past::{BaseSetup, DriveCount, Setup};
+use crate::ask::{Question, Told, Value};
+use crate::past::{BaseSetup, DriveCount, Setup, SetupNumbers};
 use crate::run::KeptRun;
 use indexmap::IndexMap;
 use pdp_checkpoint::Ladder;
 use pdp_cpu::PagedMachine;
-use pdp_script::{Fault, Script};
+use pdp_script::{Entry, Fault, Script};
 use pdp_store::WordAt;
 use pdp_unibus::Delays;
+use pdp_word::NoMemory;
 use std::alloc::Global;
 use std::marker::Model;
 
@@ -109,20 +112,22 @@ impl Engine {
     /// (octal; 1,247,232) or above; Err(NoMemory) if memory was refused. No refusal changes the
     /// past, and one for another cause than memory changes nothing. [P]
     #[tactic(auto, unfolding(crate::specs::Ask::Answer::answer_to))]
-    pub fn ask(&mut self, alloc: Global, question: Question) -> Result<Answer, Fault>
+    pub fn ask(&mut self, alloc: Global, question: Question) -> Result<Told<Value>, Fault>
         // The answer is that of the run from power-up, and out of memory is the last refusal.
         ensures value { value_answered result
             ≡ question_answer (answer_to question self.old.past) (for_memory result) }
 
         // It ran at most one stride of turns more than those that a trail lists or that are past
         // what was known, also if it is then refused.
-        ensures bound { IsWithinBound question self.old self.new.turns }
+        ensures bound { IsWithinBound (first_turn_needed question)
+            (turn_asked question) self.old self.new.turns }
 
         // What it leaves, where it went, and what is told with the answer.
-        ensures leaves { LeavesPast question self.old self.new }
+        ensures leaves { LeavesPast (turn_asked question) self.old self.new }
         ensures runs { question_checked question self.old.past ≡ Ok tt
-            → RunsFor question self.old self.new }
-        ensures answered { IfOk result (λ a. IsAnswered question a self.old self.new) }
+            → RunsFrom (first_turn_needed question) self.old self.new }
+        ensures told { IfOk result (λ a. IsToldOf a self.old self.new) }
+        ensures ends { IfOk result (λ a. IsAtTurn (turn_asked question) self.old self.new) }
 
         // A refusal for another cause than memory changes nothing.
         ensures refused { IsErr result → for_memory result ≡ false → self.new ≡ self.old }
@@ -132,12 +137,34 @@ impl Engine {
         let answered = question.answer(alloc, &mut self.run, &self.script);
         self.highest = self.highest.max(self.run.known);
         let value = answered?;
-        Ok(Answer {
+        Ok(Told {
             value,
             ran: self.run.meter.count() - before,
             known: self.run.known,
             stride: self.run.ladder.stride(),
         })
+    }
+
+    /// All events of the script, with their numbers and turns, in the order in which they happen.
+    ///
+    /// Err(NoMemory) if memory was refused. [P]
+    pub fn events(&self, alloc: Global) -> Result<Vec<Entry>, NoMemory>
+        ensures { IfOk result (λ events. events.items ≡ self.now.past.script.entries) }
+    {
+        self.script.entries(alloc)
+    }
+
+    /// The numbers of the setup as it is now. [P]
+    pub fn setup(&self) -> SetupNumbers
+        ensures { result ≡ setup_numbers self.now.past.setup }
+    {
+        SetupNumbers {
+            units: self.base_setup.units,
+            start: self.base_setup.start,
+            stride: self.base_setup.stride,
+            delays: self.delays,
+            tape_len: self.run.machine.tape().len(),
+        }
     }
 
     /// How many drives there are [P]: drive 0 alone, until `eight_drives` gives eight.

@@ -164,9 +164,9 @@ pub fn joined_runs_stay_joined()
     ensures decided { JoinedIsDecided }
 {}
 
-/// A law of virtual addresses: the word that a question is told is the one that a bus cycle reads
-/// at the physical address (DATI). Where it is told none, the cycle times out, a register answers
-/// it, or memory management aborts the read, as the cause says.
+/// A law of virtual addresses: a word that an answer tells is what a bus cycle (DATI) reads at the
+/// physical address of the word. If the answer tells why a word can't be read, that is so: memory
+/// management aborts the read, nothing answers the cycle, or a register of a device does.
 ///
 /// DEC PDP-11/40 Processor Handbook (1972), Memory management; PDP-11 Peripherals Handbook, Unibus.
 #[tactic(auto, using(crate::proofs::ask::VirtualReads::virtual_words_read))]

@@ -41,6 +41,8 @@
 //!   `first_touches_are_taken`). So the saved machines of the one run, with their stamps laid over
 //!   those of the other, are those of the other (`saved_machines_are_taken`), and a machine of the
 //!   other goes on from them (`adopted_runs_go_on`).
+//! - The events of the script and the numbers of the setup are told as they are
+//!   ([`Engine::events`], [`Engine::setup`]).
 //! - Alterations and drops of events, and edits of tape and delays, are never refused for memory
 //!   (`some_edits_need_no_memory`). Texts only grow from turn to turn (`texts_only_grow`).
 //!
@@ -58,10 +60,9 @@ mod past;
 mod run;
 
 pub use ask::{
-    Answer, Bytes, Cause, Counted, CountedWords, Fading, Found, FoundWords, Items, LastWrite,
-    MOST_CONDITIONS, Numbers, Quantity, Question, Relation, Sought, TextKind, TextPart, Trail,
-    TrailEntry, TurnCondition, TurnConditions, Unreadable, Value, VirtualWords, WantedWords,
-    WordPattern, Words, Written,
+    Bytes, Cause, CountedWords, FoundWords, Items, LastWrite, MOST_CONDITIONS, Numbers, Quantity,
+    Question, Relation, Sought, TextKind, Told, Trail, TrailEntry, TurnCondition, TurnConditions,
+    Unreadable, Value, VirtualWords, WantedWords, WordPattern, Words, Written,
 };
 pub use engine::Engine;
 pub use laws::{
@@ -71,8 +72,8 @@ pub use laws::{
     stamps_of_states_are_last_writes, texts_only_grow, turns_run_again_touch_nothing_new,
     untouched_pages_are_alike, virtual_words_are_read,
 };
-pub use past::{DEFAULT_STRIDE, PastEdit, Patch, Setup};
+pub use past::{DEFAULT_STRIDE, PastEdit, Patch, Setup, SetupNumbers};
 pub use pdp_cpu::{Act, DeviceRegisters, PageRegisters, Regs, RunState};
-pub use pdp_script::{Fault, ScriptEdit};
+pub use pdp_script::{Entry, Fault, ScriptEdit};
 pub use pdp_store::Agent;
 pub use pdp_unibus::{DelayedDevice, Delays, Event};

@@ -7,6 +7,7 @@ mod past_edit;
 mod patch;
 mod setup;
 mod setup_edits;
+mod setup_numbers;
 
 pub(crate) use base_setup::{BaseSetup, DriveCount};
 pub(crate) use edits::core_word;
@@ -16,3 +17,4 @@ pub use patch::Patch;
 pub use setup::{DEFAULT_STRIDE, Setup};
 pub(crate) use setup::{DRIVE_WORDS, MOST_DRIVES, TAPE_BYTES, UNIT_WORDS};
 pub(crate) use setup_edits::disk_word;
+pub use setup_numbers::SetupNumbers;

@@ -75,7 +75,7 @@ const KEYS: [Step; 2] = [
 fn assert_fades(rt: &impl Abort, alloc: Global, engine: &mut Engine) -> Result<(), Fail> {
     for (number, (edit, to, turn)) in FADINGS.iter().enumerate() {
         let fading = engine.fades(alloc, edit.of_past(), *to)?;
-        assert_eq!(rt; fading.turn, *turn, "edit {number}");
+        assert_eq!(rt; fading.value, *turn, "edit {number}");
     }
     Ok(())
 }

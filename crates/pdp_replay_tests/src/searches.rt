@@ -135,8 +135,8 @@ fn pending_traps(rt: HostRuntime) -> Result<(), Fail> {
     let alloc = rt.alloc();
     let mut engine = engine_of(alloc, &PUSHES, WIDEST)?;
     let trap = engine.first_at(alloc, Sought::PendingTrap, 0, 100)?;
-    assert_eq!(&rt; trap.turn, Some(2));
+    assert_eq!(&rt; trap.value, Some(2));
     let later = engine.first_at(alloc, Sought::PendingTrap, 3, 100)?;
-    assert_eq!(&rt; later.turn, None);
+    assert_eq!(&rt; later.value, None);
     Ok(())
 }

@@ -91,7 +91,11 @@ pub(crate) fn follow(
 }
 
 /// The answer to a question.
-pub(crate) fn ask(engine: &mut Engine, alloc: Global, question: Question) -> Result<Answer, Fault> {
+pub(crate) fn ask(
+    engine: &mut Engine,
+    alloc: Global,
+    question: Question,
+) -> Result<Told<Value>, Fault> {
     engine.ask(alloc, question)
 }
 

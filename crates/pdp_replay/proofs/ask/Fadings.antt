@@ -5,7 +5,8 @@ use Rattle.std.proofs.lemmas.Bool.{cases_Bool, leb-false, lt-leb, ne_eqb}
 use Rattle.pdp_unibus.specs.declared.event.Event.{Event}
 use Rattle.pdp_cpu.specs.Saved.{SavedMachineData, SavedMeet, saved_machine}
 use Rattle.pdp_cpu.specs.Turns.MachineState.{MachineWithTexts}
-use Rattle.pdp_script.specs.Entries.{Entry, events_at, events_from}
+use Rattle.pdp_script.specs.Entries.{events_at, events_from}
+use Rattle.pdp_script.specs.declared.entry.Entry.{Entry}
 use Rattle.pdp_script.specs.Script.{ScriptData}
 use Rattle.pdp_replay.specs.Ask.Fadings.{AreJoined, IsEdge, JoinedIsDecided, JoinedStayJoined, are_joined, joined_by}
 use Rattle.pdp_replay.specs.Ask.Searches.{IsFirst, first_turn_of}

@@ -5,11 +5,9 @@ use Rattle.std.proofs.lemmas.Bool.{leb-false, leb-true}
 use Rattle.pdp_checkpoint.specs.Ladder.{best_of, next_of}
 use Rattle.pdp_replay.specs.Run.KeptRuns.{Advances, ComesTo, IsSomeRun, is_current_by, resumed_at, resumed_turn}
 use Rattle.pdp_replay.specs.Run.Checkpoints.{AreStatesOf}
-use Rattle.pdp_replay.specs.Ask.Answer.{first_turn_needed}
-use Rattle.pdp_replay.specs.Ask.Known.{IsCome, RunsFor, next_kept}
+use Rattle.pdp_replay.specs.Ask.Known.{IsCome, RunsFrom, next_kept}
 use Rattle.pdp_replay.specs.Past.{Past}
 use Rattle.pdp_replay.specs.Timeline.{Timeline}
-use Rattle.pdp_replay.specs.declared.ask.question.Question.{Question}
 use Rattle.pdp_replay.specs.declared.run.kept_run.KeptRun.{KeptRun}
 use Rattle.pdp_replay.proofs.run.Checkpoints.{lesser_quotient}
 use Rattle.pdp_replay.proofs.run.OnWay.{known_below_next}
@@ -121,12 +119,12 @@ timeline_of p highest r = record {
 }
 
 -- where a run went on from and what it came to, whether memory was refused or not, as a contract of an engine tells it
-pub runs_from : (p : Past) (highest to : ℕ) (q : Question) (r after : KeptRun) (now : Timeline) → AreStatesOf p r.known r.ladder
-    → AreStatesOf p after.known after.ladder → Advances (resumed_turn r (first_turn_needed q)) to r after → now.turns ≡ after.meter
+pub runs_from : (p : Past) (highest to first : ℕ) (r after : KeptRun) (now : Timeline) → AreStatesOf p r.known r.ladder
+    → AreStatesOf p after.known after.ladder → Advances (resumed_turn r first) to r after → now.turns ≡ after.meter
     → now.turn ≡ after.machine.state.turn → now.known ≡ after.known → now.current ≡ after.is_current → now.stride ≡ after.ladder.stride
-    → RunsFor q (timeline_of p highest r) now
-runs_from p highest to q r after now states left on turns turn known current stride =
-    let ran = subst (λ n. after.meter + n ≤ r.meter + after.machine.state.turn) (resumed_is p r (first_turn_needed q) states) on.ran in
+    → RunsFrom first (timeline_of p highest r) now
+runs_from p highest to first r after now states left on turns turn known current stride =
+    let ran = subst (λ n. after.meter + n ≤ r.meter + after.machine.state.turn) (resumed_is p r first states) on.ran in
     record {
       resumed = rw (turns, turn) ran;
       come = come_is r after (timeline_of p highest r) now on.come refl known turn current

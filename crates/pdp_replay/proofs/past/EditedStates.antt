@@ -6,7 +6,8 @@ use Rattle.std.specs.Option.{option_map}
 use Rattle.std.specs.Prelude.{unwrap_or}
 use Rattle.pdp_checkpoint.specs.Ladder.{LadderData}
 use Rattle.pdp_cpu.specs.Turns.MachineState.{MachineWithTexts}
-use Rattle.pdp_script.specs.Entries.{Entry, altered_entries, entry_of, events_at, without}
+use Rattle.pdp_script.specs.Entries.{altered_entries, entry_of, events_at, without}
+use Rattle.pdp_script.specs.declared.entry.Entry.{Entry}
 use Rattle.pdp_script.specs.Refusal.{edit_answer, past_left}
 use Rattle.pdp_script.specs.Script.{ScriptData, alter_edit, drop_edit, insert_edit, most_events, most_numbers, of_entry, with_event}
 use Rattle.pdp_script.specs.declared.faults.Fault.{Fault}

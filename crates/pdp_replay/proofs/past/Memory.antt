@@ -1,6 +1,7 @@
 -- Edits that are never refused as out of memory.
 use Rattle.std.proofs.Common.{◌≡◌, ℕ, Bool, true, false, cond, refl, ◌∙◌, Option, None, Some, Result, Ok, Err, List, length, nat_le, nat_lt}
-use Rattle.pdp_script.specs.Entries.{Entry, entry_of, altered_entries, without}
+use Rattle.pdp_script.specs.Entries.{entry_of, altered_entries, without}
+use Rattle.pdp_script.specs.declared.entry.Entry.{Entry}
 use Rattle.pdp_script.specs.Refusal.{for_memory, result_map}
 use Rattle.pdp_script.specs.Script.{ScriptData, of_entry}
 use Rattle.pdp_unibus.specs.LastTurn.{last_turn}

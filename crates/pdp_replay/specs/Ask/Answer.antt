@@ -22,7 +22,7 @@ use Rattle.pdp_replay.specs.Ask.Trails.{trail_of}
 use Rattle.pdp_replay.specs.Ask.VirtualReads.{place_of_read, virtual_addresses, virtual_checked}
 use Rattle.pdp_replay.specs.Ask.VirtualReads.{virtual_words}
 use Rattle.pdp_replay.specs.Ask.WordsFound.{core_search_checked, disk_search_checked, words_found}
-use Rattle.pdp_replay.specs.declared.ask.question.Answer.{Answer}
+use Rattle.pdp_replay.specs.declared.ask.told.Told.{Told}
 use Rattle.pdp_replay.specs.declared.ask.question.Question.{Question}
 use Rattle.pdp_replay.specs.declared.ask.question.Question.TheVariants as question
 use Rattle.pdp_replay.specs.declared.ask.question.Value.{Value}
@@ -154,5 +154,5 @@ IsAnswerIn machine script q value = (p : Past) → p.script ≡ script → machi
     (first_turn_needed q) → value ≡ answer q p
 
 -- the value of an answer
-abbrev pub value_answered : Result Answer Fault → Result Value Fault
+abbrev pub value_answered : Result (Told Value) Fault → Result Value Fault
 value_answered result = result_map (λ a. a.value) result

@@ -8,7 +8,6 @@ use Rattle.pdp_replay.specs.Run.KeptRuns.{IsKeptRun, IsOnWay}
 use Rattle.pdp_replay.specs.Ask.Searches.{HoldsNowhere}
 use Rattle.pdp_replay.specs.Ask.SoughtTurns.{is_sought_at}
 use Rattle.pdp_replay.specs.Ask.Watches.{is_watched_at}
-use Rattle.pdp_replay.specs.declared.ask.search.Found.{Found}
 use Rattle.pdp_replay.specs.declared.ask.sought.Sought.{Sought}
 use Rattle.pdp_replay.specs.declared.ask.watch.Watchpoint.{Watchpoint}
 use Rattle.pdp_replay.specs.declared.run.kept_run.KeptRun.{KeptRun}
@@ -58,11 +57,9 @@ abbrev pub IsWithinBackwards : ℕ → ℕ → Timeline → Timeline → Type 0
 IsWithinBackwards from to before after =
     IsWithinBack from to before.known before.turns after.turns after.stride
 
--- What a search backwards found, with what is told beside it: how many turns were run for it, back
--- to the turn that it found, the known turn and the stride after it.
-pub record IsFoundBackwards (from to : ℕ) (f : Found) (before after : Timeline) : Type 0 where
-  pub ran : after.turns ≡ before.turns + f.ran
-  pub bound : IsWithinBackwards (unwrap_or f.turn from) to before after
-  pub known : after.known ≡ max before.known to
-  pub known_told : f.known ≡ after.known
-  pub stride : f.stride ≡ after.stride
+-- what a search backwards that found this turn, if any, ran: back to that turn; all turns up to
+-- turn `to` are known now
+pub record IsFoundBackwards (from to : ℕ) (found : Option ℕ) (before after : Timeline) : Type 0
+  where
+    pub bound : IsWithinBackwards (unwrap_or found from) to before after
+    pub known : after.known ≡ max before.known to

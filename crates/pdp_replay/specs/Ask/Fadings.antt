@@ -15,9 +15,7 @@ use Rattle.pdp_replay.specs.Run.Branches.{AreAlikeAt, AreBesideAt, IsBranchOf}
 use Rattle.pdp_replay.specs.Run.Decided.{are_same_events, do_meet}
 use Rattle.pdp_replay.specs.Run.KeptRuns.{IsKeptRun}
 use Rattle.pdp_replay.specs.Run.States.{at}
-use Rattle.pdp_replay.specs.Timeline.{Timeline}
 use Rattle.pdp_replay.specs.declared.ask.fading.Bracket.{Bracket}
-use Rattle.pdp_replay.specs.declared.ask.fading.Fading.{Fading}
 use Rattle.pdp_replay.specs.declared.past.past_edit.PastEdit.{PastEdit}
 use Rattle.pdp_replay.specs.declared.run.branch.Branch.{Branch}
 use Rattle.pdp_replay.specs.declared.run.kept_run.KeptRun.{KeptRun}
@@ -99,10 +97,3 @@ pub record IsEdge (to : ℕ) (p q : Past) (t : ℕ) : Type 0 where
   pub most : t ≤ to
   pub apart : are_joined p q before ≡ false
   pub joined : are_joined p q t ≡ true
-
--- what is told beside the turn: how many turns were run for it, the known turn and the stride
--- after it
-pub record IsFadingTold (f : Fading) (before after : Timeline) : Type 0 where
-  pub ran : after.turns ≡ before.turns + f.ran
-  pub known : f.known ≡ after.known
-  pub stride : f.stride ≡ after.stride

@@ -10,18 +10,13 @@ use Rattle.pdp_replay.specs.Past.Setup.{core_size}
 use Rattle.pdp_replay.specs.declared.run.kept_run.KeptRun.{KeptRun}
 use Rattle.pdp_replay.specs.Timeline.{Timeline}
 use Rattle.pdp_replay.specs.Run.Strides.{IsStride}
-use Rattle.pdp_replay.specs.declared.ask.question.Answer.{Answer}
 use Rattle.pdp_replay.specs.declared.ask.question.Question.{Question}
 
--- the known turn after an answered question
-abbrev pub known_after : Question → ℕ → ℕ
-known_after q known = max known (turn_asked q)
-
--- A question about this timeline ran at most one stride of turns more than those that a trail lists
--- or that are past what was known, if `turns` is the count of turns after it.
-abbrev pub IsWithinBound : Question → Timeline → ℕ → Type 0
-IsWithinBound q t turns = turns + min (first_turn_needed q) t.known + 1
-    ≤ t.turns + turn_asked q + t.stride
+-- A question about this timeline, about turn `asked` and with an answer that needs the turns from
+-- `first` on, ran at most one stride of turns more than those or than those past what was known, if
+-- `turns` is the count of turns after it.
+abbrev pub IsWithinBound : ℕ → ℕ → Timeline → ℕ → Type 0
+IsWithinBound first asked t turns = turns + min first t.known + 1 ≤ t.turns + asked + t.stride
 
 -- where a question about this timeline goes on from, to this turn: from the machine or from the
 -- best checkpoint of the lesser of that turn and the known one, the later of the two
@@ -40,31 +35,22 @@ pub record IsCome (before after : Timeline) : Type 0 where
   pub known : after.known ≡ max before.known (if after.current then after.turn else after.turn - 1)
   pub current : after.current ≡ nat_lt after.turn (next_kept after)
 
--- A question that may be asked went on from the machine, if that was in a state of the run, or from
--- a checkpoint, and came to the turn that was asked about, or to an earlier one if memory was
--- refused: what was come to stays known.
-pub record RunsFor (q : Question) (before after : Timeline) : Type 0 where
-  pub resumed : after.turns + resumed_from before (first_turn_needed q) ≤ before.turns + after.turn
+-- What needs the turns from this one on went on from the machine, if that was in a state of the
+-- run, or from a checkpoint, and came to the turn that was asked about, or to an earlier one if
+-- memory was refused: what was come to stays known.
+pub record RunsFrom (first : ℕ) (before after : Timeline) : Type 0 where
+  pub resumed : after.turns + resumed_from before first ≤ before.turns + after.turn
   pub come : IsCome before after
 
--- What every question leaves, answered or refused: the past stays, the known turn never falls and
--- rises to the turn asked about at most, and the stride is that of the highest turn known.
-pub record LeavesPast (q : Question) (before after : Timeline) : Type 0 where
+-- What every question about this turn leaves, answered or refused: the past stays, the known turn
+-- never falls and rises to that turn at most, and the stride is that of the highest turn known.
+pub record LeavesPast (asked : ℕ) (before after : Timeline) : Type 0 where
   pub past : after.past ≡ before.past
   pub counted : before.turns ≤ after.turns
   pub known_least : before.known ≤ after.known
-  pub known_most : after.known ≤ known_after q before.known
+  pub known_most : after.known ≤ max before.known asked
   pub highest : after.highest ≡ max before.highest after.known
   pub doubled : IsStride after.past.setup.stride after.highest after.stride
-
--- An answer, with what is told beside its value: how many turns were run for it, the known turn and
--- the stride after it. The machine is at the turn that was asked about, which is known now.
-pub record IsAnswered (q : Question) (a : Answer) (before after : Timeline) : Type 0 where
-  pub ran : after.turns ≡ before.turns + a.ran
-  pub there : after.turn ≡ turn_asked q
-  pub known : after.known ≡ known_after q before.known
-  pub known_told : a.known ≡ after.known
-  pub stride : a.stride ≡ after.stride
 
 -- a question can be answered from what is kept of a run with this script: what it asks for is there
 pub record CanAnswer (q : Question) (script : ScriptData) (r : KeptRun) : Type 0 where

@@ -8,7 +8,6 @@ use Rattle.pdp_script.specs.Script.{ScriptData}
 use Rattle.pdp_replay.specs.Past.{Past}
 use Rattle.pdp_replay.specs.Run.States.{at}
 use Rattle.pdp_replay.specs.Timeline.{Timeline}
-use Rattle.pdp_replay.specs.declared.ask.search.Found.{Found}
 use Rattle.pdp_replay.specs.declared.run.kept_run.KeptRun.{KeptRun}
 
 -- no turn from one on and before another has the property
@@ -69,13 +68,3 @@ StaysIn script before after = (p : Past) → p.script ≡ script
 abbrev pub IsWithinSearch : ℕ → Timeline → Timeline → Type 0
 IsWithinSearch from before after = after.turns + min from before.known + 1
     ≤ before.turns + max from after.turn + before.stride
-
--- What a search found, with what is told beside it: how many turns were run for it, the known turn
--- and the stride after it. The machine is at the turn that the search ended at, which is known now.
-pub record IsFound (to : ℕ) (f : Found) (before after : Timeline) : Type 0 where
-  pub ran : after.turns ≡ before.turns + f.ran
-  pub there : after.turn ≡ turn_reached f.turn to
-  pub known : after.known ≡ max before.known (turn_reached f.turn to)
-  pub known_told : f.known ≡ after.known
-  pub stride : f.stride ≡ after.stride
-  pub current : after.current ≡ true

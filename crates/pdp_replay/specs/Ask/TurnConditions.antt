@@ -1,6 +1,6 @@
 -- Conditions on a turn: on the state of the machine before it, and on its act [P].
 use Rattle.std.specs.Prelude.{ℕ, ◌≡◌, ◌<◌, ◌/◌, ◌==◌, Bool, true, false, not, nat_lt, bit_and, List}
-use Rattle.std.specs.Prelude.{[], ◌∷◌, Option, None, Some, slice_get, Result, Ok}
+use Rattle.std.specs.Prelude.{[], ◌∷◌, Option, None, Some, slice_get, Result, Ok, if◌then◌else◌}
 use Rattle.std.specs.List.{list_all}
 use Rattle.std.specs.Option.{option_or}
 use Rattle.pdp_kt11.specs.Mode.{mode_bits}
@@ -96,6 +96,28 @@ address_if_there _ = None
 unfoldable pub address_asked : List (Option TurnCondition) → Option ℕ
 address_asked [] = None
 address_asked (condition ∷ others) = option_or (address_if_there condition) (address_asked others)
+
+-- the number of the core word that a condition is on, if it is on one
+abbrev pub word_of_quantity : Quantity → Option ℕ
+word_of_quantity (quantity.CoreWord address) = Some (address / 2)
+word_of_quantity _ = None
+
+abbrev pub word_of_condition : TurnCondition → Option ℕ
+word_of_condition (condition.Compared quantity relation word) = word_of_quantity quantity
+word_of_condition (condition.Masked quantity mask word) = word_of_quantity quantity
+word_of_condition _ = None
+
+-- the same, if there is a condition and a world doesn't meet it: until the word changes none does
+abbrev pub unmet_word_if_there : Option TurnCondition → World → Option ℕ
+unmet_word_if_there None w = None
+unmet_word_if_there (Some condition) w =
+    if is_met_in condition w then None else word_of_condition condition
+
+-- that of the first of some
+unfoldable pub unmet_word : List (Option TurnCondition) → World → Option ℕ
+unmet_word [] w = None
+unmet_word (condition ∷ others) w =
+    option_or (unmet_word_if_there condition w) (unmet_word others w)
 
 -- is a quantity there? A word of core is if it is in core, and its address even
 abbrev pub quantity_checked : Quantity → SetupData → Result (Unit {0}) Fault

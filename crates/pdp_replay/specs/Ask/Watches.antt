@@ -4,12 +4,8 @@ use Rattle.std.specs.Prelude.{Option, None, Some}
 use Rattle.pdp_store.specs.declared.Stamp.{Stamp}
 use Rattle.pdp_unibus.specs.declared.event.Event.{Event}
 use Rattle.pdp_cpu.specs.Turns.CalmTurns.{StampStays, after_calm_turns, word_stamp}
-use Rattle.pdp_cpu.specs.Turns.MachineState.{MachineState, MachineWithTexts, after_turn}
-use Rattle.pdp_cpu.specs.Turns.MachineState.{printed_kept, punched_kept}
+use Rattle.pdp_cpu.specs.Turns.MachineState.{MachineState, MachineWithTexts}
 use Rattle.pdp_cpu.specs.declared.turn_trap.ActWithTrap.{ActWithTrap}
-use Rattle.pdp_cpu.specs.Meters.{Counts}
-use Rattle.pdp_cpu.specs.Turns.Turn.{turn_trace}
-use Rattle.pdp_store.specs.FirstTouches.{first_touches_after}
 use Rattle.pdp_script.specs.Entries.{events_at}
 use Rattle.pdp_script.specs.Script.{ScriptData}
 use Rattle.pdp_replay.specs.Past.{Past}
@@ -64,16 +60,6 @@ is_met (watch.Act sought) possible t told now = possible && is_act_sought sought
 is_met (watch.Write number) possible t told now = is_of_turn t (word_stamp number now)
 is_met (watch.Output kind number) possible t told now = nat_lt number (length (bytes_of kind
     now.state))
-
--- a machine ran its next turn with these events, and a meter counted it
-pub record RunsTurn (events : List Event) (before after : MachineWithTexts)
-    (metered counts : ℕ) : Type 0 where
-  pub turn : after.state ≡ after_turn events before.state
-  pub kept_text : after.kept_text ≡ printed_kept events before
-  pub kept_punched : after.kept_punched ≡ punched_kept events before
-  pub first_touches : after.first_touches ≡ first_touches_after
-      (turn_trace before.state.turn events before.state.world) before.first_touches
-  pub counted : Counts 1 metered counts
 
 -- of a machine's next n turns without events none is watched for, but maybe the last, if that
 -- writes the word

@@ -1,7 +1,7 @@
 -- The writes to a word of core in some turns [P].
 use Rattle.std.specs.Prelude.{ℕ, ◌≡◌, ◌+◌, ◌-◌, ◌<◌, ◌++◌, zero, suc, List, []}
 use Rattle.std.specs.Prelude.{Option, None, Some, Result, Ok, Err, option_to_list, slice_get}
-use Rattle.std.specs.Prelude.{slice_index, max, Bool, is_some, true}
+use Rattle.std.specs.Prelude.{slice_index, Bool, is_some}
 use Rattle.pdp_store.specs.TracedAccess.{last_write}
 use Rattle.pdp_cpu.specs.Turns.MachineState.{MachineState}
 use Rattle.pdp_cpu.specs.Turns.Turn.{turn_trace}
@@ -16,9 +16,7 @@ use Rattle.pdp_replay.specs.Run.KeptRuns.{IsKeptRun, IsOnWay}
 use Rattle.pdp_replay.specs.Ask.LastWrites.{IsLastWriteIn, last_write_of}
 use Rattle.pdp_replay.specs.Past.Edit.{core_word_at}
 use Rattle.pdp_replay.specs.Ask.Searches.{HoldsNowhere, IsFirstTurn, search_checked}
-use Rattle.pdp_replay.specs.Timeline.{Timeline}
 use Rattle.pdp_replay.specs.declared.ask.last_write.LastWrite.{LastWrite}
-use Rattle.pdp_replay.specs.declared.ask.writes.Written.{Written}
 use Rattle.pdp_replay.specs.declared.run.kept_run.KeptRun.{KeptRun}
 
 -- the last write in turn t to the core word of this number, with the word as it is after the turn;
@@ -95,15 +93,3 @@ then_checked (Err fault) next = Err fault
 abbrev pub writes_checked : ℕ → ℕ → ℕ → SetupData → Result (Unit {0}) Fault
 writes_checked address from to s =
     then_checked (search_checked from to) (result_map (λ _. tt) (core_word_at address s))
-
--- What a search for writes before turn `to` found, with what is told beside them: the turn that the
--- search ended at, how many turns were run for it, the known turn and the stride after it. The
--- machine is at the turn that the search ended at, which is known now.
-pub record IsWritten (to : ℕ) (f : Written) (before after : Timeline) : Type 0 where
-  pub reached : f.reached ≡ turn_listed f.writes.items to
-  pub ran : after.turns ≡ before.turns + f.ran
-  pub there : after.turn ≡ f.reached
-  pub known : after.known ≡ max before.known f.reached
-  pub known_told : f.known ≡ after.known
-  pub stride : f.stride ≡ after.stride
-  pub current : after.current ≡ true

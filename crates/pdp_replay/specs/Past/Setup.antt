@@ -17,6 +17,7 @@ use Rattle.pdp_replay.specs.declared.past.base_setup.DriveCount.{DriveCount}
 use Rattle.pdp_replay.specs.declared.past.base_setup.DriveCount.TheVariants.{One, Eight}
 use Rattle.pdp_replay.specs.declared.past.base_setup.BaseSetup.{BaseSetup}
 use Rattle.pdp_replay.specs.declared.past.setup.Setup.{Setup}
+use Rattle.pdp_replay.specs.declared.past.setup_numbers.SetupNumbers.{SetupNumbers}
 
 -- the size of core in units of 4,096 words, the start address, the images of core and, by their
 -- numbers, of drives, how many drives there are, the tape, the starting stride, the delays, and the
@@ -69,6 +70,16 @@ first_drives = 1
 abbrev pub drive_count : DriveCount → ℕ
 drive_count One = first_drives
 drive_count Eight = most_drives
+
+-- its numbers
+abbrev pub setup_numbers : SetupData → SetupNumbers
+setup_numbers s = record {
+  units = s.units;
+  start = s.start;
+  stride = s.stride;
+  delays = s.delays;
+  tape_len = length s.tape;
+}
 
 -- a setup with one drive and the standard delays, and without patches
 abbrev pub given_setup : Setup → SetupData

@@ -3,11 +3,11 @@
 ghost use Rattle.std.specs.Prelude.{◌≡◌, ◌+◌, ◌-◌, ◌*◌, ◌/◌, ◌<◌, ◌≤◌, max, min, unwrap_or};
 ghost use Rattle.std.specs.Prelude.{false, IfOk, IsErr, Ok, OnErr, OnOk};
 ghost use Rattle.pdp_script.specs.Refusal.{for_memory, question_answer, result_map};
-ghost use Rattle.pdp_replay.specs.declared.ask.question.Question.TheVariants.{Regs};
 ghost use Rattle.pdp_replay.specs.Run.KeptRuns.{resumed_turn, Advances, CanGoOn, IsRunOf};
 ghost use Rattle.pdp_replay.specs.Run.KeptRuns.{KeepsRun, LeavesKept};
 ghost use Rattle.pdp_replay.specs.Ask.Known.{LeavesPast};
 ghost use Rattle.pdp_replay.specs.Ask.SoughtTurns.{is_sought_at, seek_checked};
+ghost use Rattle.pdp_replay.specs.Ask.Told.{IsToldOf};
 ghost use Rattle.pdp_replay.specs.Ask.Watches.{IsInside};
 ghost use Rattle.pdp_replay.specs.Ask.Backwards.{last_of_turns, IsFoundBackwards, IsLastOf};
 ghost use Rattle.pdp_replay.specs.Ask.Backwards.{IsLastSought, IsLastTo, IsWithinBackwards};
@@ -16,7 +16,7 @@ ghost use Rattle.pdp_replay.specs.Run.Branches.{IsLookedAt};
 
 use crate::ask::search::{check_seek, search};
 use crate::ask::watch::Watchpoint;
-use crate::ask::{Found, Sought};
+use crate::ask::{Sought, Told};
 use crate::engine::Engine;
 use crate::run::KeptRun;
 use pdp_script::{Fault, Script};
@@ -37,24 +37,26 @@ impl Engine {
         sought: Sought,
         from: u32,
         to: u32,
-    ) -> Result<Found, Fault>
+    ) -> Result<Told<Option<u32>>, Fault>
         ensures refusal { result_map (λ _. tt) result ≡ question_answer
             (seek_checked sought from to self.old.past.setup) (for_memory result) }
 
         // The turn is the last, said as what is true of it and as what computes it.
         ensures turn { IfOk result
-            (λ found. IsLastOf (is_sought_at self.old.past sought) from to found.turn) }
-        ensures value { IfOk result (λ found. found.turn
+            (λ found. IsLastOf (is_sought_at self.old.past sought) from to found.value) }
+        ensures value { IfOk result (λ found. found.value
             ≡ last_of_turns (is_sought_at self.old.past sought) from (to - from)) }
 
         // Of turns that were known it ran at most two strides of turns more than those back to
         // `from`, also if it is then refused, or back to the turn that it found.
         ensures bound { seek_checked sought from to self.old.past.setup ≡ Ok tt
             → IsWithinBackwards from to self.old self.new }
-        ensures found { IfOk result (λ found. IsFoundBackwards from to found self.old self.new) }
+        ensures found { IfOk result
+            (λ found. IsFoundBackwards from to found.value self.old self.new) }
+        ensures told { IfOk result (λ found. IsToldOf found self.old self.new) }
 
         // What it leaves is what a question about turn `to` leaves.
-        ensures leaves { LeavesPast (Regs to) self.old self.new }
+        ensures leaves { LeavesPast to self.old self.new }
 
         // A refusal for another cause than memory changes nothing.
         ensures refused { IsErr result → for_memory result ≡ false → self.new ≡ self.old }
@@ -64,8 +66,8 @@ impl Engine {
         let found = find_last(alloc, &mut self.run, &self.script, sought, from, to);
         self.highest = self.highest.max(self.run.known);
         let turn = found?;
-        Ok(Found {
-            turn,
+        Ok(Told {
+            value: turn,
             ran: self.run.meter.count() - before,
             known: self.run.known,
             stride: self.run.ladder.stride(),

@@ -1,19 +1,19 @@
 ghost use Rattle.std.specs.Prelude.{◌≡◌, ◌+◌, ◌*◌, ◌-◌, ◌<◌, ◌≤◌, ◌==◌, ℕ, length, min, max};
 ghost use Rattle.std.specs.Prelude.{None, false, IfOk, IfSome, IsErr, Ok, OnErr, OnOk};
 ghost use Rattle.pdp_script.specs.Refusal.{for_memory, question_answer, result_map};
-ghost use Rattle.pdp_replay.specs.declared.ask.question.Question.TheVariants.{Regs};
 ghost use Rattle.pdp_replay.specs.Past.{Past};
 ghost use Rattle.pdp_replay.specs.Run.KeptRuns.{resumed_turn, Advances, ArrivesAt, CanGoOn, GoesOn};
 ghost use Rattle.pdp_replay.specs.Run.KeptRuns.{IsKeptRun, IsRunOf, KeepsRun, LeavesKept};
 ghost use Rattle.pdp_replay.specs.Run.KeptRuns.{RunsUpTo};
-ghost use Rattle.pdp_replay.specs.Ask.Known.{LeavesPast, RunsFor};
+ghost use Rattle.pdp_replay.specs.Ask.Known.{LeavesPast, RunsFrom};
 ghost use Rattle.pdp_replay.specs.Ask.Searches.{IsWithinSearch};
-ghost use Rattle.pdp_replay.specs.Ask.TextParts.{IsToldAt};
+ghost use Rattle.pdp_replay.specs.Ask.Told.{IsAtTurn, IsToldOf};
 ghost use Rattle.pdp_replay.specs.Ask.Watches.{StaysOnWay, StaysQuietly, StaysWith};
 ghost use Rattle.pdp_replay.specs.Ask.Counts.{counts_checked, counts_in_turns, words_checked};
 ghost use Rattle.pdp_replay.specs.Ask.Counts.{AddsOnWay, AddsQuietly, AddsTo, AddsTurn, AddsWith};
 ghost use Rattle.pdp_replay.specs.Ask.Counts.{AreAtMost, AreCountsTo};
 
+use crate::ask::Told;
 use crate::ask::search::check_search;
 use crate::ask::sought::{is_instruction, is_mode};
 use crate::engine::Engine;
@@ -42,19 +42,6 @@ pub struct CountedWords {
     pub count: u32,
 }
 
-/// How many turns began an instruction at each of some words, with what it took to count them.
-#[derive(Drop)]
-pub struct Counted {
-    /// For each of the words how many turns began an instruction there, in the order of the words.
-    pub counts: Vec<u32>,
-    /// How many turns were run for it.
-    pub ran: u64,
-    /// The known turn after it.
-    pub known: u32,
-    /// The stride after it, in turns.
-    pub stride: u32,
-}
-
 impl Engine {
     /// For each of these words how many turns from turn `from` on and before turn `to` began an
     /// instruction with PC at the word, in the mode that is given, of the run from power-up of the
@@ -72,10 +59,10 @@ impl Engine {
         words: CountedWords,
         from: u32,
         to: u32,
-    ) -> Result<Counted, Fault>
+    ) -> Result<Told<Vec<u32>>, Fault>
         ensures refusal { result_map (λ _. tt) result
             ≡ question_answer (counts_checked words from to) (for_memory result) }
-        ensures value { IfOk result (λ counted. counted.counts.items
+        ensures value { IfOk result (λ counted. counted.value.items
             ≡ counts_in_turns self.old.past words.mode words.first words.count from (to - from)) }
 
         // It ran at most one stride of turns more than those counted or past what was known, also
@@ -84,11 +71,11 @@ impl Engine {
 
         // What it leaves is what a question about turn `to` leaves, and it goes on from where a
         // question about turn `from` does. It ends at turn `to`.
-        ensures leaves { LeavesPast (Regs to) self.old self.new }
+        ensures leaves { LeavesPast to self.old self.new }
         ensures runs { counts_checked words from to ≡ Ok tt
-            → RunsFor (Regs from) self.old self.new }
-        ensures told { IfOk result (λ counted. IsToldAt to counted.ran counted.known
-            counted.stride self.old self.new) }
+            → RunsFrom from self.old self.new }
+        ensures told { IfOk result (λ counted. IsToldOf counted self.old self.new) }
+        ensures ends { IfOk result (λ counted. IsAtTurn to self.old self.new) }
 
         // A refusal for another cause than memory changes nothing.
         ensures refused { IsErr result → for_memory result ≡ false → self.new ≡ self.old }
@@ -98,8 +85,8 @@ impl Engine {
         let counted = find_counts(alloc, &mut self.run, &self.script, words, from, to);
         self.highest = self.highest.max(self.run.known);
         let counts = counted?;
-        Ok(Counted {
-            counts,
+        Ok(Told {
+            value: counts,
             ran: self.run.meter.count() - before,
             known: self.run.known,
             stride: self.run.ladder.stride(),

@@ -1,19 +1,19 @@
 ghost use Rattle.std.specs.Prelude.{◌≡◌, ◌+◌, ◌-◌, ◌<◌, ◌≤◌, length, max, min};
 ghost use Rattle.std.specs.Prelude.{false, IfOk, IsErr, Ok, OnOk};
 ghost use Rattle.pdp_script.specs.Refusal.{for_memory, question_answer, result_map};
-ghost use Rattle.pdp_replay.specs.declared.ask.question.Question.TheVariants.{Regs};
 ghost use Rattle.pdp_replay.specs.Past.{Past};
 ghost use Rattle.pdp_replay.specs.Past.Setup.{SetupData};
 ghost use Rattle.pdp_replay.specs.Run.KeptRuns.{resumed_turn, Advances, ArrivesAt, CanGoOn, GoesOn};
 ghost use Rattle.pdp_replay.specs.Run.KeptRuns.{IsKeptRun, KeepsRun, LeavesKept};
 ghost use Rattle.pdp_replay.specs.Run.States.{disk_of};
-ghost use Rattle.pdp_replay.specs.Ask.Known.{LeavesPast, RunsFor};
+ghost use Rattle.pdp_replay.specs.Ask.Known.{LeavesPast, RunsFrom};
 ghost use Rattle.pdp_replay.specs.Ask.Searches.{first_turn_of, turn_reached, EndsAfter, IsFirst};
-ghost use Rattle.pdp_replay.specs.Ask.Searches.{IsFound, IsWithinSearch, StaysIn};
+ghost use Rattle.pdp_replay.specs.Ask.Searches.{IsWithinSearch, StaysIn};
+ghost use Rattle.pdp_replay.specs.Ask.Told.{IsAtTurn, IsToldOf};
 ghost use Rattle.pdp_replay.specs.Ask.DiskChanges.{change_checked, word_changes};
 ghost use Rattle.pdp_replay.specs.Ask.DiskChanges.{CanWatch, IsFirstChange};
 
-use crate::ask::Found;
+use crate::ask::Told;
 use crate::ask::search::check_search;
 use crate::ask::watch::turn_if;
 use crate::engine::Engine;
@@ -43,18 +43,20 @@ impl Engine {
         number: u32,
         from: u32,
         to: u32,
-    ) -> Result<Found, Fault>
+    ) -> Result<Told<Option<u32>>, Fault>
         ensures refusal { result_map (λ _. tt) result ≡ question_answer
             (change_checked drive number from to self.old.past.setup) (for_memory result) }
         ensures turn { IfOk result
-            (λ found. IsFirst (word_changes drive number self.old.past) from to found.turn) }
-        ensures value { IfOk result (λ found. found.turn
+            (λ found. IsFirst (word_changes drive number self.old.past) from to found.value) }
+        ensures value { IfOk result (λ found. found.value
             ≡ first_turn_of (word_changes drive number self.old.past) from (to - from)) }
         ensures bound { IsWithinSearch from self.old self.new }
-        ensures leaves { LeavesPast (Regs to) self.old self.new }
+        ensures leaves { LeavesPast to self.old self.new }
         ensures runs { change_checked drive number from to self.old.past.setup ≡ Ok tt
-            → RunsFor (Regs from) self.old self.new }
-        ensures found { IfOk result (λ found. IsFound to found self.old self.new) }
+            → RunsFrom from self.old self.new }
+        ensures told { IfOk result (λ found. IsToldOf found self.old self.new) }
+        ensures ends { IfOk result
+            (λ found. IsAtTurn (turn_reached found.value to) self.old self.new) }
         ensures refused { IsErr result → for_memory result ≡ false → self.new ≡ self.old }
     {
         let before = self.run.meter.count();
@@ -70,8 +72,8 @@ impl Engine {
         );
         self.highest = self.highest.max(self.run.known);
         let turn = found?;
-        Ok(Found {
-            turn,
+        Ok(Told {
+            value: turn,
             ran: self.run.meter.count() - before,
             known: self.run.known,
             stride: self.run.ladder.stride(),

@@ -4,15 +4,16 @@ ghost use Rattle.std.specs.Prelude.{◌≡◌, ◌<◌, ◌≤◌, ℕ, false, I
 ghost use Rattle.pdp_cpu.specs.Saved.{saved_machine};
 ghost use Rattle.pdp_script.specs.Refusal.{for_memory, question_answer, result_map};
 ghost use Rattle.pdp_replay.specs.Ask.Fadings.{fading, joined_by, AreApart, AreBesideIn, IsBracket};
-ghost use Rattle.pdp_replay.specs.Ask.Fadings.{IsBracketOrNone, IsEdge, IsFadingTold};
+ghost use Rattle.pdp_replay.specs.Ask.Fadings.{IsBracketOrNone, IsEdge};
 ghost use Rattle.pdp_replay.specs.Ask.Known.{LeavesPast};
+ghost use Rattle.pdp_replay.specs.Ask.Told.{IsToldOf};
 ghost use Rattle.pdp_replay.specs.Past.{Past};
 ghost use Rattle.pdp_replay.specs.Run.Branches.{AreBeside, AreBesideAt, IsKeptOfSize, IsLookedAt};
 ghost use Rattle.pdp_replay.specs.Run.Branches.{IsRunOfSize, KeepsBranch, SameEventsBefore};
 ghost use Rattle.pdp_replay.specs.Run.KeptRuns.{KeepsRun};
 ghost use Rattle.pdp_replay.specs.Run.States.{at};
-ghost use Rattle.pdp_replay.specs.declared.ask.question.Question.TheVariants.{Regs};
 
+use crate::ask::Told;
 use crate::ask::patch_fading::find_patch_fading;
 use crate::engine::Engine;
 use crate::past::{BaseSetup, PastEdit};
@@ -22,19 +23,6 @@ use pdp_script::{Fault, Script};
 use pdp_unibus::LAST_TURN;
 use pdp_word::NoMemory;
 use std::alloc::Global;
-
-/// From which turn on an edit would change nothing.
-#[derive(Clone, Copy)]
-pub struct Fading {
-    /// The turn; None if there is none.
-    pub turn: Option<u32>,
-    /// How many turns were run for it, of both runs.
-    pub ran: u64,
-    /// The known turn after it.
-    pub known: u32,
-    /// The stride after it, in turns.
-    pub stride: u32,
-}
 
 /// How many turns after the last one in which both runs surely differ they are compared first.
 const FIRST_STEP: u32 = 1024;
@@ -58,13 +46,18 @@ impl Engine {
     /// `alter`, `drop_event`, `set_core` and `set_disk` have it; else Err(NoMemory) if memory was
     /// refused. No refusal changes the past, and one for another cause than memory changes nothing.
     /// [P]
-    pub fn fades(&mut self, alloc: Global, edit: PastEdit, to: u32) -> Result<Fading, Fault>
-        ensures turn { result_map (λ f. f.turn) result
+    pub fn fades(
+        &mut self,
+        alloc: Global,
+        edit: PastEdit,
+        to: u32,
+    ) -> Result<Told<Option<u32>>, Fault>
+        ensures turn { result_map (λ f. f.value) result
             ≡ question_answer (fading edit to self.old.past) (for_memory result) }
 
         // What it leaves is what a question about turn `to` leaves.
-        ensures leaves { LeavesPast (Regs to) self.old self.new }
-        ensures told { IfOk result (λ f. IsFadingTold f self.old self.new) }
+        ensures leaves { LeavesPast to self.old self.new }
+        ensures told { IfOk result (λ f. IsToldOf f self.old self.new) }
 
         // A refusal for another cause than memory changes nothing.
         ensures refused { IsErr result → for_memory result ≡ false → self.new ≡ self.old }
@@ -77,8 +70,8 @@ impl Engine {
         let found = find_fading(alloc, &mut self.run, base_setup, script, edit, to);
         self.highest = self.highest.max(self.run.known);
         let turn = found?;
-        Ok(Fading {
-            turn,
+        Ok(Told {
+            value: turn,
             ran: self.run.meter.count() - before,
             known: self.run.known,
             stride: self.run.ladder.stride(),

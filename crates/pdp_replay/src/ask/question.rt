@@ -315,16 +315,3 @@ pub enum Value {
     /// The words of a drive that are wanted.
     FoundDisk(FoundWords),
 }
-
-/// A question's answer, with what it took.
-#[derive(Drop)]
-pub struct Answer {
-    pub value: Value,
-    /// How many turns were run for it.
-    pub ran: u64,
-    /// The known turn after it: the turns before it were run, and no edit since then reaches back
-    /// before it.
-    pub known: u32,
-    /// The stride after it, in turns.
-    pub stride: u32,
-}

@@ -1,20 +1,20 @@
 ghost use Rattle.std.specs.Prelude.{◌≡◌, ◌+◌, ◌-◌, ◌<◌, ◌≤◌, min, max, false, IfOk, IsErr, Ok};
 ghost use Rattle.std.specs.Prelude.{OnOk};
 ghost use Rattle.pdp_script.specs.Refusal.{for_memory, question_answer, result_map};
-ghost use Rattle.pdp_replay.specs.declared.ask.question.Question.TheVariants.{Regs};
 ghost use Rattle.pdp_replay.specs.Past.{Past};
 ghost use Rattle.pdp_replay.specs.Run.KeptRuns.{resumed_turn, Advances, ArrivesAt, CanGoOn, GoesOn};
 ghost use Rattle.pdp_replay.specs.Run.KeptRuns.{IsKeptRun, IsRunOf, KeepsRun, LeavesKept};
-ghost use Rattle.pdp_replay.specs.Ask.Known.{LeavesPast, RunsFor};
+ghost use Rattle.pdp_replay.specs.Ask.Known.{LeavesPast, RunsFrom};
 ghost use Rattle.pdp_replay.specs.Ask.Searches.{first_turn_of, search_checked, turn_reached};
-ghost use Rattle.pdp_replay.specs.Ask.Searches.{EndsAfter, IsFirst, IsFound, IsWithinSearch};
+ghost use Rattle.pdp_replay.specs.Ask.Searches.{EndsAfter, IsFirst, IsWithinSearch};
 ghost use Rattle.pdp_replay.specs.Past.Setup.{SetupData};
 ghost use Rattle.pdp_replay.specs.Ask.SoughtTurns.{is_sought_at, seek_checked};
+ghost use Rattle.pdp_replay.specs.Ask.Told.{IsAtTurn, IsToldOf};
 ghost use Rattle.pdp_replay.specs.Ask.Watches.{IsFirstInRun, IsFirstTo, IsInside};
 
-use crate::ask::Sought;
 use crate::ask::search_turns::search_part;
 use crate::ask::watch::Watchpoint;
+use crate::ask::{Sought, Told};
 use crate::engine::Engine;
 use crate::run::KeptRun;
 use pdp_cpu::Meter;
@@ -23,19 +23,6 @@ use pdp_unibus::LAST_TURN;
 use pdp_word::NoMemory;
 use std::alloc::Global;
 use std::mem;
-
-/// What a search for one turn found.
-#[derive(Clone, Copy)]
-pub struct Found {
-    /// The turn; None if there is none.
-    pub turn: Option<u32>,
-    /// How many turns were run for it.
-    pub ran: u64,
-    /// The known turn after it.
-    pub known: u32,
-    /// The stride after it, in turns.
-    pub stride: u32,
-}
 
 impl Engine {
     /// The first turn from turn `from` on and before turn `to` that is sought, of the run from
@@ -52,14 +39,14 @@ impl Engine {
         sought: Sought,
         from: u32,
         to: u32,
-    ) -> Result<Found, Fault>
+    ) -> Result<Told<Option<u32>>, Fault>
         ensures refusal { result_map (λ _. tt) result ≡ question_answer
             (seek_checked sought from to self.old.past.setup) (for_memory result) }
 
         // The turn is the first, said as what is true of it and as what computes it.
         ensures turn { IfOk result
-            (λ found. IsFirst (is_sought_at self.old.past sought) from to found.turn) }
-        ensures value { IfOk result (λ found. found.turn
+            (λ found. IsFirst (is_sought_at self.old.past sought) from to found.value) }
+        ensures value { IfOk result (λ found. found.value
             ≡ first_turn_of (is_sought_at self.old.past sought) from (to - from)) }
 
         // It ran at most one stride of turns more than those searched or past what was known, also
@@ -68,10 +55,12 @@ impl Engine {
 
         // What it leaves is what a question about turn `to` leaves, and it goes on from where a
         // question about turn `from` does.
-        ensures leaves { LeavesPast (Regs to) self.old self.new }
+        ensures leaves { LeavesPast to self.old self.new }
         ensures runs { seek_checked sought from to self.old.past.setup ≡ Ok tt
-            → RunsFor (Regs from) self.old self.new }
-        ensures found { IfOk result (λ found. IsFound to found self.old self.new) }
+            → RunsFrom from self.old self.new }
+        ensures told { IfOk result (λ found. IsToldOf found self.old self.new) }
+        ensures ends { IfOk result
+            (λ found. IsAtTurn (turn_reached found.value to) self.old self.new) }
 
         // A refusal for another cause than memory changes nothing.
         ensures refused { IsErr result → for_memory result ≡ false → self.new ≡ self.old }
@@ -81,8 +70,8 @@ impl Engine {
         let found = find_first(alloc, &mut self.run, &self.script, sought, from, to);
         self.highest = self.highest.max(self.run.known);
         let turn = found?;
-        Ok(Found {
-            turn,
+        Ok(Told {
+            value: turn,
             ran: self.run.meter.count() - before,
             known: self.run.known,
             stride: self.run.ladder.stride(),

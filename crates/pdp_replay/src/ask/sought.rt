@@ -8,7 +8,7 @@ ghost use Rattle.pdp_replay.specs.Ask.SoughtTurns.{sought_checked, NoneIsSought}
 ghost use Rattle.pdp_replay.specs.Ask.TurnConditions.{is_instruction, AreUnmet};
 
 use crate::ask::turn_condition::{
-    TurnConditions, address_of, are_for, are_met_by, check_conditions,
+    TurnConditions, address_of, are_for, are_met_by, check_conditions, unmet_word,
 };
 use pdp_cpu::{Act, ActWithTrap, Meter, Mode, PagedMachine, WordTable};
 use pdp_script::Fault;
@@ -108,7 +108,8 @@ impl Sought {
 }
 
 /// `Sought::pass` for conditions: with one on the address of an instruction, turns that begin with
-/// PC elsewhere; without one, none.
+/// PC elsewhere; otherwise, with one on a word of core that isn't met, turns up to the first that
+/// writes the word; otherwise none.
 fn pass_unmet(
     conditions: TurnConditions,
     machine: &mut PagedMachine,
@@ -124,8 +125,31 @@ fn pass_unmet(
 {
     match address_of(conditions) {
         Some(address) => machine.run_calmly_before(words, meter, to, address),
-        None => pass_none(meter),
+        None => pass_same_word(conditions, machine, words, meter, to),
     }
+}
+
+/// `Sought::pass` for conditions of which none is on the address of an instruction.
+fn pass_same_word(
+    conditions: TurnConditions,
+    machine: &mut PagedMachine,
+    words: &WordTable,
+    meter: &mut Meter,
+    to: u32,
+) -> u32
+    ensures turns { machine.new ≡ after_calm_turns result machine.old }
+    ensures turn { machine.new.state.turn ≡ machine.old.state.turn + result }
+    ensures most { 0 < result → machine.new.state.turn ≤ to }
+    ensures none { AreUnmet conditions result machine.old }
+    ensures counted { Counts result meter.old meter.new }
+{
+    let Some(number) = unmet_word(conditions, machine) else {
+        return pass_none(meter);
+    };
+    if number >= machine.core_len() {
+        return pass_none(meter);
+    }
+    machine.run_calmly_to_write(words, meter, to, number)
 }
 
 /// Runs no turn.

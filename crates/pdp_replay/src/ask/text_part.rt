@@ -2,21 +2,21 @@ ghost use Rattle.std.specs.Prelude.{◌≡◌, ◌+◌, ◌≤◌, drop, length,
 ghost use Rattle.std.specs.Prelude.{slice_get, false, IfOk, IsErr, Ok, OnOk};
 ghost use Rattle.pdp_cpu.specs.KeptTexts.{without_turns};
 ghost use Rattle.pdp_script.specs.Refusal.{for_memory, question_answer, result_map};
-ghost use Rattle.pdp_replay.specs.declared.ask.question.Question.TheVariants.{Regs};
 ghost use Rattle.pdp_replay.specs.Past.{Past};
 ghost use Rattle.pdp_replay.specs.Run.Checkpoints.{punched_kept_at, text_kept_at};
 ghost use Rattle.pdp_replay.specs.Run.KeptRuns.{resumed_turn, Advances, ArrivesAt};
 ghost use Rattle.pdp_replay.specs.Run.KeptRuns.{IsKeptRun, IsRunOf, KeepsRun};
-ghost use Rattle.pdp_replay.specs.Ask.Known.{IsWithinBound, LeavesPast, RunsFor};
+ghost use Rattle.pdp_replay.specs.Ask.Known.{IsWithinBound, LeavesPast, RunsFrom};
 ghost use Rattle.pdp_replay.specs.Ask.Searches.{first_turn_of, turn_reached, IsFirst};
 ghost use Rattle.pdp_replay.specs.Ask.Searches.{IsWithinSearch};
 ghost use Rattle.pdp_replay.specs.Ask.TextParts.{byte_checked, bytes_at, comes_out, shown_of};
-ghost use Rattle.pdp_replay.specs.Ask.TextParts.{turn_checked, IsByteFound, IsToldAt};
+ghost use Rattle.pdp_replay.specs.Ask.TextParts.{turn_checked};
+ghost use Rattle.pdp_replay.specs.Ask.Told.{IsAtTurn, IsToldOf};
 
 use crate::ask::items::read_bytes;
 use crate::ask::search::search;
 use crate::ask::watch::Watchpoint;
-use crate::ask::{Bytes, Found};
+use crate::ask::{Bytes, Told};
 use crate::engine::Engine;
 use crate::run::KeptRun;
 use pdp_cpu::{KeptByte, PagedMachine};
@@ -46,19 +46,6 @@ impl TextKind {
     }
 }
 
-/// Bytes that came out of the machine, with what it took to read them.
-#[derive(Drop)]
-pub struct TextPart {
-    /// The bytes, in the order in which they came out.
-    pub bytes: Bytes,
-    /// How many turns were run for it.
-    pub ran: u64,
-    /// The known turn after it.
-    pub known: u32,
-    /// The stride after it, in turns.
-    pub stride: u32,
-}
-
 impl Engine {
     /// The bytes that were printed or punched before this turn, from byte `first` on, counted from
     /// 0, of the run from power-up of the past as it is now. There are none if no more than `first`
@@ -73,16 +60,16 @@ impl Engine {
         kind: TextKind,
         turn: u32,
         first: u32,
-    ) -> Result<TextPart, Fault>
+    ) -> Result<Told<Bytes>, Fault>
         ensures refusal { result_map (λ _. tt) result
             ≡ question_answer (turn_checked turn) (for_memory result) }
         ensures bytes { IfOk result
-            (λ part. part.bytes ≡ drop first (bytes_at kind self.old.past turn)) }
-        ensures bound { IsWithinBound (Regs turn) self.old self.new.turns }
-        ensures leaves { LeavesPast (Regs turn) self.old self.new }
-        ensures runs { turn_checked turn ≡ Ok tt → RunsFor (Regs turn) self.old self.new }
-        ensures told { IfOk result (λ part. IsToldAt turn part.ran part.known part.stride
-            self.old self.new) }
+            (λ part. part.value ≡ drop first (bytes_at kind self.old.past turn)) }
+        ensures bound { IsWithinBound turn turn self.old self.new.turns }
+        ensures leaves { LeavesPast turn self.old self.new }
+        ensures runs { turn_checked turn ≡ Ok tt → RunsFrom turn self.old self.new }
+        ensures told { IfOk result (λ part. IsToldOf part self.old self.new) }
+        ensures ends { IfOk result (λ part. IsAtTurn turn self.old self.new) }
         ensures refused { IsErr result → for_memory result ≡ false → self.new ≡ self.old }
     {
         let before = self.run.meter.count();
@@ -90,8 +77,8 @@ impl Engine {
         let read = read_from(alloc, &mut self.run, &self.script, kind, turn, first);
         self.highest = self.highest.max(self.run.known);
         let bytes = read?;
-        Ok(TextPart {
-            bytes,
+        Ok(Told {
+            value: bytes,
             ran: self.run.meter.count() - before,
             known: self.run.known,
             stride: self.run.ladder.stride(),
@@ -110,24 +97,26 @@ impl Engine {
         alloc: Global,
         kind: TextKind,
         number: u32,
-    ) -> Result<Found, Fault>
+    ) -> Result<Told<Option<u32>>, Fault>
         ensures refusal { result_map (λ _. tt) result
             ≡ question_answer byte_checked (for_memory result) }
         ensures turn { IfOk result
-            (λ found. IsFirst (comes_out kind number self.old.past) 0 LAST_TURN found.turn) }
-        ensures value { IfOk result (λ found. found.turn
+            (λ found. IsFirst (comes_out kind number self.old.past) 0 LAST_TURN found.value) }
+        ensures value { IfOk result (λ found. found.value
             ≡ first_turn_of (comes_out kind number self.old.past) 0 LAST_TURN) }
         ensures bound { IsWithinSearch self.old.known self.old self.new }
-        ensures leaves { LeavesPast (Regs LAST_TURN) self.old self.new }
-        ensures runs { RunsFor (Regs self.old.known) self.old self.new }
-        ensures told { IfOk result (λ found. IsByteFound found self.old self.new) }
+        ensures leaves { LeavesPast LAST_TURN self.old self.new }
+        ensures runs { RunsFrom self.old.known self.old self.new }
+        ensures told { IfOk result (λ found. IsToldOf found self.old self.new) }
+        ensures ends { IfOk result (λ found. IsAtTurn
+            (max self.old.known (turn_reached found.value LAST_TURN)) self.old self.new) }
     {
         let before = self.run.meter.count();
         let found = find_byte(alloc, &mut self.run, &self.script, kind, number);
         self.highest = self.highest.max(self.run.known);
         let turn = found?;
-        Ok(Found {
-            turn,
+        Ok(Told {
+            value: turn,
             ran: self.run.meter.count() - before,
             known: self.run.known,
             stride: self.run.ladder.stride(),

@@ -7,6 +7,8 @@ ghost use Rattle.pdp_replay.specs.Ask.TurnConditions.{all_met_in, checked_if_the
 ghost use Rattle.pdp_replay.specs.Ask.TurnConditions.{condition_checked, conditions_checked, fits};
 ghost use Rattle.pdp_replay.specs.Ask.TurnConditions.{fits_if_there, is_met_if_there, is_met_in};
 ghost use Rattle.pdp_replay.specs.Ask.TurnConditions.{is_related, quantity_checked, quantity_in};
+ghost use Rattle.pdp_replay.specs.Ask.TurnConditions.{unmet_word, unmet_word_if_there};
+ghost use Rattle.pdp_replay.specs.Ask.TurnConditions.{word_of_condition, word_of_quantity};
 
 use crate::ask::sought::is_instruction;
 use crate::past::core_word;
@@ -138,6 +140,16 @@ impl Quantity {
         }
     }
 
+    /// The number of the core word that the quantity is, if it is one.
+    fn word(self) -> Option<usize>
+        ensures { result ≡ word_of_quantity self }
+    {
+        match self {
+            Quantity::CoreWord { address } => Some((address / 2) as usize),
+            _ => None,
+        }
+    }
+
     /// Whether the quantity is there in a run with `units` units of core.
     ///
     /// Err(OutsideCore) if it is a word that is not in core; else Err(OddAddress) if its address is
@@ -156,6 +168,17 @@ impl Quantity {
 }
 
 impl TurnCondition {
+    /// The number of the core word that the condition is on, if it is on one.
+    fn word(self) -> Option<usize>
+        ensures { result ≡ word_of_condition self }
+    {
+        match self {
+            TurnCondition::Compared { quantity, .. } => quantity.word(),
+            TurnCondition::Masked { quantity, .. } => quantity.word(),
+            TurnCondition::At { .. } | TurnCondition::InMode(_) => None,
+        }
+    }
+
     /// Whether the machine before a turn meets the condition; the turn's act isn't looked at.
     fn is_met_by(self, machine: &PagedMachine) -> bool
         ensures { result ≡ is_met_in self machine.now.state.world }
@@ -274,6 +297,36 @@ fn address_if_there(condition: Option<TurnCondition>) -> Option<u16>
     match condition {
         Some(TurnCondition::At { address }) => Some(address),
         _ => None,
+    }
+}
+
+/// The number of the core word that the first of these conditions is on which the machine before a
+/// turn doesn't meet. As long as the word stays, no turn meets all of them.
+#[tactic(auto, unfolding(crate::specs::Ask::TurnConditions::unmet_word))]
+pub(crate) fn unmet_word(conditions: TurnConditions, machine: &PagedMachine) -> Option<usize>
+    ensures { result ≡ unmet_word conditions machine.now.state.world }
+{
+    let [first, second, third, fourth] = conditions;
+    unmet_word_if_there(first, machine)
+        .or(unmet_word_if_there(second, machine))
+        .or(unmet_word_if_there(third, machine))
+        .or(unmet_word_if_there(fourth, machine))
+}
+
+/// The number of the core word that a condition is on, if there is one and the machine before a
+/// turn doesn't meet it.
+fn unmet_word_if_there(condition: Option<TurnCondition>, machine: &PagedMachine) -> Option<usize>
+    ensures { result ≡ unmet_word_if_there condition machine.now.state.world }
+{
+    match condition {
+        Some(condition) => {
+            if condition.is_met_by(machine) {
+                None
+            } else {
+                condition.word()
+            }
+        }
+        None => None,
     }
 }
 

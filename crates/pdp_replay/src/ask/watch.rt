@@ -1,10 +1,12 @@
 ghost use Rattle.std.specs.Prelude.{◌≡◌, ◌+◌, ◌-◌, ◌<◌, ◌≤◌, length, None};
+ghost use Rattle.pdp_cpu.specs.Meters.{Counts};
 ghost use Rattle.pdp_cpu.specs.Turns.CalmTurns.{after_calm_turns};
 ghost use Rattle.pdp_replay.specs.Ask.Searches.{or_turn};
 ghost use Rattle.pdp_replay.specs.Ask.Watches.{bytes_of, is_met, is_met_last, is_of_turn};
 ghost use Rattle.pdp_cpu.specs.Turns.MachineState.{IsReady};
+ghost use Rattle.pdp_cpu.specs.Turns.TurnRun.{RunsTurn};
 ghost use Rattle.pdp_replay.specs.Ask.SoughtTurns.{act_with_trap};
-ghost use Rattle.pdp_replay.specs.Ask.Watches.{is_act_watched, is_possible, RunsTurn};
+ghost use Rattle.pdp_replay.specs.Ask.Watches.{is_act_watched, is_possible};
 ghost use Rattle.pdp_replay.specs.Ask.Watches.{IsInside, PassesTo};
 ghost use Rattle.pdp_replay.specs.declared.ask.watch.Watchpoint.TheVariants.{Output};
 
@@ -96,8 +98,7 @@ impl Watchpoint {
         ensures turn { machine.new.state.turn ≡ machine.old.state.turn + result }
         ensures most { 0 < result → machine.new.state.turn ≤ to }
         ensures none { PassesTo self result machine.old }
-        ensures ran { meter.new ≤ meter.old + result }
-        ensures counted { meter.old ≤ meter.new }
+        ensures counted { Counts result meter.old meter.new }
     {
         match self {
             Watchpoint::Act(sought) => sought.pass(machine, words, meter, to),
@@ -140,9 +141,10 @@ fn pass_output(
     ensures turn { machine.new.state.turn ≡ machine.old.state.turn + result }
     ensures most { 0 < result → machine.new.state.turn ≤ to }
     ensures none { PassesTo (Output kind number) result machine.old }
-    ensures ran { meter.new ≤ meter.old + result }
-    ensures counted { meter.old ≤ meter.new }
+    ensures counted { Counts result meter.old meter.new }
 {
+    // This read gives the prover the range of the count.
+    let _count = meter.count();
     if count_out(kind, machine) > number as usize {
         return 0;
     }

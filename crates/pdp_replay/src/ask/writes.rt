@@ -4,17 +4,17 @@ ghost use Rattle.pdp_replay.specs.Past.{Past};
 ghost use Rattle.pdp_replay.specs.Run.KeptRuns.{resumed_turn, Advances, ArrivesAt, CanGoOn, GoesOn};
 ghost use Rattle.pdp_replay.specs.Run.KeptRuns.{IsKeptRun, KeepsRun, LeavesKept};
 ghost use Rattle.pdp_script.specs.Refusal.{for_memory, question_answer, result_map};
-ghost use Rattle.pdp_replay.specs.declared.ask.question.Question.TheVariants.{Regs};
 ghost use Rattle.pdp_replay.specs.Past.Setup.{SetupData};
-ghost use Rattle.pdp_replay.specs.Ask.Known.{LeavesPast, RunsFor};
+ghost use Rattle.pdp_replay.specs.Ask.Known.{LeavesPast, RunsFrom};
 ghost use Rattle.pdp_replay.specs.Ask.Searches.{IsWithinSearch};
+ghost use Rattle.pdp_replay.specs.Ask.Told.{IsAtTurn, IsToldOf};
 ghost use Rattle.pdp_replay.specs.Ask.Writes.{turn_after_write, turn_listed, writes_checked};
 ghost use Rattle.pdp_replay.specs.Ask.Writes.{writes_in_turns, AreWritesFrom, CanList, CanSearch};
-ghost use Rattle.pdp_replay.specs.Ask.Writes.{IsNextWriteTo, IsWriteFound, IsWritten};
+ghost use Rattle.pdp_replay.specs.Ask.Writes.{IsNextWriteTo, IsWriteFound};
 
-use crate::ask::LastWrite;
 use crate::ask::search::{check_search, search};
 use crate::ask::watch::Watchpoint;
+use crate::ask::{LastWrite, Told};
 use crate::engine::Engine;
 use crate::past::{UNIT_WORDS, core_word};
 use crate::run::KeptRun;
@@ -36,12 +36,6 @@ pub struct Written {
     /// `to` if there are fewer writes. If it is before `to`, later writes may follow, and a search
     /// from it on lists them.
     pub reached: u32,
-    /// How many turns were run for it.
-    pub ran: u64,
-    /// The known turn after it.
-    pub known: u32,
-    /// The stride after it, in turns.
-    pub stride: u32,
 }
 
 impl Engine {
@@ -60,12 +54,12 @@ impl Engine {
         address: u32,
         from: u32,
         to: u32,
-    ) -> Result<Written, Fault>
+    ) -> Result<Told<Written>, Fault>
         ensures refusal { result_map (λ _. tt) result ≡ question_answer
             (writes_checked address from to self.old.past.setup) (for_memory result) }
 
         // The first 256 of all writes in these turns.
-        ensures value { IfOk result (λ found. found.writes.items ≡ take MOST_WRITES
+        ensures value { IfOk result (λ found. found.value.writes.items ≡ take MOST_WRITES
             (writes_in_turns self.old.past (address / 2) from (to - from))) }
 
         // It ran at most one stride of turns more than those searched or past what was known, also
@@ -74,10 +68,13 @@ impl Engine {
 
         // What it leaves is what a question about turn `to` leaves, and it goes on from where a
         // question about turn `from` does. It ends at the turn after the 256th write, or at `to`.
-        ensures leaves { LeavesPast (Regs to) self.old self.new }
+        ensures leaves { LeavesPast to self.old self.new }
         ensures runs { writes_checked address from to self.old.past.setup ≡ Ok tt
-            → RunsFor (Regs from) self.old self.new }
-        ensures found { IfOk result (λ found. IsWritten to found self.old self.new) }
+            → RunsFrom from self.old self.new }
+        ensures reached { IfOk result (λ found. found.value.reached
+            ≡ turn_listed found.value.writes.items to) }
+        ensures told { IfOk result (λ found. IsToldOf found self.old self.new) }
+        ensures ends { IfOk result (λ found. IsAtTurn found.value.reached self.old self.new) }
 
         // A refusal for another cause than memory changes nothing.
         ensures refused { IsErr result → for_memory result ≡ false → self.new ≡ self.old }
@@ -87,9 +84,11 @@ impl Engine {
         let found = find_writes(alloc, &mut self.run, &self.script, number, from, to);
         self.highest = self.highest.max(self.run.known);
         let writes = found?;
-        Ok(Written {
-            writes,
-            reached: self.run.machine.turns(),
+        Ok(Told {
+            value: Written {
+                writes,
+                reached: self.run.machine.turns(),
+            },
             ran: self.run.meter.count() - before,
             known: self.run.known,
             stride: self.run.ladder.stride(),

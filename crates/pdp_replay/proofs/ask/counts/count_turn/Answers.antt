@@ -9,7 +9,7 @@ use Rattle.pdp_replay.proofs.ask.counts.count_turn.Goals.{After-turn-act}
 -- the turn is the next one
 next : (c : After-turn-act) → c.turn-act.new.self.state.turn ≡ c.args.machine.now.state.turn + 1
 next c =
-    ap (λ (s : MachineState). s.turn) c.turn-act.ensures.turn ∙ ap (λ (s : MachineState). s.turn + 1) c.ready.ensures.same
+    ap (λ (s : MachineState). s.turn) c.turn-act.ensures.runs.turn ∙ ap (λ (s : MachineState). s.turn + 1) c.ready.ensures.same
 
 pub returns-clause-counts : goal.returns-clause-counts
 returns-clause-counts c = λ p known is way.
@@ -29,4 +29,4 @@ returns-clause-way c = λ p known is way.
     way_on_with_room p known c.args.machine.now ready.new.self c.turn-act.new.self c.args.events.now way
     ready.ensures.same ready.ensures.same_text ready.ensures.same_punched ready.ensures.same_first_touches
     (is ∙ ap (λ (s : MachineState). events_at p.script.entries s.turn) (sym ready.ensures.same))
-    c.turn-act.ensures.turn c.turn-act.ensures.kept_text c.turn-act.ensures.kept_punched c.turn-act.ensures.first_touches
+    c.turn-act.ensures.runs.turn c.turn-act.ensures.runs.kept_text c.turn-act.ensures.runs.kept_punched c.turn-act.ensures.runs.first_touches

@@ -48,13 +48,13 @@ returns-then-pass-gt0-clause-way c = λ p known quiet way.
 pub returns-then-pass-gt0-clause-runs : goal.returns-then-pass-gt0-clause-runs
 returns-then-pass-gt0-clause-runs c =
     let turn = c.pass.ensures.turn in
-    let counted = c.pass.ensures.ran in
+    let counted = c.pass.ensures.counted.0 in
     record {
       inside = inside (goal.at.returns-then-pass-gt0-clause-runs c).After-pass;
       least = omega (arith, turn);
       most = c.pass.ensures.most c.if-pass-gt0.true;
       ran = omega (arith, turn, counted);
-      counted_least = c.pass.ensures.counted;
+      counted_least = c.pass.ensures.counted.1;
     }
 
 pub returns-clause-found : goal.returns-clause-found
@@ -73,8 +73,8 @@ pub returns-clause-runs : goal.returns-clause-runs
 returns-clause-runs c =
     let none = c.if-pass-gt0.false in
     let turn = c.pass.ensures.turn in
-    let counted = c.pass.ensures.ran in
-    let grows = c.pass.ensures.counted in
+    let counted = c.pass.ensures.counted.0 in
+    let grows = c.pass.ensures.counted.1 in
     let runs = c.search_idle.ensures.runs in
     let least = runs.least in
     let ran = runs.ran in

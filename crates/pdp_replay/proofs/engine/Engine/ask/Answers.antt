@@ -1,6 +1,6 @@
 use Rattle.std.proofs.Common.{◌≡◌, ℕ, ap, refl, subst, sym, ◌*◌, ◌+◌, ◌≤◌}
 use Rattle.pdp_replay.specs.Ask.Answer.{first_turn_needed}
-use Rattle.pdp_replay.specs.Ask.Known.{RunsFor, resumed_from}
+use Rattle.pdp_replay.specs.Ask.Known.{RunsFrom, resumed_from}
 use Rattle.pdp_replay.specs.Past.{Past, past_from}
 use Rattle.pdp_replay.specs.Timeline.{Timeline}
 use Rattle.pdp_replay.proofs.ask.Resuming.{come_is, resumed_is}
@@ -12,7 +12,7 @@ use Rattle.pdp_replay.proofs.engine.Engine.ask.Goals.{After-answer-answered}
 runs : (c : After-answer-answered) (now : Timeline) → now.turns ≡ c.answer-answered.new.run.meter
     → now.turn ≡ c.answer-answered.new.run.machine.state.turn → now.known ≡ c.answer-answered.new.run.known
     → now.current ≡ c.answer-answered.new.run.is_current → now.stride ≡ c.answer-answered.new.run.ladder.stride
-    → RunsFor c.args.question c.args.self.now now
+    → RunsFrom (first_turn_needed c.args.question) c.args.self.now now
 runs c now turns turn known current stride =
     let e = c.self.inside in
     let p : Past = past_from e.base_setup e.run.machine.state.world.bus.tape e.delays e.patches e.script in

@@ -1,7 +1,6 @@
 use Rattle.std.proofs.Common.{◌-◌, ◌≡◌, refl, subst}
-use Rattle.pdp_replay.specs.Ask.Known.{RunsFor}
+use Rattle.pdp_replay.specs.Ask.Known.{RunsFrom}
 use Rattle.pdp_replay.specs.Ask.Counts.{counts_in_turns}
-use Rattle.pdp_replay.specs.declared.ask.question.Question.TheVariants.{Regs}
 use Rattle.pdp_replay.specs.Past.{Past, past_from}
 use Rattle.pdp_replay.specs.Timeline.{Timeline}
 use Rattle.pdp_replay.proofs.ask.Resuming.{runs_from}
@@ -12,13 +11,13 @@ use Rattle.pdp_replay.proofs.engine.Engine.counts.Goals.{After-find_counts-count
 runs : (c : After-find_counts-counted) (now : Timeline) → now.turns ≡ c.find_counts-counted.new.run.meter
     → now.turn ≡ c.find_counts-counted.new.run.machine.state.turn → now.known ≡ c.find_counts-counted.new.run.known
     → now.current ≡ c.find_counts-counted.new.run.is_current → now.stride ≡ c.find_counts-counted.new.run.ladder.stride
-    → RunsFor (Regs c.args.from) c.args.self.now now
+    → RunsFrom c.args.from c.args.self.now now
 runs c now turns turn known current stride =
     let e = c.self.inside in
     let p : Past = past_from e.base_setup e.run.machine.state.world.bus.tape e.delays e.patches e.script in
     let run = c.find_counts-counted.ensures.kept p refl c.self.invariant.run in
-    subst (λ (t : Timeline). RunsFor (Regs c.args.from) t now) c.self.view_is
-    (runs_from p e.highest c.args.to (Regs c.args.from) e.run c.find_counts-counted.new.run now c.self.invariant.run.kept.states run.kept.states
+    subst (λ (t : Timeline). RunsFrom c.args.from t now) c.self.view_is
+    (runs_from p e.highest c.args.to c.args.from e.run c.find_counts-counted.new.run now c.self.invariant.run.kept.states run.kept.states
     c.find_counts-counted.ensures.advances turns turn known current stride)
 
 pub returns-in_err-counts-clause-runs : goal.returns-in_err-counts-clause-runs

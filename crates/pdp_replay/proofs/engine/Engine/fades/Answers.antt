@@ -1,10 +1,10 @@
-use Rattle.std.proofs.Common.{◌≡◌, ◌∙◌, Err, Ok, ap, false, refl, subst}
+use Rattle.std.proofs.Common.{◌≡◌, ◌∙◌, Err, Ok, Option, ℕ, ap, false, refl, subst}
 use Rattle.std.proofs.lemmas.Result.{err_from_is_err_and}
 use Rattle.pdp_script.specs.Refusal.{for_memory, question_answer}
 use Rattle.pdp_replay.specs.Past.{Past, past_from}
 use Rattle.pdp_replay.specs.Ask.Fadings.{fading}
 use Rattle.pdp_replay.specs.Timeline.{Timeline}
-use Rattle.pdp_replay.specs.declared.ask.fading.Fading.{Fading}
+use Rattle.pdp_replay.specs.declared.ask.told.Told.{Told}
 use Rattle.pdp_replay.proofs.ask.FadingEdits.{too_large}
 use Rattle.pdp_replay.proofs.engine.Engine.fades.Goals as goal
 
@@ -18,7 +18,7 @@ returns-in_err-turn-clause-turn c =
     let told = rw c.in_err-turn.was at c.find_fading-found.ensures.turn p (record { same = refl; run = c.self.invariant.run; units = refl; drives = refl }) in
     let out = err_from_is_err_and c.from_residual.result c.from_residual.ensures.1 in
     let is = out.1 ∙ ap Err out.2 in
-    rw is (subst (λ (t : Timeline). Err c.in_err-turn.field-0.0 ≡ question_answer (fading c.args.edit c.args.to t.past) (for_memory {X = Fading} (Err c.in_err-turn.field-0.0))) c.self.view_is told)
+    rw is (subst (λ (t : Timeline). Err c.in_err-turn.field-0.0 ≡ question_answer (fading c.args.edit c.args.to t.past) (for_memory {X = Told (Option ℕ)} (Err c.in_err-turn.field-0.0))) c.self.view_is told)
 
 pub returns-clause-turn : goal.returns-clause-turn
 returns-clause-turn c =

@@ -1,6 +1,5 @@
 use Rattle.std.proofs.Common.{◌≡◌, refl, subst}
-use Rattle.pdp_replay.specs.Ask.Known.{RunsFor}
-use Rattle.pdp_replay.specs.declared.ask.question.Question.TheVariants.{Regs}
+use Rattle.pdp_replay.specs.Ask.Known.{RunsFrom}
 use Rattle.pdp_replay.specs.Past.{Past, past_from}
 use Rattle.pdp_replay.specs.Timeline.{Timeline}
 use Rattle.pdp_replay.specs.Ask.Searches.{IsFirst}
@@ -14,13 +13,13 @@ use Rattle.pdp_replay.proofs.engine.Engine.first_at.Goals.{After-find_first-foun
 runs : (c : After-find_first-found) (now : Timeline) → now.turns ≡ c.find_first-found.new.run.meter
     → now.turn ≡ c.find_first-found.new.run.machine.state.turn → now.known ≡ c.find_first-found.new.run.known
     → now.current ≡ c.find_first-found.new.run.is_current → now.stride ≡ c.find_first-found.new.run.ladder.stride
-    → RunsFor (Regs c.args.from) c.args.self.now now
+    → RunsFrom c.args.from c.args.self.now now
 runs c now turns turn known current stride =
     let e = c.self.inside in
     let p : Past = past_from e.base_setup e.run.machine.state.world.bus.tape e.delays e.patches e.script in
     let run = c.find_first-found.ensures.kept p refl c.self.invariant.run in
-    subst (λ (t : Timeline). RunsFor (Regs c.args.from) t now) c.self.view_is
-    (runs_from p e.highest c.args.to (Regs c.args.from) e.run c.find_first-found.new.run now c.self.invariant.run.kept.states run.kept.states
+    subst (λ (t : Timeline). RunsFrom c.args.from t now) c.self.view_is
+    (runs_from p e.highest c.args.to c.args.from e.run c.find_first-found.new.run now c.self.invariant.run.kept.states run.kept.states
     c.find_first-found.ensures.advances turns turn known current stride)
 
 pub returns-in_err-turn-clause-runs : goal.returns-in_err-turn-clause-runs

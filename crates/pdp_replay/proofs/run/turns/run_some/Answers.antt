@@ -31,4 +31,4 @@ returns-clause-way c = λ p known quiet way.
     c.requires.forward ran.ensures.turn ran.ensures.most quiet way)
     ready.ensures.same ready.ensures.same_text ready.ensures.same_punched ready.ensures.same_first_touches
     (sym (quiet ready.new.self.state.turn (omega (arith, same)) (omega (arith, same, none, below))))
-    c.turn.ensures.turn c.turn.ensures.kept_text c.turn.ensures.kept_punched c.turn.ensures.first_touches
+    c.turn.ensures.runs.turn c.turn.ensures.runs.kept_text c.turn.ensures.runs.kept_punched c.turn.ensures.runs.first_touches

@@ -12,14 +12,14 @@ turned : (c : After-settle) (p : Past) → p.script ≡ c.args.script.now → Is
     → IsUnderWay p c.args.self.now.known c.turn-act.new.self
 turned c p same on =
     let ready = c.ready.ensures in
-    let turn = c.turn-act.ensures in
+    let turn = c.turn-act.ensures.runs in
     way_stepped p c.args.script.now c.args.self.now c.ready.new.self c.turn-act.new.self c.turns-turn.result c.at.result.now same on
     ready.same ready.same_text ready.same_punched ready.same_first_touches c.turns-turn.ensures c.at.ensures.events turn.turn turn.kept_text turn.kept_punched turn.first_touches
 
 -- at the turn after the one before
 turn_on : (c : After-settle) → c.turn-act.new.self.state.turn ≡ c.args.self.now.machine.state.turn + 1
 turn_on c =
-    let now = ap (λ (s : MachineState). s.turn) c.turn-act.ensures.turn in
+    let now = ap (λ (s : MachineState). s.turn) c.turn-act.ensures.runs.turn in
     let before = ap (λ (s : MachineState). s.turn) c.ready.ensures.same in
     omega (arith, now, before)
 
@@ -28,8 +28,8 @@ advanced : (c : After-settle)
     → Advances c.args.self.now.machine.state.turn (c.args.self.now.machine.state.turn + 1) c.args.self.now c.settle.new.self
 advanced c =
     let turn = turn_on c in
-    let counted = c.turn-act.ensures.counted.0 in
-    let grows = c.turn-act.ensures.counted.1 in
+    let counted = c.turn-act.ensures.runs.counted.0 in
+    let grows = c.turn-act.ensures.runs.counted.1 in
     advances_from _ _ _ c.args.self.now _ c.settle.new.self refl refl (omega (arith, turn, counted)) grows c.settle.ensures.advances (omega (arith, turn))
 
 pub returns-in_err-settle-clause-kept : goal.returns-in_err-settle-clause-kept
