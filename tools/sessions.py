@@ -184,6 +184,18 @@ SEARCHES = [
     Line("finddsk N D I J W", SEARCH, "finddsk C", "the words of drive D, in version 2"),
     Line("finddsk N D I J W mask K", SEARCH, "finddsk C", "the same in the bits of K alone"),
     Line(
+        "events",
+        SEARCH,
+        "events C",
+        "the events of the script in their order: number, turn and EVENT",
+    ),
+    Line(
+        "setup",
+        SEARCH,
+        "setup version V",
+        "version, units, start, stride, delays in turns, and how many bytes the tape has",
+    ),
+    Line(
         "fades N EDIT",
         SEARCH,
         "fades T",

@@ -1,5 +1,5 @@
 -- Counts as they are written one after another.
-use Rattle.std.proofs.Common.{◌≡◌, ℕ, ◌≤◌, List, ◌++◌, length, codes, Result, Ok, Err, sym, append_assoc, subst}
+use Rattle.std.proofs.Common.{◌≡◌, ℕ, ◌≤◌, List, ◌++◌, length, codes, Result, Ok, Err, append_assoc, subst}
 use Rattle.std.specs.List.{flat_map}
 use Rattle.pdp_session.specs.Reply.{line_at}
 use Rattle.pdp_session.specs.Search.{count_shown, counts_line}

@@ -7,14 +7,13 @@ use Rattle.pdp_replay.specs.Ask.Writes.{turn_listed}
 use Rattle.pdp_replay.specs.Ask.Fadings.{fading, joined_by}
 use Rattle.pdp_replay.specs.Past.{Past}
 use Rattle.pdp_replay.specs.Past.Edit.{past_edit}
-use Rattle.pdp_replay.specs.declared.ask.fading.Fading.{Fading}
 use Rattle.pdp_replay.specs.declared.ask.last_write.LastWrite.{LastWrite}
-use Rattle.pdp_replay.specs.declared.ask.question.Answer.{Answer}
 use Rattle.pdp_replay.specs.declared.ask.question.Question.{Question}
 use Rattle.pdp_replay.specs.declared.ask.question.Value.{Value}
+use Rattle.pdp_replay.specs.declared.ask.told.Told.{Told}
 use Rattle.pdp_replay.specs.declared.past.past_edit.PastEdit.{PastEdit}
 use Rattle.pdp_unibus.specs.LastTurn.{last_turn}
-use Rattle.pdp_script.specs.declared.faults.Fault.TheVariants.{TurnTooLarge}
+use Rattle.pdp_script.specs.declared.faults.Fault.TheVariants.{NoMemory, TurnTooLarge}
 use Rattle.pdp_session.specs.declared.search.Finding.{Finding}
 use Rattle.pdp_session.specs.declared.search.Finding.TheVariants.{Answer as AnswerIs, Fades, Writes}
 use Rattle.pdp_session.specs.declared.search.Search.{Search}
@@ -43,6 +42,11 @@ pub search_refused : (wanted : Search) (past : Past) (fault : Fault) → Err fau
 unfolding search_result
 search_refused wanted past fault refused =
     refused_alike (search_permitted wanted past) (for_memory {X = Finding} (Err fault)) (finding wanted past) fault refused
+
+-- a search that can be made is refused for memory alone
+pub search_short : (wanted : Search) (past : Past) → search_permitted wanted past ≡ Ok tt → Err NoMemory ≡ question_answer (search_result wanted past) true
+unfolding search_result
+search_short wanted past permitted = rw permitted refl
 
 -- the writes that are listed are the first of all, and tell whether turns were left
 pub first_writes : (writes listed all : List LastWrite) (reached to : ℕ) → writes ≡ listed → listed ≡ all → reached ≡ turn_listed listed to
@@ -74,7 +78,7 @@ pub fading_answered : (edit : PastEdit) (to : ℕ) (past : Past) (turn : Option 
 unfolding fading search_result
 fading_answered edit to past turn is = fading_told (nat_le to last_turn) (past_edit edit past) to past turn is
 
-pub fading_refused : (edit : PastEdit) (to : ℕ) (past : Past) (fault : Fault) → Err fault ≡ question_answer (fading edit to past) (for_memory {X = Fading} (Err fault))
+pub fading_refused : (edit : PastEdit) (to : ℕ) (past : Past) (fault : Fault) → Err fault ≡ question_answer (fading edit to past) (for_memory {X = Told (Option ℕ)} (Err fault))
     → Err fault ≡ question_answer (search_result (search.Fades to edit) past) (for_memory {X = Finding} (Err fault))
 unfolding fading search_result
 fading_refused edit to past fault is = refusal_told (nat_le to last_turn) (for_memory {X = Finding} (Err fault)) (past_edit edit past) to past fault is
@@ -97,7 +101,7 @@ pub question_answered : (asked : Question) (past : Past) (value : Value) → Ok 
 unfolding answer_to search_result
 question_answered asked past value is = value_told (question_checked asked past) value (answer asked past) is
 
-pub question_refused : (asked : Question) (past : Past) (fault : Fault) → Err fault ≡ question_answer (answer_to asked past) (for_memory {X = Answer} (Err fault))
+pub question_refused : (asked : Question) (past : Past) (fault : Fault) → Err fault ≡ question_answer (answer_to asked past) (for_memory {X = Told Value} (Err fault))
     → Err fault ≡ question_answer (search_result (search.Ask asked) past) (for_memory {X = Finding} (Err fault))
 unfolding answer_to search_result
 question_refused asked past fault is = value_refused (question_checked asked past) (for_memory {X = Finding} (Err fault)) (answer asked past) fault is

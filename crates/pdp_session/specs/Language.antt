@@ -1,11 +1,14 @@
 -- The languages of lines [P]: the session language; and the search language, which has all its
 -- lines, and those of searches beside them.
-use Rattle.std.specs.Prelude.{ℕ, Bool, true, false, List, Option, None, Some, Result, Err, ◌≡◌, ◌≢◌}
+use Rattle.std.specs.Prelude.{ℕ, Bool, true, false, List, Option, None, Some, Result, Ok, Err, ◌≡◌}
+use Rattle.std.specs.Prelude.{◌≢◌}
 use Rattle.pdp_script.specs.Refusal.{question_answer}
 use Rattle.pdp_script.specs.declared.faults.Fault.{Fault}
 use Rattle.pdp_script.specs.declared.faults.Fault.TheVariants.{BadLine}
 use Rattle.pdp_replay.specs.Past.{Past}
 use Rattle.pdp_session.specs.declared.command.Command.{Command}
+use Rattle.pdp_session.specs.declared.grammar.LineMeaning.{LineMeaning}
+use Rattle.pdp_session.specs.declared.grammar.LineMeaning.TheVariants as kind
 use Rattle.pdp_session.specs.declared.search.Search.{Search}
 use Rattle.pdp_session.specs.declared.version.Version.{Version}
 use Rattle.pdp_session.specs.Command.{reply_to, past_after}
@@ -42,6 +45,13 @@ text_meant None line refused past = text_of (reply_to line refused past)
     (past_after line refused past)
 text_meant (Some search) line refused past = found_text
     (question_answer (search_result search past) refused)
+
+-- what a line is, by what it means in the session language and by the search that it is
+abbrev pub line_read : Result (Option Command) Fault → Option Search → Result LineMeaning Fault
+line_read meant (Some search) = Ok (kind.Search search)
+line_read (Ok None) None = Ok kind.Nothing
+line_read (Ok (Some command)) None = Ok (kind.Command command)
+line_read (Err fault) None = Err fault
 
 -- the text that a line of this language is answered; a search leaves the past as it is
 unfoldable pub text_to : Language → List ℕ → Bool → Past → List ℕ

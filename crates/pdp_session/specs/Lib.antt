@@ -5,6 +5,7 @@ pub mod Version
 pub mod Grammar
 pub mod Command
 pub mod Reply
+pub mod PastShown
 -- The languages: the session language, and the search language, which has searches beside it.
 pub mod Search
 pub mod Language

@@ -1,5 +1,5 @@
 -- What a search finds, and how that is told [P].
-use Rattle.std.specs.Prelude.{ℕ, ◌-◌, ◌/◌, ◌++◌, Bool, true, false, List, codes, decimal, drop, length}
+use Rattle.std.specs.Prelude.{ℕ, ◌-◌, ◌/◌, ◌++◌, Bool, false, List, codes, decimal, drop, length}
 use Rattle.std.specs.Prelude.{nat_lt, take, Option, None, Some, Result, Ok, Err}
 use Rattle.std.specs.List.{flat_map}
 use Rattle.pdp_unibus.specs.LastTurn.{last_turn}
@@ -16,6 +16,7 @@ use Rattle.pdp_replay.specs.Ask.TextParts.{byte_checked, bytes_at, comes_out, tu
 use Rattle.pdp_replay.specs.Ask.Writes.{turn_listed, writes_checked, writes_in_turns}
 use Rattle.pdp_replay.specs.Past.{Past}
 use Rattle.pdp_replay.specs.Past.Edit.{past_edit}
+use Rattle.pdp_replay.specs.Past.Setup.{setup_numbers}
 use Rattle.pdp_replay.specs.declared.ask.last_write.LastWrite.{LastWrite}
 use Rattle.pdp_replay.specs.declared.ask.text_part.TextKind.{TextKind}
 use Rattle.pdp_replay.specs.declared.ask.text_part.TextKind.TheVariants.{Printed, Punched}
@@ -23,8 +24,10 @@ use Rattle.pdp_session.specs.declared.search.Finding.{Finding}
 use Rattle.pdp_session.specs.declared.search.Finding.TheVariants as found
 use Rattle.pdp_session.specs.declared.search.Search.{Search}
 use Rattle.pdp_session.specs.declared.search.Search.TheVariants as search
+use Rattle.pdp_session.specs.PastShown.{events_text, setup_line}
 use Rattle.pdp_session.specs.Reply.{agent_name, bytes_line, listed_head, refusal_text, value_text}
 use Rattle.pdp_session.specs.Reply.{word_text}
+use Rattle.pdp_session.specs.Version.{version_of}
 
 -- the most writes that are listed
 abbrev pub most_listed : ℕ
@@ -53,6 +56,8 @@ finding (search.Fades to edit) past = found.Fades (joined_by to past
 finding (search.Ask question) past = found.Answer (answer question past)
 finding (search.Counts from to words) past = found.Counts (counts_in_turns past words.mode
     words.first words.count from (to - from))
+finding search.Events past = found.Events past.script.entries
+finding search.Setup past = found.Setup (version_of past) (setup_numbers past.setup)
 
 -- can the search be made?
 abbrev pub search_permitted : Search → Past → Result (Unit {0}) Fault
@@ -66,6 +71,8 @@ search_permitted (search.When number) past = byte_checked
 search_permitted (search.Fades to edit) past = result_map (λ _. tt) (fading_checked edit to past)
 search_permitted (search.Ask question) past = question_checked question past
 search_permitted (search.Counts from to words) past = counts_checked words from to
+search_permitted search.Events past = Ok tt
+search_permitted search.Setup past = Ok tt
 
 -- what it finds, or why it can't be made
 unfoldable pub search_result : Search → Past → Result Finding Fault
@@ -112,6 +119,8 @@ finding_text (found.When turn) = turn_line (codes "when") turn
 finding_text (found.Fades turn) = turn_line (codes "fades") turn
 finding_text (found.Answer value) = value_text value
 finding_text (found.Counts counts) = counts_line counts
+finding_text (found.Events events) = events_text events
+finding_text (found.Setup version setup) = setup_line version setup
 
 -- the text that a search is answered
 abbrev pub found_text : Result Finding Fault → List ℕ

@@ -1,13 +1,12 @@
 ghost use Rattle.std.specs.Prelude.{◌≡◌, ◌≤◌, length};
 ghost use Rattle.pdp_replay.specs.Past.Edit.{tape_edit};
 ghost use Rattle.pdp_script.specs.Refusal.{edit_answer, for_memory, past_left};
-ghost use Rattle.pdp_session.specs.Command.{edit_reply, command_reply, command_leaves, reply_to};
-ghost use Rattle.pdp_session.specs.Command.{past_after, past_edit_leaves, past_edit_reply};
+ghost use Rattle.pdp_session.specs.Command.{edit_reply, command_reply, command_leaves};
+ghost use Rattle.pdp_session.specs.Command.{past_edit_leaves, past_edit_reply};
 ghost use Rattle.pdp_session.specs.Command.{script_edit_leaves, script_edit_reply, wants_memory};
 
-use crate::grammar::{LONGEST_LINE, read_line};
+use crate::grammar::LONGEST_LINE;
 use crate::reply::Reply;
-use crate::version::Version;
 use arrayvec::ArrayVec;
 use pdp_replay::{DelayedDevice, Engine, Fault, PastEdit, Patch, Question, ScriptEdit};
 use std::alloc::Global;
@@ -27,21 +26,9 @@ pub enum Command {
     Ask(Question),
 }
 
-// Does what a line says, and answers its reply. The line comes without what ended it.
-#[tactic(auto, unfolding(crate::specs::Command::reply_to, crate::specs::Command::past_after))]
-pub fn answer_line(alloc: Global, engine: &mut Engine, line: &[u8]) -> Reply
-    ensures reply { result ≡ reply_to line.now (wants_memory result) engine.old.past }
-    ensures after { engine.new.past ≡ past_after line.now (wants_memory result) engine.old.past }
-{
-    match read_line(Version::of(engine), line) {
-        Ok(None) => Reply::Nothing,
-        Ok(Some(command)) => run_command(alloc, engine, command),
-        Err(fault) => Reply::Refused(fault),
-    }
-}
-
+// Does what a command says, and answers its reply.
 #[tactic(auto, using(crate::proofs::Replying::reply_of_edit))]
-fn run_command(alloc: Global, engine: &mut Engine, command: Command) -> Reply
+pub fn run_command(alloc: Global, engine: &mut Engine, command: Command) -> Reply
     ensures reply { result ≡ command_reply command (wants_memory result) engine.old.past }
     ensures after { engine.new.past ≡ command_leaves command (wants_memory result) engine.old.past }
 {

@@ -7,6 +7,7 @@ ghost use Rattle.pdp_session.specs.Grammar.{uncore_form, tape_form, delay_form, 
 ghost use Rattle.pdp_session.specs.Grammar.{patches_form, command_with, line_means};
 ghost use Rattle.pdp_session.specs.Lines.{longest_line};
 ghost use Rattle.pdp_session.specs.Grammar.Words.{words_of_line};
+ghost use Rattle.pdp_session.specs.Language.{language_with, line_read, search_of};
 
 mod arguments;
 mod conditions;
@@ -19,23 +20,52 @@ mod state_questions;
 mod words;
 
 use crate::command::Command;
+use crate::search::Search;
 use crate::version::Version;
 use arguments::{one_word, read_bytes, read_device_name, read_turn, two_words};
 use past_edits::read_past_edit;
 use pdp_replay::Fault;
 use pdp_word::{read_decimal, read_octal};
 use questions::read_question;
-pub use searches::read_search;
+use searches::read_search;
 use words::next_word;
 
 // The most bytes that a line may have.
 pub const LONGEST_LINE: usize = 200;
 
-// A line, less what ended it, as a command in this version; `None` for a line without words and for
-// a comment. `LineTooLong` comes if the line has more than 200 bytes, and `BadLine` if it is not in
-// the grammar.
+// What a line means.
+#[derive(Drop)]
+pub enum LineMeaning {
+    // A comment, or a line without words.
+    Nothing,
+    Command(Command),
+    Search(Search),
+}
+
+// A line, less what ended it, in this version; SEARCHES is whether its language has searches.
+// `LineTooLong` comes if the line has more than 200 bytes, and `BadLine` if it is not in the
+// grammar.
+pub fn read_line<const SEARCHES: bool>(version: Version, line: &[u8]) -> Result<LineMeaning, Fault>
+    ensures { result ≡ line_read (line_means version line.now)
+        (search_of (language_with SEARCHES) version line.now) }
+{
+    match read_session_line(version, line) {
+        Ok(None) => Ok(LineMeaning::Nothing),
+        Ok(Some(command)) => Ok(LineMeaning::Command(command)),
+        Err(fault) => {
+            if fault != Fault::BadLine {
+                return Err(fault);
+            }
+            let search = read_search::<SEARCHES>(version, line).ok_or(fault)?;
+            Ok(LineMeaning::Search(search))
+        }
+    }
+}
+
+// A line of the session language as a command; `None` for a line without words and for a comment.
+// Err as that of `read_line`.
 #[tactic(auto, unfolding(crate::specs::Grammar::line_means))]
-pub fn read_line(version: Version, line: &[u8]) -> Result<Option<Command>, Fault>
+fn read_session_line(version: Version, line: &[u8]) -> Result<Option<Command>, Fault>
     ensures { result ≡ line_means version line.now }
 {
     if line.len() > LONGEST_LINE {

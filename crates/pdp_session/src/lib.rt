@@ -36,7 +36,7 @@ mod version;
 pub use image::read_image;
 pub use laws::session_lines_are_kept;
 pub use pdp_replay::{
-    Act, Agent, Answer, Bytes, DelayedDevice, DeviceRegisters, Engine, Event, Fault, LastWrite,
+    Act, Agent, Bytes, DelayedDevice, DeviceRegisters, Engine, Event, Fault, LastWrite,
     PageRegisters, Patch, Question, Regs, RunState, Setup, Trail, TrailEntry, Value, Words,
     core_words_are_first_words, some_edits_need_no_memory, texts_only_grow,
 };

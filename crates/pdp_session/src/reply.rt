@@ -8,6 +8,7 @@ mod bytes;
 mod counts;
 mod findings;
 mod history;
+mod past_shown;
 mod states;
 mod texts;
 

@@ -5,15 +5,20 @@ ghost use Rattle.pdp_script.specs.Refusal.{for_memory, question_answer};
 ghost use Rattle.pdp_session.specs.Search.{search_result};
 
 mod count_list;
+mod event_list;
 mod finders;
 mod write_list;
 
+use crate::version::Version;
 pub use count_list::CountList;
+pub use event_list::EventList;
 use finders::{
-    find_answer, find_change, find_counts, find_fading, find_first, find_latest, find_text,
-    find_turn_of_byte, find_writes,
+    find_answer, find_change, find_counts, find_events, find_fading, find_first, find_latest,
+    find_setup, find_text, find_turn_of_byte, find_writes,
 };
-use pdp_replay::{Bytes, CountedWords, Engine, Fault, PastEdit, Question, Sought, TextKind, Value};
+use pdp_replay::{
+    Bytes, CountedWords, Engine, Fault, PastEdit, Question, SetupNumbers, Sought, TextKind, Value,
+};
 use std::alloc::Global;
 pub use write_list::WriteList;
 
@@ -69,6 +74,10 @@ pub enum Search {
         to: u32,
         words: CountedWords,
     },
+    // The events of the script.
+    Events,
+    // The numbers of the setup.
+    Setup,
 }
 
 // What a search found.
@@ -84,6 +93,8 @@ pub enum Finding {
     Fades(Option<u32>),
     Answer(Value),
     Counts(CountList),
+    Events(EventList),
+    Setup(Version, SetupNumbers),
 }
 
 impl Search {
@@ -108,6 +119,8 @@ impl Search {
             Search::Fades { to, edit } => find_fading(alloc, engine, to, edit),
             Search::Ask(question) => find_answer(alloc, engine, question),
             Search::Counts { from, to, words } => find_counts(alloc, engine, from, to, words),
+            Search::Events => find_events(alloc, engine),
+            Search::Setup => find_setup(engine),
         }
     }
 }

@@ -61,6 +61,10 @@ kernel or user. X is R0 to R5, KSP, USP, SP, PC, PS or core A:
   finddsk N I J W mask K      the same in the bits of K alone
   finddsk N D I J W           the words of drive D, in version 2
   finddsk N D I J W mask K    the same in the bits of K alone
+  events                      the events of the script in their order: number,
+                              turn and EVENT
+  setup                       version, units, start, stride, delays in turns, and
+                              how many bytes the tape has
   fades N EDIT                the turn, up to N, from which on the run with this
                               edit would be the run as it is; EDIT is a line
                               core, disk, at, alter or drop, and isn't made

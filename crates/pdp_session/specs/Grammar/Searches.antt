@@ -12,6 +12,7 @@ use Rattle.pdp_replay.specs.declared.ask.text_part.TextKind.TheVariants.{Printed
 use Rattle.pdp_session.specs.declared.search.Search.{Search}
 use Rattle.pdp_session.specs.declared.search.Search.TheVariants.{First, Latest, Writes, Change}
 use Rattle.pdp_session.specs.declared.search.Search.TheVariants.{TextFrom, When, Fades, Ask}
+use Rattle.pdp_session.specs.declared.search.Search.TheVariants.{Events, Setup}
 use Rattle.pdp_session.specs.declared.version.Version.{Version}
 use Rattle.pdp_session.specs.Grammar.Arguments.{◌>>=◌, first_of, one_of, two_of, drive_first}
 use Rattle.pdp_session.specs.Grammar.Arguments.{turn_named, turns_first, count_named, mode_named}
@@ -115,6 +116,11 @@ fades_form version arguments = do
   edit ← past_edit_with version name others
   Some (Fades n edit)
 
+-- a name alone: `events`, `setup`
+abbrev pub alone : Search → List (List ℕ) → Option Search
+alone search [] = Some search
+alone search _ = None
+
 -- a search by its name and the words that follow it
 unfoldable pub search_with : Version → List ℕ → List (List ℕ) → Option Search
 search_with version name arguments =
@@ -127,6 +133,8 @@ search_with version name arguments =
     else if bytes_eq name (codes "when") then when_form arguments
     else if bytes_eq name (codes "fades") then fades_form version arguments
     else if bytes_eq name (codes "counts") then counts_form arguments
+    else if bytes_eq name (codes "events") then alone Events arguments
+    else if bytes_eq name (codes "setup") then alone Setup arguments
     else option_map Ask (state_question_with version name arguments)
 
 -- the search that some words are

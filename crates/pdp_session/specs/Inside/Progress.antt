@@ -1,17 +1,19 @@
 -- How far a session has come, and how each part of it moves it on: a proof's own, which no public
 -- contract names.
 use Rattle.std.specs.Prelude.{◌≡◌, ℕ, ◌+◌, ◌<◌, Bool, true, false, List, ◌++◌, length, take, Result}
-use Rattle.std.specs.Prelude.{Ok, Err}
+use Rattle.std.specs.Prelude.{Ok, Err, Option}
 use Rattle.std.specs.List.{All, concat}
 use Rattle.std.specs.Io.KnownBytes.{Appends}
 use Rattle.pdp_script.specs.Refusal.{question_answer}
+use Rattle.pdp_script.specs.declared.faults.Fault.{Fault}
 use Rattle.pdp_script.specs.declared.faults.Fault.TheVariants.{NoMemory}
 use Rattle.pdp_replay.specs.Past.{Past}
 use Rattle.pdp_session.specs.declared.search.Search.{Search}
-use Rattle.pdp_session.specs.Command.{past_after}
+use Rattle.pdp_session.specs.declared.command.Command.{Command}
+use Rattle.pdp_session.specs.Command.{past_after, past_meant, reply_meant}
 use Rattle.pdp_session.specs.Language.{Language, text_to}
 use Rattle.pdp_session.specs.Lines.{longest_line, is_line_feed, ended_lines, lines_of}
-use Rattle.pdp_session.specs.Reply.{refusal_text}
+use Rattle.pdp_session.specs.Reply.{refusal_text, text_of}
 use Rattle.pdp_session.specs.Search.{found_text, search_result}
 use Rattle.pdp_session.specs.Streams.{DrainData}
 use Rattle.pdp_session.specs.Inside.Sends.{Sent, Sends}
@@ -25,6 +27,16 @@ pub record Serves {T E : Type 0} (language : Language) (line : List ℕ) (past n
       NoMemory
   pub after : now ≡ past_after line refused past
   pub sends : Sends (text_to language line refused past) output output_after result
+
+-- what answering a line does that means this in the session language
+pub record ServesMeant {T E : Type 0} (meant : Result (Option Command) Fault) (past now : Past)
+    (output output_after : DrainData) (result : Result T E) : Type 0 where
+  pub refused : Bool
+  pub only : refused ≡ true → text_of (reply_meant meant refused past) (past_meant meant refused
+      past) ≡ refusal_text NoMemory
+  pub after : now ≡ past_meant meant refused past
+  pub sends : Sends (text_of (reply_meant meant refused past) (past_meant meant refused past))
+      output output_after result
 
 -- what making one search does
 pub record ServesSearch {T E : Type 0} (search : Search) (past now : Past)

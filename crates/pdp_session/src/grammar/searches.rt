@@ -2,8 +2,9 @@
 //! question that the search language alone has one row of `read_state_question` and one form below
 //! that.
 
-ghost use Rattle.std.specs.Prelude.{◌≡◌};
-ghost use Rattle.pdp_session.specs.Grammar.Searches.{change_form, fades_form, first_form};
+ghost use Rattle.std.specs.Prelude.{◌≡◌, Err};
+ghost use Rattle.pdp_session.specs.Grammar.{line_means};
+ghost use Rattle.pdp_session.specs.Grammar.Searches.{alone, change_form, fades_form, first_form};
 ghost use Rattle.pdp_session.specs.Grammar.Searches.{latest_form, part_named, plainly_sought};
 ghost use Rattle.pdp_session.specs.Grammar.Searches.{search_named, search_with};
 ghost use Rattle.pdp_session.specs.Grammar.Searches.{sought_in_any_mode, sought_in_mode};
@@ -18,7 +19,6 @@ use super::arguments::{
 use super::conditions::read_conditions;
 use super::counts::read_counts;
 use super::past_edits::read_past_edit;
-use super::read_line;
 use super::state_questions::read_state_question;
 use super::words::next_word;
 use crate::search::Search;
@@ -26,18 +26,17 @@ use crate::version::Version;
 use pdp_replay::{Fault, Sought, TextKind};
 use pdp_word::read_octal;
 
-// The search that a line is, less what ended it, in this version, if its language has searches;
-// `None` for any other line.
+// The search that a line is which is no line of the session language, less what ended it, in this
+// version, if its language has searches.
 #[tactic(auto, unfolding(crate::specs::Language::search_of))]
 pub fn read_search<const SEARCHES: bool>(version: Version, line: &[u8]) -> Option<Search>
+    requires { line_means version line.now ≡ Err Fault.BadLine }
     ensures { result ≡ search_of (language_with SEARCHES) version line.now }
 {
-    if !SEARCHES {
-        return None;
-    }
-    match read_line(version, line) {
-        Err(Fault::BadLine) => read_words(version, line),
-        _ => None,
+    if SEARCHES {
+        read_words(version, line)
+    } else {
+        None
     }
 }
 
@@ -72,10 +71,24 @@ fn read_named(version: Version, name: &[u8], arguments: &[u8]) -> Option<Search>
         read_fades(version, arguments)
     } else if name == b"counts".as_slice() {
         read_counts(arguments)
+    } else if name == b"events".as_slice() {
+        read_alone(Search::Events, arguments)
+    } else if name == b"setup".as_slice() {
+        read_alone(Search::Setup, arguments)
     } else {
         let question = read_state_question(version, name, arguments)?;
         Some(Search::Ask(question))
     }
+}
+
+// `events` or `setup`, without arguments.
+fn read_alone(search: Search, arguments: &[u8]) -> Option<Search>
+    ensures { result ≡ alone search (words_of_line arguments.now) }
+{
+    if next_word(arguments).is_some() {
+        return None;
+    }
+    Some(search)
 }
 
 // `first N M at A`, also `first N M at A kernel`, `first N M at A user`, `first N M vector V`,

@@ -7,6 +7,7 @@ ghost use Rattle.pdp_session.specs.Inside.Sends.{Sends};
 use super::bytes::send_bytes;
 use super::counts::send_counts;
 use super::history::agent_name;
+use super::past_shown::{send_events, setup_text};
 use super::send_value;
 use super::texts::{Text, add, add_word, refusal_text};
 use crate::search::{Finding, WriteList};
@@ -38,6 +39,8 @@ fn send_finding<W: Drain>(finding: &Finding, writer: &mut W) -> Result<(), Faile
         Finding::Fades(turn) => send(writer, turn_text("fades", *turn).as_slice()),
         Finding::Answer(value) => send_value(value, writer),
         Finding::Counts(counts) => send_counts(counts, writer),
+        Finding::Events(events) => send_events(events, writer),
+        Finding::Setup(version, setup) => { send(writer, setup_text(*version, setup).as_slice()) }
     }
 }
 

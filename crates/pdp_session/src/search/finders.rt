@@ -2,7 +2,8 @@ ghost use Rattle.std.specs.Prelude.{◌≡◌};
 ghost use Rattle.pdp_script.specs.Refusal.{for_memory, question_answer};
 ghost use Rattle.pdp_session.specs.Search.{search_result};
 
-use crate::search::{CountList, Finding, Search, WriteList};
+use crate::search::{CountList, EventList, Finding, Search, WriteList};
+use crate::version::Version;
 use pdp_replay::{CountedWords, Engine, Fault, PastEdit, Question, Sought, TextKind};
 use std::alloc::Global;
 
@@ -19,7 +20,7 @@ pub fn find_first(
     ensures past { engine.new.past ≡ engine.old.past }
 {
     let found = engine.first_at(alloc, sought, from, to)?;
-    Ok(Finding::First(found.turn))
+    Ok(Finding::First(found.value))
 }
 
 // The last turn that is sought.
@@ -35,7 +36,7 @@ pub fn find_latest(
     ensures past { engine.new.past ≡ engine.old.past }
 {
     let found = engine.last_at(alloc, sought, from, to)?;
-    Ok(Finding::Latest(found.turn))
+    Ok(Finding::Latest(found.value))
 }
 
 // The writes to the word of core at an address.
@@ -51,8 +52,8 @@ pub fn find_writes(
     ensures past { engine.new.past ≡ engine.old.past }
 {
     let found = engine.writes(alloc, address, from, to)?;
-    let more = found.reached < to;
-    Ok(Finding::Writes(WriteList::new(found.writes), more))
+    let more = found.value.reached < to;
+    Ok(Finding::Writes(WriteList::new(found.value.writes), more))
 }
 
 // The first turn that changes a word of a drive.
@@ -69,7 +70,7 @@ pub fn find_change(
     ensures past { engine.new.past ≡ engine.old.past }
 {
     let found = engine.next_change(alloc, drive, number, from, to)?;
-    Ok(Finding::Change(found.turn))
+    Ok(Finding::Change(found.value))
 }
 
 // The bytes printed or punched before a turn, from one of them on.
@@ -85,7 +86,7 @@ pub fn find_text(
     ensures past { engine.new.past ≡ engine.old.past }
 {
     let part = engine.text_from(alloc, kind, turn, first)?;
-    Ok(Finding::TextFrom(kind, part.bytes))
+    Ok(Finding::TextFrom(kind, part.value))
 }
 
 // The turn in which a byte was printed.
@@ -95,7 +96,7 @@ pub fn find_turn_of_byte(alloc: Global, engine: &mut Engine, number: u32) -> Res
     ensures past { engine.new.past ≡ engine.old.past }
 {
     let found = engine.turn_of_byte(alloc, TextKind::Printed, number)?;
-    Ok(Finding::When(found.turn))
+    Ok(Finding::When(found.value))
 }
 
 // The turn, up to turn `to`, from which on an edit would change nothing.
@@ -110,7 +111,7 @@ pub fn find_fading(
     ensures past { engine.new.past ≡ engine.old.past }
 {
     let fading = engine.fades(alloc, edit, to)?;
-    Ok(Finding::Fades(fading.turn))
+    Ok(Finding::Fades(fading.value))
 }
 
 // The answer to a question.
@@ -136,5 +137,25 @@ pub fn find_counts(
     ensures past { engine.new.past ≡ engine.old.past }
 {
     let counted = engine.counts(alloc, words, from, to)?;
-    Ok(Finding::Counts(CountList::new(counted.counts)))
+    Ok(Finding::Counts(CountList::new(counted.value)))
+}
+
+// The events of the script.
+pub fn find_events(alloc: Global, engine: &mut Engine) -> Result<Finding, Fault>
+    ensures finding { result ≡ question_answer
+        (search_result Search.Events engine.old.past) (for_memory result) }
+    ensures past { engine.new.past ≡ engine.old.past }
+{
+    let events = engine.events(alloc)?;
+    Ok(Finding::Events(EventList::new(events)))
+}
+
+// The numbers of the setup.
+#[tactic(auto, unfolding(crate::specs::Search::search_result))]
+pub fn find_setup(engine: &mut Engine) -> Result<Finding, Fault>
+    ensures finding { result ≡ question_answer
+        (search_result Search.Setup engine.old.past) (for_memory result) }
+    ensures past { engine.new.past ≡ engine.old.past }
+{
+    Ok(Finding::Setup(Version::of(engine), engine.setup()))
 }

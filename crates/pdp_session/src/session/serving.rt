@@ -1,11 +1,12 @@
-ghost use Rattle.std.specs.Prelude.{◌≡◌, ◌∷◌, []};
-ghost use Rattle.pdp_session.specs.Inside.Progress.{Serves, ServesSearch, Takes, TakesEnd};
-ghost use Rattle.pdp_session.specs.Language.{language_with, SessionLanguage};
+ghost use Rattle.std.specs.Prelude.{◌≡◌, ◌∷◌, [], Ok, Some};
+ghost use Rattle.pdp_session.specs.Inside.Progress.{Serves, ServesMeant, ServesSearch, Takes};
+ghost use Rattle.pdp_session.specs.Inside.Progress.{TakesEnd};
+ghost use Rattle.pdp_session.specs.Language.{language_with};
 
-use crate::command::answer_line;
-use crate::grammar::read_search;
+use crate::command::{Command, run_command};
+use crate::grammar::{LineMeaning, read_line};
 use crate::lines::{Held, hold, without_return};
-use crate::reply::{send_found, send_reply};
+use crate::reply::{Reply, send_found, send_reply};
 use crate::search::Search;
 use crate::streams::{Drain, Failed};
 use crate::version::Version;
@@ -23,9 +24,11 @@ fn serve_line<const SEARCHES: bool, W: Drain>(
     ensures { Serves (language_with SEARCHES) line.now engine.old.past engine.new.past
         (W.output writer.old) (W.output writer.new) result }
 {
-    match read_search::<SEARCHES>(Version::of(engine), line) {
-        Some(search) => serve_search(alloc, engine, search, writer),
-        None => serve_command(alloc, engine, line, writer),
+    match read_line::<SEARCHES>(Version::of(engine), line) {
+        Ok(LineMeaning::Nothing) => send_reply(engine, Reply::Nothing, writer),
+        Ok(LineMeaning::Command(command)) => serve_command(alloc, engine, command, writer),
+        Ok(LineMeaning::Search(search)) => serve_search(alloc, engine, search, writer),
+        Err(fault) => send_reply(engine, Reply::Refused(fault), writer),
     }
 }
 
@@ -43,17 +46,17 @@ fn serve_search<W: Drain>(
     send_found(&found, writer)
 }
 
-// Answers one line of the session language, and writes its reply.
+// Runs a command, and writes its reply.
 fn serve_command<W: Drain>(
     alloc: Global,
     engine: &mut Engine,
-    line: &[u8],
+    command: Command,
     writer: &mut W,
 ) -> Result<(), Failed>
-    ensures { Serves SessionLanguage line.now engine.old.past engine.new.past
+    ensures { ServesMeant (Ok (Some command)) engine.old.past engine.new.past
         (W.output writer.old) (W.output writer.new) result }
 {
-    let reply = answer_line(alloc, engine, line);
+    let reply = run_command(alloc, engine, command);
     send_reply(engine, reply, writer)
 }
 

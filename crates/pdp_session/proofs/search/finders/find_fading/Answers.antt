@@ -1,4 +1,3 @@
-use Rattle.std.proofs.Common.{ap}
 use Rattle.std.proofs.lemmas.Result.{err_from_is_err_and}
 use Rattle.pdp_session.proofs.Findings.{fading_answered, fading_refused}
 use Rattle.pdp_session.proofs.search.finders.find_fading.Goals as goal
@@ -12,4 +11,4 @@ returns-in_err-fading-clause-finding c =
 pub returns-clause-finding : goal.returns-clause-finding
 returns-clause-finding c =
     let told = rw c.in_ok-fading.was at c.fades.ensures.turn in
-    fading_answered c.args.edit c.args.to c.args.engine.now.past c.in_ok-fading.fading.turn told
+    fading_answered c.args.edit c.args.to c.args.engine.now.past c.in_ok-fading.fading.value told

@@ -12,4 +12,4 @@ returns-in_err-found-clause-finding c =
 
 pub returns-clause-finding : goal.returns-clause-finding
 returns-clause-finding c =
-    search_answered (Latest c.args.from c.args.to c.args.sought) c.args.engine.now.past (found.Latest c.in_ok-found.found.turn) c.in_ok-found.ensures.refusal (ap found.Latest c.in_ok-found.ensures.value)
+    search_answered (Latest c.args.from c.args.to c.args.sought) c.args.engine.now.past (found.Latest c.in_ok-found.found.value) c.in_ok-found.ensures.refusal (ap found.Latest c.in_ok-found.ensures.value)

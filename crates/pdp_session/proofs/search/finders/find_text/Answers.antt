@@ -12,4 +12,4 @@ returns-in_err-part-clause-finding c =
 
 pub returns-clause-finding : goal.returns-clause-finding
 returns-clause-finding c =
-    search_answered (TextFrom c.args.kind c.args.turn c.args.first) c.args.engine.now.past (found.TextFrom c.args.kind c.in_ok-part.part.bytes) c.in_ok-part.ensures.refusal (ap (found.TextFrom c.args.kind) c.in_ok-part.ensures.bytes)
+    search_answered (TextFrom c.args.kind c.args.turn c.args.first) c.args.engine.now.past (found.TextFrom c.args.kind c.in_ok-part.part.value) c.in_ok-part.ensures.refusal (ap (found.TextFrom c.args.kind) c.in_ok-part.ensures.bytes)

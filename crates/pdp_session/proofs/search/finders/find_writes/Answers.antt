@@ -12,4 +12,4 @@ returns-in_err-found-clause-finding c =
 
 pub returns-clause-finding : goal.returns-clause-finding
 returns-clause-finding c =
-    search_answered (Writes c.args.from c.args.to c.args.address) c.args.engine.now.past (found.Writes c.new.result (nat_lt c.in_ok-found.found.reached c.args.to)) c.in_ok-found.ensures.refusal (first_writes c.new.result c.in_ok-found.found.writes.items _ c.in_ok-found.found.reached c.args.to c.new.ensures c.in_ok-found.ensures.value c.in_ok-found.ensures.found.reached)
+    search_answered (Writes c.args.from c.args.to c.args.address) c.args.engine.now.past (found.Writes c.new.result (nat_lt c.in_ok-found.found.value.reached c.args.to)) c.in_ok-found.ensures.refusal (first_writes c.new.result c.in_ok-found.found.value.writes.items _ c.in_ok-found.found.value.reached c.args.to c.new.ensures c.in_ok-found.ensures.value c.in_ok-found.ensures.reached)
