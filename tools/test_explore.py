@@ -1,6 +1,6 @@
 #!/usr/bin/env python3
-"""test_explore.py PROGRAM DISASSEMBLER: tests explore with a built search (or pdp11) and a built
-disassemble, by the tests in tools/tests/explore.
+"""test_explore.py PROGRAM DISASSEMBLER: tests explore with a built search and a built disassemble,
+by the tests in tools/tests/explore.
 
 Each script NAME.explore there is run as lines of a pipe, with the words in NAME.args, in a folder
 that has the examples as examples/, and must write NAME.expected. What isn't installed (SIMH's

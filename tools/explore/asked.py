@@ -9,7 +9,7 @@ import sessions
 from .language import is_decimal
 
 # Not `when F`. `fades` leaves the machine wherever it was found out.
-SEARCHES = [it for it in sessions.SEARCHES if it.form.split()[1] == "N" and "EDIT" not in it.form]
+SEARCHES = [it for it in sessions.SEARCHES if " N" in it.form and "EDIT" not in it.form]
 QUESTIONS = sessions.QUESTIONS | {sessions.command_of(it) for it in SEARCHES}
 NAMES = frozenset(it.decode() for it in QUESTIONS)
 MOST_DIGITS = 10

@@ -191,7 +191,7 @@ def turns_between(first: int, last: int) -> range:
 
 def check_drive(machine: Machine) -> None:
     """An error in version 1, in which no line names a drive."""
-    if machine.past.version == 1:
+    if machine.setup.version == 1:
         raise ExploreError("version 1 has one drive, which isn't named; see version 2")
 
 

@@ -1,6 +1,7 @@
 """Two pasts beside each other: `compare`."""
 import os.path
 import re
+from contextlib import closing
 from dataclasses import dataclass
 from typing import Iterator, Optional
 
@@ -9,27 +10,12 @@ from .crew import Progress
 from .fades import fade_of, turns_to_ask
 from .in_words import span
 from .machine import Machine
-from .past import Past
 
 LOOKED_AT_SINGLY = 512
 LOOKS = 512
 COMPARED_TURNS = 100_000
 BYTES_BEFORE, BYTES_AFTER = 20, 40  # of a text, around the first byte that differs
-
-
-@dataclass(frozen=True)
-class Aspect:
-    """Something that two machines are compared in: the question, and how its replies are shown."""
-
-    title: str
-    question: str
-
-
-ASPECTS = [
-    Aspect("registers", "regs {}"),
-    Aspect("devices", "devices {}"),
-    Aspect("text", "text {}"),
-]
+QUESTIONS = {"registers": "regs", "devices": "devices"}
 
 
 @dataclass(frozen=True)
@@ -48,15 +34,15 @@ def looks_of(turns: range) -> list[int]:
     return [*singly, *range(singly.stop, turns.stop, stride), turns.stop]
 
 
-def parting(one: Machine, other: Machine, aspect: Aspect, turns: range) -> Optional[Parting]:
+def parting(one: Machine, other: Machine, title: str, turns: range) -> Optional[Parting]:
     """Where the replies part first, of the turns that are looked at, and then by halving."""
 
     def pair(turn: int) -> list[str]:
-        return [it.read(aspect.question.format(turn)) for it in (one, other)]
+        return [it.read(f"{QUESTIONS[title]} {turn}") for it in (one, other)]
 
     equal: Optional[int] = None
     looks = looks_of(turns)
-    with Progress(len(looks), f"turns, {aspect.title}") as progress:
+    with Progress(len(looks), f"turns, {title}") as progress:
         for look in looks:
             progress.step()
             first, second = pair(look)
@@ -73,6 +59,27 @@ def parting(one: Machine, other: Machine, aspect: Aspect, turns: range) -> Optio
         first, second = pair(middle)
         equal, look = (middle, look) if first == second else (equal, middle)
     return Parting(f"part {when} turn {look - 1}", *pair(look))
+
+
+def parting_of_texts(one: Machine, other: Machine, turns: range) -> Optional[Parting]:
+    """Where the texts part: at the first byte that one machine prints in another turn than the
+    other, or alone, or that is another one."""
+    before, after = (it.read(f"text {turns.start}") for it in (one, other))
+    if before != after:
+        return Parting(f"differ before turn {turns.start} already", before, after)
+    texts = [it.text(turns.stop) for it in (one, other)]
+    same = len(os.path.commonprefix(texts))
+    numbers = range(one.text_length(turns.start), same)
+    printed = zip(one.printed_in(numbers), other.printed_in(numbers))
+    turn = next((min(pair) for pair in printed if pair[0] != pair[1]), None)
+    if turn is None:
+        longer = [it for it, text in zip((one, other), texts) if same < len(text)]
+        turn = min((found for it in longer for found in it.printed_in([same])), default=None)
+    if turn is None:
+        return None
+    return Parting(
+        f"part in turn {turn}", *(it.read(f"text {turn + 1}") for it in (one, other))
+    )
 
 
 def not_found(turns: range) -> str:
@@ -94,9 +101,7 @@ def parts_of_texts(*replies: str) -> str:
 
 
 def differences(before: str, after: str) -> str:
-    """The fields that differ of two replies of names and words, or what differs of two texts."""
-    if before.startswith("text"):
-        return parts_of_texts(before, after)
+    """The fields that differ of two replies of names and words."""
     ours, theirs = before.split(), after.split()
     skipped = len(ours) % 2 if before.startswith("devices") else 0
     names: dict[str, str] = {}
@@ -111,7 +116,7 @@ def differences(before: str, after: str) -> str:
 def same_from(without: Machine, line: str, turns: range) -> Optional[int]:
     """The turn up to the end of these from which on both machines are the same, if there is one and
     the program says so."""
-    edited = turns_to_ask(line, without.past)
+    edited = turns_to_ask(line, without)
     if edited is None or edited.stop > turns.stop:
         return None
     fade = fade_of(without, line, turns.stop)
@@ -126,33 +131,34 @@ def same_from(without: Machine, line: str, turns: range) -> Optional[int]:
 def compare(explorer: Explorer, arguments: Arguments) -> Iterator[str]:
     """Runs the machine without the last edit beside the one with it, and finds the first turn of N
     to M that leaves their registers, their devices or their texts different. Without `from` N is
-    the first turn that the edit can change, without `to` M is N + 99999. The first 512 turns are
-    looked at one by one; from then on a stride is looked at, and halved where the two differ. So
-    a parting may have come and gone before: the reply says 'at the latest', or how many turns were
-    looked at. If the edit fades before M, the last line says from which turn on the two are the
-    same, and no later turn is looked at: only what was printed before stays different."""
+    the first turn that the edit can change, without `to` M is N + 99999. Where texts part is exact.
+    Of registers and devices the first 512 turns are looked at one by one; from then on a stride is
+    looked at, and halved where the two differ. So a parting may have come and gone before: the
+    reply says 'at the latest', or how many turns were looked at. If the edit fades before M, the
+    last line says from which turn on the two are the same, and no later turn is looked at: only
+    what was printed before stays different."""
     machine = explorer.machine
     if not machine.journal:
         yield "no edit was made"
         return
     line = machine.journal[-1]
-    before = Past.of(machine.journal[:-1], machine.replies)
-    edited = turns_to_ask(line, before)
-    turns = turn_range(arguments, edited.start if edited else 0, COMPARED_TURNS)
-    without = machine.twin(machine.journal[:-1])
-    try:
+    with closing(machine.twin(machine.journal[:-1])) as without:
+        edited = turns_to_ask(line, without)
+        turns = turn_range(arguments, edited.start if edited else 0, COMPARED_TURNS)
         yield f"without | with: {line}"
         same = same_from(without, line, turns)
         if same is not None:
             turns = range(turns.start, max(turns.start + 1, same))
-        for aspect in ASPECTS:
-            found = parting(without, machine, aspect, turns)
+        for title in QUESTIONS:
+            found = parting(without, machine, title, turns)
             if found is None:
-                yield f"{aspect.title}: {not_found(turns)}"
+                yield f"{title}: {not_found(turns)}"
             else:
-                what = differences(found.before, found.after)
-                yield f"{aspect.title} {found.where}: {what}"
+                yield f"{title} {found.where}: {differences(found.before, found.after)}"
+        found = parting_of_texts(without, machine, turns)
+        if found is None:
+            yield f"text: no difference in {span(turns)}"
+        else:
+            yield f"text {found.where}: {parts_of_texts(found.before, found.after)}"
         if same is not None:
             yield f"the same from turn {same} on"
-    finally:
-        without.close()

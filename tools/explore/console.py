@@ -35,7 +35,7 @@ class Console:
         text = machine.text(turn)
         self.printed, self.line = len(text), text[text.rfind(b"\n") + 1 :][-LONGEST_LINE:]
         self.last_bytes = b"\r\n"
-        self.turns_of_keys = {it for it in machine.past.key_turns() if it >= turn}
+        self.turns_of_keys = {it for it in machine.turns_of("key") if it >= turn}
         self.first_turn, self.begun, self.seconds = turn, 0.0, 0.0
         self.pace, self.slice = Pace(self.rate, turn, 0.0), Slice(SLICE_SECONDS)
         self.waiting: deque[int] = deque()
@@ -165,7 +165,7 @@ class Console:
         else:
             pace = "as fast as this computer can"
         yield f"from turn {self.turn} on, {pace}"
-        ahead = [it.turn for it in self.machine.past.script() if it.turn >= self.turn]
+        ahead = [it.turn for it in self.machine.script if it.turn >= self.turn]
         if ahead:
             events = f"{counted(len(ahead), 'event')} {'lies' if len(ahead) == 1 else 'lie'} ahead"
             happen = "it happens too" if len(ahead) == 1 else "they happen too"
@@ -200,7 +200,7 @@ class Console:
 def beginning_turn(explorer: Explorer, arguments: Arguments) -> int:
     """The turn that is asked for, or that where the last console was left, or the one after the
     last event."""
-    after_events = max((it.turn + 1 for it in explorer.machine.past.script()), default=0)
+    after_events = max((it.turn + 1 for it in explorer.machine.script), default=0)
     left = explorer.sitting.turn
     turn = arguments.decimal("first", after_events if left is None else left)
     if turn >= LAST_TURN:

@@ -1,17 +1,15 @@
-"""When a word of a drive changes. A drive's words have no stamps. But they change only when a
-function of the disk completes, and a function takes the disk's delay, unless an event completes
-it. So between two looks no further apart than the delay, with no event `disk` between them, a word
-changes once at most, and looks at these turns see every change."""
+"""When a word of a drive changes, and by what."""
 from dataclasses import dataclass
-from typing import Iterator, Mapping, Optional, Sequence
+from typing import Iterable, Iterator, Mapping, Optional, Sequence
+
+from hardware import SECTOR_WORDS
 
 from .commands import Explorer, check_drive
-from .crew import Progress
 from .finder import parts_of
 from .in_words import counted
 from .listing import turns_in_words
 from .machine import Machine
-from .replies import SECTOR_WORDS, Devices, DiskFunction
+from .replies import Devices, DiskFunction
 
 DEVICES_BYTES = 180
 FIRST_STEPS_BACK, MOST_STEPS_BACK = 16, 65_536
@@ -31,59 +29,30 @@ class DiskWord:
 
     @property
     def name(self) -> str:
-        drive = f"{self.drive:o} " if self.machine.past.version == 2 else ""
-        return f"disk {drive}{self.index:07o}"
+        return f"disk {self.machine.named(self.drive)}{self.index:07o}"
 
     @property
     def in_a_line(self) -> str:
         """The word as commands name it."""
-        drive = f"{self.drive:o} " if self.machine.past.version == 2 else ""
-        return f"disk {drive}{self.index:o}"
+        return f"disk {self.machine.named(self.drive)}{self.index:o}"
 
     def value(self, turn: int) -> int:
         return self.machine.disk_word(turn, self.drive, self.index)
 
-    def looks(self, turns: range) -> list[int]:
-        """The turns to look at, so that no change between the first and the last is missed."""
-        delay = self.machine.past.delays["disk"]
-        events = (it for turn in self.machine.past.disk_events() for it in (turn, turn + 1))
-        found = {turns.start, turns.stop, *(it for it in events if it in turns)}
-        if delay:
-            found.update(range(turns.start, turns.stop, delay))
-        return sorted(found)
-
-    def look_count(self, turns: range) -> int:
-        delay = self.machine.past.delays["disk"]
-        return (len(turns) // delay if delay else 0) + 2 * len(self.machine.past.disk_events())
-
-    def values(self, looks: list[int]) -> Iterator[int]:
+    def values(self, turns: Iterable[int]) -> Iterator[int]:
         """The word before each of these turns, which ascend."""
-        lines = [self.machine.disk_line(it, self.drive, self.index) for it in looks]
-        with Progress(len(looks), "turns looked at") as progress:
-            for word in self.machine.single_words(lines):
-                progress.step()
-                yield word
-
-    def change_between(self, low: int, high: int) -> int:
-        """A turn of low to high - 1 that makes the word what it is before turn high. Before turn
-        low it is something else."""
-        wanted = self.value(high)
-        while high - low > 1:
-            middle = (low + high) // 2
-            if self.value(middle) == wanted:
-                high = middle
-            else:
-                low = middle
-        return low
+        lines = [self.machine.disk_line(it, self.drive, self.index) for it in turns]
+        return self.machine.single_words(lines)
 
     def changes(self, turns: range) -> Iterator[int]:
         """The turns of these that change the word."""
+        sought = f"{self.machine.named(self.drive)}{self.index:o}"
         for part in parts_of(turns):
-            found = self.machine.change(part, self.drive, self.index)
+            found = self.machine.found("change", part, sought)
             while found is not None:
                 yield found
                 part = range(found + 1, part.stop)
-                found = self.machine.change(part, self.drive, self.index)
+                found = self.machine.found("change", part, sought)
 
 
 def functions_in_words(
@@ -119,7 +88,7 @@ def begin_of(machine: Machine, turn: int) -> Optional[int]:
     """The turn that began the function that completes in this turn: the disk is ready before it,
     and not from then on. It is no further back than the disk's delay; without a delay it is looked
     for in parts that double."""
-    steps = machine.past.delays["disk"] or FIRST_STEPS_BACK
+    steps = machine.setup.delays["disk"] or FIRST_STEPS_BACK
     end = turn + 1
     while end > 0 and turn - end < MOST_STEPS_BACK:
         looks = range(max(0, end - steps - 1), end)
@@ -127,21 +96,24 @@ def begin_of(machine: Machine, turn: int) -> Optional[int]:
         replies = b"".join(blocks).decode("ascii").splitlines()
         ready = (at for at, it in zip(looks[::-1], replies[::-1]) if Devices.of(it).disk_is_ready)
         found = next(ready, None)
-        if found is not None or machine.past.delays["disk"]:
+        if found is not None or machine.setup.delays["disk"]:
             return found
         end, steps = looks.start, 2 * steps
     return None
 
 
 def last_change(word: DiskWord, turn: int) -> Optional[int]:
-    """The last change before the turn, if there is one. A first guess is found by steps that double
-    and halving; changes after it that were undone are then searched for."""
-    value, low, step = word.value(turn), turn, 1
-    while low > 0 and word.value(low) == value:
-        low, step = max(0, low - step), step * 2
-    found = word.change_between(low, turn) if word.value(low) != value else None
-    for later in word.changes(range(0 if found is None else found + 1, turn)):
-        found = later
+    """The last change before the turn, if there is one. Back from there a change is searched for in
+    parts that double, and then a later one in halves of what is left."""
+    found, part, size = None, range(turn, turn), 1
+    while found is None and part.start > 0:
+        part, size = range(max(0, part.start - size), part.start), 2 * size
+        found = next(word.changes(part), None)
+    end = part.stop
+    while found is not None and end - found > 1:
+        middle = (found + end) // 2
+        later = next(word.changes(range(middle, end)), None)
+        found, end = (found, middle) if later is None else (later, end)
     return found
 
 

@@ -4,9 +4,11 @@ from collections import Counter
 from dataclasses import dataclass, field
 from typing import Iterator, Mapping, Optional, Sequence
 
+from hardware import INTERRUPTS
+
 from .in_words import counted
 from .picture import Byte, Column, Picture, Transfer, WordHistory
-from .replies import VECTORS, Mode, Turn
+from .replies import Mode, Turn
 
 NAMESPACE = "http://www.w3.org/2000/svg"
 CHARACTER = 6.7
@@ -294,7 +296,7 @@ def counts_of(interrupts: Sequence[Turn]) -> str:
 
 
 def vector_name(turn: Turn) -> str:
-    return VECTORS.get(turn.vector or 0, f"{turn.vector:03o}")
+    return INTERRUPTS.get(turn.vector or 0, f"{turn.vector:03o}")
 
 
 def draw_text(canvas: Canvas, picture: Picture) -> None:

@@ -56,7 +56,7 @@ def redo(explorer: Explorer, arguments: Arguments) -> Iterator[str]:
 def drop_from(explorer: Explorer, arguments: Arguments) -> Iterator[str]:
     """Takes out each event whose turn is T or later. `undo` takes that back as one."""
     machine, turn = explorer.machine, arguments.decimal("turn")
-    found = [f"drop {it.number}" for it in machine.past.script() if it.turn >= turn]
+    found = [f"drop {it.number}" for it in machine.script if it.turn >= turn]
     is_looked_at = explorer.is_terminal and 0 < len(found) <= MOST_LOOKED_AT
     with INTERRUPTS.held():
         if is_looked_at:

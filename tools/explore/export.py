@@ -4,13 +4,14 @@ import struct
 from pathlib import Path
 from typing import Iterator
 
+from hardware import DRIVE_WORDS
+
 from .commands import Arguments, Explorer, command
 from .files import OUTPUT, write_whole
 from .machine import MOST_WORDS, Machine
-from .options import RK05_BYTES, UNIT_BYTES
+from .options import UNIT_BYTES
 from .replies import Devices, Mode, Pages, Registers, words_of
 
-DRIVE_WORDS = RK05_BYTES // 2
 MODEL_NAMES = {Mode.KERNEL: "KI", Mode.USER: "UI"}
 DONE = 0o200
 
@@ -24,7 +25,7 @@ def parsed(replies: Iterator[str]) -> Iterator[list[int]]:
 
 def core_words(machine: Machine, turn: int) -> list[int]:
     """All of core before the turn."""
-    places = range(0, machine.units() * UNIT_BYTES, 2 * MOST_WORDS)
+    places = range(0, machine.setup.units * UNIT_BYTES, 2 * MOST_WORDS)
     lines = [f"mem {turn} {at:o} {MOST_WORDS}" for at in places]
     return [word for words in parsed(machine.ask_all(lines)) for word in words]
 
@@ -88,12 +89,12 @@ def left_out(machine: Machine, turn: int, registers: Registers, devices: Devices
         yield "the processor waits: there it runs on at once"
     if registers.state == "halted":
         yield "the processor is halted: there it runs on with the instruction after the HALT"
-    if any(it.turn >= turn for it in machine.past.script()):
+    if any(it.turn >= turn for it in machine.script):
         yield f"the events from turn {turn} on are not in it: keys are typed by hand"
 
 
 def drives(machine: Machine) -> range:
-    return range(8) if machine.past.version == 2 else range(1)
+    return range(8) if machine.setup.version == 2 else range(1)
 
 
 def attach_lines(drive: int, image: Path) -> Iterator[str]:

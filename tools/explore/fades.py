@@ -8,13 +8,12 @@ from .errors import ExploreError
 from .interrupts import INTERRUPTS
 from .language import FADING, MOST_DIGITS, PATCHES, is_decimal
 from .machine import Machine, is_refused
-from .past import Past
 
 MOST_TURNS = 20_000_000  # that edits are asked about from one question to the next
 LEAST_TURNS = 10_000  # that one edit counts for: to ask about it takes up to a stride
 
 
-def turns_to_ask(line: str, past: Past) -> Optional[range]:
+def turns_to_ask(line: str, machine: Machine) -> Optional[range]:
     """The turns from the first that an edit can change to the last in which the scripts differ, or
     None if the line `fades` can't be asked about the edit. A patch counts from turn 0: the turn in
     which the run first touches the word isn't known here."""
@@ -24,8 +23,10 @@ def turns_to_ask(line: str, past: Past) -> Optional[range]:
     if word in PATCHES:
         return range(1)
     numbers = [int(it) for it in words[:2] if is_decimal(it) and len(it) <= MOST_DIGITS]
-    event = past.events.get(numbers[0]) if numbers else None
-    turns = numbers[:1] if word == "at" else [event.turn, *numbers[1:]] if event else []
+    if word != "at" and numbers:
+        event = machine.event(numbers[0])
+        numbers = [event.turn, *numbers[1:]] if event else []
+    turns = numbers[:1] if word == "at" else numbers
     return range(min(turns), max(turns) + 1) if turns else None
 
 
@@ -94,28 +95,28 @@ class Fading:
         self.together = Together(-1, 0, most)
 
     def make(self, machine: Machine, lines: Sequence[str]) -> list[str]:
-        """The replies to edits."""
-        return [self._make(machine, it) for it in lines]
+        """The replies to edits, none of which moves an event that another one names."""
+        turns = [turns_to_ask(it, machine) for it in lines]  # of events as they are before
+        return [self._make(machine, *it) for it in zip(lines, turns)]
 
     def said(self, machine: Machine) -> list[str]:
         return self.together.said(machine.asked.turn)
 
-    def _make(self, machine: Machine, line: str) -> str:
+    def _make(self, machine: Machine, line: str, turns: Optional[range]) -> str:
         if machine.asked.questions != self.together.questions:
             self.together = Together(machine.asked.questions, len(machine.journal), self.most)
         if len(machine.journal) != self.together.journal:
             self.together.is_known = False  # others were made, or taken back
-        fade = self._fade(machine, line) if self.together.is_known else None
+        fade = self._fade(machine, line, turns) if self.together.is_known else None
         reply = machine.ask(line)
         if not is_refused(reply):
             self.together.add(fade)
             self.together.journal = len(machine.journal)
         return reply
 
-    def _fade(self, machine: Machine, line: str) -> Optional[Fade]:
+    def _fade(self, machine: Machine, line: str, turns: Optional[range]) -> Optional[Fade]:
         """What the program says of an edit, if the run is known beyond its turns. Ctrl-C ends the
         question, and the edit is made."""
-        turns = turns_to_ask(line, machine.past)
         if turns is None:
             return None
         end = min(machine.asked.turn, turns.start + self.together.left)

@@ -1,5 +1,4 @@
-"""Finds turns, by the searches of the program search, by questions upwards, or by halving. None
-goes back and forth between a turn and the next."""
+"""Finds turns, by the searches of the program search."""
 from dataclasses import dataclass
 from typing import Iterator, Optional
 
@@ -27,45 +26,35 @@ class Finder:
 
     def first(self, turns: range, sought: str) -> Optional[int]:
         """The first of the turns that is sought, in the words of the line `first`."""
-        found = (self.machine.first(part, sought) for part in parts_of(turns))
+        found = (self.machine.found("first", part, sought) for part in parts_of(turns))
         return next((it for it in found if it is not None), None)
 
     # The writes to a core word
 
     def next_write(self, turns: range, address: int) -> Optional[LastWrite]:
-        """The first write to the word. `last M A` is in the turns from N on once the first write
-        is, so steps that double and halving on M find that one exactly."""
-        low, step, found = turns.start, 1, None
-        while found is None and low < turns.stop:
-            high = min(low + step, turns.stop)
-            found = self.machine.last(high, address)
-            if found is None or found.turn < turns.start:
-                found, low, step = None, high, step * 2
-        while found is not None and found.turn > low:
-            middle = (low + found.turn) // 2
-            last = self.machine.last(middle + 1, address)
-            if last is not None and last.turn >= turns.start:
-                found = last
-            else:
-                low = middle + 1
-        return found
-
-    def write_lines(self, turns: range, address: int) -> Iterator[str]:
-        for part in parts_of(turns):
-            while part:
-                lines, part = self.machine.writes(part, address)
-                yield from lines
+        """The first write to the word. `last`, which runs no known turn again, tells of parts that
+        double whether they have one, and `writes`, which runs them, is asked of one part alone."""
+        size = 1
+        while turns:
+            part, turns, size = turns[:size], turns[size:], 2 * size
+            last = self.machine.last(part.stop, address)
+            if last is not None and last.turn in part:
+                return next(self.writes(part, address), None)
+        return None
 
     def writes(self, turns: range, address: int) -> Iterator[LastWrite]:
         """The writes to the word in these turns, in their order; of each turn the last."""
-        return map(LastWrite.of_line, self.write_lines(turns, address))
+        for part in parts_of(turns):
+            while part:
+                lines, part = self.machine.writes(part, address)
+                yield from map(LastWrite.of_line, lines)
 
     def first_write_of(self, turns: range, address: int, word: int) -> Optional[LastWrite]:
-        """The first write that makes the word this value. Only its line is taken apart, since a
-        word may be written in each turn."""
-        end = f" {word:06o}"
-        lines = (it for it in self.write_lines(turns, address) if it.endswith(end))
-        return next(map(LastWrite.of_line, lines), None)
+        """The write that makes the word this value first. Before these turns it is another one."""
+        found = self.first(turns[1:], f"where core {address:o} = {word:o}")
+        last = self.machine.last(turns.stop if found is None else found, address)
+        is_found = last is not None and last.turn >= turns.start and last.word == word
+        return last if is_found else None
 
     # The text
 
@@ -77,5 +66,5 @@ class Finder:
         at = text.find(string, max(0, printed - len(string) + 1))
         if at < 0:
             return None
-        wanted = at + len(string)
-        return self.machine.printed_in(wanted - 1), wanted
+        (turn,) = self.machine.printed_in([at + len(string) - 1])
+        return turn, at + len(string)

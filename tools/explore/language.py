@@ -6,7 +6,7 @@ from typing import Optional
 import sessions
 from sessions import words_of
 
-from .past import LINE_DEVICES, Past
+from .past import LINE_DEVICES
 from .program import CONTROL
 from .visible import visible
 
@@ -71,7 +71,9 @@ FORMS_OF_EIGHT_DRIVES = {
     word_of(it): rest_of(it) for it in sessions.LANGUAGE[SINCE_VERSION_2 + 1 :]
 }
 SUMMARIES = {word_of(it): it.summary for it in sessions.LANGUAGE[: SINCE_VERSION_2 + 1]}
-SEARCHES = frozenset(word_of(it) for it in sessions.SEARCHES)
+# Lines of searches without a turn, such as `setup`.
+LISTS = {it.form: it.summary for it in sessions.SEARCHES if " " not in it.form}
+SEARCHES = frozenset(word_of(it) for it in sessions.SEARCHES) - LISTS.keys()
 EDITS = frozenset(it.decode() for it in sessions.EDITS)
 PATCHES = ("core", "disk")
 FADING = (*PATCHES, "at", "alter", "drop")  # the edits that the line `fades` takes
@@ -86,9 +88,9 @@ def is_decimal(word: str) -> bool:
     return word != "" and DECIMAL.issuperset(word)
 
 
-def form_of(word: str, past: Past) -> str:
+def form_of(word: str, version: int) -> str:
     """The form of a line that begins with this word, such as `core A W`."""
-    own: dict[str, str] = FORMS_OF_EIGHT_DRIVES if past.version == 2 else {}
+    own: dict[str, str] = FORMS_OF_EIGHT_DRIVES if version == 2 else {}
     return f"{word} {own.get(word, FORMS[word])}".rstrip()
 
 
@@ -133,7 +135,7 @@ def forms_of_searches(word: str) -> list[str]:
     return [it.form for it in sessions.SEARCHES if it.form.split()[0] == word]
 
 
-def explanation(line: str, reply: str, past: Past) -> str:
+def explanation(line: str, reply: str, version: int) -> str:
     """Why this line got this refusal."""
     number, control = reply.split()[1], CONTROL.search(line)
     if number != "10":
@@ -143,14 +145,16 @@ def explanation(line: str, reply: str, past: Past) -> str:
     word, *words = words_of(line)
     if word == "fades":
         return f"the form is: fades N EDIT, and EDIT is a line of {', '.join(FADING)}"
+    if word in LISTS:
+        return f"the form is: {word}"
     if word in SEARCHES and (word not in FORMS or len(words) > 1):
         more = f"; a CONDITION is {sessions.CONDITIONS}" if "where" in words else ""
         return f"the forms are: {'; '.join(forms_of_searches(word))}{more}"
     if word not in FORMS:
         return f"there is no line '{word}'; help lists the commands"
-    form = form_of(word, past)
+    form = form_of(word, version)
     wrong = fault_of_words(form.split()[1:], words) or "it has another form"
     if word in FORMS_OF_EIGHT_DRIVES:
-        drives = "one drive" if past.version == 1 else "eight drives"
-        wrong += f" (version {past.version} has {drives})"
+        drives = "one drive" if version == 1 else "eight drives"
+        wrong += f" (version {version} has {drives})"
     return f"{form}: {wrong}"

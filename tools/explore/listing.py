@@ -1,28 +1,16 @@
 """Turns and instructions with their texts: `see`, `show`, `list`."""
 import itertools
 from dataclasses import dataclass
-from typing import Iterator, Optional, Sequence
+from typing import Iterable, Iterator, Optional, Sequence
 
 from .commands import END_OF_RUN, Arguments, Explorer, Shown, command
 from .disassembly import Instruction
 from .errors import ExploreError
-from .machine import LAST_TURN, SHORT_SENT_AHEAD, Machine, is_refused
-from .replies import (
-    INSTRUCTION,
-    INTERRUPT,
-    IO_PAGE,
-    PHYSICAL,
-    LastWrite,
-    Mode,
-    Pages,
-    Registers,
-    Turn,
-    turns_of,
-    words_of,
-)
+from .machine import LAST_TURN, MOST_WORDS, SHORT_SENT_AHEAD, Machine
+from .replies import INSTRUCTION, INTERRUPT, LastWrite, Mode, Registers, Turn, turns_of, words_of
 
 INSTRUCTION_WORDS, UNIT_BYTES, SEEN_AT_ONCE = 3, 0o20000, 4_096
-SHOWN_AT_ONCE, VIRTUAL = 16, 0o200000
+SHOWN_AT_ONCE, VIRTUAL, PHYSICAL, IO_PAGE = 16, 0o200000, 0o1000000, 0o760000
 
 
 @dataclass(frozen=True)
@@ -59,35 +47,41 @@ class Fetch:
     physical: Optional[int]
     words: list[int]
 
-    @classmethod
-    def of(cls, registers: Registers, pages: Pages, address: int, top: int) -> "Fetch":
-        places = [(address + 2 * at) % VIRTUAL for at in range(INSTRUCTION_WORDS)]
-        found = [pages.physical(registers.mode, it) for it in places]
-        core = itertools.takewhile(lambda it: it is not None and not it % 2 and it < top, found)
-        return cls(registers, found[0], [it for it in core if it is not None])
 
-
-def fetches_of(machine: Machine, turns: Sequence[Turn]) -> list[Fetch]:
-    lines = [f"{name} {it.turn}" for it in turns for name in ("regs", "pages")]
-    replies = machine.ask_all(lines, SHORT_SENT_AHEAD)
-    known: dict[str, Pages] = {}
-    found: list[Fetch] = []
-    for turn, registers, pages in zip(turns, replies, replies):
-        for reply in (registers, pages):
-            if is_refused(reply):
-                raise ExploreError(f"turn {turn.turn}: {reply}")
-        if pages not in known:
-            known[pages] = Pages.of(pages)
-        top = machine.units() * UNIT_BYTES
-        found.append(Fetch.of(Registers.of(registers), known[pages], turn.pc, top))
+def words_in_core(places: Iterable[Optional[int]], top: int) -> list[int]:
+    """The addresses before the first that isn't one of a word of core."""
+    found: list[int] = []
+    for place in places:
+        if place is None or place % 2 or place >= top:
+            break
+        found.append(place)
     return found
 
 
+def fetches_of(machine: Machine, turns: Sequence[Turn]) -> list[Fetch]:
+    """Only the words of instructions are looked for."""
+    replies = machine.read_all([f"regs {it.turn}" for it in turns], SHORT_SENT_AHEAD)
+    registers = [Registers.of(it) for it in replies]
+    counts = [INSTRUCTION_WORDS if it.act == INSTRUCTION else 1 for it in turns]
+    modes = [it.mode for it in registers]
+    asked = [
+        (turn.turn, mode, (turn.pc + 2 * at) % VIRTUAL)
+        for turn, mode, count in zip(turns, modes, counts)
+        for at in range(count)
+    ]
+    replied, top = machine.places(asked), machine.setup.units * UNIT_BYTES
+    places = [list(itertools.islice(replied, it)) for it in counts]
+    return [
+        Fetch(of_turn, found[0], words_in_core(found, top) if len(found) > 1 else [])
+        for of_turn, found in zip(registers, places)
+    ]
+
+
 def parts_that_follow(addresses: Sequence[int]) -> list[list[int]]:
-    """The addresses in parts of words that follow one another."""
+    """The addresses in parts of words that follow one another, each for one question."""
     parts: list[list[int]] = []
     for address in addresses:
-        if parts and parts[-1][-1] + 2 == address:
+        if parts and parts[-1][-1] + 2 == address and len(parts[-1]) < MOST_WORDS:
             parts[-1].append(address)
         else:
             parts.append([address])
@@ -147,8 +141,8 @@ def act_text(explorer: Explorer, turn: Turn, fetch: Fetch, words: list[int]) -> 
 
 
 def seen(explorer: Explorer, turns: Sequence[Turn]) -> Iterator[SeenTurn]:
-    """The turns, which ascend, with their instructions. What they need is asked in three passes
-    upwards: registers and pages, then words, then who wrote those that a turn changed."""
+    """The turns, which ascend, with their instructions. What they need is asked in four passes
+    upwards: registers, physical addresses, words, and who wrote those that a turn changed."""
     fetches = fetches_of(explorer.machine, turns)
     words = fetched_words(explorer.machine, turns, fetches)
     for turn, fetch, found in zip(turns, fetches, words):
@@ -223,54 +217,61 @@ def difference_in_words(before: Shown, now: Shown) -> str:
 class Listed:
     """The addresses of `list` before a turn: those of core, or those of a mode's programs."""
 
-    machine: Machine
-    turn: int
     mode: Optional[Mode]
-    pages: Pages
     top: int
+    physical: dict[int, Optional[int]]  # by virtual address, of kernel mode if the list has none
+    words: dict[int, int]  # by address of core
 
     @classmethod
-    def of(cls, machine: Machine, turn: int, mode: Optional[Mode]) -> "Listed":
-        return cls(machine, turn, mode, machine.pages(turn), machine.units() * UNIT_BYTES)
+    def of(
+        cls, machine: Machine, turn: int, mode: Optional[Mode], address: int, count: int
+    ) -> "Listed":
+        """What this number of instructions from the address on may take."""
+        listed = range(address, address + 2 * INSTRUCTION_WORDS * count, 2)
+        top = machine.setup.units * UNIT_BYTES
+        virtual = sorted({it % VIRTUAL for it in listed if mode or it < VIRTUAL})
+        asked = [(turn, mode or Mode.KERNEL, it) for it in virtual]
+        physical = dict(zip(virtual, machine.places(asked)))
+        places = listed if mode is None else physical.values()
+        parts = parts_that_follow(sorted({it for it in places if it is not None and it < top}))
+        replies = machine.read_all([f"mem {turn} {it[0]:o} {len(it)}" for it in parts])
+        words = [word for reply in replies for word in words_of(reply)]
+        return cls(mode, top, physical, dict(zip(itertools.chain(*parts), words)))
 
     @property
     def end(self) -> int:
         return PHYSICAL if self.mode is None else VIRTUAL
 
-    def physical(self, address: int) -> Optional[int]:
+    def place(self, address: int) -> Optional[int]:
         """The physical address of this one, if it has one."""
-        return address if self.mode is None else self.pages.physical(self.mode, address % VIRTUAL)
+        return address if self.mode is None else self.physical[address % VIRTUAL]
 
-    def words(self, address: int) -> list[int]:
+    def words_at(self, address: int) -> list[int]:
         """The words of an instruction at the address, as far as they are in core."""
         if address >= self.end:
             return []
-        found = (self.physical(address + 2 * at) for at in range(INSTRUCTION_WORDS))
-        core = itertools.takewhile(lambda it: it is not None and it < self.top, found)
-        parts = parts_that_follow([it for it in core if it is not None])
-        return [word for it in parts for word in self.machine.words(self.turn, it[0], len(it))]
+        places = [self.place(address + 2 * at) for at in range(INSTRUCTION_WORDS)]
+        return [self.words[it] for it in words_in_core(places, self.top)]
 
     def nothing(self, address: int) -> str:
         """Why there is no word at this address."""
         if address >= self.end:
             return f"the addresses end at {self.end - 1:o}"
-        place = self.physical(address)
+        place = self.place(address)
         if place is None:
             return "no page is there that can be read"
-        is_core = place < PHYSICAL - (VIRTUAL - IO_PAGE)
-        return "no core is there" if is_core else "the I/O page is there, and no core"
+        return "no core is there" if place < IO_PAGE else "the I/O page is there, and no core"
 
     def symbol(self, explorer: Explorer, address: int) -> str:
         """The symbol of an address; of one of core, if kernel mode has this address at it."""
-        is_same = address < VIRTUAL and self.pages.physical(Mode.KERNEL, address) == address
-        if self.mode is None and not is_same:
+        if self.mode is None and self.physical.get(address) != address:
             return ""
         return explorer.symbols.near(self.mode or Mode.KERNEL, address)
 
     def lines(self, explorer: Explorer, address: int, count: int) -> Iterator[str]:
         """This number of instructions from the address on, as far as there are any."""
         for _ in range(count):
-            words = self.words(address)
+            words = self.words_at(address)
             if not words:
                 yield f"{min(address, self.end):06o}  {self.nothing(address)}"
                 return
@@ -302,5 +303,5 @@ def list_instructions(explorer: Explorer, arguments: Arguments) -> Iterator[str]
         raise ExploreError(f"{address:o} is odd" if address % 2 else "C is 1 to 256")
     if not arguments.optional("turn"):
         yield f"before turn {turn}" + (f", {mode.value} mode:" if mode else ":")
-    yield from Listed.of(machine, turn, mode).lines(explorer, address, count)
+    yield from Listed.of(machine, turn, mode, address, count).lines(explorer, address, count)
     explorer.turn = turn

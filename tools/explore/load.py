@@ -12,7 +12,7 @@ from .kinds import TEXT, begins_as_tape, check_known, content, foreign_of, is_te
 from .machine import MOST_WORDS, Machine
 from .options import FILES, RK05_BYTES, UNIT_BYTES, Options
 from .replies import Mode
-from .restart import make, start_address
+from .restart import make
 from .symbol_files import Symbol, SymbolFile, symbol_file
 
 LAST_WORD = 0o177776
@@ -93,7 +93,7 @@ def loaded(path: Path, base: Optional[int], is_words: bool) -> Loaded:
 
 
 def check_place(machine: Machine, places: Iterable[int]) -> None:
-    top, last = machine.units() * UNIT_BYTES, max(places, default=0)
+    top, last = machine.setup.units * UNIT_BYTES, max(places, default=0)
     if last >= top:
         drive = "; an image of a drive is attached: --disk FILE" if last >= RK05_BYTES - 1 else ""
         raise ExploreError(f"it goes on to {last:o}, and core ends at {top - 1:o}{drive}")
@@ -142,7 +142,7 @@ def load_lines(explorer: Explorer, found: Loaded) -> Iterator[str]:
     """Loads it, and says what it was."""
     machine = explorer.machine
     before = machine.start
-    start = start_address(machine) if found.start is None else found.start
+    start = machine.setup.start if found.start is None else found.start
     options = {} if found.start is None else {"start": f"{start:o}"}
     edits = make(explorer, options, lambda: patches_of(machine, found.bytes))
     if found.symbols:

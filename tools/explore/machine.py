@@ -5,6 +5,8 @@ from dataclasses import dataclass, field, replace
 from pathlib import Path
 from typing import Iterator, Optional, Sequence
 
+from sessions import first_word
+
 from .asked import Asked
 from .children import ProgramEnded
 from .errors import ExploreError
@@ -12,9 +14,10 @@ from .interrupts import INTERRUPTS
 from .journal import Journal
 from .language import is_edit
 from .options import faults_of, options_of_words
-from .past import Past
+from .past import Event, Setup, without_zeros
 from .program import Program
-from .replies import Devices, LastWrite, Pages, Registers, Turn, text_of, turns_of, words_of
+from .replies import SPACES, Devices, LastWrite, Mode, Pages, Registers, Turn
+from .replies import text_of, turns_of, words_of
 
 LAST_TURN = 1_000_000_000
 MOST_TURNS_OF_A_TRAIL = 64
@@ -22,6 +25,7 @@ MOST_WORDS = 256
 # How many lines are sent before their replies are looked at: those with long replies, and others.
 SENT_AHEAD, SHORT_SENT_AHEAD = 16, 1000
 BLOCK_BYTES, WORD_BYTES = 50_000, 16
+OF_EVENTS = ("at", "alter", "drop")  # the edits that change the events alone
 
 
 class Refused(ExploreError):
@@ -71,13 +75,14 @@ class Machine:
 
     start: Start
     journal: list[str] = field(default_factory=list)
-    past: Past = field(default_factory=Past)
     replies: list[str] = field(default_factory=list)
     is_closed: bool = False
     file: Optional[Journal] = None
     asked: Asked = field(default_factory=Asked)
 
     def __post_init__(self) -> None:
+        self._setup: Optional[Setup] = None
+        self._script: Optional[list[Event]] = None
         self._running: Optional[Program] = self._started()
 
     def begin(self) -> Program:
@@ -116,6 +121,7 @@ class Machine:
     def restart(self) -> None:
         """Ends the program. The next use starts it again, with all edits: only the states that it
         kept are lost."""
+        self._setup = self._script = None
         if self._running is not None:
             running, self._running = self._running, None
             self.asked.turn = 0
@@ -127,8 +133,7 @@ class Machine:
         """Another program with the same edits, or with these; with a stride of its own, if any."""
         if edits is None:
             start = self.start if stride is None else self.start.with_stride(stride)
-            past = Past.of(self.journal, self.replies)
-            return Machine(start, list(self.journal), past, list(self.replies))
+            return Machine(start, list(self.journal), list(self.replies))
         twin = Machine(self.start)
         try:
             twin.edit_all(edits)
@@ -157,10 +162,13 @@ class Machine:
             taken = [pair for pair in zip(lines, replies) if is_taken(pair[1])]
             if self.file is not None and taken:
                 self.file.add(self.journal, [line for line, _ in taken])
-            for line, reply in taken:
-                self.journal.append(line)
-                self.replies.append(reply)
-                self.past.apply(line, reply)
+            self.journal += [line for line, _ in taken]
+            self.replies += [reply for _, reply in taken]
+            for word in {first_word(line) for line, _ in taken}:
+                if word in OF_EVENTS:
+                    self._script = None
+                else:
+                    self._setup = None
         return replies
 
     @contextmanager
@@ -177,7 +185,6 @@ class Machine:
         with INTERRUPTS.held():
             self.restart()
             del self.journal[-count:], self.replies[-count:]
-            self.past = Past.of(self.journal, self.replies)
             if self.file is not None:
                 self.file.take_back(count)
 
@@ -226,6 +233,32 @@ class Machine:
                 raise Refused(f"{line}: {reply}")
             yield reply
 
+    # The past. What the program tells of it is kept until an edit changes it.
+
+    @property
+    def setup(self) -> Setup:
+        if self._setup is None:
+            self._setup = Setup.of(self.read("setup"))
+        return self._setup
+
+    @property
+    def script(self) -> list[Event]:
+        """All events, in the order in which they happen."""
+        if self._script is None:
+            self._script = [Event.of(it) for it in self.read("events").splitlines()[1:]]
+        return self._script
+
+    def event(self, number: int) -> Optional[Event]:
+        return next((it for it in self.script if it.number == number), None)
+
+    def turns_of(self, kind: str) -> list[int]:
+        """The turns of the events that begin with this word, such as `key`."""
+        return [it.turn for it in self.script if it.text.startswith(kind)]
+
+    def patches(self) -> Iterator[str]:
+        """The lines that make the patches."""
+        return (without_zeros(it.split()) for it in self.read("patches").splitlines()[1:])
+
     # Questions
 
     def registers(self, turn: int) -> Registers:
@@ -236,6 +269,22 @@ class Machine:
 
     def pages(self, turn: int) -> Pages:
         return Pages.of(self.read(f"pages {turn}"))
+
+    def places(self, asked: Sequence[tuple[int, Mode, int]]) -> Iterator[Optional[int]]:
+        """The physical address of each virtual address, for a read in a mode before a turn, or None
+        if memory management aborts it. In a mode without pages, which `translate` lacks, each read
+        is aborted while mapping is on, and otherwise is one of kernel mode."""
+        bare = sorted({turn for turn, mode, _ in asked if mode not in SPACES})
+        replies = zip(bare, self.read_all([f"pages {it}" for it in bare]))
+        aborting = {turn for turn, reply in replies if Pages.of(reply).sr0 & 1}
+        lines = [
+            f"translate {turn} {(mode if mode in SPACES else Mode.KERNEL).value} {address:o}"
+            for turn, mode, address in asked
+        ]
+        for (turn, mode, _), reply in zip(asked, self.read_all(lines, SHORT_SENT_AHEAD)):
+            place = reply.split()[1]
+            is_aborted = place == "abort" or mode not in SPACES and turn in aborting
+            yield None if is_aborted else int(place, 8)
 
     def words(self, turn: int, address: int, count: int = 1) -> list[int]:
         return words_of(self.read(f"mem {turn} {address:o} {count}"))
@@ -248,9 +297,12 @@ class Machine:
         for block in self.blocks(lines, WORD_BYTES):
             yield from (int(it[4:], 8) for it in block.splitlines())
 
+    def named(self, drive: int) -> str:
+        """What a line says before the number of a word of this drive."""
+        return f"{drive:o} " if self.setup.version == 2 else ""
+
     def disk_line(self, turn: int, drive: int, index: int, count: int = 1) -> str:
-        named = f"{drive:o} " if self.past.version == 2 else ""
-        return f"dsk {turn} {named}{index:o} {count}"
+        return f"dsk {turn} {self.named(drive)}{index:o} {count}"
 
     def disk_word(self, turn: int, drive: int, index: int) -> int:
         return words_of(self.read(self.disk_line(turn, drive, index)))[0]
@@ -260,29 +312,19 @@ class Machine:
 
     # Searches, of the turns of a range
 
-    def found(self, line: str, end: int) -> Optional[int]:
-        """The turn that a search replies, or None. The machine is at the turn after it, or at the
-        end of what was searched."""
-        turn = self.read(line).split()[1]
+    def found(self, word: str, turns: range, sought: str) -> Optional[int]:
+        """The turn that a search of these turns replies, or None. The search begins with this word,
+        such as `first`. The machine is at the turn after the one found, or at the end of them."""
+        turn = self.read(f"{word} {turns.start} {turns.stop} {sought}").split()[1]
         found = None if turn == "none" else int(turn)
-        self.asked.reach(end if found is None else found + 1)
+        self.asked.reach(turns.stop if found is None else found + 1)
         return found
 
-    def first(self, turns: range, sought: str) -> Optional[int]:
-        """The first turn of these that is what is sought, in the words of the line `first`."""
-        return self.found(f"first {turns.start} {turns.stop} {sought}", turns.stop)
-
-    def change(self, turns: range, drive: int, index: int) -> Optional[int]:
-        """The first turn of these that changes a word of a drive."""
-        named = f"{drive:o} " if self.past.version == 2 else ""
-        return self.found(f"change {turns.start} {turns.stop} {named}{index:o}", turns.stop)
-
-    def printed_in(self, byte: int) -> int:
-        """The turn in which the byte of this number, from 0 on, was printed. It must be one of the
-        bytes before a turn that was asked about: the machine would run on to another one."""
-        turn = int(self.read(f"when {byte}").split()[1])
-        self.asked.reach(max(self.asked.greatest, turn + 1))
-        return turn
+    def printed_in(self, numbers: Sequence[int]) -> Iterator[int]:
+        """The turns in which the bytes of these numbers, from 0 on, were printed. They must be of
+        the bytes before a turn that was asked about: the machine would run on to another one."""
+        for reply in self.read_all([f"when {it}" for it in numbers], SHORT_SENT_AHEAD):
+            yield int(reply.split()[1])
 
     def writes(self, turns: range, address: int) -> tuple[list[str], range]:
         """A line for each of the first writes to a core word in these turns, and the turns that are
@@ -297,16 +339,8 @@ class Machine:
         return text_of(self.read(f"text {turn}"))
 
     def text_length(self, turn: int) -> int:
-        return next(self.text_lengths([turn]))
-
-    def text_lengths(self, turns: Sequence[int]) -> Iterator[int]:
-        """How many bytes were printed before each of these turns."""
-        for reply in self.read_all([f"text {it}" for it in turns]):
-            yield int(reply.partition(":")[0].split()[1])
-
-    def turn(self, turn: int) -> Turn:
-        """What the machine does in this turn."""
-        return turns_of(self.read(f"trail {turn + 1} 1"))[0]
+        """How many bytes were printed before the turn."""
+        return int(self.read(f"text {turn}").partition(":")[0].split()[1])
 
     def trail_lines(self, first: int, count: int) -> list[str]:
         """The questions that list these turns."""
@@ -318,11 +352,6 @@ class Machine:
         """These turns, by as many trails as it takes. A reply of a trail has some 1,300 bytes."""
         for reply in self.read_all(self.trail_lines(first, count)):
             yield from turns_of(reply)
-
-    def units(self) -> int:
-        """How many units of 4,096 words of core there are."""
-        words = [word for it in self.start.options for word in it.split("=")]
-        return int(words[words.index("--units") + 1]) if "--units" in words else 31
 
 
 def existing_program(path: str) -> str:

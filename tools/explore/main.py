@@ -23,7 +23,6 @@ from .options import Options, Parser, add_options, check_options, check_session
 from .options import option_lines, options_of, words_of_options
 from .output import Unwritable, complain, fault_in_words, flush
 from .output import leave_streams, prepare_streams, put
-from .past import Past
 from .prompt import Prompt, read_at_terminal, read_lines
 from .sweep import raw_lines
 
@@ -120,17 +119,17 @@ def session_lines(path: Path) -> list[tuple[int, str]]:
 
 def read_session(machine: Machine, path: Path) -> None:
     """Makes the edits of a session."""
-    past = Past()  # of which the forms of lines need the version alone
+    version = 1  # as the lines before have it: it isn't asked between lines that are sent ahead
     lines = session_lines(path)
     parts = in_parts([line for _, line in lines], LINES_AT_ONCE)
     replies = (reply for part in parts for reply in machine.edit_all(part))
     for (number, line), reply in zip(lines, replies):
         if is_refused(reply):
-            why = explanation(line, reply, past)
+            why = explanation(line, reply, version)
             shown = line if len(line) <= LONGEST_SHOWN else f"{line[:LONGEST_SHOWN]}.."
             complain(f"{path}:{number}: {shown}: {reply} {why}".rstrip())
         elif sessions.first_word(line) == "version":
-            past.apply(line, reply)
+            version = 2
 
 
 def resumed(found: argparse.Namespace) -> Path:

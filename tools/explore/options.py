@@ -9,13 +9,15 @@ from dataclasses import dataclass
 from pathlib import Path
 from typing import Any, Iterable, Iterator, NoReturn, Optional
 
+from hardware import DRIVE_WORDS
+
 from .errors import ExploreError
 from .in_words import counted
 from .output import put
 from .visible import visible
 
 UNIT_BYTES, MOST_UNITS = 0o20000, 31  # of core
-RK05_BYTES, TAPE_BYTES = 2_494_464, 1_048_576
+RK05_BYTES, TAPE_BYTES = 2 * DRIVE_WORDS, 1_048_576
 FILES = ["core", "disk", *(f"disk{it}" for it in range(1, 8)), "tape"]
 
 

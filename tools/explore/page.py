@@ -5,6 +5,7 @@ from pathlib import Path
 from typing import Iterator, Sequence
 
 import sessions
+from hardware import DELAYS, INTERRUPTS
 
 from . import styles
 from .commands import Arguments, Explorer, command, turns_between
@@ -15,10 +16,9 @@ from .files import OUTPUT
 from .in_words import counted, span
 from .language import comma_fault
 from .machine import Machine
-from .past import DELAYS
 from .picture import DESCRIBED_WRITES, Byte, Picture, WordHistory, guessed_last, picture_of
-from .replies import VECTORS, Mode
-from .script import write_whole
+from .replies import Mode
+from .script import past_lines, write_whole
 
 WIDE, NARROW = 960, 364
 NOT_DESCRIBED = f"Of more than {DESCRIBED_WRITES} writes the instructions aren't listed."
@@ -87,11 +87,12 @@ def samples_of(history: WordHistory) -> str:
 
 
 def edits_of(explorer: Explorer, picture: Picture) -> str:
-    past = explorer.machine.past
+    machine = explorer.machine
     rows = [(str(it.number), str(it.turn), it.explained()) for it in picture.events]
     events = section("Events of these turns", table(("event", "turn", "what"), rows))
-    delays = [(name, str(turns)) for name, turns in past.delays.items() if turns != DELAYS[name]]
-    lines = [it for it in past.lines() if it.startswith(("core", "disk", "tape", "version"))]
+    delays = machine.setup.delays.items()
+    others = [(name, str(turns)) for name, turns in delays if turns != DELAYS[name]]
+    lines = [it for it in past_lines(machine) if it.startswith(("core", "disk", "tape", "version"))]
     patches = ""
     if lines:
         inside = html.escape("\n".join(lines))
@@ -99,7 +100,7 @@ def edits_of(explorer: Explorer, picture: Picture) -> str:
         patches = f"<details>{head}<pre>{inside}</pre></details>"
     return (
         events
-        + section("Delays", table(("device", "turns"), delays))
+        + section("Delays", table(("device", "turns"), others))
         + section("Patches and tape", patches)
     )
 
@@ -109,7 +110,7 @@ def interrupts_of(picture: Picture) -> str:
     for turn in picture.interrupts:
         counts[turn.vector] += 1
     rows = [
-        (f"{it or 0:03o}", VECTORS.get(it or 0, ""), str(count))
+        (f"{it or 0:03o}", INTERRUPTS.get(it or 0, ""), str(count))
         for it, count in sorted(counts.items())
     ]
     some = "" if picture.lists_all_turns else "<p>Other turns of the picture aren't counted.</p>"
@@ -202,9 +203,10 @@ def page(explorer: Explorer, arguments: Arguments) -> Iterator[str]:
     the console's text, the words that are named as steps with who wrote them, and the events. A
     file that ends in .svg is the drawing alone. Without `from` N is 0; without `to` M is soon after
     the halt, or N + 99999. Up to 1000000 turns each turn's PC is looked at, of more turns some of
-    each column; up to 200000 the disk before each turn. A word with more than 400 writes is drawn
-    as a hatched band with samples, and the legend says what else is sampled. Symbols that were read
-    label the PC, those of each mode at a side of their own."""
+    each column; up to 200000 the disk before each turn. A word with more than 400 writes, or of a
+    drive with more than 400 changes, is drawn as a hatched band with samples, and the legend says
+    what else is sampled. Symbols that were read label the PC, those of each mode at a side of their
+    own."""
     machine, path = explorer.machine, Path(arguments.text("file"))
     rest = sessions.words_of(arguments.text("rest"))
     found = keyed([it if it in KEYS else explorer.symbols.in_octal(it) for it in rest])

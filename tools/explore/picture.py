@@ -14,7 +14,7 @@ from .past import Event
 from .replies import INTERRUPT, Devices, LastWrite, Mode, Registers, Turn, turns_of
 
 COLUMNS = 600
-MOST_LISTED_TURNS, MOST_DEVICE_TURNS, MOST_DISK_LOOKS = 1_000_000, 200_000, 10_000
+MOST_LISTED_TURNS, MOST_DEVICE_TURNS = 1_000_000, 200_000
 MOST_WRITES, DESCRIBED_WRITES, MOST_BYTES = 400, 60, 2_000
 GUESSED_TURNS, MARGIN = 100_000, 4
 
@@ -90,10 +90,6 @@ class DiskLane:
     busy: list[tuple[int, str]] = field(default_factory=list)
     looks: int = 0
 
-    @property
-    def is_whole(self) -> bool:
-        return not self.looks
-
     def begins(self) -> dict[int, Optional[int]]:
         """The turn that began each function whose begin is known, by the turn that completed it."""
         return {it.end: it.begin for it in self.transfers if it.end and it.begin is not None}
@@ -124,7 +120,7 @@ def guessed_last(machine: Machine, first: int) -> int:
         middle = (low + high) // 2
         is_halted = machine.registers(middle).state == "halted"
         low, high = (low, middle) if is_halted else (middle, high)
-    events = [it.turn for it in machine.past.script() if it.turn < end]
+    events = [it.turn for it in machine.script if it.turn < end]
     return min(max(high, first, *events) + MARGIN, LAST_TURN - 1)
 
 
@@ -211,9 +207,9 @@ def transfers_of(machine: Machine, turns: range) -> list[Transfer]:
 
 def may_be_over(machine: Machine, begin: Optional[int], turn: int) -> bool:
     """Whether a function that was begun then may complete in this turn."""
-    delay = machine.past.delays["disk"]
+    delay = machine.setup.delays["disk"]
     is_due = delay > 0 and (begin is None or turn - begin >= delay)
-    return is_due or turn in machine.past.disk_events()
+    return is_due or turn in machine.turns_of("disk")
 
 
 def disk_lane(machine: Machine, turns: range) -> DiskLane:
@@ -226,33 +222,13 @@ def disk_lane(machine: Machine, turns: range) -> DiskLane:
 
 # The console
 
-# Turns from one on up to another, and how much text there is before the one and before the other.
-Part = tuple[int, int, int, int]
-
-
-def halved(machine: Machine, parts: Sequence[Part]) -> Iterator[Part]:
-    wide = [(low + high) // 2 for low, high, _, _ in parts if high - low > 1]
-    lengths = machine.text_lengths(wide)
-    for low, high, first, stop in parts:
-        if high - low == 1:
-            yield low, high, first, stop
-        else:
-            middle, length = (low + high) // 2, next(lengths)
-            yield low, middle, first, length
-            yield middle, high, length, stop
-
 
 def text_of_turns(machine: Machine, turns: range) -> ConsoleText:
-    """The bytes that were printed in these turns. The text only grows, so halving is exact: all
-    parts of the turns that printed something are halved at once, asked upwards."""
-    begin = machine.text_length(turns.start)
-    text = machine.text(turns.stop)
-    last = min(len(text), begin + MOST_BYTES)
-    parts: list[Part] = [(turns.start, turns.stop, begin, len(text))]
-    while any(high - low > 1 for low, high, _, _ in parts):
-        parts = [it for it in halved(machine, parts) if it[2] < min(it[3], last)]
-    shown = [Byte(low, text[at]) for low, _, first, stop in parts for at in range(first, stop)]
-    return ConsoleText(shown[: last - begin], len(text) - begin)
+    """The bytes that were printed in these turns, each with its turn, as far as they are shown."""
+    begin, text = machine.text_length(turns.start), machine.text(turns.stop)
+    numbers = range(begin, min(len(text), begin + MOST_BYTES))
+    shown = [Byte(turn, text[it]) for turn, it in zip(machine.printed_in(numbers), numbers)]
+    return ConsoleText(shown, len(text) - begin)
 
 
 # Words
@@ -287,24 +263,16 @@ def how_written(
 def disk_history(
     explorer: Explorer, word: DiskWord, turns: range, disk: DiskLane
 ) -> WordHistory:
-    """The changes of a word of a drive, or samples if showing each takes too many questions."""
-    if not disk.is_whole and word.look_count(turns) > MOST_DISK_LOOKS:
-        looks = list(turns[:: block_size(turns)])
+    """All changes of a word of a drive, or the values at sampled turns if there are too many."""
+    changes = list(itertools.islice(word.changes(turns), MOST_WRITES + 1))
+    if len(changes) > MOST_WRITES:
+        looks = turns[:: block_size(turns)]
         samples = [Value(turn, it) for turn, it in zip(looks, word.values(looks))]
-        return WordHistory(word.name, samples, "not each change is looked at")
-    if disk.is_whole:
-        ends = (it.end + 1 for it in disk.transfers if it.end is not None)
-        looks = [turns.start, *ends]
-    else:
-        looks = word.looks(turns)
-    seen = list(word.values(looks))
-    changes: dict[int, int] = {}
-    for before, after, old, new in zip(looks, looks[1:], seen, seen[1:]):
-        if old != new:
-            changes[after - 1 if disk.is_whole else word.change_between(before, after)] = new
-    how = functions_in_words(explorer, list(changes), disk.begins())
-    values = [Value(turn, new, "disk", how[turn]) for turn, new in changes.items()]
-    return WordHistory(word.name, [Value(turns.start, seen[0]), *values])
+        return WordHistory(word.name, samples, f"more than {MOST_WRITES} changes")
+    begin, *after = word.values([turns.start, *(it + 1 for it in changes)])
+    how = functions_in_words(explorer, changes, disk.begins())
+    values = [Value(turn, new, "disk", how[turn]) for turn, new in zip(changes, after)]
+    return WordHistory(word.name, [Value(turns.start, begin), *values])
 
 
 def picture_of(
@@ -324,5 +292,5 @@ def picture_of(
         disk=disk,
         text=text_of_turns(machine, turns),
         words=words,
-        events=[it for it in machine.past.script() if it.turn in turns],
+        events=[it for it in machine.script if it.turn in turns],
     )

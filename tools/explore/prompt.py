@@ -21,7 +21,7 @@ from .files import OUTPUT
 from .in_words import counted
 from .interrupts import INTERRUPTS, typed_line
 from .journal import state_folder
-from .language import FADING, FORMS, SEARCHES, SUMMARIES
+from .language import FADING, FORMS, LISTS, SEARCHES, SUMMARIES
 from .language import explanation, form_of, forms_of_searches, is_decimal, is_edit
 from .machine import is_refused
 from .output import Unwritable, fault_in_words, flush, put
@@ -169,11 +169,11 @@ class Prompt:
 
     def pass_on(self, line: str) -> None:
         machine = self.explorer.machine
-        line = self.explorer.symbols.line_in_octal(line, machine.past)
+        line = self.explorer.symbols.line_in_octal(line, machine)
         is_looked_at = self.explorer.is_terminal and is_edit(line)
         fading = self.explorer.fading
         reply = fading.make(machine, [line])[0] if is_looked_at else machine.ask(line)
-        why = explanation(line, reply, machine.past) if is_refused(reply) else ""
+        why = explanation(line, reply, machine.setup.version) if is_refused(reply) else ""
         self.show([reply, f"  {why}"] if why else [reply])
         if is_looked_at and not is_refused(reply):
             self.show(fading.said(machine))
@@ -182,17 +182,19 @@ class Prompt:
             self.explorer.turn = int(found[2])
 
     def help_lines(self, word: str) -> list[str]:
-        past = self.explorer.machine.past
+        version = self.explorer.machine.setup.version
         lines: list[str] = []
         if word in FORMS:
-            lines += [form_of(word, past), "", f"{SUMMARIES[word]}. Details: docs/LANGUAGE.md"]
+            lines += [form_of(word, version), "", f"{SUMMARIES[word]}. Details: docs/LANGUAGE.md"]
         if word in SEARCHES:
             lines += [*([""] if lines else []), *forms_of_searches(word), ""]
             lines += [CONDITION_HELP, ""] if any("CONDITION" in it for it in lines) else []
             lines.append(FADES_HELP if word == "fades" else SEARCH_HELP)
-        if word in COMMANDS:
+        if word in COMMANDS:  # also in place of a list, such as `events`
             found = COMMANDS[word]
             lines += [*([""] if lines else []), found.form, "", *found.detail.splitlines()]
+        elif word in LISTS:
+            lines += [word, "", f"{LISTS[word]}. Details: docs/LANGUAGE.md, Searches"]
         if word in OWN_HELP:
             return [" : ".join(OWN_HELP[word])]
         if word and not lines:
@@ -200,7 +202,7 @@ class Prompt:
         return lines or self.overview()
 
     def overview(self) -> list[str]:
-        past = self.explorer.machine.past
+        version = self.explorer.machine.setup.version
         own = sorted([*((it.form, it.summary) for it in COMMANDS.values()), *OWN_HELP.values()])
         lines = ["commands of explore (help WORD has more):"]
         for form, summary in own:
@@ -208,9 +210,10 @@ class Prompt:
                 lines.append(f"  {part}")
             lines.append(f"      {summary}")
         lines += ["", "lines of the session language (docs/LANGUAGE.md):"]
-        lines += [f"  {form_of(word, past):<16}  {text}" for word, text in SUMMARIES.items()]
+        lines += [f"  {form_of(word, version):<16}  {text}" for word, text in SUMMARIES.items()]
         lines += ["", "lines of searches (docs/LANGUAGE.md):"]
-        lines += [*(f"  {it.form}" for it in sessions.SEARCHES), f"{CONDITION_HELP}."]
+        lines += [f"  {it.form}" for it in sessions.SEARCHES if it.form not in COMMANDS]
+        lines.append(f"{CONDITION_HELP}.")
         return [*lines, "", NUMBERS, f"{RULE[0].upper()}{RULE[1:]}.", "", CURRENT_TURN]
 
 
@@ -226,7 +229,7 @@ def is_own(word: str, rest: str) -> bool:
 
 def words_from(text: str) -> list[str]:
     """The commands and lines that begin so. After the only one comes a space."""
-    found = [it for it in {*COMMANDS, *OWN_HELP, *FORMS, *SEARCHES} if it.startswith(text)]
+    found = [it for it in {*COMMANDS, *OWN_HELP, *FORMS, *SEARCHES, *LISTS} if it.startswith(text)]
     return sorted(found) if len(found) > 1 else [f"{it} " for it in found]
 
 

@@ -4,6 +4,8 @@ from dataclasses import dataclass
 from enum import Enum
 from typing import Optional
 
+from hardware import INTERRUPTS, SECTORS, SURFACES
+
 
 class Mode(Enum):
     """The mode of the processor, bits 15-14 of PS."""
@@ -15,11 +17,14 @@ class Mode(Enum):
 
     @classmethod
     def current(cls, ps: int) -> "Mode":
-        return list(cls)[ps >> 14 & 3]
+        return MODES[ps >> 14 & 3]
 
     @classmethod
     def previous(cls, ps: int) -> "Mode":
-        return list(cls)[ps >> 12 & 3]
+        return MODES[ps >> 12 & 3]
+
+
+MODES = tuple(Mode)  # by the two bits
 
 
 def named_words(fields: list[str]) -> dict[str, int]:
@@ -82,7 +87,6 @@ class DiskFunction(Enum):
         return self.name.lower().replace("_", " ")
 
 
-SECTOR_WORDS, SECTORS, SURFACES = 256, 12, 2
 KEY_WAITS, DISK_READY = 0o200, 0o200
 
 
@@ -134,7 +138,6 @@ class Devices:
 
 
 SPACES = {Mode.KERNEL: "K", Mode.USER: "U"}
-IO_PAGE, PHYSICAL = 0o160000, 0o1000000
 
 
 @dataclass(frozen=True)
@@ -157,25 +160,6 @@ class Pages:
         descriptors = {mode: words(f"{it}PDR", 8) for mode, it in SPACES.items()}
         addresses = {mode: words(f"{it}PAR", 8) for mode, it in SPACES.items()}
         return cls(words("SR0", 1)[0], words("SR2", 1)[0], descriptors, addresses)
-
-    @property
-    def mapping_is_on(self) -> bool:
-        return bool(self.sr0 & 1)
-
-    def physical(self, mode: Mode, address: int) -> Optional[int]:
-        """Where a read of this virtual address goes, or None if memory management aborts it."""
-        if not self.mapping_is_on:
-            return address if address < IO_PAGE else address + PHYSICAL - 0o200000
-        if mode not in self.descriptors:
-            return None
-        page, block = address >> 13, address >> 6 & 0o177
-        descriptor = self.descriptors[mode][page]
-        length, grows_down = descriptor >> 8 & 0o177, descriptor >> 3 & 1
-        is_outside = block < length if grows_down else block > length
-        if is_outside or descriptor >> 1 & 3 not in (1, 3):
-            return None
-        frame = self.addresses[mode][page]
-        return ((frame + block << 6) + (address & 0o77)) % PHYSICAL
 
 
 @dataclass(frozen=True)
@@ -201,14 +185,6 @@ class LastWrite:
 
 
 INSTRUCTION, INTERRUPT = "instr", "irq"
-VECTORS = {
-    0o60: "keyboard",
-    0o64: "printer",
-    0o70: "reader",
-    0o74: "punch",
-    0o100: "clock",
-    0o220: "disk",
-}
 
 
 @dataclass(frozen=True)
@@ -232,7 +208,7 @@ class Turn:
 
     def interrupt(self) -> str:
         vector = self.vector or 0
-        return f"interrupt {vector:03o} {VECTORS.get(vector, '')}".rstrip()
+        return f"interrupt {vector:03o} {INTERRUPTS.get(vector, '')}".rstrip()
 
 
 def words_of(reply: str) -> list[int]:

@@ -9,16 +9,10 @@ from .interrupts import INTERRUPTS
 from .machine import Machine, Start, is_refused
 from .options import Options, faults_of, option_lines, options_of_words, words_of_options
 
-FIRST_START = "1000"
-
 
 def options_of(start: Start) -> Options:
     """The options that a program is started with. Paths are absolute."""
     return options_of_words(start.options, "explore", Path(start.folder))
-
-
-def start_address(machine: Machine) -> int:
-    return int(options_of(machine.start).get("start", FIRST_START), 8)
 
 
 def begin_as(machine: Machine, start: Start) -> None:
@@ -48,7 +42,7 @@ def make(
     machine, steps = explorer.machine, explorer.steps
     before = machine.start
     now = options_of(before)
-    as_now = {"start": FIRST_START, **now}
+    as_now = {**now, "start": f"{machine.setup.start:o}"}
     is_other = any(as_now.get(name) != value for name, value in options.items())
     then = {**now, **options}
     for wrong in faults_of(then).values():

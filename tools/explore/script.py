@@ -1,8 +1,12 @@
 """Events and the past: `events`, `save`, `type`."""
 import re
 from bisect import bisect_left
+from itertools import islice
 from pathlib import Path
 from typing import Iterator, Sequence
+
+from hardware import DELAYS
+from sessions import words_of
 
 from .commands import Arguments, Explorer, command, turns_between
 from .errors import ExploreError
@@ -23,16 +27,31 @@ WAITED_TURNS = 10_000_000
 def events(explorer: Explorer, arguments: Arguments) -> Iterator[str]:
     """Lists the events in the order in which they happen, each with its number, its turn, and for
     a key its character."""
-    script = explorer.machine.past.script()
+    script = explorer.machine.script
     yield counted(len(script), "event")
     lines = [f"event {it.number:>5}  at {it.turn:>10}  {it.explained()}" for it in script]
     yield from map("\n".join, in_parts(lines, EVENTS_AT_ONCE))
 
 
+def past_lines(machine: Machine) -> Iterator[str]:
+    """Lines that give the same past. Events are numbered anew, in their order."""
+    setup = machine.setup
+    if setup.version != 1:
+        yield f"version {setup.version}"
+    # of a tape `setup` tells how long it is, and only the edit has its bytes
+    tapes = (words_of(it) for it in reversed(machine.journal))
+    yield from islice((" ".join(it) for it in tapes if it[0] == "tape"), 1)
+    for device, turns in setup.delays.items():
+        if turns != DELAYS[device]:
+            yield f"delay {device} {turns}"
+    yield from machine.patches()
+    yield from (it.line() for it in machine.script)
+
+
 def session_lines(machine: Machine) -> list[str]:
     """A session that gives the same machine, with its options."""
     options = options_of_words(machine.start.options, "explore", machine.start.folder)
-    return [*option_lines(options), *machine.past.lines()]
+    return [*option_lines(options), *past_lines(machine)]
 
 
 @command("save FILE", "<file:file>", "the past, as a session that gives the same machine")
@@ -84,7 +103,7 @@ class Keyboard:
 
     def __init__(self, machine: Machine):
         self.machine = machine
-        self.turns_of_keys = sorted(set(machine.past.key_turns()))
+        self.turns_of_keys = sorted(set(machine.turns_of("key")))
         self.usual = 1  # how many turns the last key waited
         self.waits: dict[int, bool] = {}  # whether a key waits before a turn, since the last key
 
@@ -152,7 +171,7 @@ def key_waits(devices: str) -> bool:
 
 
 def check_room(machine: Machine, keys: Sequence[int]) -> None:
-    room = MOST_EVENTS - len(machine.past.events)
+    room = MOST_EVENTS - len(machine.script)
     if len(keys) > room:
         raise ExploreError(
             f"the script holds {MOST_EVENTS} events, and has room for {room} more; keys to type:"
@@ -173,7 +192,7 @@ def type_text(explorer: Explorer, arguments: Arguments) -> Iterator[str]:
     machine = explorer.machine
     every, keys = arguments.decimal("every", 1), typed_bytes(arguments.text("text"))
     check_room(machine, keys)
-    after_events = max((it.turn + 1 for it in machine.past.events.values()), default=0)
+    after_events = max((it.turn + 1 for it in machine.script), default=0)
     turn = arguments.decimal("first", after_events)
     keyboard, typed = Keyboard(machine), 0
     try:

@@ -272,7 +272,7 @@ def import_file(explorer: Explorer, arguments: Arguments) -> Iterator[str]:
     found = imported(path)
 
     def edits() -> list[str]:
-        version = found.has_eight_drives and machine.past.version == 1
+        version = found.has_eight_drives and machine.setup.version == 1
         switches = [] if found.switches is None else [f"at 0 switches {found.switches:o}"]
         return [*(["version 2"] if version else []), *patches_of(machine, found.core), *switches]
 

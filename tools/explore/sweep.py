@@ -21,8 +21,9 @@ from .in_words import counted, some_are
 from .interrupts import INTERRUPTS, typed_line
 from .language import MOST_DIGITS, SEARCHES, comma_fault, explanation, is_decimal, is_edit
 from .machine import Machine, is_refused
+from .past import Event
 from .quotes import WORD, file_of, files_of, quote_fault
-from .script import session_lines
+from .script import past_lines, session_lines
 from .sweep_fades import HEADING, Fades, end_of, parted, together
 
 SWEEP = re.compile(
@@ -40,11 +41,11 @@ class Sweep:
     """An event, a new one or one of the script, the turns that it is put at, and what is asked."""
 
     event: str
-    number: Optional[int]
+    moved: Optional[Event]
     turns: range
     question: str
-    last_event: int  # of the script, before the sweep
     fades: Optional[Fades] = None
+    numbers: dict[int, int] = field(default_factory=dict)  # of the new event, by its twin
 
     @classmethod
     def of(cls, machine: Machine, text: str) -> "Sweep":
@@ -59,16 +60,17 @@ class Sweep:
         if not step:
             raise ExploreError("K of step is 1 or more")
         turns = range(int(match["first"]), int(match["last"]) + 1, step)
-        number = int(match["event"]) if is_decimal(match["event"]) else None
-        if number is not None and number not in machine.past.events:
-            raise ExploreError(f"no event has the number {number}; events lists them")
-        event = match["event"] if number is None else machine.past.events[number].text
-        question = match["question"]
+        event, question, moved = match["event"], match["question"], None
+        if is_decimal(event):
+            moved = machine.event(int(event))
+            if moved is None:
+                raise ExploreError(f"no event has the number {int(event)}; events lists them")
+            event = moved.text
         if not turns:
             raise ExploreError(f"turn {match['last']} comes before turn {match['first']}")
         check_question(question)
         fades = Fades(end_of(question)) if match["fades"] else None
-        return cls(event, number, turns, question, max(machine.past.events, default=0), fades)
+        return cls(event, moved, turns, question, fades)
 
     def check(self, machine: Machine) -> None:
         """Tries the event and the question, once, on a twin."""
@@ -78,21 +80,20 @@ class Sweep:
     def row(self, twin: Machine, turn: int) -> str:
         """The reply with the event at this turn, and with --fades where the edit fades."""
         reply = self.work(twin, turn)
-        word = "at" if self.number is None else f"alter {self.number}"
+        word = "at" if self.moved is None else f"alter {self.moved.number}"
         return reply + (self.fades.of(twin, f"{word} {turn} {self.event}") if self.fades else "")
 
     def work(self, twin: Machine, turn: int) -> str:
         """The reply with the event at this turn. A twin has the event once, and moves it on. Back
         in its own turn it would be the last of its events: there a further twin has it unmoved."""
-        if self.number is not None and twin.past.events[self.number].turn == turn:
-            with closing(twin.twin()) as unmoved:
-                return self.with_event(unmoved, f"alter {self.number} {turn} {self.event}")[1]
-        added = (it for it in twin.past.events if it > self.last_event)
-        number = self.number or next(added, None)
+        number = self.moved.number if self.moved else self.numbers.get(id(twin))
         edit = f"{'at' if number is None else f'alter {number}'} {turn} {self.event}"
+        if self.moved and self.moved.turn == turn:
+            with closing(twin.twin()) as unmoved:
+                return self.with_event(unmoved, edit)[1]
         edited, reply = self.with_event(twin, edit)
         if number is None:
-            twin.past.apply(edit, edited)  # lines that are asked aren't noted
+            self.numbers[id(twin)] = int(edited.split()[1])
         return reply
 
     def with_event(self, twin: Machine, edit: str) -> tuple[str, str]:
@@ -101,7 +102,8 @@ class Sweep:
         replies = list(twin.ask_all(lines))
         for line, reply in zip(lines, replies):
             if is_refused(reply):
-                raise ExploreError(f"{line}: {reply}: {explanation(line, reply, twin.past)}")
+                why = explanation(line, reply, twin.setup.version)
+                raise ExploreError(f"{line}: {reply}: {why}")
         edited, reply = (it.replace("\n", " / ") for it in replies)
         return edited, reply
 
@@ -115,11 +117,9 @@ class Sweep:
 
     def heading(self, machine: Machine) -> str:
         """What results are of: the event, the question and the past. The turns may be others."""
-        past = "\n".join([*machine.start.options, *machine.past.lines()])
+        past = "\n".join([*machine.start.options, *past_lines(machine)])
         digest = hashlib.sha256(past.encode(errors="surrogateescape")).hexdigest()[:16]
-        moved = ""
-        if self.number is not None:
-            moved = f" moved from turn {machine.past.events[self.number].turn}"
+        moved = f" moved from turn {self.moved.turn}" if self.moved else ""
         heading = HEADING if self.fades else "# sweep "
         return f"{heading}{self.event}{moved}: {self.question}, past {digest}"
 
@@ -298,9 +298,8 @@ def job_lines(explorer: Explorer, sweep: Sweep, path: Path) -> Iterator[str]:
     session = path.with_name(f"{path.name}.session").resolve()
     write_whole(session, "".join(f"{it}\n" for it in session_lines(machine)))
     event = sweep.event
-    if sweep.number is not None:  # the session's events are numbered anew, in their order
-        order = [it.number for it in machine.past.script()]
-        event = str(order.index(sweep.number) + 1)
+    if sweep.moved:  # the session's events are numbered anew, in their order
+        event = str(machine.script.index(sweep.moved) + 1)
     size = -(-len(sweep.turns) // JOBS)
     parts = [sweep.turns[at : at + size] for at in range(0, len(sweep.turns), size)]
     lines = []
@@ -382,7 +381,7 @@ def sweep_command(explorer: Explorer, arguments: Arguments) -> Iterator[str]:
     if not is_decimal(hands) or not 1 <= int(hands[:MOST_DIGITS]) <= MOST_HANDS:
         raise ExploreError(f"N of -j is 1 to {MOST_HANDS}")
     head, colon, question = words.partition(":")
-    question = explorer.symbols.line_in_octal(question, explorer.machine.past)
+    question = explorer.symbols.line_in_octal(question, explorer.machine)
     fades = "--fades " if "--fades" in options else ""
     sweep = Sweep.of(explorer.machine, f"{fades}{head}{colon}{question}")
     if len(sweep.turns) > MOST_TURNS_UNASKED and not options.keys() & {"-y", "--jobs"}:

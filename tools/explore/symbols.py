@@ -9,7 +9,7 @@ from sessions import BEFORE_ADDRESS, words_of
 
 from .errors import ExploreError
 from .language import FADING, FORMS, form_of
-from .past import Past
+from .machine import Machine
 from .replies import Mode
 from .symbol_files import Symbol
 
@@ -95,11 +95,13 @@ class Symbols:
         """The word, or the number that it names."""
         return f"{self.number(word, mode):o}" if self.is_named(word) else word
 
-    def line_in_octal(self, line: str, past: Past) -> str:
+    def line_in_octal(self, line: str, machine: Machine) -> str:
         """A line of the language or of searches, with numbers for symbols where it has addresses.
         If the line names a mode, the symbols are those of that mode."""
         words = words_of(line)
-        for form in forms_of(words[0], past) if words else []:
+        if not any(map(self.is_named, words)):
+            return line
+        for form in forms_of(words[0], machine.setup.version):
             pairs = list(zip(in_full(form, words), words))
             if len(pairs) == len(words) and all(it.isupper() or it == word for it, word in pairs):
                 named = (word for it, word in pairs if it == "MODE" and word in MODES)
@@ -120,11 +122,11 @@ def in_full(form: list[str], words: list[str]) -> list[str]:
     return form if len(form) == len(words) else []
 
 
-def forms_of(word: str, past: Past) -> list[list[str]]:
+def forms_of(word: str, version: int) -> list[list[str]]:
     """The forms of the lines that begin with this word, word by word. For EDIT stand the edits that
     `fades` takes."""
-    own = [form_of(word, past)] if word in FORMS else []
+    own = [form_of(word, version)] if word in FORMS else []
     searches = [it.form for it in sessions.SEARCHES if it.form.split()[0] == word]
-    edits = [form_of(it, past) for it in FADING]
+    edits = [form_of(it, version) for it in FADING]
     found = [form.replace("EDIT", it) for form in searches for it in edits]
     return [it.split() for it in (*own, *dict.fromkeys(found))]

@@ -82,10 +82,10 @@ class Depth(Case):
 
     def test_first_core(self) -> None:
         explorer = self.explorer(LEDGER)
-        found = self.done(explorer, "first core 30000 = 132", 2)
+        found = self.done(explorer, "first core 30000 = 132", 3)
         self.assertEqual(found, ["turn 127850: cpu 000132, by user 000012 ADD R2,@#20000"])
         counting = self.explorer("", [f"core {it}" for it in COUNTING])
-        self.assertIn("turn 1023: cpu 001000", self.done(counting, "first core 2000 = 1000", 2)[0])
+        self.assertIn("turn 1023: cpu 001000", self.done(counting, "first core 2000 = 1000", 3)[0])
         found = self.done(counting, "first core 2000 = 1001 to 5000", 1)
         self.assertEqual(found, ["not in the turns 0 to 5000"])
         writes = list(counting.finder.writes(range(3000), 0o2000))
@@ -122,10 +122,34 @@ class Depth(Case):
         said = [it.args[0].split(" BadLine ")[1] for it in complain.call_args_list]
         self.assertTrue(said[0].startswith("at T event: there is no event 'x'"), said)
         self.assertTrue(said[1].startswith("disk D I W: D, a drive, is octal, and '9'"), said)
-        self.assertEqual(len(machine.past.events), 30_000)
+        self.assertEqual(len(machine.script), 30_000)
         shown = list(COMMANDS["events"].lines(Explorer(machine, Disassembler(None)), ""))
         self.assertEqual(sum(it.count("\n") + 1 for it in shown), 30_001)
         self.assertLess(len(shown), 50)  # each is written at once
+
+    def test_the_past_is_asked_for_once_after_an_edit_of_it(self) -> None:
+        explorer = self.explorer()
+        machine = explorer.machine
+        machine.edit_all(["at 9 key 0101", "at 5 tick", "at 9 switches 7", "alter 1 5 key 7"])
+        wanted = ["event     2  at          5  tick", "event     1  at          5  key 7  Ctrl-G"]
+        wanted.append("event     3  at          9  switches 7")
+        steps: list[tuple[list[str], int, list[str]]] = [
+            ([], 2, wanted),
+            (["core 1000 5", "delay disk 3"], 1, wanted),
+            (["drop 2"], 1, wanted[1:]),
+            (["version 2", "at 9 x"], 1, wanted[1:]),
+        ]
+        for edits, count, shown in steps:
+            machine.edit_all(edits)
+            with self.exchanges() as exchange:
+                for _ in range(3):
+                    found = list(COMMANDS["events"].lines(explorer, ""))
+                    version, delay = machine.setup.version, machine.setup.delays["disk"]
+                self.assertEqual(exchange.call_count, count)
+            self.assertEqual("\n".join(found[1:]).splitlines(), shown)
+        self.assertEqual((version, delay), (2, 3))
+        machine.take_back(2)
+        self.assertEqual((machine.setup.version, len(machine.script)), (1, 3))
 
     def test_keys_are_typed_where_they_are_free(self) -> None:
         """Those of a program that waits for a while after each key. The program is asked twice a
@@ -137,7 +161,7 @@ class Depth(Case):
         with self.exchanges() as exchange:
             self.done(explorer, f"type {'a' * 100} from 5", 10_000)
             self.assertLess(exchange.call_count, 2 * 100 + 20)
-        turns = explorer.machine.past.key_turns()
+        turns = explorer.machine.turns_of("key")
         waits = [explorer.machine.devices(it).key_waits for it in range(turns[-1] + 1)]
         typed = [it for it in turns if it not in (600, 2000)]
         for before, turn in zip(typed, typed[1:]):
@@ -146,6 +170,7 @@ class Depth(Case):
 
     def test_a_sweep_runs_no_program_but_those_that_work(self) -> None:
         explorer = self.explorer()
+        explorer.machine.edit_all(["at 3 tick", "drop 1"])  # so the swept event is event 2
         with mock.patch.object(Machine, "twin", autospec=True, side_effect=Machine.twin) as twin:
             written = self.done(explorer, "sweep -j 2 key 101 from 5 to 9: regs 20", 0)
             self.assertEqual(twin.call_count, 2)

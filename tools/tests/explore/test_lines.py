@@ -11,11 +11,11 @@ from .terminal import AtTerminal
 
 THREE_WORDS = "core 1000 1\ncore 1002 2\ncore 1004 3\n"
 STARTED_AGAIN = "; the next line starts it again, with all edits"
-# A program that answers `core` and `regs 0` as it must, and another line so.
+# A program that answers `core`, `regs 0` and `events` as it must, and another line so.
 STAND_IN = """#!{python}
 import sys
 for line in sys.stdin:
-    right = {{"core": "ok", "regs": "R0 000000 run"}}
+    right = {{"core": "ok", "regs": "R0 000000 run", "events": "events 0"}}
     print(right.get(line.split()[0], {reply!r}), flush=True)
 """
 
@@ -52,7 +52,7 @@ class Asked(Case):
         for line in ("at 5 tick\nat 6 tick", "core 1000 5\r", "core 1000 5\0", "core\f1000 5\x7f"):
             self.assertEqual(self.machine.ask(line), "refused 10 BadLine")
         self.assertEqual(self.machine.ask("at 5 tick\n" * 200), "refused 11 LineTooLong")
-        self.assertEqual((self.machine.journal, self.machine.past.script()), ([], []))
+        self.assertEqual((self.machine.journal, self.machine.script), ([], []))
         self.assertEqual(self.machine.ask("at 7 tick"), "event 1")
         for line in ("# a comment", " \t", ""):
             self.assertRaisesRegex(ExploreError, "isn't one line", self.machine.ask, line)

@@ -55,6 +55,22 @@ class Pages(Case):
         self.assertIn("core 002000: more than 400 writes", self.written)
         self.assertNotIn("010770", self.written)
 
+    def test_a_word_of_a_drive_with_too_many_changes_is_hatched_and_sampled(self) -> None:
+        # INC @#2000; then sector 0 is written from 2000 on, and waited for
+        program = "5237 2000 12737 177777 177406 12737 2000 177410 5037 177412 12737 3 177404"
+        program += " 105737 177404 100375 757"
+        core = "".join(f"core {0o1000 + 2 * at:o} {it}\n" for at, it in enumerate(program.split()))
+        asked = "".join(f"dsk {it} 0 1\n" for it in range(2001))
+        words = self.explore(f"{core}{asked}").splitlines()[core.count("\n") :]
+        changes = [at for at, (old, new) in enumerate(zip(words, words[1:])) if old != new]
+        self.page(f"{core}page it.html to 1999 disk 0\n")
+        shown = re.findall(r"<tr><td>(\d+)</td><td>[0-7]{6}</td><td>disk</td>", self.written)
+        self.assertEqual(list(map(int, shown)), changes)
+        self.assertGreater(len(changes), 100)
+        for drawing in self.page(f"{core}page it.html to 9999 disk 0\n"):
+            self.assertIn("more than 400 changes", self.texts(drawing))
+            self.assertIn('class="hatch"', drawing)
+
     def test_a_word_with_as_many_writes_as_are_listed_is_whole(self) -> None:
         # 400 writes of the turns 1, 3 and so on
         for drawing in self.page(f"{LOOP}page it.html to 800 words 2000\n"):
@@ -189,7 +205,7 @@ class Asked(Case):
     def test_a_last_turn_that_is_guessed(self) -> None:
         machine = mock.Mock()
         machine.registers.return_value.state = "halted"
-        machine.past.script.return_value = []
+        machine.script = []
         self.assertEqual(guessed_last(machine, LAST_TURN - 2), LAST_TURN - 1)
 
 

@@ -9,6 +9,10 @@ from .media import Media, tape, words
 from .terminal import AtTerminal
 
 MEDIA = ROOT / "examples" / "media"
+SETUP = (
+    "setup version 1 units 31 start 001000 stride 64 printer 1 reader 4 punch 4 disk 10 clock 0"
+    " tape 0"
+)
 
 
 class Starts(Media):
@@ -77,6 +81,7 @@ class Starts(Media):
             "    if word == 'mem': print('mem', *['000000'] * int(rest[2]), flush=True)\n"
             "    elif line.startswith('core 2002'): print('refused 1 NoMemory', flush=True)\n"
             "    elif word == 'core': print('ok', flush=True)\n"
+            f"    elif word == 'setup': print({SETUP!r}, flush=True)\n"
             "    else: print('R0', sys.argv[1:], flush=True)\n"
         )
         stand_in.chmod(0o755)
