@@ -112,11 +112,11 @@ export class App {
     this.old = null;
     this.session = session;
     this.run = run;
-    this.begun = [...run.taken];
+    this.begun = { lines: [...run.taken], past: run.past };
     const said = showRefused(element("refused"), refused, session.lines);
     const isRefusedLine = new Set(refused.map(it => it.number));
     const taken = session.lines.filter((_, at) => !isRefusedLine.has(at + 1));
-    this.end = Math.max(run.past.lastTurn(), lastTurnOf(taken)) || 1_000;
+    this.end = Math.max(run.past.script.at(-1)?.turn ?? 0, lastTurnOf(taken)) || 1_000;
     this.symbols = symbolsOfSession(session);
     element("session-name").textContent = visibleName(session.name);
     element("own").hidden = isOwn(session);
@@ -134,7 +134,7 @@ export class App {
     else this.timeline.show(0, Math.max(16, this.end));
     this.timeline.setCursor(this.isStory ? STORY.cursor : 0, { isTold: false });
     this.offerSweep();
-    this.changed();
+    await this.changed();
     this.goToPlace(place);
   }
 
@@ -211,8 +211,8 @@ export class App {
 
   saveSession() {
     return this.attempt(async () => {
-      const { session, run, end } = this;
-      saveFile(savedName(session, ".session"), textOfPast(session, run.past, end), "text/plain");
+      const { session, run, end } = this, past = await run.askPast();
+      saveFile(savedName(session, ".session"), textOfPast(session, past, end), "text/plain");
       this.edits.noteSaved();
       const files = Object.keys(session.files).map(visibleName).join(", ");
       this.say(files ? `Saved. It is opened with its files: ${files}` : "Saved.");
@@ -222,7 +222,7 @@ export class App {
   async savePage() {
     await this.attempt(async () => {
       const { session, run, end } = this;
-      const page = await pageOfPast(session, run.past, end);
+      const page = await pageOfPast(session, await run.askPast(), end);
       saveFile(savedName(session, ".html"), page, "text/html");
       this.edits.noteSaved();
       this.say("Saved: one file with all in it.");
@@ -231,14 +231,16 @@ export class App {
 
   // What follows an edit, or a move
 
-  /** The past has changed: all that is shown is asked anew. */
-  changed() {
-    this.timeline.picture = null;
-    this.timeline.past = this.run.past;
-    this.timeline.wanted = this.isStory && !this.run.changes.length ? STORY.sweep.event : 0;
+  /** The past has changed: it and all that is shown is asked anew. */
+  async changed() {
+    const { run, timeline } = this;
+    await run.askPast();
+    if (run !== this.run) return;
+    timeline.picture = null;
+    timeline.showPasts(run.past, this.old ? this.begun.past : run.past);
+    timeline.wanted = this.isStory && !run.changes.length ? STORY.sweep.event : 0;
     this.watched.show();
-    this.timeline.oldPast = this.old?.past ?? this.run.past;
-    this.timeline.draw();
+    timeline.draw();
     this.edits.show();
     this.sweep.pastChanged();
     this.console?.pastChanged();
@@ -280,10 +282,13 @@ export class App {
     this.isAsked = true;
     this.showNotes();
     this.attempt(async () => {
-      await new PictureMaker(run, wanted, token, it => this.showPicture(it, "picture")).make();
+      const { sampledVectors } =
+        await new PictureMaker(run, wanted, token, it => this.showPicture(it, "picture")).make();
       if (!old) return;
       await this.oldIsLoaded;
-      await new PictureMaker(old, wanted, token, it => this.showPicture(it, "ghost")).make();
+      // what is sampled of one past is so of the other: otherwise they would seem to differ
+      const likewise = { ...wanted, listed: sampledVectors };
+      await new PictureMaker(old, likewise, token, it => this.showPicture(it, "ghost")).make();
     });
   }
 
@@ -312,7 +317,7 @@ export class App {
     if (this.old) return;
     this.old = this.newRun();
     this.timeline.ghost = this.timeline.picture;
-    this.oldIsLoaded = this.old.takeUp(this.begun).then(() => this.timeline.draw());
+    this.oldIsLoaded = this.old.takeUp(this.begun.lines);
     this.attempt(() => this.oldIsLoaded);
   }
 

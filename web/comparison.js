@@ -1,7 +1,7 @@
 // How two pasts differ: the first turn in which they part, text, core and disk.
 
-import { coreBytes } from "./options.js";
-import { eventsIn } from "./past.js";
+import { SECTOR_WORDS } from "./hardware.js";
+import { differenceOf } from "./past.js";
 import { Priority } from "./run.js";
 import { WORDS_AT_ONCE, mustBeTaken, wordsOf } from "./replies.js";
 
@@ -10,7 +10,6 @@ const [SINGLE_TURNS, TURNS_AFTER_AN_EDIT, MOST_SINGLE_TURNS] = [65_536, 4_096, 1
 const MOST_SAMPLES = 2_048;
 const TURNS_OF_A_PART = 1_024;
 const MOST_SHOWN = 64;
-const SECTOR_WORDS = 256;
 const PARTS_AT_ONCE = 64;
 
 /**
@@ -39,13 +38,9 @@ export class Comparison {
 
   /** The turns that the edits differ in, upwards; 0 if patches or delays do. */
   editedTurns() {
-    const pasts = [this.run.past, this.old.past], [now, old] = pasts;
-    const numbers = pasts.flatMap(it => [...it.touched]);
-    const turns = numbers.flatMap(it => pasts.map(past => past.events.get(it)?.turn));
-    const texts = (past, turn) => eventsIn(past.script, turn, turn).map(it => it.text).join("\n");
-    const edited = [...new Set(turns)].filter(it =>
-      it !== undefined && texts(now, it) !== texts(old, it));
-    const all = now.hasSetupOf(old) ? edited : [0, ...edited.filter(it => it > 0)];
+    const now = this.run.past, old = this.old.past;
+    const { turns } = differenceOf(old.script, now.script);
+    const all = now.patchesFrom(old)?.length === 0 ? turns : [0, ...turns.filter(it => it > 0)];
     return all.sort((a, b) => a - b);
   }
 
@@ -119,9 +114,8 @@ export class Comparison {
   }
 
   core(turn) {
-    const words = coreBytes(this.run.setup.arguments) / 2;
     return this.words((_, begin, count) =>
-      `mem ${turn} ${(2 * begin).toString(8)} ${count}`, words);
+      `mem ${turn} ${(2 * begin).toString(8)} ${count}`, this.run.past.core / 2);
   }
 
   get versionsDiffer() {

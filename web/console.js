@@ -107,7 +107,7 @@ export class Console {
         await new Promise(resolve => setTimeout(resolve, Math.max(0, TICK - time)));
       }
     } finally {
-      if (hasKeys) this.app.changed();
+      if (hasKeys) await this.app.changed();
     }
   }
 

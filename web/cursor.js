@@ -2,16 +2,14 @@
 
 import { Priority } from "./run.js";
 import { element, link, make, table } from "./page.js";
-import { coreBytes } from "./options.js";
 import { symbolNear as nearest } from "./session.js";
 import {
-  devicesOf, functionInWords, lastOf, octal, pageInWords, pagesOf, physicalOf,
-  registersOf, shownByte, statusInWords, turnsOf, vectorName, visibleName,
-  wordsOf,
+  devicesOf, functionInWords, lastOf, octal, pageInWords, pagesOf, physicalOf, registersOf,
+  shownByte, statusInWords, turnsOf, unreadOf, vectorName, visibleName, wordsOf,
 } from "./replies.js";
 
 const [TURNS_BEFORE, INSTRUCTIONS, WORDS_BEFORE_SP, WORDS_OF_MEMORY] = [6, 8, 8, 16];
-const WORDS_OF_INSTRUCTIONS = 3 * INSTRUCTIONS;
+const WORDS_OF_AN_INSTRUCTION = 3;
 const PANELS = ["registers", "devices", "pages", "instructions", "stack", "memory"];
 const REGISTER_NAMES = ["R0", "R1", "R2", "R3", "R4", "R5", "KSP", "USP", "PC", "PS"];
 
@@ -56,12 +54,12 @@ export class CursorPanels {
     const lines = [`regs ${before}`, `regs ${turn}`, `pages ${turn}`, `devices ${turn}`];
     if (count) lines.push(`trail ${turn} ${count}`);
     const [old, now, pages, devices, trail] = await ask(lines);
-    const core = coreBytes(run.setup.arguments);
-    const machine = { turn, core, registers: registersOf(now), pages: pagesOf(pages) };
+    const registers = registersOf(now), mapping = pagesOf(pages), { core } = run.past;
+    const machine = { turn, core, registers, space: spaceOf(mapping, registers.mode) };
     this.symbols = symbols;
-    this.showRegisters(registersOf(old), machine.registers);
+    this.showRegisters(registersOf(old), registers);
     this.showDevices(devicesOf(devices));
-    this.showPages(machine);
+    this.showPages(mapping);
     for (const name of ["registers", "devices", "pages"]) this.isShown(name, state);
     const later = {
       instructions: this.showInstructions(ask, machine, trail ? turnsOf(trail) : []),
@@ -95,7 +93,7 @@ export class CursorPanels {
       make("dl", { class: "registers" }, ...cells));
   }
 
-  showPages({ pages }) {
+  showPages(pages) {
     if (!(pages.sr0 & 1)) {
       element("pages").replaceChildren(make("p", {},
         "Mapping is off: addresses up to 157777 are physical ones, the others the I/O page."));
@@ -110,7 +108,7 @@ export class CursorPanels {
   // Instructions
 
   async showInstructions(ask, machine, trail) {
-    const past = await this.pastInstructions(ask, machine, trail);
+    const past = await this.pastInstructions(ask, trail);
     const next = await this.nextInstructions(ask, machine);
     const row = (it, turn) => [turn, it.mode, octal(it.pc), it.text, it.symbol];
     const goTo = turn => link(String(turn), "Go to this turn", () => this.listener.onTurn(turn));
@@ -122,31 +120,17 @@ export class CursorPanels {
       table("Turns before, and instructions from PC on", ["turn", "mode", "PC", "", ""], rows));
   }
 
-  /** The words at a virtual address, as far as they are core. */
-  static places({ core, pages }, mode, address, count) {
-    const found = [];
-    for (let at = 0; at < count; at++) {
-      const place = physicalOf(pages, mode, address + 2 * at & 0o177777);
-      if (place === null || place % 2 || place >= core) break;
-      found.push(place);
-    }
-    return found;
-  }
-
-  async pastInstructions(ask, { core }, trail) {
+  async pastInstructions(ask, trail) {
     const replies = await ask(trail.flatMap(it => [`regs ${it.turn}`, `pages ${it.turn}`]));
     const turns = trail.map((it, at) => {
       const { mode } = registersOf(replies[2 * at]);
-      const pages = pagesOf(replies[2 * at + 1]);
-      const places = CursorPanels.places({ core, pages }, mode, it.pc, 3);
-      return { ...it, mode, places };
+      return { ...it, mode, space: spaceOf(pagesOf(replies[2 * at + 1]), mode), words: [] };
     });
-    const fetched = turns.filter(it => it.places.length && it.act === "instr");
-    const words = await ask(fetched.flatMap(it => it.places.map(place =>
-      `mem ${it.turn} ${place.toString(8)} 1`)));
-    let at = 0;
-    for (const it of fetched) it.words = it.places.map(() => wordsOf(words[at++])[0]);
-    const texts = await this.texts(fetched.map(it => ({ pc: it.pc, words: it.words })));
+    await Promise.all(turns.filter(it => it.act === "instr").map(async it => {
+      it.words = await wordsAt(ask, it, it.pc, WORDS_OF_AN_INSTRUCTION);
+    }));
+    const fetched = turns.filter(it => it.words.length);
+    const texts = await this.texts(fetched);
     fetched.forEach((it, number) => { it.text = texts[number].text; });
     return turns.map(it => ({
       ...it, text: it.text ?? actInWords(it), symbol: symbolNear(this.symbols[it.mode], it.pc),
@@ -154,13 +138,11 @@ export class CursorPanels {
   }
 
   async nextInstructions(ask, machine) {
-    const { turn, registers: { mode, pc } } = machine;
-    const places = CursorPanels.places(machine, mode, pc, WORDS_OF_INSTRUCTIONS);
-    if (!places.length) return [{ mode, pc, text: "(can't be fetched)", symbol: "" }];
-    const replies = await ask(places.map(it => `mem ${turn} ${it.toString(8)} 1`));
-    const words = replies.map(it => wordsOf(it)[0]);
+    const { registers: { mode, pc } } = machine;
+    const words = await wordsAt(ask, machine, pc, INSTRUCTIONS * WORDS_OF_AN_INSTRUCTION);
+    if (!words.length) return [{ mode, pc, text: "(can't be fetched)", symbol: "" }];
     const texts = await this.texts(words.map((_, at) => (
-      { pc: pc + 2 * at & 0o177777, words: words.slice(at, at + 3) })));
+      { pc: pc + 2 * at & 0o177777, words: words.slice(at, at + WORDS_OF_AN_INSTRUCTION) })));
     const found = [];
     for (let at = 0; at < texts.length && found.length < INSTRUCTIONS;) {
       const address = pc + 2 * at & 0o177777;
@@ -190,7 +172,7 @@ export class CursorPanels {
     const { turn, registers } = machine;
     const name = registers.mode === "kernel" ? "KSP" : "USP";
     const sp = registers.words[name];
-    const places = CursorPanels.places(machine, registers.mode, sp, WORDS_BEFORE_SP);
+    const places = await placesAt(ask, machine, sp, WORDS_BEFORE_SP);
     const rows = await this.wordRows(ask, turn, places);
     rows.forEach((row, at) => row.unshift((at ? "" : `${name} `) + octal(sp + 2 * at & 0o177777)));
     const heads = ["stack", "core", "word", "text", "last written"];
@@ -228,6 +210,32 @@ export class CursorPanels {
     const change = link(octal(word), "Change this word as of power-up", write);
     return [watch, change, text, last ? goTo(last) : "never"];
   }
+}
+
+/** The mode that a line names for the addresses of a mode: while mapping is off they are the same
+    in all modes. Null while it is on for the modes 01 and 10, which have no pages. */
+function spaceOf({ sr0, descriptors }, mode) {
+  if (!(sr0 & 1)) return "kernel";
+  return descriptors[mode] ? mode : null;
+}
+
+/** The words at virtual addresses that an instruction can read, up to the first that it can't. */
+export async function wordsAt(ask, { turn, space }, address, count) {
+  if (!space || address % 2 || !count) return [];
+  const most = Math.min(count, 0o200000 - address >> 1);
+  const [reply] = await ask([`virtual ${turn} ${space} ${address.toString(8)} ${most}`]);
+  const unread = unreadOf(reply);
+  if (unread !== null) return wordsAt(ask, { turn, space }, address, unread - address >> 1);
+  return [...wordsOf(reply), ...await wordsAt(ask, { turn, space }, 0, count - most)];
+}
+
+/** The physical addresses of words at virtual ones, as far as they are core. */
+export async function placesAt(ask, { turn, space, core }, address, count) {
+  if (!space || address % 2) return [];
+  const replies = await ask(Array.from({ length: count }, (_, at) =>
+    `translate ${turn} ${space} ${(address + 2 * at & 0o177777).toString(8)}`));
+  const places = replies.map(physicalOf), end = places.findIndex(it => it === null || it >= core);
+  return end < 0 ? places : places.slice(0, end);
 }
 
 /** The machine before a turn, as the edits that a run has taken make it. */

@@ -50,7 +50,7 @@ export class Edits {
 
   async makeShown(line) {
     if (isRefused(await this.make(line))) this.show();
-    else this.app.changed();
+    else await this.app.changed();
   }
 
   /** Makes an edit. One that joins is undone with the one before it. Returns the reply. */
@@ -58,6 +58,7 @@ export class Edits {
     const { app } = this;
     app.keepOld();
     const reply = await app.run.edit(line, joins);
+    await app.run.askPast();
     app.say(`${line}: ${reply}`);
     return reply;
   }
@@ -99,7 +100,7 @@ export class Edits {
     return this.inTurn(async () => {
       const replies = await app.run.ask(tried?.back ?? [], Priority.EDIT);
       replies.forEach(mustBeTaken);
-      if (turn === null) app.changed();
+      if (turn === null) await app.changed();
       else await this.makeShown(`alter ${event.number} ${turn} ${event.text}`);
     });
   }
@@ -109,16 +110,16 @@ export class Edits {
   undo() {
     return this.inTurn(async () => {
       await this.app.run.undo();
+      await this.app.changed();
       this.app.say("undone");
-      this.app.changed();
     });
   }
 
   redo() {
     return this.inTurn(async () => {
       await this.app.run.redo();
+      await this.app.changed();
       this.app.say("made again");
-      this.app.changed();
     });
   }
 
@@ -134,6 +135,7 @@ export class Edits {
       app.reach(kept.end);
       app.run.undone = kept.changes.reverse();
       while (app.run.undone.length) await app.run.redo();
+      await app.run.askPast();
     });
     return "The edits that this tab kept are made again: Undo takes them back.";
   }

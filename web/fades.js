@@ -1,5 +1,6 @@
 // From which turn on the old past and the new one are the same again.
 
+import { differenceOf } from "./past.js";
 import { isRefused, turnOf } from "./replies.js";
 import { Priority } from "./run.js";
 
@@ -17,20 +18,6 @@ function scriptWith(script, gone, come) {
 
 const lineOf = ({ turn, text }) => `${turn} ${text}`;
 
-const linesOf = script => script.map(lineOf).join("\n");
-
-/** The events of `touched` numbers that one past has and the other lacks. */
-function withoutEqual(touched, past, other) {
-  const eventsOf = it => [...touched].map(number => it.events.get(number)).filter(Boolean);
-  const left = new Map();
-  for (const line of eventsOf(other).map(lineOf)) left.set(line, (left.get(line) ?? 0) + 1);
-  return eventsOf(past).filter(it => {
-    const count = left.get(lineOf(it)) ?? 0;
-    left.set(lineOf(it), count - 1);
-    return count <= 0;
-  });
-}
-
 /**
  * The one edit that makes an old past the one now, and the last turn whose events it changes, 0 for
  * a patch; an empty line if they are the same. Null if it takes more edits, or one that the line
@@ -40,17 +27,16 @@ function withoutEqual(touched, past, other) {
 export function editBetween(old, now) {
   const patches = now.patchesFrom(old);
   if (patches === null || patches.length > 1) return null;
-  if (patches.length === 0) return eventBetween(old, now);
-  return linesOf(old.script) === linesOf(now.script) ? { line: patches[0], last: 0 } : null;
+  if (patches.length === 0) return eventBetween(old.script, now.script);
+  const { turns } = differenceOf(old.script, now.script);
+  return turns.length ? null : { line: patches[0], last: 0 };
 }
 
-/** The same of two pasts whose setups are equal. */
+/** The same of two scripts. */
 function eventBetween(old, now) {
-  const goneEvents = withoutEqual(now.touched, old, now);
-  const newEvents = withoutEqual(now.touched, now, old);
-  if (goneEvents.length > 1 || newEvents.length > 1) return null;
-  const [[gone], [come]] = [goneEvents, newEvents];
-  if (linesOf(scriptWith(old.script, gone, come)) !== linesOf(now.script)) return null;
+  const { gone: [gone, otherGone], come: [come, otherCome] } = differenceOf(old, now);
+  if (otherGone || otherCome) return null;
+  if (differenceOf(scriptWith(old, gone, come), now).turns.length) return null;
   const last = Math.max(gone?.turn ?? 0, come?.turn ?? 0);
   if (gone && come) return { line: `alter ${gone.number} ${lineOf(come)}`, last };
   if (gone) return { line: `drop ${gone.number}`, last };

@@ -1,6 +1,6 @@
 // Draws a picture of a run on a canvas, lane below lane.
 
-import { LAST_TURN, shownByte, vectorName, visibleName } from "./replies.js";
+import { DEVICE_VECTORS, LAST_TURN, shownByte, vectorName, visibleName } from "./replies.js";
 import { SWEEP_COLOURS, letterOf } from "./sweep.js";
 
 const FONT = "11px ui-monospace, Menlo, Consolas, monospace";
@@ -416,7 +416,8 @@ export class LanesDrawing {
 function knownTurns(lane, picture) {
   const hasWord = lane.kind !== "steps" || picture?.words.some(it => it.name === lane.name);
   if (!picture || !hasWord) return { from: Infinity, to: -Infinity };
-  const isLooks = lane.kind === "counter" || lane.name === "interrupts";
+  const isLooks = lane.kind === "counter"
+    || lane.name === "interrupts" && picture.sampledVectors.length > 0;
   const to = picture.isMade ? picture.end : isLooks ? picture.reached : picture.first;
   return { from: picture.first, to };
 }
@@ -438,12 +439,20 @@ export const NOTHING_SAMPLED = "Each turn in sight is looked at; nothing is samp
 const sampledWords = picture =>
   picture?.words.filter(it => it.values && !it.isWhole).map(it => it.name) ?? [];
 
+/** The interrupts that are sampled, such as `interrupts by clock`; none if all were found. */
+function sampledInterrupts(picture) {
+  const vectors = picture?.sampledVectors ?? [];
+  const isAll = vectors.length === DEVICE_VECTORS.length;
+  const by = isAll ? "" : ` by ${vectors.map(vectorName).join(", ")}`;
+  return vectors.length ? [`interrupts${by}`] : [];
+}
+
 /** What is sampled and what is cut in a picture and in that of the old past, in sentences. */
 export function notesOf(picture, ghost = null) {
-  const { step, listsAllTurns, disk, text } = picture;
+  const { step, disk, text } = picture, [interrupts] = sampledInterrupts(picture);
   const notes = [];
   if (step > 1) notes.push(`PC and mode: the first of each ${step} turns.`);
-  if (!listsAllTurns) notes.push(`Interrupts: of the first 64 of each ${step} turns.`);
+  if (interrupts) notes.push(`Sampled in the first 64 of each ${step} turns: ${interrupts}.`);
   if (!disk.isWhole) notes.push(`Disk: busy or not, at the first of each ${step} turns.`);
   if (disk.isWhole && step > 1) {
     notes.push(`Disk: functions less than ${step} turns apart may be drawn as one.`);
@@ -451,7 +460,8 @@ export function notesOf(picture, ghost = null) {
   if (text.each > 1) notes.push(`Console: one of each ${text.each} bytes.`);
   const sampled = sampledWords(picture);
   if (sampled.length) notes.push(`Sampled once each ${step} turns, dotted: ${sampled.join(", ")}.`);
-  const olds = sampledWords(ghost).filter(it => !sampled.includes(it));
+  const olds = [...sampledWords(ghost), ...sampledInterrupts(ghost)]
+    .filter(it => it !== interrupts && !sampled.includes(it));
   if (olds.length) notes.push(`Of the old past sampled: ${olds.join(", ")}.`);
   return notes.length ? notes : [NOTHING_SAMPLED];
 }

@@ -12,13 +12,17 @@ import { Host, readerOf } from "./host.js";
 
 const OUTPUT = 1;
 
+// The parts are put together first, since a long reply has one for each line. A call takes no more
+// than so many arguments, and with `apply` it takes them as they are.
 const latin1 = parts => {
-  let text = "";
+  const bytes = new Uint8Array(parts.reduce((sum, it) => sum + it.length, 0));
+  let text = "", end = 0;
   for (const part of parts) {
-    // not all at once: the arguments of a call are limited
-    for (let at = 0; at < part.length; at += 4096) {
-      text += String.fromCharCode(...part.subarray(at, at + 4096));
-    }
+    bytes.set(part, end);
+    end += part.length;
+  }
+  for (let at = 0; at < end; at += 4096) {
+    text += String.fromCharCode.apply(null, bytes.subarray(at, at + 4096));
   }
   return text;
 };

@@ -4,7 +4,7 @@
 const FILES = /^(?:core|disk[1-7]?|tape)$/, MARK = "#!";
 // A line of a session has 200 bytes at most, comments too.
 const LONGEST_PART = 190;
-const [UNITS, BYTES_OF_A_UNIT] = [31, 0o20000];
+const UNITS = 31;
 // The options that are numbers: their digits, the least and the most, and how these are told.
 const DECIMAL = /^[0-9]{1,10}$/, EVEN = /^[0-7]{0,9}[0246]$/;
 const NUMBERS = new Map([
@@ -47,12 +47,6 @@ function isRight(name, value) {
 }
 
 export const wordsOfOptions = options => [...options].flatMap(([name, it]) => [`--${name}`, it]);
-
-/** How many bytes of core a machine with these options has. */
-export function coreBytes(words) {
-  const at = words.indexOf("--units");
-  return (at < 0 ? UNITS : Number(words[at + 1])) * BYTES_OF_A_UNIT;
-}
 
 /** What the comment lines of options say, or null if there are none. They stand before the first
     line that is no comment. */

@@ -1,15 +1,33 @@
-// The past as the page knows it: what the edits that the program took have made of it.
+// The past as the program tells it: what the edits that it took have made of it.
 
-import { eventOf, keyName } from "./replies.js";
+import { DELAYS } from "./hardware.js";
+import { eventsOf, keyName, patchesOf, setupOf } from "./replies.js";
 
-const DELAYS = { printer: 1, reader: 4, punch: 4, disk: 10, clock: 0 };
+const EDITS_OF_SCRIPT = new Set(["at", "alter", "drop"]);
 const EDITS = new Set(
-  ["core", "uncore", "disk", "tape", "delay", "version", "at", "alter", "drop"]);
+  ["core", "uncore", "disk", "tape", "delay", "version", ...EDITS_OF_SCRIPT]);
+// The lines that tell the past, and what each reply has of it.
+const TOLD = {
+  setup: setupOf,
+  patches: reply => ({ patches: patchesOf(reply) }),
+  events: reply => {
+    const script = eventsOf(reply);
+    return { script, events: new Map(script.map(it => [it.number, it])) };
+  },
+};
+export const PAST_LINES = Object.keys(TOLD);
 
 /** The words of a line; a comment has none. */
 export const wordsOfLine = line => line.startsWith("#") ? [] : line.split(/[ \t]+/).filter(Boolean);
 
 export const isEdit = line => EDITS.has(wordsOfLine(line)[0]);
+
+/** The lines that tell what an edit has changed. */
+export const linesThatTell = line =>
+  EDITS_OF_SCRIPT.has(wordsOfLine(line)[0]) ? ["events"] : ["setup", "patches"];
+
+/** Whether a line runs no turns, whatever the past is. */
+export const runsNothing = line => isEdit(line) || PAST_LINES.includes(line);
 
 /** An event with the name of its key, such as `key 66 '6'`. */
 export function eventInWords(event) {
@@ -24,12 +42,12 @@ export function eventLabel(event) {
   return value === undefined ? word : `${word} ${value}`;
 }
 
-/** Where in a script the events begin that are at this turn with this place, or come later. */
-function placeIn(script, turn, place) {
+/** Where in a script the events of a turn begin, or those of later ones. */
+function placeIn(script, turn) {
   let [low, high] = [0, script.length];
   while (low < high) {
-    const middle = low + high >> 1, it = script[middle];
-    if (it.turn < turn || it.turn === turn && it.place < place) low = middle + 1;
+    const middle = low + high >> 1;
+    if (script[middle].turn < turn) low = middle + 1;
     else high = middle;
   }
   return low;
@@ -37,95 +55,44 @@ function placeIn(script, turn, place) {
 
 /** The events of a script in the turns from `first` to `last`. */
 export const eventsIn = (script, first, last) =>
-  script.slice(placeIn(script, first, 0), placeIn(script, last, Infinity));
+  script.slice(placeIn(script, first), placeIn(script, Math.floor(last) + 1));
 
-/** Version, patches, tape, delays and events. */
+/** Version, size of core, patches, tape, delays and events, as the program told them. */
 export class Past {
   constructor() {
-    this.version = 1;
-    /** @type {Map<string, number>} by `core A`, or `disk D I` with octal digits */
-    this.patches = new Map();
-    /** @type {string[] | null} */
+    Object.assign(this, { version: 1, core: 0, delays: DELAYS });
+    /** @type {string | null} the line that put the tape in */
     this.tape = null;
-    this.delays = { ...DELAYS };
-    /** @type {Map<number, {number: number, turn: number, text: string, place: number}>} */
+    /** @type {Map<string, string>} by `core A`, `disk I` or `disk D I`, its word; all in octal */
+    this.patches = new Map();
+    /** @type {Map<number, {number: number, turn: number, text: string}>} */
     this.events = new Map();
     /** all events, in the order in which they happen */
     this.script = [];
-    /** the numbers of the events that were made, altered or dropped since the session was opened */
-    this.touched = new Set();
-    this.places = 0;
   }
 
-  /** Takes an edit that the program has answered `ok` or `event E`. */
-  apply(line, reply) {
-    const [word, ...rest] = wordsOfLine(line);
-    if (word === "core") this.patches.set(coreName(rest[0]), parseInt(rest[1], 8));
-    else if (word === "uncore") this.patches.delete(coreName(rest[0]));
-    else if (word === "disk") this.patches.set(diskName(rest), parseInt(rest.at(-1), 8));
-    else if (word === "tape") this.tape = rest;
-    else if (word === "delay") this.delays[rest[0]] = Number(rest[1]);
-    else if (word === "version") this.version = Number(rest[0]);
-    else this.applyToScript(word, rest, reply);
+  /** The past of which these lines of PAST_LINES have these replies; the rest of it is as here. */
+  told(lines, replies, tape) {
+    const parts = lines.map((it, at) => TOLD[it](replies[at]));
+    return Object.assign(new Past(), this, { tape }, ...parts);
   }
 
-  applyToScript(word, rest, reply) {
-    if (word === "at") {
-      const [turn, text] = [Number(rest[0]), rest.slice(1).join(" ")];
-      const event = { number: eventOf(reply), turn, text };
-      this.events.set(event.number, event);
-      this.touched.add(event.number);
-      this.putLast(event, turn);
-      return;
-    }
-    const event = this.events.get(Number(rest[0]));
-    this.touched.add(event.number);
-    if (word === "drop") {
-      this.takeOut(event);
-      this.events.delete(event.number);
-    } else if (word === "alter") {
-      event.text = rest.slice(2).join(" ");
-      if (event.turn === Number(rest[1])) return;
-      this.takeOut(event);
-      this.putLast(event, Number(rest[1]));
-    }
-  }
-
-  takeOut({ turn, place }) {
-    this.script.splice(placeIn(this.script, turn, place), 1);
-  }
-
-  /** Puts an event behind all others of a turn. */
-  putLast(event, turn) {
-    Object.assign(event, { turn, place: ++this.places });
-    this.script.splice(placeIn(this.script, turn, event.place), 0, event);
-  }
-
-  /** The last turn with an event, or 0. */
-  lastTurn() {
-    return this.script.at(-1)?.turn ?? 0;
-  }
-
-  /** The lines that take back an edit, asked before the edit is made. */
+  /** The lines that take back an edit, asked before the edit is made; null if none is known. */
   inverse(line) {
     const [word, ...rest] = wordsOfLine(line);
-    if (word === "core" || word === "uncore") return [this.inverseOfCore(rest[0])];
-    if (word === "disk") return [this.inverseOfDisk(rest)];
+    if (word === "core" || word === "disk") return this.inverseOfPatch(word, rest.slice(0, -1));
+    if (word === "uncore") return this.inverseOfPatch("core", rest);
     if (word === "delay") return [`delay ${rest[0]} ${this.delays[rest[0]]}`];
     if (word === "drop" || word === "alter") return this.inverseOfEvent(Number(rest[0]), word);
     return null;
   }
 
-  inverseOfCore(address) {
-    const word = this.patches.get(coreName(address));
-    return word === undefined ? `uncore ${address}` : `core ${address} ${word.toString(8)}`;
-  }
-
   /** A disk's word without a patch has its image's value, which isn't known here. */
-  inverseOfDisk(words) {
-    const word = this.patches.get(diskName(words));
-    const where = words.slice(0, -1).join(" ");
-    return word === undefined ? null : `disk ${where} ${word.toString(8)}`;
+  inverseOfPatch(kind, where) {
+    const name = [kind, ...where.map(it => parseInt(it, 8).toString(8))].join(" ");
+    const word = this.patches.get(name);
+    if (word !== undefined) return [[kind, ...where, word].join(" ")];
+    return kind === "core" ? [`uncore ${where[0]}`] : null;
   }
 
   /** The event as it was, and after it those that came after it in the same turn. */
@@ -134,16 +101,11 @@ export class Past {
     if (!event) return null;
     const back = word === "drop" ? `at ${event.turn} ${event.text}`
       : `alter ${number} ${event.turn} ${event.text}`;
-    const later = eventsIn(this.script, event.turn, event.turn)
-      .filter(it => it.place > event.place);
+    const ofTurn = eventsIn(this.script, event.turn, event.turn);
+    const later = ofTurn.slice(ofTurn.indexOf(event) + 1);
     const away = it => `alter ${it.number} ${Math.abs(it.turn - 1)} ${it.text}`;
     const again = it => `alter ${it.number} ${it.turn} ${it.text}`;
     return [back, ...later.flatMap(it => [away(it), again(it)])];
-  }
-
-  /** Whether another past has the same version, patches, tape and delays. */
-  hasSetupOf(past) {
-    return this.patchesFrom(past)?.length === 0;
   }
 
   /** The lines of the patches that make the setup of another past this one, or null if it takes
@@ -153,34 +115,50 @@ export class Past {
     const lacks = [...past.patches.keys()].some(it => !this.patches.has(it));
     if (lacks || rest(past) !== rest(this)) return null;
     return [...this.patches].filter(([name, word]) => past.patches.get(name) !== word)
-      .map(it => this.lineOfPatch(it));
-  }
-
-  lineOfPatch([name, word]) {
-    const [kind, ...where] = name.split(" ");
-    const at = kind === "disk" && this.version === 1 ? where.slice(1) : where;
-    return [kind, ...at, word.toString(8)].join(" ");
+      .map(it => it.join(" "));
   }
 
   /** A session that gives the same machine. Its events are numbered anew, in their order. */
   lines() {
     const found = [];
     if (this.version !== 1) found.push(`version ${this.version}`);
-    if (this.tape !== null) found.push(["tape", ...this.tape].join(" "));
+    if (this.tape !== null) found.push(this.tape);
     for (const [device, turns] of Object.entries(this.delays)) {
       if (turns !== DELAYS[device]) found.push(`delay ${device} ${turns}`);
     }
-    const patches = [...this.patches].map(it => this.lineOfPatch(it));
+    const patches = [...this.patches].map(it => it.join(" "));
     return [...found, ...patches, ...this.script.map(it => `at ${it.turn} ${it.text}`)];
   }
 }
 
-const plain = digits => parseInt(digits, 8).toString(8);
+/** The events of a turn that others of it don't have too. */
+function without(events, others) {
+  const left = others.map(it => it.text);
+  return events.filter(({ text }) => {
+    const place = left.indexOf(text);
+    if (place >= 0) left.splice(place, 1);
+    return place < 0;
+  });
+}
 
-const coreName = address => `core ${plain(address)}`;
-
-/** `words` are D, I and W, or in version 1 I and W. */
-function diskName(words) {
-  const [drive, index] = words.length === 3 ? words : ["0", words[0]];
-  return `disk ${plain(drive)} ${plain(index)}`;
+/** How a script differs from an old one: the events that are gone and that came, and the turns
+    whose events, or their order, are others. */
+export function differenceOf(old, now) {
+  const gone = [], come = [], turns = [];
+  for (let at = 0, place = 0; at < old.length || place < now.length;) {
+    const [one, other] = [old[at], now[place]];
+    if (one?.turn === other?.turn && one.text === other.text) {
+      at++;
+      place++;
+    } else {
+      const turn = Math.min(one?.turn ?? Infinity, other?.turn ?? Infinity);
+      const [olds, news] = [eventsIn(old, turn, turn), eventsIn(now, turn, turn)];
+      gone.push(...without(olds, news));
+      come.push(...without(news, olds));
+      turns.push(turn);
+      at = placeIn(old, turn + 1);
+      place = placeIn(now, turn + 1);
+    }
+  }
+  return { gone, come, turns };
 }

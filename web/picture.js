@@ -2,8 +2,8 @@
 
 import { Priority } from "./run.js";
 import {
-  TURNS_OF_A_TRAIL, bytesOf, devicesOf, functionInWords, interruptsOf, isRefused, lengthOf, octal,
-  refusalInWords, registersOf, turnOf, wordsOf, writesOf,
+  DEVICE_VECTORS, TURNS_OF_A_TRAIL, bytesOf, devicesOf, functionInWords, interruptsOf, isRefused,
+  lengthOf, octal, refusalInWords, registersOf, turnOf, wordsOf, writesOf,
 } from "./replies.js";
 
 // If there are no more turns than this, each is looked at.
@@ -11,7 +11,7 @@ export const MOST_SINGLE_TURNS = 4_096;
 // So many looks are taken apart at once, in a few milliseconds.
 const LOOKS_AT_ONCE = 128;
 const TIME_OF_A_PART = 250;
-const MOST_WRITES = 400, MOST_BYTES = 1_500, MOST_CHANGES = 400;
+const MOST_WRITES = 400, MOST_BYTES = 1_500, MOST_CHANGES = 400, MOST_OF_A_VECTOR = 400;
 const MOST_SEARCHED_TURNS = 20_000_000;
 
 /**
@@ -51,17 +51,20 @@ export async function whyNoWord(run, word, token = null) {
 export class PictureMaker {
   /**
    * @param {import("./run.js").Run} run
-   * @param {{first: number, end: number, columns: number, words: WatchedWord[]}} wanted
+   * @param {{first: number, end: number, columns: number, words: WatchedWord[],
+   *   listed?: number[]}} wanted `listed` are vectors whose interrupts are taken from trails
    */
   constructor(run, wanted, token, onPart) {
     Object.assign(this, { run, wanted, token, onPart, told: 0 });
     this.past = run.past;
     const turns = wanted.end - wanted.first;
     this.step = turns <= MOST_SINGLE_TURNS ? 1 : Math.ceil(turns / wanted.columns);
+    /** Whether too many turns are in sight to search them for interrupts: each look has a trail. */
+    this.isListed = turns * DEVICE_VECTORS.length > MOST_SEARCHED_TURNS;
     this.picture = {
       first: wanted.first, end: wanted.end, reached: wanted.first, step: this.step, isMade: false,
       looks: [], interrupts: [],
-      listsAllTurns: this.step <= TURNS_OF_A_TRAIL,
+      sampledVectors: this.isListed ? DEVICE_VECTORS : [],
       disk: { bars: [], busy: [], isWhole: false },
       text: { bytes: [], printed: 0, each: 1 }, words: [],
     };
@@ -78,6 +81,7 @@ export class PictureMaker {
     this.missing = this.wanted.words.map((it, at) => ({ name: nameOfWord(it), why: whyNot[at] }))
       .filter(it => it.why);
     await this.look();
+    if (!this.isListed) await this.collectInterrupts();
     await Promise.all([this.collectText(), this.collectDisk(), this.collectWords()]);
     this.picture.isMade = true;
     this.onPart(this.picture);
@@ -116,11 +120,13 @@ export class PictureMaker {
   linesOfLook(turn, words) {
     const lines = [`regs ${turn}`, `devices ${turn}`];
     lines.push(...words.map(it => questionOf(this.past, it, turn)));
-    const isListed = this.step > 1 || (turn - this.wanted.first) % TURNS_OF_A_TRAIL === 0;
-    const span = this.step > 1 ? Math.min(this.step, TURNS_OF_A_TRAIL) : TURNS_OF_A_TRAIL;
-    const count = Math.min(span, this.wanted.end - turn);
-    if (isListed) lines.push(`trail ${turn + count} ${count}`);
+    if (this.isListed) lines.push(this.trailFrom(turn));
     return lines;
+  }
+
+  trailFrom(turn) {
+    const count = Math.min(TURNS_OF_A_TRAIL, this.wanted.end - turn);
+    return `trail ${turn + count} ${count}`;
   }
 
   addLook(turn, replies) {
@@ -131,34 +137,58 @@ export class PictureMaker {
     const busy = disk.diskIsReady ? null : disk;
     this.picture.looks.push({ turn, pc, mode, priority, state, busy, words });
     this.picture.reached = Math.min(this.picture.end, turn + this.step);
-    const trail = rest[this.words.length];
-    if (!trail) return;
-    this.picture.interrupts.push(...interruptsOf(trail));
+    if (this.isListed) this.picture.interrupts.push(...interruptsOf(rest[this.words.length]));
+  }
+
+  // The interrupts
+
+  /** All interrupts, by each vector. Those of a vector that has too many are taken from trails: of
+      all turns, or of the first of each step. */
+  async collectInterrupts() {
+    const { picture, step, wanted: { first, end, listed = [] } } = this, many = [...listed];
+    for (const vector of DEVICE_VECTORS.filter(it => !listed.includes(it))) {
+      const turns = await this.turnsOf(vector);
+      if (turns) picture.interrupts.push(...turns.map(turn => ({ turn, vector })));
+      else many.push(vector);
+    }
+    const lines = [];
+    for (let turn = first; many.length && turn < end; turn += Math.max(step, TURNS_OF_A_TRAIL)) {
+      lines.push(this.trailFrom(turn));
+    }
+    const found = (await this.ask(lines)).flatMap(interruptsOf);
+    picture.interrupts.push(...found.filter(it => many.includes(it.vector)));
+    picture.interrupts.sort((a, b) => a.turn - b.turn);
+    if (step > TURNS_OF_A_TRAIL) picture.sampledVectors = many;
+  }
+
+  /** The turns of the interrupts by a vector, or null if there are too many. */
+  async turnsOf(vector) {
+    const { first, end } = this.wanted, turns = [];
+    for (let begin = first; turns.length <= MOST_OF_A_VECTOR; begin = turns.at(-1) + 1) {
+      const turn = turnOf(await this.one(`first ${begin} ${end} vector ${vector.toString(8)}`));
+      if (turn === null) return turns;
+      turns.push(turn);
+    }
+    return null;
   }
 
   // The console
 
-  /** The bytes printed in the turns. The bytes before a turn are found by halving. */
+  /** The bytes printed in the turns. */
   async collectText() {
     const { first, end } = this.wanted;
-    const [before, until] = await this.textLengths([first, end]);
-    const each = Math.ceil((until - before) / MOST_BYTES) || 1;
-    const numbers = [];
-    for (let byte = before; byte < until; byte += each) numbers.push(byte);
-    const text = numbers.length ? bytesOf(await this.one(`text ${end} from ${before}`)) : [];
-    const turns = (await this.ask(numbers.map(it => `when ${it}`))).map(turnOf);
-    const bytes = numbers.map((it, at) => ({ turn: turns[at], byte: text[it - before] }));
-    this.picture.text = { bytes, printed: until - before, each };
+    const before = lengthOf(await this.one(`text ${first}`));
+    const text = bytesOf(await this.one(`text ${end} from ${before}`));
+    const each = Math.ceil(text.length / MOST_BYTES) || 1;
+    const places = [];
+    for (let at = 0; at < text.length; at += each) places.push(at);
+    const turns = (await this.ask(places.map(it => `when ${before + it}`))).map(turnOf);
+    const bytes = places.map((it, at) => ({ turn: turns[at], byte: text[it] }));
+    this.picture.text = { bytes, printed: text.length, each };
   }
 
   async one(line) {
     return (await this.ask([line]))[0];
-  }
-
-  /** How many bytes were printed before each of the turns. */
-  async textLengths(turns) {
-    const replies = await this.ask(turns.map(it => `text ${it}`));
-    return replies.map(lengthOf);
   }
 
   // The disk

@@ -1,19 +1,20 @@
 // The replies of the session language as values with names. A reply that isn't of the form that was
 // asked for, such as a refusal, is an error: no part of it becomes a value.
 
+import { CYLINDERS, INTERRUPTS, SECTORS, SURFACES } from "./hardware.js";
+
 export const LAST_TURN = 1_000_000_000;
 export const WORDS_AT_ONCE = 256;
 export const TURNS_OF_A_TRAIL = 64;
 
-const IO_PAGE = 0o160000;
-const PHYSICAL = 0o1000000;
-const CYLINDERS = 203, SECTORS_OF_A_TRACK = 12;
+const BYTES_OF_A_UNIT = 0o20000;
 const MODES = ["kernel", "mode 01", "mode 10", "user"];
 const VECTORS = new Map([
-  [0o4, "bus error"], [0o10, "reserved"], [0o14, "trace"], [0o20, "IOT"], [0o30, "EMT"],
-  [0o34, "TRAP"], [0o60, "keyboard"], [0o64, "printer"], [0o70, "reader"], [0o74, "punch"],
-  [0o100, "clock"], [0o220, "disk"], [0o250, "page fault"],
+  ...INTERRUPTS, [0o4, "bus error"], [0o10, "reserved"], [0o14, "trace"], [0o20, "IOT"],
+  [0o30, "EMT"], [0o34, "TRAP"], [0o250, "page fault"],
 ]);
+/** The vectors by which devices interrupt. */
+export const DEVICE_VECTORS = [...INTERRUPTS.keys()];
 const FUNCTIONS = [
   "control reset", "write", "read", "write check", "seek", "read check", "drive reset",
   "write lock",
@@ -74,10 +75,12 @@ function fieldsOf(reply, ...heads) {
 }
 
 /** @param {string[]} fields names and words, one after the other */
-function namedWords(fields) {
+function namedWords(fields, base = 8) {
   /** @type {Object<string, number>} */
   const words = {};
-  for (let at = 0; at + 1 < fields.length; at += 2) words[fields[at]] = parseInt(fields[at + 1], 8);
+  for (let at = 0; at + 1 < fields.length; at += 2) {
+    words[fields[at]] = parseInt(fields[at + 1], base);
+  }
   return words;
 }
 
@@ -108,8 +111,8 @@ export function devicesOf(reply) {
   const words = namedWords(fieldsOf(reply, "devices"));
   const address = words.RKDA;
   const [cylinder, place] = [address >> 5 & 0o377, address & 0o17];
-  const isThere = cylinder < CYLINDERS && place < SECTORS_OF_A_TRACK;
-  const track = cylinder * 2 + (address >> 4 & 1);
+  const isThere = cylinder < CYLINDERS && place < SECTORS;
+  const track = cylinder * SURFACES + (address >> 4 & 1);
   return {
     words,
     keyWaits: (words.TKS & 0o200) !== 0,
@@ -118,7 +121,7 @@ export function devicesOf(reply) {
     busAddress: (words.RKCS & 0o60) << 12 | words.RKBA & 0o177776,
     wordCount: 0o200000 - words.RKWC,
     drive: address >> 13,
-    sector: isThere ? track * SECTORS_OF_A_TRACK + place : null,
+    sector: isThere ? track * SECTORS + place : null,
   };
 }
 
@@ -151,17 +154,16 @@ export function pagesOf(reply) {
   };
 }
 
-/** Where a read of this virtual address goes, or null if memory management aborts it. */
-export function physicalOf(pages, mode, address) {
-  if (!(pages.sr0 & 1)) return address < IO_PAGE ? address : address + PHYSICAL - 0o200000;
-  const descriptors = pages.descriptors[mode];
-  if (!descriptors) return null;
-  const [page, block] = [address >> 13, address >> 6 & 0o177];
-  const descriptor = descriptors[page];
-  const length = descriptor >> 8 & 0o177;
-  const isOutside = descriptor >> 3 & 1 ? block < length : block > length;
-  if (isOutside || ![1, 3].includes(descriptor >> 1 & 3)) return null;
-  return ((pages.addresses[mode][page] + block << 6) + (address & 0o77)) % PHYSICAL;
+/** The reply of `translate`: the physical address, or null if memory management aborts the read. */
+export function physicalOf(reply) {
+  const [, address] = read(/^translate (?:([0-7]{6})|abort .+)$/, reply);
+  return address === undefined ? null : parseInt(address, 8);
+}
+
+/** The address of the first word that a reply of `virtual` says can't be read; null if all can. */
+export function unreadOf(reply) {
+  const [, address] = read(/^virtual(?:(?: [0-7]{6})+| [a-z -]+ at ([0-7]{6}))$/, reply);
+  return address === undefined ? null : parseInt(address, 8);
 }
 
 /** A page in words, such as `core 020000 to 037777, read and write`. */
@@ -210,13 +212,40 @@ export function lastOf(reply) {
   return turn === "never" ? null : { turn: Number(turn), writer, word: parseInt(word, 8) };
 }
 
-/** The words of a reply of `mem` or `dsk`. */
-export const wordsOf = reply => fieldsOf(reply, "mem", "dsk").map(it => parseInt(it, 8));
+/** The words of a reply of `mem`, `dsk` or `virtual`. */
+export const wordsOf = reply =>
+  fieldsOf(reply, "mem", "dsk", "virtual").map(it => parseInt(it, 8));
 
 /** The turn of a reply such as `first 11` or `latest none`, or null. */
 export function turnOf(reply) {
   const [turn] = fieldsOf(reply, "first", "latest", "change", "when", "fades");
   return turn === "none" ? null : Number(turn);
+}
+
+/** The reply of `setup`: the version, the bytes of core, and the delays of the devices. */
+export function setupOf(reply) {
+  const { version, units, printer, reader, punch, disk, clock } =
+    namedWords(fieldsOf(reply, "setup"), 10);
+  const delays = { printer, reader, punch, disk, clock };
+  return { version, core: units * BYTES_OF_A_UNIT, delays };
+}
+
+/** The lines of a list, without the zeros at the beginnings of its octal numbers. */
+const plain = reply => reply.replace(/ 0+(?=\d)/g, " ");
+
+/** The words of the reply of `patches`, each by its name, such as `core 1000`; all in octal. */
+export function patchesOf(reply) {
+  read(/^patches \d+$/m, reply);
+  const found = plain(reply).matchAll(/^((?:core|disk) .+) (\d+)$/gm);
+  return new Map(Array.from(found, ([, name, word]) => [name, word]));
+}
+
+/** The events of the reply of `events`, in the order in which they happen. */
+export function eventsOf(reply) {
+  read(/^events \d+$/m, reply);
+  const found = plain(reply).matchAll(/^(\d+) (\d+) (.+)$/gm);
+  return Array.from(found, ([, number, turn, text]) => (
+    { number: Number(number), turn: Number(turn), text }));
 }
 
 /** The number of an event that was made. */

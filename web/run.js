@@ -1,7 +1,7 @@
 // A machine with its past: questions in parts that can be stopped, edits with undo.
 
 import { Machine, Stopped } from "./machine.js";
-import { Past, isEdit, wordsOfLine } from "./past.js";
+import { PAST_LINES, Past, isEdit, linesThatTell, runsNothing, wordsOfLine } from "./past.js";
 import {
   askedAtOnce, byteAsked, earlyQuestion, isSearch, searchOf, turnsAsked,
 } from "./questions.js";
@@ -34,7 +34,11 @@ export class Run {
     this.taken = [];
     this.pasts = 0;   // how many edits made another past
     this.jobs = [];
+    /** The past as the program told it last, and the lines that tell it otherwise by now. */
     this.past = new Past();
+    this.untold = new Set(PAST_LINES);
+    /** The first turn into which an edit has put an event since then. */
+    this.lowest = LAST_TURN;
     /** @type {Edit[][]} what the user did, each as its edits: one undo takes all of them back */
     this.changes = [];
     /** @type {Edit[][]} */
@@ -84,9 +88,9 @@ export class Run {
         await this.askPart(job);
         this.endIfDone(job);
       } catch (error) {
-        // the machine was stopped and goes on: an edit is sent again
+        // the machine was stopped and goes on: what runs nothing is sent again
         const isGivenUp = job.token?.isStopped || this.machine.closed;
-        if (error instanceof Stopped && !isGivenUp && this.isEditNext(job)) continue;
+        if (error instanceof Stopped && !isGivenUp && this.goesOn(job)) continue;
         this.remove(job);
         job.reject(error);
       }
@@ -101,8 +105,9 @@ export class Run {
     job.resolve(job.replies);
   }
 
-  isEditNext(job) {
-    return isEdit(job.lines[job.replies.length]);
+  /** Whether a job goes on though the machine is stopped: what it is at runs nothing. */
+  goesOn(job) {
+    return runsNothing(job.lines[job.replies.length]);
   }
 
   remove(job) {
@@ -113,7 +118,7 @@ export class Run {
 
   /** Asks some of the job's lines, or goes on towards the turns that the next one is about. */
   async askPart(job) {
-    if (this.isEditNext(job)) return this.sendEdits(job);
+    if (this.goesOn(job)) return this.sendEdits(job);
     const line = job.lines[job.replies.length];
     const search = job.search ??= searchOf(line), byte = byteAsked(line);
     const turn = search ? this.turnBefore(search) : turnsAsked(line)[0];
@@ -125,10 +130,10 @@ export class Run {
     return undefined;
   }
 
-  /** Sends the job's next edits. They run nothing. */
+  /** Sends the job's next edits, and lines that tell the past. They run nothing. */
   async sendEdits(job) {
     const next = job.lines.slice(job.replies.length, job.replies.length + MOST_EDITS);
-    const count = next.findIndex(it => !isEdit(it));
+    const count = next.findIndex(it => !runsNothing(it));
     this.onProgress({ done: job.replies.length, all: job.lines.length, what: "edits" });
     for (const it of await this.send(count < 0 ? next : next.slice(0, count))) job.replies.push(it);
   }
@@ -214,7 +219,7 @@ export class Run {
   nextLines({ lines, replies }) {
     const begin = replies.length;
     let { at } = this, cost = 0, end = begin;
-    while (end < lines.length && end - begin < MOST_LINES && !isEdit(lines[end])) {
+    while (end < lines.length && end - begin < MOST_LINES && !runsNothing(lines[end])) {
       const [turn] = turnsAsked(lines[end]);
       const more = TURNS_OF_A_LINE + this.turnsToRun(at, turn);
       if (end > begin && (cost + more > this.turnsAtOnce || !this.isPlain(lines[end]))) break;
@@ -249,7 +254,7 @@ export class Run {
     const replies = ended.map(it => it.endsWith("\n") ? it.slice(0, -1) : it);
     lines.forEach((line, at) => {
       if (isRefused(replies[at])) return;
-      if (isEdit(line)) this.take(line, replies[at]);
+      if (isEdit(line)) this.take(line);
       else this.learn(line, replies[at]);
     });
     return replies;
@@ -260,8 +265,8 @@ export class Run {
     const [begin, end] = turnsAsked(line);
     // how far `fades` ran isn't said
     if (end === 0 || wordsOfLine(line)[0] === "fades") return;
-    const [, printed] = wordsOfLine(line).length === 2 ? /^text (\d+)/.exec(reply) ?? [] : [];
-    this.printed = Math.max(this.printed, Number(printed ?? 0));
+    const [, printed] = /^text ([1-9]\d*):/.exec(reply) ?? [], [, , , from = 0] = wordsOfLine(line);
+    if (printed) this.printed = Math.max(this.printed, Number(from) + Number(printed));
     // a search may have ended before its last turn
     this.at = /^(first|change) \d|^writes 256/.test(reply) ? begin : end;
     this.known = Math.max(this.known, this.at);
@@ -281,7 +286,7 @@ export class Run {
    */
   async load(lines) {
     const replies = await this.ask(lines.map(askedAtOnce), Priority.EDIT);
-    this.past.touched.clear();
+    await this.askPast();
     const found = lines.map((line, at) => ({ number: at + 1, line, reply: replies[at] }));
     return found.filter(it => isRefused(it.reply));
   }
@@ -289,18 +294,34 @@ export class Run {
   /** Takes up edits that a machine took before. */
   async takeUp(lines) {
     (await this.ask(lines, Priority.EDIT)).forEach(mustBeTaken);
+    await this.askPast();
+  }
+
+  /** The past, asked as far as edits have changed it. */
+  async askPast() {
+    const lines = [...this.untold];
+    if (lines.length) {
+      const replies = (await this.ask(lines, Priority.EDIT)).map(mustBeTaken);
+      const tape = this.taken.filter(it => it.trimStart().startsWith("tape")).at(-1) ?? null;
+      this.past = this.past.told(lines, replies, tape);
+      this.untold.clear();
+      this.lowest = LAST_TURN;
+    }
+    return this.past;
   }
 
   /** An edit was taken: what is known of the turns that it may change no longer holds. */
-  take(line, reply) {
+  take(line) {
     this.pasts += 1;
     this.taken.push(line);
-    const [word, number, turn] = wordsOfLine(line);
-    const event = this.past.events.get(Number(number));
-    const turns = { at: [number], alter: [turn, event?.turn], drop: [event?.turn] }[word] ?? [0];
+    for (const it of linesThatTell(line)) this.untold.add(it);
+    const [word, first, second] = wordsOfLine(line);
+    // an event that isn't told yet, or was moved since, may be in the lowest turn
+    const before = Math.min(this.lowest, this.past.events.get(Number(first))?.turn ?? LAST_TURN);
+    const turns = { at: [first], alter: [second, before], drop: [before] }[word] ?? [0];
     this.known = Math.min(this.known, ...turns.map(Number));
+    if (word !== "drop") this.lowest = Math.min(this.lowest, Number(turns[0]));
     this.printed = 0;
-    this.past.apply(line, reply);
   }
 
   /** An edit of the user. One that joins is undone with the one before it. Returns the reply. */
@@ -324,8 +345,10 @@ export class Run {
   }
 
   async inverse(line) {
-    const lines = this.past.inverse(line);
-    if (wordsOfLine(line)[0] !== "disk" || lines?.[0]) return lines;
+    // an event that is made is dropped
+    if (wordsOfLine(line)[0] === "at") return null;
+    const lines = (await this.askPast()).inverse(line);
+    if (lines || wordsOfLine(line)[0] !== "disk") return lines;
     const where = wordsOfLine(line).slice(1, -1).join(" ");
     const reply = await this.askOne(`dsk 0 ${where} 1`, Priority.EDIT);
     return isRefused(reply) ? null : [`disk ${where} ${octal(wordsOf(reply)[0])}`];
@@ -389,7 +412,7 @@ export class Run {
   /** Ends the questions that the machine is at. Edits go on: they run nothing. */
   stop() {
     for (const job of this.jobs) {
-      if (this.isEditNext(job)) continue;
+      if (this.goesOn(job)) continue;
       this.remove(job);
       job.reject(new Stopped());
     }
@@ -403,7 +426,7 @@ export class Run {
     this.start();
     const lines = this.taken;
     this.taken = [];
-    this.past = new Past();
+    this.untold = new Set(PAST_LINES);
     await this.takeUp(lines);
   }
 

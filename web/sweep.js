@@ -81,9 +81,9 @@ export class Sweep {
   pastChanged() {
     this.showChosen();
     if (!this.event) return;
-    const { past, taken } = this.app.run;
-    const moves = `alter ${this.event.number} `;
-    const isMoved = past === this.past && taken.slice(this.taken).every(it => it.startsWith(moves));
+    const { machine, taken } = this.app.run;
+    const moves = `alter ${this.event.number} `, more = taken.slice(this.taken);
+    const isMoved = machine === this.machine && more.every(it => it.startsWith(moves));
     if (!isMoved) this.clear();
     this.taken = taken.length;
   }
@@ -117,8 +117,8 @@ export class Sweep {
     const run = app.newRun();
     this.run = run;
     Object.assign(this, { outcomes: new Map(), replies: [], numbers: new Map(), shown: 0 });
-    const { past, taken } = app.run;
-    Object.assign(this, { question, event: { ...event }, past, taken: taken.length });
+    const { machine, taken } = app.run;
+    Object.assign(this, { question, event: { ...event }, machine, taken: taken.length });
     const turns = spreadTurns(Number(from), Number(to));
     // at once: what the outcomes take of the page doesn't move the button later
     this.showTable();

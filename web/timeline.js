@@ -2,7 +2,7 @@
 
 import { clusterInWords, clustersOf } from "./clusters.js";
 import { LanesDrawing, View, lanesOf } from "./lanes.js";
-import { Past, eventInWords, eventLabel, eventsIn } from "./past.js";
+import { Past, differenceOf, eventInWords, eventLabel, eventsIn } from "./past.js";
 import { delayed, keepChildren } from "./page.js";
 import { LAST_TURN } from "./replies.js";
 
@@ -40,6 +40,8 @@ export class Timeline {
     /** The turn from which on the old past and the new one are the same, or null. */
     this.same = null;
     this.past = this.oldPast = new Past();
+    /** The old past's events that aren't there now. */
+    this.gone = [];
     this.sweep = null;
     this.wanted = 0;
     this.symbols = {};
@@ -130,7 +132,7 @@ export class Timeline {
     const { lanes, height } = lanesOf(this.words, this.sweep !== null);
     this.lanes = lanes;
     const { view, width, picture, ghost, symbols, part, same, sweep } = this;
-    const events = this.eventsInSight(this.past);
+    const events = this.eventsInSight(this.past.script);
     this.drawing.draw(
       { view, lanes, height, width, picture, ghost, symbols, events, part, same, sweep });
     this.cursorLine.style.height = `${height}px`;
@@ -139,16 +141,22 @@ export class Timeline {
     this.listener.onDrawn();
   }
 
-  eventsInSight({ script }) {
+  eventsInSight(script) {
     return eventsIn(script, this.view.first, this.view.end);
+  }
+
+  /** Shows the events of a past, and those of an old one that are gone. */
+  showPasts(past, oldPast) {
+    const { gone } = differenceOf(oldPast.script, past.script);
+    Object.assign(this, { past, oldPast, gone });
   }
 
   /** What is drawn, by those who show it otherwise. @returns {import("./sight.js").Drawn} */
   drawn() {
     const { view, picture, ghost, part, same } = this;
     return {
-      first: view.first, end: view.end, events: this.eventsInSight(this.past),
-      gone: this.goneEvents(), picture, ghost, part, same,
+      first: view.first, end: view.end, events: this.eventsInSight(this.past.script),
+      gone: this.eventsInSight(this.gone), picture, ghost, part, same,
     };
   }
 
@@ -225,17 +233,8 @@ export class Timeline {
     return this.put?.number === event.number ? this.put.turn : event.turn;
   }
 
-  /** The old past's events in sight that aren't there now. */
-  goneEvents() {
-    const { past, oldPast, view } = this;
-    const touched = Array.from(past.touched, it => oldPast.events.get(it));
-    return touched.filter(it => it && it.turn >= view.first && it.turn <= view.end)
-      .filter(it => !eventsIn(past.script, it.turn, it.turn).some(now => now.text === it.text))
-      .sort((a, b) => a.turn - b.turn);
-  }
-
   ghostMarks() {
-    return clustersOf(this.goneEvents(), this.view).map(cluster => {
+    return clustersOf(this.eventsInSight(this.gone), this.view).map(cluster => {
       const { event, count } = cluster;
       const mark = document.createElement("span");
       mark.className = "mark ghost";

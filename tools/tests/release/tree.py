@@ -12,6 +12,7 @@ SECONDS = 60
 TOOLS = [
     *("pdp11", "tools/start", "tools/program", "tools/build", "tools/sources-sum"),
     *("tools/release", ".ci/run", "tools/web", "tools/bundle.py", "tools/sessions.py"),
+    "tools/hardware.py",
     *("search", "explore", "tools/start-explore", "tools/python_needed.py", "tools/refuse-each"),
     *(str(it.relative_to(ROOT)) for it in sorted(ROOT.glob("tools/explore/*.py"))),
     *(str(it.relative_to(ROOT)) for it in sorted(ROOT.glob("tools/webassembly/*.*"))),

@@ -146,7 +146,8 @@ class PageCase(unittest.TestCase):
         end = time.monotonic() + WAIT
         while time.monotonic() < end:
             found = [it for it in folder.iterdir() if it.suffix in (".session", ".html")]
-            if found:
+            # a file is there before its bytes are
+            if found and found[0].stat().st_size:
                 return found[0]
             time.sleep(0.05)
         raise AssertionError("no file was saved")

@@ -1,4 +1,6 @@
 """What the page shows is so, or says that it isn't known."""
+import re
+
 from .common import SAFE, PageCase, ledger_lines, replies_of
 
 FAR = 900_000_000
@@ -145,6 +147,27 @@ class Story(PageCase):
     def test_other_deposits_have_no_verdict(self) -> None:
         self.type_line("disk 0 200")
         self.wait_text("#verdict", "not of the same day")
+
+
+class Interrupts(PageCase):
+    def test_all_of_the_run_are_found(self) -> None:
+        """A lane has 100 rows in the table, and says how many more there are."""
+        end = 238_614
+        trails = [f"trail {min(it + 64, end)} {min(64, end - it)}" for it in range(0, end, 64)]
+        said = "\n".join(replies_of([*ledger_lines()[:-2], *trails]))
+        wanted = re.findall(r"^(\d+) [0-7]{6} irq ([0-7]{3})$", said, re.MULTILINE)
+        self.wait_still()
+        self.browser.click('[data-key="0"]')
+        self.wait_text("#notes", "PC and mode: the first of each ")
+        self.assertNotIn("interrupts", self.browser.text("#notes"))
+        self.browser.click("#sight summary")
+        self.wait_text("#sight", f"{len(wanted) - 100} rows of 'interrupt'")
+        rows = self.browser.value(
+            "[...document.querySelectorAll('#sight tbody tr')].map(it =>"
+            "[...it.cells].map(cell => cell.textContent))"
+        )
+        shown = [(turn, what[:3]) for turn, lane, what in rows if lane == "interrupt"]
+        self.assertEqual(shown, wanted[:100])
 
 
 class ManyEvents(PageCase):

@@ -1,5 +1,5 @@
-"""Tests of the page's modules, which run in the browser: each is a function of units.js,
-bar_units.js, backwards_units.js or counting_units.js."""
+"""Tests of the page's modules, which run in the browser: each is a function of units.js or of
+another file of UNITS."""
 import http.server
 import re
 import threading
@@ -10,17 +10,15 @@ from typing import Any, Callable
 from .browser import BrowserError
 from .common import ROOT, the_browser
 
-FILES = ("units.js", "bar_units.js", "backwards_units.js", "counting_units.js")
-UNITS = tuple(Path(__file__).with_name(it) for it in FILES)
+UNITS = tuple(sorted(Path(__file__).parent.glob("*units.js")))
 KINDS = {".js": "text/javascript", ".html": "text/html"}
 PAGE = (
-    b'<!DOCTYPE html><meta charset="utf-8"><script type="module">'
-    b'import * as units from "/units.js"; import * as bar from "/bar_units.js";'
-    b'import * as backwards from "/backwards_units.js";'
-    b'import * as counting from "/counting_units.js";'
-    b"window.units = { ...units, ...bar, ...backwards, ...counting };"
-    b'document.documentElement.dataset.state = "ready";</script>'
-)
+    '<!DOCTYPE html><meta charset="utf-8"><script type="module">'
+    + "".join(f'import * as {it.stem} from "/{it.name}";' for it in UNITS)
+    + "window.units = {"
+    + ", ".join(f"...{it.stem}" for it in UNITS)
+    + '}; document.documentElement.dataset.state = "ready";</script>'
+).encode()
 
 
 class Handler(http.server.BaseHTTPRequestHandler):

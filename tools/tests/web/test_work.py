@@ -18,9 +18,10 @@ LONG_TASK = 50
 
 
 def last_turn(question: str) -> int:
-    """The last turn that a question is about."""
+    """The last turn that a question is about; 0 if it is about none."""
     word, *numbers = question.split()
-    return int(numbers[1 if word in ("first", "latest", "writes", "change") else 0])
+    place = 1 if word in ("first", "latest", "writes", "change") else 0
+    return int(numbers[place]) if numbers else 0
 
 
 class Edits(PageCase):

@@ -1,24 +1,21 @@
 // Tests of the page's modules. Each throws if something isn't so.
 
-import { Comparison } from "/comparison.js";
 import { byteOfKey } from "/console.js";
 import { marked } from "/differences.js";
-import { editBetween, sameFrom } from "/fades.js";
-import { sumOf } from "/kept.js";
 import { LanesDrawing, View, lanesOf, notesOf, ticksOf } from "/lanes.js";
 import { optionLines, optionText, shellWords } from "/options.js";
-import { Past, eventLabel, eventsIn, isEdit } from "/past.js";
+import { PAST_LINES, isEdit } from "/past.js";
 import { fragmentOf, placeOf } from "/place.js";
 import { turnsAsked } from "/questions.js";
 import {
-  WrongReply, bytesOf, devicesOf, eventOf, functionInWords, interruptsOf, keyName, lastOf, lengthOf,
-  pageInWords, pagesOf, physicalOf, readableText, registersOf, statusInWords, tailOf, turnOf,
-  turnsOf, visibleName, wordsOf, writesOf,
+  DEVICE_VECTORS, WrongReply, bytesOf, devicesOf, eventOf, functionInWords, interruptsOf, keyName,
+  lastOf, lengthOf, pageInWords, pagesOf, physicalOf, readableText, registersOf, statusInWords,
+  tailOf, turnOf, turnsOf, unreadOf, visibleName, wordsOf, writesOf,
 } from "/replies.js";
 import { Priority, Run } from "/run.js";
 import { boundedRows, rowsOf } from "/sight.js";
-import { kindOfFile, lastTurnOf, symbolNear, symbolsOf, withFile } from "/session.js";
-import { fourthBalance, isStory, verdictOf } from "/story.js";
+import { kindOfFile, symbolNear, symbolsOf, withFile } from "/session.js";
+import { fourthBalance, verdictOf } from "/story.js";
 import { runsOf, spreadTurns } from "/sweep.js";
 
 function equal(found, wanted) {
@@ -49,10 +46,6 @@ export function test_devices() {
 
 export function test_pages() {
   const pages = pagesOf(PAGES);
-  equal(physicalOf(pages, "user", 0o12), 0o20012);
-  equal(physicalOf(pages, "user", 0o20000), 0o30000);
-  equal(physicalOf(pages, "user", 0o40000), null);
-  equal(physicalOf(pages, "kernel", 0o177560), 0o777560);
   equal(pageInWords(pages, "user", 1), "core 030000 to 037777, read and write");
 }
 
@@ -87,35 +80,6 @@ export function test_lines() {
   equal(lines.map(turnsAsked), [[7, 7], [0, 0], [2, 40], [0, 0], [0, 0]]);
 }
 
-/** A past of these edits; events are numbered from 1 on. */
-function pastOf(...lines) {
-  const past = new Past();
-  let events = 0;
-  for (const line of lines) past.apply(line, line.startsWith("at ") ? `event ${++events}` : "ok");
-  return past;
-}
-
-export function test_past_is_saved() {
-  const past = pastOf("delay disk 200", "disk 0 100", "core 1000 5", "at 9 key 66", "at 5 tick",
-    "alter 1 3 key 67", "uncore 1000", "delay printer 1");
-  equal(past.lines(), ["delay disk 200", "disk 0 100", "at 3 key 67", "at 5 tick"]);
-  equal(eventLabel(past.script[0]), "7");
-}
-
-export function test_inverses() {
-  const past = pastOf("core 1000 5", "delay disk 200", "at 9 key 66", "at 9 tick");
-  equal(past.inverse("core 1000 7"), ["core 1000 5"]);
-  equal(past.inverse("core 2000 7"), ["uncore 2000"]);
-  equal(past.inverse("delay disk 3"), ["delay disk 200"]);
-  equal(past.inverse("alter 1 8 key 66"),
-    ["alter 1 9 key 66", "alter 2 8 tick", "alter 2 9 tick"]);
-  equal(past.inverse("drop 2"), ["at 9 tick"]);
-  const script = () => past.script.map(event => event.text);
-  const [before, back] = [script(), past.inverse("alter 1 8 key 66")];
-  for (const line of ["alter 1 8 key 66", ...back]) past.apply(line, "ok");
-  equal(script(), before);
-}
-
 export function test_symbols() {
   const symbols = symbolsOf("START 1000\nDISK 001434 # a comment\n000000001500 T main\n");
   equal(symbols.map(it => it.value), [0o1000, 0o1434, 0o1500]);
@@ -146,13 +110,13 @@ export function test_axis() {
 
 export function test_notes_say_what_is_sampled() {
   const picture = {
-    step: 100, listsAllTurns: false, disk: { isWhole: false }, text: { each: 3 },
+    step: 100, sampledVectors: DEVICE_VECTORS, disk: { isWhole: false }, text: { each: 3 },
     words: [{ name: "core 002000", values: [], isWhole: false }],
   };
   equal(notesOf(picture).length, 5);
   const words = [{ ...picture.words[0], name: "core 004000" }];
   equal(notesOf(picture, { words }).at(-1), "Of the old past sampled: core 004000.");
-  const whole = { ...picture, step: 1, listsAllTurns: true, disk: { isWhole: true } };
+  const whole = { ...picture, step: 1, sampledVectors: [], disk: { isWhole: true } };
   Object.assign(whole, { text: { each: 1 }, words: [] });
   equal(notesOf(whole), ["Each turn in sight is looked at; nothing is sampled."]);
 }
@@ -178,17 +142,6 @@ export function test_the_table_says_what_it_leaves_out() {
     ["interrupt, old past", "interrupt"]);
 }
 
-export function test_sums_of_sessions() {
-  const [low, high] = [[1, 0, 0, 0, 1, 0, 0, 0], [1, 0, 0, 128, 1, 0, 0, 128]];
-  const sums = [[low], [high], [[...low, 0]], ["a", "b"], ["ab"]].map(it =>
-    sumOf(it.map(part => typeof part === "string" ? part : Uint8Array.from(part))));
-  equal(new Set(sums).size, sums.length);
-  const past = new Past();
-  for (let at = 0; at < 65_536; at++) past.apply(`at ${at} tick`, `event ${at + 1}`);
-  for (let at = 0; at < 65_536; at++) past.apply(`core ${(2 * at).toString(8)} 1`, "ok");
-  equal(isStory({ arguments: [] }, past), false);
-}
-
 export function test_differences_are_marked() {
   const pieces = marked("a\nB6 =145\n", "a\nB6 =137\n");
   equal(pieces.map(it => it.textContent ?? it).join("|"), "a\n|B6 =1|37|45||\n|");
@@ -203,69 +156,15 @@ export function test_the_balance() {
   equal(looks, ["good", "bad", ""]);
 }
 
-/** A run whose registers before a turn are these. */
-const runOf = (past, registers) => ({
-  past, ask: async lines => lines.map(it => registers(Number(it.split(" ")[1]))),
-});
-
-export async function test_where_two_pasts_part() {
-  const [now, old] = [pastOf("at 50 key 66"), pastOf("at 20 key 66")];
-  const comparison = new Comparison(runOf(now, turn => turn < 5_000 ? "same" : "other"),
-    runOf(old, () => "same"), null);
-  equal(comparison.editedTurns(), [20, 50]);
-  equal(await comparison.part(9_000), { edited: 20, turn: 5_000, single: 5_000, later: 0 });
-  equal(await comparison.part(4_000), { edited: 20, turn: null, single: 4_000, later: 0 });
-}
-
-/** Edits of the setup and of a key, with a difference that is gone again before the end. */
-export async function test_a_difference_that_is_gone_at_the_end() {
-  const [now, old] = [pastOf("delay punch 5", "at 700000 key 66"), pastOf("at 600000 key 66")];
-  const differFrom = (first, last) => new Comparison(
-    runOf(now, turn => turn >= first && turn <= last ? "other" : "same"), runOf(old, () => "same"),
-    null);
-  equal((await differFrom(127_163, 200_000).part(238_614)).turn, 127_163);
-  const after = await differFrom(600_200, 600_300).part(5_000_000);
-  equal([after.turn, after.single, after.later > 0], [600_200, 65_535, true]);
-  const missed = await differFrom(5_000_100, 5_000_101).part(9_000_000);
-  equal([missed.turn, missed.single, missed.later > 2_000], [null, 65_535, true]);
-}
-
-export async function test_two_equal_refusals_are_no_equal_registers() {
-  const [now, old] = [pastOf("at 50 key 66"), pastOf("at 20 key 66")];
-  const refused = () => "refused 1 NoMemory";
-  const comparison = new Comparison(runOf(now, refused), runOf(old, refused), null);
-  equal(await comparison.part(90).catch(it => it.name + it.reply), "Errorrefused 1 NoMemory");
-}
-
-export async function test_from_which_turn_two_pasts_are_the_same() {
-  const edited = text => {
-    const [old, now] = [1, 2].map(() => pastOf("core 1000 5", "at 20 key 66", "at 50 tick"));
-    now.touched.clear();
-    for (const line of text.split(", ")) now.apply(line, "event 3");
-    return [old, now];
-  };
-  const lineOf = text => editBetween(...edited(text))?.line ?? null;
-  equal(["alter 1 90 key 66, alter 1 50 key 66", "drop 2", "at 50 tick", "drop 2, at 9 tick"]
-    .map(lineOf), ["alter 1 50 key 66", "drop 2", "at 50 tick", "alter 2 9 tick"]);
-  equal(["core 1000 7", "disk 010 1, disk 10 7", "drop 1, at 20 key 66, core 1000 6, core 1000 5"]
-    .map(lineOf), ["core 1000 7", "disk 10 7", ""]);
-  // two edits, what `fades` doesn't take, and an event that comes before another of its turn
-  equal(["drop 1, drop 2", "core 2 3, drop 1", "core 2 3, disk 0 1", "uncore 1000",
-    "delay disk 5", "alter 1 50 key 66, alter 2 20 tick, alter 2 50 tick"].map(lineOf),
-  Array(6).fill(null));
-  const [old, now] = edited("drop 2"), asked = [];
-  const found = (end, ...replies) => sameFrom(
-    { past: old, askOne: async line => asked.push(line) && replies.shift() }, now, end, null);
-  equal([await found(99_999_999, "fades none", "fades 70000"), await found(50),
-    await found(90, "fades none"), await found(90, "refused 10 BadLine")], [70_000, null, null, null]);
-  equal(asked, [65_586, 131_122, 90, 90].map(it => `fades ${it} drop 2`));
-}
+export const SETUP = "setup version 1 units 31 start 001000 stride 10000 printer 1 reader 4 punch 4 disk 10 "
+  + "clock 0 tape 0";
 
 /** A machine that notes what it is asked, and the turns that each message runs, with checkpoints as
     the program has them. A word is written every 20,000 turns, and no PC is 2. */
 export class NotingMachine {
   constructor() {
     Object.assign(this, { sent: [], runs: [], at: 0, known: 0, stride: 10_000, events: 0 });
+    this.script = [];
   }
 
   get lines() {
@@ -281,12 +180,34 @@ export class NotingMachine {
   reply(line) {
     const [word, first, second, third] = line.split(" ");
     if (third === "x" || second === "1001") return "refused 3 OddAddress";
-    if (word === "at") return `event ${++this.events}`;
-    if (["alter", "drop"].includes(word)) return "ok";
+    if (word === "setup") return SETUP;
+    if (word === "patches") return "patches 0";
+    if (word === "events") return this.told();
+    if (["at", "alter", "drop"].includes(word)) return this.edit(line);
     if (Number(first) > 1_000_000_000) return "refused 7 TurnTooLarge";
     const end = Number(["first", "writes"].includes(word) ? second : first);
     this.runTo(end);
     return word === "first" ? "first none" : word === "writes" ? this.writes(+first, end) : line;
+  }
+
+  /** Makes an edit of the script. An event that comes into another turn is the last of it. */
+  edit(line) {
+    const [word, ...rest] = line.split(" ");
+    const number = word === "at" ? ++this.events : Number(rest.shift());
+    const [turn, ...text] = rest, event = { number, turn: Number(turn), text: text.join(" ") };
+    const place = this.script.findIndex(it => it.number === number);
+    if (word === "alter" && this.script[place].turn === event.turn) this.script[place] = event;
+    else {
+      this.script = this.script.filter(it => it.number !== number);
+      if (word !== "drop") this.script.push(event);
+    }
+    this.script.sort((one, other) => one.turn - other.turn);
+    return word === "at" ? `event ${number}` : "ok";
+  }
+
+  told() {
+    const lines = this.script.map(it => `${it.number} ${it.turn} ${it.text}`);
+    return [`events ${lines.length}`, ...lines].join("\n");
   }
 
   runTo(turn) {
@@ -323,7 +244,7 @@ export async function test_an_edit_runs_nothing() {
   const edits = ["at 400000000 tick", "alter 1 999999990 tick", "drop 2"];
   for (const line of edits) await run.edit(line);
   await run.undo();
-  equal(run.machine.lines,
+  equal(run.machine.lines.filter(it => !PAST_LINES.includes(it)),
     ["at 99999999 tick x", "at 5 tick", "regs 64", ...edits, "at 400000000 tick"]);
 }
 
@@ -371,15 +292,6 @@ export async function test_what_is_refused_is_refused_at_once() {
   equal(await Promise.all(refusals), [null, null, odd, odd]);
 }
 
-export async function test_a_script_keeps_its_order() {
-  const lines = Array.from({ length: 400 }, (_, at) => `at ${at * 7 % 50} key ${at.toString(8)}`);
-  const past = pastOf(...lines, "alter 9 3 tick", "alter 10 13 tick", "drop 5", "alter 7 42 tick");
-  const sorted = [...past.events.values()].sort((a, b) => a.turn - b.turn || a.place - b.place);
-  equal(past.script, sorted);
-  equal(eventsIn(past.script, 3, 4), sorted.filter(it => it.turn >= 3 && it.turn <= 4));
-  equal(lastTurnOf(["regs 7", ...new Array(300_000).fill("text 5"), "at 9 tick"]), 7);
-}
-
 export function test_sweeps_begin_far_apart() {
   equal(spreadTurns(10, 15), [10, 14, 12, 11, 13, 15]);
   equal(spreadTurns(7, 7), [7]);
@@ -425,7 +337,7 @@ function drawn(picture, { first, span, ghost = null, same = null }) {
 
 const PICTURE = {
   first: 0, end: 100, reached: 100, step: 1, isMade: true, looks: [], interrupts: [],
-  listsAllTurns: true, disk: { bars: [{ begin: 50, end: null, name: "read" }], busy: [] },
+  sampledVectors: [], disk: { bars: [{ begin: 50, end: null, name: "read" }], busy: [] },
   text: { bytes: [], printed: 0, each: 1 },
   words: [{ name: "core 002000", isWhole: true, values: [{ turn: 0, word: 5, writer: "" }] }],
 };
@@ -468,7 +380,7 @@ export function test_numbers_are_not_cut_at_the_edge() {
 export function test_a_refusal_is_never_a_value() {
   const parsers = {
     registersOf, devicesOf, pagesOf, turnsOf, interruptsOf, writesOf, lastOf, wordsOf, turnOf,
-    eventOf, lengthOf, bytesOf, tailOf,
+    eventOf, lengthOf, bytesOf, tailOf, physicalOf, unreadOf,
   };
   const taken = Object.entries(parsers).filter(([, parse]) => {
     try {

@@ -1,0 +1,192 @@
+// Tests of the past as the program tells it, and of how two pasts differ. Each throws if something
+// isn't so.
+
+import { Comparison } from "/comparison.js";
+import { editBetween, sameFrom } from "/fades.js";
+import { sumOf } from "/kept.js";
+import { PAST_LINES, Past, differenceOf, eventLabel, eventsIn } from "/past.js";
+import { lastTurnOf } from "/session.js";
+import { isStory } from "/story.js";
+import { NotingRun, SETUP } from "/units.js";
+
+function equal(found, wanted) {
+  const [left, right] = [found, wanted].map(it => JSON.stringify(it));
+  if (left !== right) throw new Error(`${left} isn't ${right}`);
+}
+
+/** A past with the lines of `patches` and `events`, and with these changes of the setup. */
+function pastOf({ patches = [], events = [], setup = {}, tape = null }) {
+  const fields = Object.entries(setup).reduce((text, [name, value]) =>
+    text.replace(new RegExp(` ${name} \\d+`), ` ${name} ${value}`), SETUP);
+  const replies = { setup: fields, patches: [`patches ${patches.length}`, ...patches].join("\n"),
+    events: [`events ${events.length}`, ...events].join("\n") };
+  return new Past().told(PAST_LINES, PAST_LINES.map(it => replies[it]), tape);
+}
+
+const MOVED = { patches: ["core 001000 000005"], setup: { disk: 200 },
+  events: ["1 9 key 066", "2 9 tick"] };
+
+export function test_a_past_is_saved() {
+  const past = pastOf({ setup: { version: 2, disk: 200, clock: 0 }, tape: "tape 101 7",
+    patches: ["disk 1 0000000 000100", "core 000000 000000"],
+    events: ["1 3 key 067", "2 5 tick", "4 5 switches 000012"] });
+  equal(past.lines(), ["version 2", "tape 101 7", "delay disk 200", "disk 1 0 100", "core 0 0",
+    "at 3 key 67", "at 5 tick", "at 5 switches 12"]);
+  equal([past.core, past.events.get(4).turn, eventLabel(past.script[0])], [0o760000, 5, "7"]);
+}
+
+export function test_only_what_is_told_anew_changes() {
+  const before = pastOf(MOVED), past = before.told(["events"], ["events 0"], null);
+  equal([past.lines(), before.script.length], [["delay disk 200", "core 1000 5"], 2]);
+}
+
+export function test_inverses() {
+  const past = pastOf(MOVED);
+  equal(past.inverse("core 01000 7"), ["core 01000 5"]);
+  equal(past.inverse("core 2000 7"), ["uncore 2000"]);
+  equal(past.inverse("uncore 1000"), ["core 1000 5"]);
+  equal(past.inverse("delay disk 3"), ["delay disk 200"]);
+  equal(past.inverse("alter 1 8 key 66"),
+    ["alter 1 9 key 66", "alter 2 8 tick", "alter 2 9 tick"]);
+  equal(past.inverse("drop 2"), ["at 9 tick"]);
+  equal(["disk 010 4", "disk 7 4", "tape 1"].map(it =>
+    pastOf({ patches: ["disk 0000010 000003"] }).inverse(it)), [["disk 010 3"], null, null]);
+}
+
+/** The events of a turn are in their order again. */
+export async function test_an_undo_keeps_the_order_of_a_turn() {
+  const run = new NotingRun({});
+  await run.load(["at 9 key 66", "at 9 tick", "at 9 key 101"]);
+  const script = async () => (await run.askPast()).script.map(it => it.text);
+  const before = await script();
+  for (const line of ["alter 1 8 key 66", "drop 2"]) await run.edit(line);
+  equal(await script(), ["key 66", "key 101"]);
+  await run.undo();
+  await run.undo();
+  equal(await script(), before);
+}
+
+/** What no edit has changed isn't asked again. */
+export async function test_the_past_is_asked_once() {
+  const run = new NotingRun({});
+  await run.load(["at 9 key 66", "regs 5"]);
+  await run.edit("at 5 tick");
+  await run.askPast();
+  await run.askPast();
+  await run.edit("core 0 1");
+  await run.askPast();
+  const asked = run.machine.lines.filter(it => PAST_LINES.includes(it));
+  equal(asked, ["setup", "patches", "events", "events", "setup", "patches"]);
+}
+
+/** Edits that aren't told yet leave no more known than the program knows. */
+export async function test_what_is_known_before_the_past_is_told() {
+  const run = new NotingRun({}), knownAfter = async line => {
+    await run.ask([line]);
+    return run.known;
+  };
+  await run.load(["at 500 key 66"]);
+  await run.ask(["regs 900"]);
+  equal([await knownAfter("alter 1 700 key 66"), await knownAfter("regs 900")], [500, 900]);
+  // event 2 may have been in turn 700, as far as the page remembers
+  equal([await knownAfter("at 800 tick"), await knownAfter("alter 2 850 tick")], [800, 700]);
+  await run.askPast();
+  await run.ask(["regs 900"]);
+  equal([await knownAfter("alter 2 860 tick"), await knownAfter("drop 1")], [850, 700]);
+}
+
+export function test_sums_of_sessions() {
+  const [low, high] = [[1, 0, 0, 0, 1, 0, 0, 0], [1, 0, 0, 128, 1, 0, 0, 128]];
+  const sums = [[low], [high], [[...low, 0]], ["a", "b"], ["ab"]].map(it =>
+    sumOf(it.map(part => typeof part === "string" ? part : Uint8Array.from(part))));
+  equal(new Set(sums).size, sums.length);
+  const numbers = Array.from({ length: 65_536 }, (_, at) => at);
+  const past = pastOf({ patches: numbers.map(it => `core ${(2 * it).toString(8)} 000001`),
+    events: numbers.map(it => `${it + 1} ${it} tick`) });
+  equal([past.script.length, past.patches.size], [65_536, 65_536]);
+  equal(isStory({ arguments: [] }, past), false);
+}
+
+export function test_events_in_some_turns() {
+  const { script } = pastOf({ events: ["4 2 tick", "1 3 key 001", "3 3 tick", "2 5 disk"] });
+  const numbers = (first, last) => eventsIn(script, first, last).map(it => it.number);
+  equal([numbers(3, 4), numbers(2.5, 3), numbers(0, 1.9), numbers(3.5, 9)],
+    [[1, 3], [1, 3], [], [2]]);
+  equal(lastTurnOf(["regs 7", ...new Array(300_000).fill("text 5"), "at 9 tick"]), 7);
+}
+
+export function test_how_two_scripts_differ() {
+  const difference = (old, now) => {
+    const { gone, come, turns } = differenceOf(
+      ...[old, now].map(it => pastOf({ events: it }).script));
+    return [gone.map(it => it.number), come.map(it => it.number), turns];
+  };
+  const old = ["1 2 tick", "2 5 key 066", "3 5 tick", "4 9 tick"];
+  equal(difference(old, old), [[], [], []]);
+  equal(difference(old, ["1 2 tick", "3 5 tick", "4 9 tick", "2 9 key 066"]), [[2], [2], [5, 9]]);
+  // in another order; one more of what is there; and nothing at all
+  equal(difference(old, ["1 2 tick", "3 5 tick", "2 5 key 066", "4 9 tick"]), [[], [], [5]]);
+  equal(difference(old, [...old, "5 9 tick"]), [[], [5], [9]]);
+  equal(difference(old, []), [[1, 2, 3, 4], [], [2, 5, 9]]);
+}
+
+/** A run whose registers before a turn are these. */
+const runOf = (past, registers) => ({
+  past, ask: async lines => lines.map(it => registers(Number(it.split(" ")[1]))),
+});
+
+const keyAt = turn => pastOf({ events: [`1 ${turn} key 066`] });
+
+export async function test_where_two_pasts_part() {
+  const comparison = new Comparison(runOf(keyAt(50), turn => turn < 5_000 ? "same" : "other"),
+    runOf(keyAt(20), () => "same"), null);
+  equal(comparison.editedTurns(), [20, 50]);
+  equal(await comparison.part(9_000), { edited: 20, turn: 5_000, single: 5_000, later: 0 });
+  equal(await comparison.part(4_000), { edited: 20, turn: null, single: 4_000, later: 0 });
+}
+
+/** Edits of the setup and of a key, with a difference that is gone again before the end. */
+export async function test_a_difference_that_is_gone_at_the_end() {
+  const now = pastOf({ setup: { punch: 5 }, events: ["1 700000 key 066"] }), old = keyAt(600_000);
+  const differFrom = (first, last) => new Comparison(
+    runOf(now, turn => turn >= first && turn <= last ? "other" : "same"), runOf(old, () => "same"),
+    null);
+  equal((await differFrom(127_163, 200_000).part(238_614)).turn, 127_163);
+  const after = await differFrom(600_200, 600_300).part(5_000_000);
+  equal([after.turn, after.single, after.later > 0], [600_200, 65_535, true]);
+  const missed = await differFrom(5_000_100, 5_000_101).part(9_000_000);
+  equal([missed.turn, missed.single, missed.later > 2_000], [null, 65_535, true]);
+}
+
+export async function test_two_equal_refusals_are_no_equal_registers() {
+  const refused = () => "refused 1 NoMemory";
+  const comparison = new Comparison(runOf(keyAt(50), refused), runOf(keyAt(20), refused), null);
+  equal(await comparison.part(90).catch(it => it.name + it.reply), "Errorrefused 1 NoMemory");
+}
+
+const OLD = { patches: ["core 001000 000005"], events: ["1 20 key 066", "2 50 tick"] };
+
+export function test_the_one_edit_between_two_pasts() {
+  const lineOf = changes => editBetween(pastOf(OLD), pastOf({ ...OLD, ...changes }))?.line ?? null;
+  const lineTo = (...events) => lineOf({ events });
+  equal([lineTo("2 50 tick", "1 50 key 066"), lineTo("1 20 key 066"),
+    lineTo("1 20 key 066", "2 50 tick", "3 50 tick"), lineTo("3 9 tick", "1 20 key 066")],
+  ["alter 1 50 key 66", "drop 2", "at 50 tick", "alter 2 9 tick"]);
+  const patch = "disk 0000010 000007", [first] = OLD.patches;
+  equal([lineOf({ patches: ["core 001000 000007"] }), lineOf({ patches: [first, patch] }),
+    lineTo("3 20 key 066", "2 50 tick")], ["core 1000 7", "disk 10 7", ""]);
+  // two edits, what `fades` doesn't take, and an event that comes before another of its turn
+  equal([lineTo(), lineOf({ patches: [first, patch], events: ["2 50 tick"] }),
+    lineOf({ patches: [first, patch, "core 000002 000003"] }), lineOf({ patches: [] }),
+    lineOf({ setup: { disk: 5 } }), lineTo("1 50 key 066", "2 50 tick")], Array(6).fill(null));
+}
+
+export async function test_from_which_turn_two_pasts_are_the_same() {
+  const old = pastOf(OLD), now = pastOf({ ...OLD, events: ["1 20 key 066"] }), asked = [];
+  const found = (end, ...replies) => sameFrom(
+    { past: old, askOne: async line => asked.push(line) && replies.shift() }, now, end, null);
+  equal([await found(99_999_999, "fades none", "fades 70000"), await found(50),
+    await found(90, "fades none"), await found(90, "refused 10 BadLine")],
+  [70_000, null, null, null]);
+  equal(asked, [65_586, 131_122, 90, 90].map(it => `fades ${it} drop 2`));
+}
