@@ -213,6 +213,11 @@ def difference_in_words(before: Shown, now: Shown) -> str:
     return f"different from turn {before.turn} of the past as it was then"
 
 
+def listed_line(address: int, words: Sequence[int], text: str, name: str = "") -> str:
+    octal = " ".join(f"{it:06o}" for it in words)
+    return f"{address:06o}  {octal:<20}  {text:<28}  {name}".rstrip()
+
+
 @dataclass(frozen=True)
 class Listed:
     """The addresses of `list` before a turn: those of core, or those of a mode's programs."""
@@ -276,9 +281,8 @@ class Listed:
                 yield f"{min(address, self.end):06o}  {self.nothing(address)}"
                 return
             found = instruction_of(explorer, address % VIRTUAL, words)
-            octal = " ".join(f"{it:06o}" for it in words[: found.words])
             name = self.symbol(explorer, address)
-            yield f"{address:06o}  {octal:<20}  {found.text:<28}  {name}".rstrip()
+            yield listed_line(address, words[: found.words], found.text, name)
             address += 2 * found.words
 
 

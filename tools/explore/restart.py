@@ -1,7 +1,7 @@
 """The program started again with other options, and with all edits."""
 from dataclasses import replace
 from pathlib import Path
-from typing import Callable, Mapping, Sequence
+from typing import Callable, Mapping, Optional, Sequence
 
 from .commands import Explorer
 from .errors import ExploreError
@@ -61,10 +61,12 @@ def make(
     return made
 
 
-def edit_whole(machine: Machine, edits: Sequence[str]) -> None:
-    """Makes all these edits, or none."""
+def edit_whole(
+    machine: Machine, edits: Sequence[str], made: Optional[Callable[[], list[str]]] = None
+) -> None:
+    """Makes all these edits, or none. `made` makes them in another way, and returns the replies."""
     count = len(machine.journal)
-    for line, reply in zip(edits, machine.edit_all(edits)):
+    for line, reply in zip(edits, made() if made else machine.edit_all(edits)):
         if is_refused(reply):
             if len(machine.journal) > count:
                 machine.take_back(len(machine.journal) - count)
