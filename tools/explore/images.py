@@ -1,4 +1,4 @@
-"""Core and drives as images: `core FILE at N`, `disk FILE at N`."""
+"""Core and drives as images, `core FILE at N`, `disk FILE at N`; and `core A INSTRUCTION`."""
 import struct
 from pathlib import Path
 from typing import Iterator
@@ -6,6 +6,10 @@ from typing import Iterator
 from .commands import Arguments, Explorer, command
 from .export import core_words, drive_image
 from .files import OUTPUT
+from .patching import patch
+
+
+NO_FILE = r"(?!.*\sat\s+\S+$)"  # before an instruction: a FILE may lack its quotes
 
 
 def written(path: Path, data: bytes, what: str) -> Iterator[str]:
@@ -13,10 +17,23 @@ def written(path: Path, data: bytes, what: str) -> Iterator[str]:
     yield f"{what} in {path}: {len(data)} bytes"
 
 
-@command("core FILE at N", r"<file:file> at <turn:decimal>", "core before turn N, as an image")
+@command(
+    "core FILE at N  or  core A INSTRUCTION",
+    rf"(<file:file> at <turn:decimal>|<address:address> {NO_FILE}(?P<instruction>[A-Za-z].*))",
+    "core before turn N, as an image; an instruction, as patches",
+)
 def core(explorer: Explorer, arguments: Arguments) -> Iterator[str]:
     """Writes core before turn N as an image, which `--core FILE` reads: words from address 0 on,
-    the low byte first. A file that was there before is overwritten by core! FILE alone."""
+    the low byte first. A file that was there before is overwritten by core! FILE alone.
+    With an INSTRUCTION such as MOV #5,R0 its words become those of core from address A on as of
+    power-up, one patch each. It has the syntax of MACRO-11: numbers are octal, or decimal with a
+    point at their end; a symbol or . (A itself) may have numbers after + and -. Condition codes
+    that are cleared or set together have a space between them: CLV CLC. BHIS is BCC, BLO is BCS.
+    Addresses count from A modulo 200000, as in `list A C`: pages that move A aren't looked at.
+    The disassembler must show the words as this instruction, or nothing is changed, and what is
+    shown is its text. `undo` takes the patches back as one."""
+    if arguments.optional("instruction"):
+        return patch(explorer, arguments.octal("address"), arguments.text("instruction"))
     path, turn = Path(arguments.text("file")), arguments.decimal("turn")
     OUTPUT.target(path)
     words = core_words(explorer.machine, turn)

@@ -25,6 +25,7 @@ from .language import FADING, FORMS, LISTS, SEARCHES, SUMMARIES
 from .language import explanation, form_of, forms_of_searches, is_decimal, is_edit
 from .machine import is_refused
 from .output import Unwritable, fault_in_words, flush, put
+from .patching import is_instruction
 from .quotes import RULE, begun_word, in_quotes, is_plain
 
 PROMPT, BLANKS = "explore> ", " \t"
@@ -161,11 +162,14 @@ class Prompt:
     def do(self, word: str, rest: str, line: str) -> None:
         if word in ("help", "?"):
             self.show(self.help_lines(rest))
-        elif is_own(word, rest):
+        elif is_own(word, rest) or self.is_instruction(word, rest):
             OUTPUT.command, OUTPUT.overwrites = word.rstrip("!"), word[-1] == "!"
             self.show(COMMANDS[OUTPUT.command].lines(self.explorer, rest))
         else:
             self.pass_on(line)
+
+    def is_instruction(self, word: str, rest: str) -> bool:
+        return word == "core" and is_instruction(rest, self.explorer.symbols)
 
     def pass_on(self, line: str) -> None:
         machine = self.explorer.machine
