@@ -7,6 +7,7 @@ from .machine import Machine
 from .replies import LastWrite
 
 TURNS_OF_A_SEARCH = 10_000_000  # searched at once, in a tenth of a second or more
+TURNS_AT_FIRST = 16_384  # of a search for what is usually near
 
 
 def parts_of(turns: range) -> Iterator[range]:
@@ -16,6 +17,20 @@ def parts_of(turns: range) -> Iterator[range]:
             part = range(at, min(at + TURNS_OF_A_SEARCH, turns.stop))
             yield part
             progress.step(len(part))
+
+
+def growing_parts(turns: range, is_backwards: bool = False) -> Iterator[range]:
+    """The turns in parts that double, from the first turn on or from the last one back."""
+    size = TURNS_AT_FIRST
+    with Progress(len(turns), "turns") as progress:
+        while turns:
+            if is_backwards:
+                turns, part = turns[:-size], turns[-size:]
+            else:
+                part, turns = turns[:size], turns[size:]
+            yield part
+            progress.step(len(part))
+            size = min(2 * size, TURNS_OF_A_SEARCH)
 
 
 @dataclass(frozen=True)

@@ -3,34 +3,21 @@ from pathlib import Path
 from typing import Sequence
 from unittest import mock
 
-from explore import prompt  # noqa: F401, it adds the commands
 from explore.commands import COMMANDS, Explorer
 from explore.disassembly import Disassembler
-from explore.machine import Machine, Start
+from explore.machine import Machine
 from explore.main import read_session
 from explore.program import Program
 from explore.sweep import Sweep
 
-from .common import BUILT, ROOT, Case
+from .machines import LEDGER, OnMachine
 
-LEDGER = "ledger/ledger.session"
 # MOV #1000,R0; INC @#2000; SOB R0,.-4; HALT: the word at 2000 is written 512 times, up to 001000
 COUNTING = ("1000 12700", "1002 1000", "1004 5237", "1006 2000", "1010 77003", "1012 0")
 
 
-class Depth(Case):
-    """Commands on a machine of this process, whose questions can be looked at."""
-
-    def explorer(self, session: str = "", edits: Sequence[str] = ()) -> Explorer:
-        machine = Machine(Start(BUILT.program, [], Path.cwd()))
-        self.addCleanup(machine.close)
-        disassembler = Disassembler(BUILT.disassembler)
-        self.addCleanup(disassembler.close)
-        if session:
-            read_session(machine, ROOT / "examples" / session)
-        for line in edits:
-            self.assertEqual(machine.ask(line), "ok")
-        return Explorer(machine, disassembler)
+class Depth(OnMachine):
+    """How often the machine goes back."""
 
     def done(self, explorer: Explorer, line: str, most: int) -> list[str]:
         """What the command writes. It may go back so often."""
