@@ -84,9 +84,9 @@ def finish(explorer: Explorer, arguments: Arguments) -> Iterator[str]:
     """Goes on to the first turn before which the routine of the current turn has returned, and
     shows it as `show` does. The routine is that of the innermost level of `calls`, which says
     what is known of it. It has returned once SP is above what its call pushed, or once the other
-    coroutine goes on by JSR PC,@(SP)+. If it takes its return address off the stack first, that
-    counts. Without `to` the search goes on to the end of the run: it may take long, and Ctrl-C
-    ends it."""
+    coroutine goes on by JSR PC,@(SP)+. So it counts if the routine takes its return address off the
+    stack itself, and if SP is switched to a stack above. Without `to` the search goes on to the end
+    of the run: it may take long, and Ctrl-C ends it."""
     turns, level = turns_ahead(explorer, arguments), innermost(explorer)
     yield from doubt_lines(level)
     yield from after_return(explorer, level.call, turns)

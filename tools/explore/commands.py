@@ -4,6 +4,7 @@ import re
 from dataclasses import dataclass, field
 from typing import Callable, Iterator, Optional
 
+from .breakpoints import Breakpoints
 from .disassembly import Disassembler
 from .errors import ExploreError
 from .fades import Fading
@@ -84,6 +85,7 @@ class Explorer:
     saved: list[str] = field(default_factory=list)
     sitting: Sitting = field(default_factory=Sitting)
     fading: Fading = field(default_factory=Fading)
+    breakpoints: Breakpoints = field(default_factory=Breakpoints)
 
     @property
     def finder(self) -> Finder:

@@ -1,5 +1,5 @@
-"""The calls that a turn stands in: the words of a stack are asked which turn wrote them (`last`), and
-each such turn whether it was a JSR, an interrupt or a trap that pushed them."""
+"""The calls that a turn stands in: the words of a stack are asked which turn wrote them (`last`),
+and each such turn whether it was a JSR, an interrupt or a trap that pushed them."""
 import itertools
 from dataclasses import dataclass, field
 from typing import Iterator, Optional
