@@ -11,7 +11,7 @@ import sessions
 
 # these add commands
 from . import compare, console, edits, export, listing, page, screen, script, search  # noqa: F401
-from . import breaking, calls, stepping, sweep  # noqa: F401
+from . import breaking, calls, dump, stepping, sweep  # noqa: F401
 from . import images, load, simh  # noqa: F401
 from .at_work import AtWork
 from .commands import COMMANDS, Explorer
@@ -57,7 +57,7 @@ NUMBERS = (
 )
 CURRENT_TURN = (
     "The current turn is the one that a line found (until, next, where, first, latest, last, "
-    "change, when, fades, continue) or showed (show, step, back, over, finish, see, list, calls, "
+    "change, when, fades, continue) or showed (show, step, back, over, finish, see, list, calls, dump, "
     "screen) last, also by a line with reverse-, or where you left the console. The lines that "
     "show begin there if they name no turn. Other lines, edits too, leave it as it is. The prompt "
     "at a terminal names it, if it isn't turn 0."
