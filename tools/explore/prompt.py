@@ -11,7 +11,7 @@ import sessions
 
 # these add commands
 from . import compare, console, edits, export, listing, page, screen, script, search  # noqa: F401
-from . import breaking, calls, dump, stepping, sweep  # noqa: F401
+from . import breaking, calls, difference, dump, stepping, sweep  # noqa: F401
 from . import images, load, simh  # noqa: F401
 from .at_work import AtWork
 from .commands import COMMANDS, Explorer

@@ -1,0 +1,61 @@
+"""`diff` against each word of core and of the disk."""
+import random
+
+from .systems import LEDGER, SYSTEMS, TOP, OfSystems
+
+
+class Differences(OfSystems):
+    def test_core_against_each_word(self) -> None:
+        chance = random.Random(63)
+        for words, turns in SYSTEMS:
+            machine = self.machine(words)
+            pair = (chance.randrange(turns), chance.randrange(turns))
+            for first, last in ((0, turns), pair):
+                lines = self.explore(f"diff {first} {last}\n", *words).splitlines()
+                wanted = []
+                for at in range(0, TOP, 512):
+                    old, new = (machine.words(it, at, 256) for it in (first, last))
+                    wanted += [
+                        (at + 2 * number, *pair)
+                        for number, pair in enumerate(zip(old, new))
+                        if pair[0] != pair[1]
+                    ]
+                rows = [it.split() for it in lines[1:-1]]
+                self.assertEqual([tuple(int(it, 8) for it in row[:3]) for row in rows], wanted)
+                self.assertEqual(int(lines[-1].split()[0]), len(wanted))
+                for place, *_, turn, writer in rows:
+                    write = machine.last(max(first, last), int(place, 8))
+                    self.assertEqual((turn, writer), write and (str(write.turn), write.writer))
+
+    def test_the_disk_against_each_word(self) -> None:
+        """All words that a transfer can have reached; the turns are those of a write."""
+        machine = self.machine(LEDGER)
+        lines = self.explore("diff 128066 128067 disk\ndiff 238000 9 disk\n", *LEDGER)
+        wanted = ""
+        for first, last in ((128_066, 128_067), (238_000, 9)):
+            wanted += f"disk     {first:<10}  {last}\n"
+            for at in range(0o2000):
+                old, new = (machine.disk_word(it, 0, at) for it in (first, last))
+                wanted += f"{at:07o}  {old:06o}      {new:06o}\n" if old != new else ""
+            wanted += "1 word of drive 0 differs\n"
+        self.assertEqual(lines, wanted)
+
+    def test_no_more_than_256_are_shown(self) -> None:
+        """A program that counts in each word: MOV #2000,R0; INC (R0)+; BR .-2."""
+        counting = "".join(
+            f"core {0o1000 + 2 * at:o} {it}\n"
+            for at, it in enumerate(("12700", "2000", "5220", "776"))
+        )
+        lines = self.explore(f"{counting}diff 0 1000\ndiff 0 513\n").splitlines()[4:]
+        self.assertEqual(lines[257], "500 words of core differ; the first 256 are shown")
+        self.assertEqual(lines[256], "002776   000000      000001      turn 511 cpu")
+        self.assertEqual(lines[-1], "256 words of core differ")
+        self.assertEqual(len(lines), 2 * 258)
+
+    def test_a_drive_of_version_2(self) -> None:
+        session = "examples/copy-of-a-pack.session"
+        lines = self.explore("diff 0 500 disk 2\ndiff 0 500 disk 8\n", session)
+        self.assertIn("disk     0           500\n0000000  000000      000110\n", lines)
+        self.assertIn(" words of drive 2 differ\ndiff: the form is: ", lines)
+        refused = self.explore("diff 0 5 disk 2\n")
+        self.assertTrue(refused.startswith("diff: version 1 has one drive"))
