@@ -24,6 +24,7 @@ from .journal import state_folder
 from .language import FADING, FORMS, LISTS, SEARCHES, SUMMARIES
 from .language import explanation, form_of, forms_of_searches, is_decimal, is_edit
 from .machine import is_refused
+from .mapped import MAPPED_HELP, MAPPED_WORDS, in_core
 from .output import Unwritable, fault_in_words, flush, put
 from .patching import is_instruction
 from .quotes import RULE, begun_word, in_quotes, is_plain
@@ -161,6 +162,11 @@ class Prompt:
     # What a line does
 
     def do(self, word: str, rest: str, line: str) -> None:
+        mapped = in_core(self.explorer, line)
+        if mapped is not None:
+            line, said = mapped
+            rest = line[len(word) :].lstrip(BLANKS)
+            self.show([said])
         if word in ("help", "?"):
             self.show(self.help_lines(rest))
         elif is_own(word, rest) or self.is_instruction(word, rest):
@@ -202,6 +208,8 @@ class Prompt:
             lines += [word, "", f"{LISTS[word]}. Details: docs/LANGUAGE.md, Searches"]
         if word in OWN_HELP:
             return [" : ".join(OWN_HELP[word])]
+        if word in MAPPED_WORDS:
+            lines += ["", MAPPED_HELP]
         if word and not lines:
             return [f"there is no command '{word}'; help lists them"]
         return lines or self.overview()
@@ -219,7 +227,8 @@ class Prompt:
         lines += ["", "lines of searches (docs/LANGUAGE.md):"]
         lines += [f"  {it.form}" for it in sessions.SEARCHES if it.form not in COMMANDS]
         lines.append(f"{CONDITION_HELP}.")
-        return [*lines, "", NUMBERS, f"{RULE[0].upper()}{RULE[1:]}.", "", CURRENT_TURN]
+        rules = [NUMBERS, MAPPED_HELP, f"{RULE[0].upper()}{RULE[1:]}."]
+        return [*lines, "", *rules, "", CURRENT_TURN]
 
 
 def is_own(word: str, rest: str) -> bool:

@@ -80,8 +80,8 @@ class Dumps(OfSystems):
             translated = list(machine.places([(turn, mode, it) for it in there]))
             places = [it for it in translated if it is not None and it < TOP]
             read = machine.single_words([f"mem {turn} {it:o} 1" for it in places])
-            words = dict(zip(places, list(read)))
-            wanted = [(it, words.get(TOP if at is None else at)) for it, at in zip(there, translated)]
+            words: dict[Optional[int], int] = dict(zip(places, read))
+            wanted = [(it, words.get(place)) for it, place in zip(there, translated)]
             self.assertEqual(list(unfolded(rows, 2)), wanted)
             said = [re.findall("[0-7]{6}", it.split(":")[0]) for it in shown if ": " in it]
             unread = {

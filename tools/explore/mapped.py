@@ -1,0 +1,49 @@
+"""Virtual addresses in lines that take an address of core: `last N user A`, `next kernel A`."""
+import re
+from typing import Optional
+
+from .commands import Explorer, check_turn
+from .errors import ExploreError
+from .replies import Mode
+from .symbols import ADDRESS
+
+MAPPED_WORDS = ("last", "writes", "next", "first")
+MAPPED_HELP = (
+    "In `last N A`, `writes N M A`, `next A` and `first core A = W`, A may be `kernel A` or "
+    "`user A`, an address as a program of that mode has it. It stands for the address of core that "
+    "a read before turn N comes to; `next` and `first core` take the turn of `from` for N, or the "
+    "current turn. In other turns it may be another one."
+)
+VIRTUAL_LINE = re.compile(
+    r"(?P<before>(last[ \t]+(?P<last>[0-9]{1,10})|writes[ \t]+(?P<writes>[0-9]{1,10})"
+    r"[ \t]+[0-9]{1,10}|next|first[ \t]+core)[ \t]+)"
+    r"(?P<mode>kernel|user)[ \t]+(?!(from|to)[ \t])"
+    rf"(?P<address>{ADDRESS})(?P<after>(?![^\s=]).*)"
+)
+LARGEST = 0o177777
+
+
+def turn_of(explorer: Explorer, found: "re.Match[str]") -> int:
+    """The turn before which the address is translated."""
+    begin = re.search(r"[ \t]from[ \t]+([0-9]{1,10})(?![^ \t])", found["after"])
+    named = found["last"] or found["writes"] or (begin[1] if begin else None)
+    turn = explorer.turn if named is None else int(named)
+    check_turn(turn)
+    return turn
+
+
+def in_core(explorer: Explorer, line: str) -> Optional[tuple[str, str]]:
+    """For a line with `kernel A` or `user A`: the line with an address of core, and a line that
+    says which. An address that can't be read is an error."""
+    found = VIRTUAL_LINE.fullmatch(line.strip(" \t"))
+    if found is None:
+        return None
+    mode, turn = found["mode"], turn_of(explorer, found)
+    address = explorer.symbols.number(found["address"], Mode(mode))
+    if address > LARGEST:
+        raise ExploreError(f"{address:o} is more than a virtual address, {LARGEST:o}")
+    place, *why = explorer.machine.read(f"translate {turn} {mode} {address:o}").split()[1:]
+    name = f"{mode} {address:06o}"
+    if why:
+        raise ExploreError(f"{name} is no address of core before turn {turn}: {' '.join(why)}")
+    return f"{found['before']}{place}{found['after']}", f"{name} is {place} before turn {turn}"
