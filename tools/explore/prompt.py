@@ -18,6 +18,7 @@ from .commands import COMMANDS, Explorer
 from .errors import ExploreError
 from .fades import MOST_TURNS
 from .files import OUTPUT
+from .foreign import sentence
 from .in_words import counted
 from .interrupts import INTERRUPTS, typed_line
 from .journal import state_folder
@@ -172,6 +173,8 @@ class Prompt:
         elif is_own(word, rest) or self.is_instruction(word, rest):
             OUTPUT.command, OUTPUT.overwrites = word.rstrip("!"), word[-1] == "!"
             self.show(COMMANDS[OUTPUT.command].lines(self.explorer, rest))
+        elif not is_of_language(word) and sentence(word, rest):
+            raise ExploreError(sentence(word, rest))
         else:
             self.pass_on(line)
 
@@ -211,7 +214,8 @@ class Prompt:
         if word in MAPPED_WORDS:
             lines += ["", MAPPED_HELP]
         if word and not lines:
-            return [f"there is no command '{word}'; help lists them"]
+            unknown = f"there is no command '{word}'; help lists them"
+            return [f"{word}: {sentence(word)}" if sentence(word) else unknown]
         return lines or self.overview()
 
     def overview(self) -> list[str]:
@@ -229,6 +233,10 @@ class Prompt:
         lines.append(f"{CONDITION_HELP}.")
         rules = [NUMBERS, MAPPED_HELP, f"{RULE[0].upper()}{RULE[1:]}."]
         return [*lines, "", *rules, "", CURRENT_TURN]
+
+
+def is_of_language(word: str) -> bool:
+    return word in FORMS or word in SEARCHES or word in LISTS
 
 
 def is_own(word: str, rest: str) -> bool:

@@ -1,0 +1,76 @@
+"""Words of other debuggers and simulators, gdb, rr and SIMH, and what to type here."""
+import re
+
+from .symbols import ADDRESS
+
+DUMPED = "`dump A C` shows C words from A on, `dump A C instructions` as many instructions"
+INSTRUCTIONS = "`list A C` shows C instructions from A on, `list` alone those at PC"
+STEP = "`step` shows the turn after the current one, be it an instruction or an interrupt"
+BACK = "`back` shows the turn before the current one"
+BREAK = "`until PC A` finds the first turn that comes to A, `latest 0 N at A` the last one before N"
+CONTINUE = "`until PC A from N` finds the next turn from N on that comes to A"
+BACKWARDS = "`latest 0 N at A` finds the last turn before turn N that comes to A"
+OVER = "`step` goes into a call; `until PC A from N`, with the address after the call, over it"
+OUT = "`until PC A from N` finds the return, with the address after the call: it is on the stack"
+CALLS = "`see N C` shows the C turns before turn N, `dump user A C` or `dump kernel A C` a stack"
+WATCH = "`next A from N` finds the next write to the core word at A, `last N A` the last one"
+REGISTERS = "`show` has the registers, `pages N` the mapping, `devices N` the devices"
+DEPOSIT = "`core A W` sets the word at A from power-up on: it changes the past"
+RUN = "each turn is there already: `show N`, `text N`; `until PC A` finds the turn that comes to A"
+KEPT = "no state has to be kept: `show N` shows any turn, and `save FILE` saves the past"
+BOOT = "`console from 0` sits down at power-up; examples/boot-rk0.session has a bootstrap"
+ATTACH = "a disk is the option --disk FILE of explore; `import FILE` takes over commands of SIMH"
+
+# Each sentence has lines to type, in `such quotes`. A command of explore comes before a word here.
+FOREIGN = {
+    **dict.fromkeys(("b", "br", "break", "tbreak"), BREAK),
+    **dict.fromkeys(("c", "cont", "continue"), CONTINUE),
+    **dict.fromkeys(("rc", "reverse-continue"), BACKWARDS),
+    **dict.fromkeys(("s", "si", "stepi"), STEP),
+    **dict.fromkeys(("rs", "rsi", "reverse-step", "reverse-stepi"), BACK),
+    **dict.fromkeys(("n", "ni", "nexti"), OVER),
+    **dict.fromkeys(("fin", "finish"), OUT),
+    **dict.fromkeys(("bt", "backtrace"), CALLS),
+    **dict.fromkeys(("watch",), WATCH),
+    **dict.fromkeys(("rwatch", "awatch"), f"no line finds reads; {WATCH}"),
+    **dict.fromkeys(("i", "info"), f"{REGISTERS}; `help` lists what else there is"),
+    **dict.fromkeys(("p", "print"), f"`dump A 1` shows the word at A; {REGISTERS}"),
+    **dict.fromkeys(("x", "e", "ex", "exam", "examine"), f"{DUMPED}; {REGISTERS}"),
+    **dict.fromkeys(("l", "disas", "disassemble"), INSTRUCTIONS),
+    **dict.fromkeys(("d", "dep", "deposit"), DEPOSIT),
+    "set": f"{DEPOSIT}; `delay L N` sets how long a device takes",
+    "history": "`see N C` shows the C turns before turn N; nothing has to be switched on for it",
+    **dict.fromkeys(("r", "go", "start"), RUN),
+    **dict.fromkeys(("checkpoint", "restart", "restore"), KEPT),
+    **dict.fromkeys(("boot", "reset"), BOOT),
+    **dict.fromkeys(("attach", "att"), ATTACH),
+    "send": "`type TEXT from N` strikes keys from turn N on",
+    "expect": "`until text STRING` finds the turn that prints the last byte of STRING",
+    "h": "`help` lists what there is, `help WORD` says what one does",
+}
+# `x/20i A` of gdb: how many, and the letters of the format.
+EXAMINED = re.compile(r"(?:x|p|print|e|ex|examine)/([0-9]{0,4})([a-z]{0,2})")
+FORMATS = {"i": "instructions", "b": "bytes", "c": "text", "d": "words", "u": "words"}
+OF_BYTES = ("bytes", "text")
+VIRTUAL = "`dump user A C` takes an address of a program, as `dump kernel A C` does"
+
+
+def examined(word: str, rest: str) -> str:
+    """The dump that a word such as `x/20i` asks for, or an empty text. gdb counts bytes, a dump
+    words."""
+    found = EXAMINED.fullmatch(word)
+    if found is None:
+        return ""
+    count = max(1, int(found[1] or 1))
+    how = next((FORMATS[it] for it in found[2] if it in FORMATS), "")
+    count = (count + 1) // 2 if how in OF_BYTES else count
+    is_address = re.fullmatch(ADDRESS, rest) is not None and not rest.startswith("$")
+    line = f"dump {rest if is_address else 'A'} {count} {how}".rstrip()
+    more = f"; {INSTRUCTIONS}" if how == "instructions" else ""
+    return f"`{line}`; {VIRTUAL}{more}"
+
+
+def sentence(word: str, rest: str = "") -> str:
+    """What to type here in place of a line that begins with this word; an empty text if the word
+    isn't foreign. SIMH takes capital letters too."""
+    return examined(word, rest) or FOREIGN.get(word.lower(), "")
