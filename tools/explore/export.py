@@ -27,14 +27,14 @@ def core_words(machine: Machine, turn: int) -> list[int]:
     """All of core before the turn."""
     places = range(0, machine.setup.units * UNIT_BYTES, 2 * MOST_WORDS)
     lines = [f"mem {turn} {at:o} {MOST_WORDS}" for at in places]
-    return [word for words in parsed(machine.ask_all(lines)) for word in words]
+    return [word for words in parsed(machine.read_all(lines)) for word in words]
 
 
 def drive_image(machine: Machine, turn: int, drive: int) -> bytes:
     places = range(0, DRIVE_WORDS, MOST_WORDS)
     lines = [machine.disk_line(turn, drive, at, MOST_WORDS) for at in places]
     return b"".join(
-        struct.pack(f"<{MOST_WORDS}H", *words) for words in parsed(machine.ask_all(lines))
+        struct.pack(f"<{MOST_WORDS}H", *words) for words in parsed(machine.read_all(lines))
     )
 
 

@@ -1,5 +1,9 @@
 """`diff` against each word of core and of the disk."""
 import random
+from unittest import mock
+
+from explore.export import core_words, drive_image
+from explore.machine import Refused
 
 from .systems import LEDGER, SYSTEMS, TOP, OfSystems
 
@@ -59,3 +63,13 @@ class Differences(OfSystems):
         self.assertIn(" words of drive 2 differ\ndiff: the form is: ", lines)
         refused = self.explore("diff 0 5 disk 2\n")
         self.assertTrue(refused.startswith("diff: version 1 has one drive"))
+
+    def test_a_refusal_is_named(self) -> None:
+        machine = self.machine(LEDGER)
+        self.assertEqual(machine.setup.units, 31)  # which is kept from then on
+        refused = mock.Mock(side_effect=lambda lines, _: ["refused 1 NoMemory"] * len(lines))
+        with mock.patch.object(machine, "ask_all", refused):
+            said = "mem 5 0 256: refused 1 NoMemory"
+            self.assertRaisesRegex(Refused, said, core_words, machine, 5)
+            said = "dsk 5 0 256: refused 1 NoMemory"
+            self.assertRaisesRegex(Refused, said, drive_image, machine, 5, 0)
