@@ -35,6 +35,8 @@ class Messages(Case):
             "show 9999999999",
             "screen 9999999999",
             "list 1000 3 at 9999999999",
+            "dump 1000 3 at 9999999999",
+            "diff 0 9999999999",
             "where disk 5 9999999999",
             "export it at 9999999999",
             "drop from 9999999999",
