@@ -7,13 +7,14 @@ DUMPED = "`dump A C` shows C words from A on, `dump A C instructions` as many in
 INSTRUCTIONS = "`list A C` shows C instructions from A on, `list` alone those at PC"
 STEP = "`step` shows the turn after the current one, be it an instruction or an interrupt"
 BACK = "`back` shows the turn before the current one"
-BREAK = "`until PC A` finds the first turn that comes to A, `latest 0 N at A` the last one before N"
-CONTINUE = "`until PC A from N` finds the next turn from N on that comes to A"
-BACKWARDS = "`latest 0 N at A` finds the last turn before turn N that comes to A"
-OVER = "`step` goes into a call; `until PC A from N`, with the address after the call, over it"
-OUT = "`until PC A from N` finds the return, with the address after the call: it is on the stack"
-CALLS = "`see N C` shows the C turns before turn N, `dump user A C` or `dump kernel A C` a stack"
-WATCH = "`next A from N` finds the next write to the core word at A, `last N A` the last one"
+BREAK = "`break A` sets a breakpoint, `continue` goes on to it; `until PC A` finds the first turn"
+CONTINUE = "`continue` goes on to the next turn at a breakpoint"
+BACKWARDS = "`reverse-continue` goes back to the last turn at a breakpoint"
+OVER = "`over` steps over a call, `step` into it"
+OVER_BACK = "`reverse-over` steps back over a call, `back` into it"
+OUT = "`finish` goes on to where the current routine has returned"
+CALLS = "`calls` lists the calls, interrupts and traps that the current turn stands in"
+READS = "no line finds reads; `watch A` sets a breakpoint at writes, `next A` finds the next one"
 REGISTERS = "`show` has the registers, `pages N` the mapping, `devices N` the devices"
 DEPOSIT = "`core A W` sets the word at A from power-up on: it changes the past"
 RUN = "each turn is there already: `show N`, `text N`; `until PC A` finds the turn that comes to A"
@@ -23,21 +24,22 @@ ATTACH = "a disk is the option --disk FILE of explore; `import FILE` takes over 
 
 # Each sentence has lines to type, in `such quotes`. A command of explore comes before a word here.
 FOREIGN = {
-    **dict.fromkeys(("b", "br", "break", "tbreak"), BREAK),
-    **dict.fromkeys(("c", "cont", "continue"), CONTINUE),
-    **dict.fromkeys(("rc", "reverse-continue"), BACKWARDS),
+    **dict.fromkeys(("b", "br", "tbreak"), BREAK),
+    **dict.fromkeys(("c", "cont"), CONTINUE),
+    "rc": BACKWARDS,
     **dict.fromkeys(("s", "si", "stepi"), STEP),
     **dict.fromkeys(("rs", "rsi", "reverse-step", "reverse-stepi"), BACK),
     **dict.fromkeys(("n", "ni", "nexti"), OVER),
-    **dict.fromkeys(("fin", "finish"), OUT),
+    **dict.fromkeys(("rn", "rni", "reverse-next", "reverse-nexti"), OVER_BACK),
+    "fin": OUT,
     **dict.fromkeys(("bt", "backtrace"), CALLS),
-    **dict.fromkeys(("watch",), WATCH),
-    **dict.fromkeys(("rwatch", "awatch"), f"no line finds reads; {WATCH}"),
-    **dict.fromkeys(("i", "info"), f"{REGISTERS}; `help` lists what else there is"),
+    **dict.fromkeys(("rwatch", "awatch"), READS),
+    **dict.fromkeys(("i", "info"), f"{REGISTERS}; `breakpoints` lists breakpoints"),
     **dict.fromkeys(("p", "print"), f"`dump A 1` shows the word at A; {REGISTERS}"),
     **dict.fromkeys(("x", "e", "ex", "exam", "examine"), f"{DUMPED}; {REGISTERS}"),
     **dict.fromkeys(("l", "disas", "disassemble"), INSTRUCTIONS),
-    **dict.fromkeys(("d", "dep", "deposit"), DEPOSIT),
+    "d": f"{DEPOSIT}; `delete N` takes away a breakpoint",
+    **dict.fromkeys(("dep", "deposit"), DEPOSIT),
     "set": f"{DEPOSIT}; `delay L N` sets how long a device takes",
     "history": "`see N C` shows the C turns before turn N; nothing has to be switched on for it",
     **dict.fromkeys(("r", "go", "start"), RUN),

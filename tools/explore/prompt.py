@@ -59,10 +59,10 @@ NUMBERS = (
 )
 CURRENT_TURN = (
     "The current turn is the one that a line found (until, next, where, first, latest, last, "
-    "change, when, fades, continue) or showed (show, step, back, over, finish, see, list, calls, dump, "
-    "screen) last, also by a line with reverse-, or where you left the console. The lines that "
-    "show begin there if they name no turn. Other lines, edits too, leave it as it is. The prompt "
-    "at a terminal names it, if it isn't turn 0."
+    "change, when, fades, continue) or showed (show, step, back, over, finish, see, list, calls, "
+    "dump, screen) last, also by a line with reverse-, or where you left the console. The lines "
+    "that show begin there if they name no turn. Other lines, edits too, leave it as it is. The "
+    "prompt at a terminal names it, if it isn't turn 0."
 )
 
 
