@@ -23,6 +23,7 @@ use Rattle.pdp_cpu.specs.Turns.MachineState.{world_with_first_touches}
 use Rattle.pdp_cpu.specs.Turns.Turn.{act_end, beginning, clear_latch, course_at, one_turn}
 use Rattle.pdp_cpu.specs.Turns.Turn.{printed_in, processor_after_events, punched_in, initial_state}
 use Rattle.pdp_cpu.specs.Turns.Turn.{turn_act, turn_trace}
+use Rattle.pdp_cpu.specs.Turns.TurnDisk.{disk_begun}
 use Rattle.pdp_cpu.specs.Turns.TurnTrap.{trap_of_due, turn_trap}
 use Rattle.pdp_cpu.proofs.CarriedTraps.{trap_carried}
 
@@ -36,11 +37,12 @@ record TurnNoted (t : ℕ) (events : List Event) (w : World) (notes : AccessNote
   trace : turn_trace t events (world_noting w notes) ≡ turn_trace t events w
   act : turn_act t events (world_noting w notes) ≡ turn_act t events w
   trap : turn_trap t events (world_noting w notes) ≡ turn_trap t events w
+  disk : disk_begun t events (world_noting w notes) ≡ disk_begun t events w
   printed : printed_in t events (world_noting w notes) ≡ printed_in t events w
   punched : punched_in t events (world_noting w notes) ≡ punched_in t events w
 
 turn_noted : (t : ℕ) (events : List Event) (w : World) (notes : AccessNotes) → TurnNoted t events w notes
-unfolding one_turn turn_trace turn_act turn_trap printed_in punched_in
+unfolding one_turn turn_trace turn_act turn_trap disk_begun printed_in punched_in
 turn_noted t events w notes =
     let xs = begun_touches t events w.bus in
     let first = begun_carried t events w.bus notes in
@@ -57,6 +59,7 @@ turn_noted t events w notes =
       act = ap (λ u. act_of (due_of (inner_of (initial_state u)))) begins;
       trap = ap (λ u. trap_of_due (due_of (inner_of (initial_state u))) (initial_state u)) begins
           ∙ trap_carried (due_of (inner_of (initial_state v))) (initial_state v) (notes_after xs notes);
+      disk = ap (λ q. q.bus.io_page.disk) first.is;
       printed = ap (λ q. q.printed) first.is;
       punched = ap (λ q. q.punched) first.is;
     }
@@ -72,6 +75,7 @@ pub record TurnCarried (t : ℕ) (events : List Event) (w : World) (first_touche
   pub trace : turn_trace t events (world_with_first_touches w first_touches) ≡ turn_trace t events w
   pub act : turn_act t events (world_with_first_touches w first_touches) ≡ turn_act t events w
   pub trap : turn_trap t events (world_with_first_touches w first_touches) ≡ turn_trap t events w
+  pub disk : disk_begun t events (world_with_first_touches w first_touches) ≡ disk_begun t events w
   pub printed : printed_in t events (world_with_first_touches w first_touches) ≡ printed_in t events w
   pub punched : punched_in t events (world_with_first_touches w first_touches) ≡ punched_in t events w
 
@@ -86,6 +90,7 @@ turn_carried t events w first_touches =
       trace = so.trace;
       act = so.act;
       trap = so.trap;
+      disk = so.disk;
       printed = so.printed;
       punched = so.punched;
     }

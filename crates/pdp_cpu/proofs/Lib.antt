@@ -8,5 +8,6 @@ pub mod DriveSizes
 pub mod Halted
 pub mod Dues
 mod KeptTexts
+pub mod CalmDrives
 pub mod CalmTurns
 pub mod Rules

@@ -2,15 +2,20 @@
 -- `unfolding` of a name opens all that stands on the name's own line.
 use Rattle.pdp_operand.specs.Phases.Course.{follow}
 use Rattle.pdp_operand.specs.Phases.Phase.{run}
-use Rattle.pdp_cpu.proofs.CalmTurns.{calm_later, calm_start, stamp_stays_next, value_stays_next, word_stays}
+use Rattle.pdp_cpu.proofs.CalmDrives.{drives_stay_none}
+use Rattle.pdp_cpu.proofs.CalmTurns.{calm_later, calm_start, instructs_next, stamp_stays_next, value_stays_next, word_stays}
 use Rattle.pdp_cpu.proofs.KeptTexts.{kept_one, length_before, text_and_one, text_before}
 use Rattle.pdp_cpu.proofs.TurnLaws.{turn_keeps_stamps, turn_keeps_words}
 use Rattle.pdp_cpu.specs.Turns.Due.{serve, serving, take_stack, take_trace}
 use Rattle.pdp_cpu.specs.Turns.Turn.{one_turn, printed_in, punched_in, turn_act}
+use Rattle.pdp_cpu.specs.Turns.TurnDisk.{disk_begun}
 use Rattle.pdp_cpu.specs.Turns.TurnTrap.{turn_trap}
 
 -- for goals on a burst, before its first turn and after each
 pub ruleset bursts = (calm_start, calm_later)
+
+-- for goals on a burst of which more is known: that its turns are instructions and leave the drives
+pub ruleset calm_bursts = (instructs_next, drives_stay_none)
 
 -- for goals on a burst that ends with the first write of a word
 pub ruleset stamped_bursts = (stamp_stays_next, value_stays_next, word_stays)
@@ -43,3 +48,8 @@ what_is_due = Unit {0}
 unfoldable pub whole_turn_with_trap : Type 0
 unfolding one_turn turn_act turn_trap printed_in punched_in
 whole_turn_with_trap = Unit {0}
+
+-- opens a turn and its disk
+unfoldable pub whole_turn_with_disk : Type 0
+unfolding one_turn disk_begun printed_in punched_in
+whole_turn_with_disk = Unit {0}

@@ -7,9 +7,10 @@
 //!   the drives: its events, and then what is due (a trap, an interrupt, an instruction or
 //!   nothing), with the plans of pdp_instruction. It tells with which act it began, and the meter
 //!   counts it (`Machine::turn`, `ready`). The vector of the turn's trap can be told too
-//!   (`Machine::turn_and_tell`).
+//!   (`Machine::turn_and_tell`), and so can the disk's controller when the turn has begun
+//!   (`Machine::turn_and_tell_disk`).
 //! - A burst of n turns of a calm machine is n turns of the definition without events, each of them
-//!   an instruction, and the meter counts n (`Machine::run_calmly`). A burst that is to stop before
+//!   an instruction that leaves the drives, and the meter counts n (`Machine::run_calmly`). A burst that is to stop before
 //!   an address runs no turn that begins with PC there (`run_calmly_before`).
 //! - A turn touches the page of every word that it reads, writes, moves or compares, in core and on
 //!   the drives: the first touches after it are those before it with its trace (`Machine::turn`).
@@ -46,6 +47,7 @@ mod regs;
 mod saved;
 mod take_due;
 mod touched_pages;
+mod turn_disk;
 mod turn_trap;
 
 pub use act::Act;

@@ -24,6 +24,7 @@ use pdp_instruction::instruct;
 use pdp_kt11::{MappingRegisters, Mode};
 use pdp_operand::{Processor, RegisterId, RunState};
 use pdp_quick::Computer;
+use pdp_rk11::Rk;
 use pdp_store::{Stamp, Store};
 use pdp_unibus::{Bus, Delays, DeviceRegisters, Event, LAST_TURN, PageRegisters};
 use pdp_word::NoMemory;
@@ -189,7 +190,7 @@ impl<S: Store, D: Store> Machine<S, D> {
 
     // The act of a turn that has begun.
     #[inline(always)]
-    fn act(&mut self) -> Act
+    pub(crate) fn act(&mut self) -> Act
         ensures act { result ≡ act_of (due_of (inner_of (initial_state (machine_world self.old)))) }
         ensures world { machine_world self.new ≡ act_end (machine_world self.old) }
         ensures without_first_touches { self.new.state.world.bus.first_touches ≡ no_first_touches }
@@ -327,6 +328,13 @@ impl<S: Store, D: Store> Machine<S, D> {
         ensures { result ≡ devices_of self.now.state.world.bus }
     {
         self.computer.bus.devices()
+    }
+
+    /// The disk's controller (PDP-11 Peripherals Handbook, RK11).
+    pub fn disk(&self) -> Rk
+        ensures { result ≡ self.now.state.world.bus.io_page.disk }
+    {
+        self.computer.bus.disk()
     }
 
     /// The registers of memory management as reads would give them (DEC PDP-11/40 Processor

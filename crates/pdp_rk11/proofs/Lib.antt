@@ -18,3 +18,4 @@ pub mod Rules
 pub mod StatusLaws
 pub mod WriteLaws
 pub mod DiskStamps
+pub mod WordsCounted

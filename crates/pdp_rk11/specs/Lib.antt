@@ -9,3 +9,4 @@ pub mod Trace
 pub mod Touched
 -- what attributes open, by a shorter path
 unfoldable pub use Rattle.pdp_rk11.specs.Completion.{rk_transferred}
+pub mod WordsDone

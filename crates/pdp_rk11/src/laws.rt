@@ -3,6 +3,7 @@ ghost use Rattle.pdp_rk11.specs.Laws.{HardErrorsAreTold};
 ghost use Rattle.pdp_rk11.specs.Laws.{ReadsLeaveTheLastMove, WritesFillWithZeros};
 ghost use Rattle.pdp_rk11.specs.Laws.{WrittenWordsAreReadBack};
 ghost use Rattle.pdp_rk11.specs.Trace.{StampsDisturbNoCompletion};
+ghost use Rattle.pdp_rk11.specs.WordsDone.{WordsAreCounted};
 
 /// A law and no code: after a read that nothing forbids, each word of core to which a move goes has
 /// the drive's word of the last move to it, and every other word of core is as it was; so are the
@@ -55,4 +56,14 @@ pub fn the_control_register_tells_the_end()
 /// trace leave their stamps on these, and nothing else differs. [P]
 pub fn stamps_disturb_no_completion()
     ensures { StampsDisturbNoCompletion }
+{}
+
+/// A law and no code: `Rk::words_done`, of the controller before the completion of what is under
+/// way and of the controller after it, is the number of words that the function moves or compares:
+/// none if it is refused.
+///
+/// PDP-11 Peripherals Handbook, RK11.
+#[tactic(auto, using(crate::proofs::WordsCounted::words_are_counted))]
+pub fn words_done_are_counted()
+    ensures { WordsAreCounted }
 {}

@@ -16,6 +16,8 @@
 //! - `Rk::complete` touches exactly the words of its trace, in its own turn: each word of core and
 //!   of the drive that a read, a write or a write check moves or compares, each word of the drive
 //!   that a read check reads, and each word of the zero fill. A refused function touches none.
+//! - The controller before a completion and after it tells how many words the function moved or
+//!   compared (`Rk::words_done`, `words_done_are_counted`).
 //! - A completion does the same whatever last stamps core has (`stamps_disturb_no_completion`).
 //!
 //! The drives themselves, addresses, how a byte is written to a register, when a function
@@ -31,13 +33,14 @@ mod laws;
 mod register;
 mod rk;
 mod transfer;
+mod words_done;
 
 pub use failure::Failure;
 pub use function::Function;
 pub use laws::{
     a_check_changes_no_word, a_read_leaves_the_last_move, a_write_fills_with_zeros,
     stamps_disturb_no_completion, the_control_register_tells_the_end,
-    what_is_written_and_read_back_is_the_same,
+    what_is_written_and_read_back_is_the_same, words_done_are_counted,
 };
 pub use register::RkRegister;
 pub use rk::Rk;

@@ -171,8 +171,10 @@ impl Rk {
         self.ready_enable.serve();
     }
 
-    // The number of the drive that RKDA names, 0 to 7.
-    pub(crate) fn drive(&self) -> usize
+    /// The number of the drive that RKDA names, 0 to 7.
+    ///
+    /// PDP-11 Peripherals Handbook, RK11.
+    pub fn drive(&self) -> usize
         ensures value { result ≡ drive_in self.now.disk_address }
         ensures fits { result < 8 }
     {
@@ -197,7 +199,10 @@ impl Rk {
         }
     }
 
-    fn error_word(&self) -> u16
+    /// RKER: the bit of the failure, and bit 0 if a write check found words that differ.
+    ///
+    /// PDP-11 Peripherals Handbook, RK11.
+    pub fn error_word(&self) -> u16
         ensures { result ≡ error_word self.now }
     {
         let failure = match self.failure {

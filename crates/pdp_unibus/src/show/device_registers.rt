@@ -4,7 +4,7 @@ ghost use Rattle.pdp_unibus.specs.Shown.{devices_of, shown_names, shown_register
 use crate::bus::Bus;
 use crate::register::Register;
 use pdp_console::KlRegister;
-use pdp_rk11::RkRegister;
+use pdp_rk11::{Rk, RkRegister};
 use pdp_store::Store;
 use pdp_tape::PcRegister;
 
@@ -86,5 +86,12 @@ impl<S: Store, D: Store> Bus<S, D> {
             words[index] = self.value(shown_register(index));
         }
         DeviceRegisters { words }
+    }
+
+    /// The disk's controller (PDP-11 Peripherals Handbook, RK11).
+    pub fn disk(&self) -> Rk
+        ensures { result ≡ self.now.io_page.disk }
+    {
+        self.io_page.disk
     }
 }

@@ -1,0 +1,15 @@
+use Rattle.std.proofs.Common.{◌∙◌, ap, sym}
+use Rattle.pdp_cpu.specs.Turns.MachineState.{MachineWithTexts}
+use Rattle.pdp_cpu.proofs.Carried.{turn_carried}
+use Rattle.pdp_cpu.proofs.TurnRuns.{turn_seen}
+use Rattle.pdp_cpu.proofs.machine.Machine.turn_and_tell_disk.Goals as goal
+
+pub returns-clause-disk : goal.returns-clause-disk
+returns-clause-disk g c =
+    let m = c.args.self.now in
+    c.tell_disk_whole.ensures.disk ∙ (turn_carried m.state.turn c.args.events.now m.state.world m.first_touches).disk
+
+pub returns-clause-runs : goal.returns-clause-runs
+returns-clause-runs g c =
+    let none = ap (λ (v : MachineWithTexts). v.state.world.bus.first_touches) (sym c.self.view_is) in
+    turn_seen c.args.events.now c.args.self.now c.tell_disk_whole.new.self _ _ none c.tell_disk_whole.ensures.runs
