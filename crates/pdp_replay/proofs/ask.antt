@@ -3,7 +3,9 @@ pub mod Trails
 pub mod Searches
 pub mod TurnConditions
 pub mod SoughtTurns
+pub mod ListedTurns
 pub mod ListedWrites
+pub mod DiskCompletions
 pub mod CountedTurns
 pub mod TurnWrites
 pub mod TextParts

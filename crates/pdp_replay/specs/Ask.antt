@@ -8,6 +8,7 @@ pub mod Answer
 pub mod Known
 pub mod Told
 pub mod Searches
+pub mod Listed
 pub mod Writes
 pub mod TurnConditions
 pub mod SoughtTurns
@@ -16,4 +17,5 @@ pub mod TextParts
 pub mod DiskChanges
 pub mod Watches
 pub mod Backwards
+pub mod DiskCompletions
 pub mod Fadings

@@ -4,6 +4,7 @@
 mod backwards;
 mod counts;
 mod disk_change;
+mod disk_completions;
 mod fading;
 mod find_words;
 mod items;
@@ -22,6 +23,7 @@ mod watch;
 mod writes;
 
 pub use counts::CountedWords;
+pub use disk_completions::{CompletionsFound, DiskCompletion};
 pub use find_words::{FoundWords, Numbers, WantedWords, WordPattern};
 pub use items::{Bytes, Items, Words};
 pub use last_write::LastWrite;

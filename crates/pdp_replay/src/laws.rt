@@ -165,8 +165,8 @@ pub fn joined_runs_stay_joined()
 {}
 
 /// A law of virtual addresses: a word that an answer tells is what a bus cycle (DATI) reads at the
-/// physical address of the word. If the answer tells why a word can't be read, that is so: memory
-/// management aborts the read, nothing answers the cycle, or a register of a device does.
+/// physical address of the word. If the answer says why a word can't be read, it is right: memory
+/// management aborts the read, nothing is at the physical address, or a register of a device is.
 ///
 /// DEC PDP-11/40 Processor Handbook (1972), Memory management; PDP-11 Peripherals Handbook, Unibus.
 #[tactic(auto, using(crate::proofs::ask::VirtualReads::virtual_words_read))]

@@ -17,9 +17,10 @@
 //!   drive are the first 256 that there are.
 //! - **Searches**: [`Engine::first_at`] returns the first turn of the run that is sought, by its
 //!   act, by its trap, or by conditions on the state before it, [`Engine::last_at`] the last one,
-//!   and [`Engine::writes`] the writes to a word of core, for every past and whatever is kept. The
-//!   turns run for them are bounded: those of `last_at` are the ones from the turn found on and two
-//!   strides, where they were known.
+//!   [`Engine::writes`] the writes to a word of core, [`Engine::next_change`] the first turn that
+//!   changes a word of a drive, and [`Engine::disk_completions`] the functions of the disk that were
+//!   completed, for every past and whatever is kept. The turns run for them are bounded: those of
+//!   `last_at` are the ones from the turn found on and two strides, where they were known.
 //! - **Counts**: [`Engine::counts`] returns for each of some words of virtual addresses how many
 //!   turns began an instruction there, in the mode that is given. It runs each of the turns once.
 //! - **An edit that fades**: [`Engine::fades`] returns the least turn from which on the run with an
@@ -41,8 +42,8 @@
 //!   `first_touches_are_taken`). So the saved machines of the one run, with their stamps laid over
 //!   those of the other, are those of the other (`saved_machines_are_taken`), and a machine of the
 //!   other goes on from them (`adopted_runs_go_on`).
-//! - The events of the script and the numbers of the setup are told as they are
-//!   ([`Engine::events`], [`Engine::setup`]).
+//! - [`Engine::events`] lists the events of the script, and [`Engine::setup`] the numbers of the
+//!   setup, as the edits so far left them.
 //! - Alterations and drops of events, and edits of tape and delays, are never refused for memory
 //!   (`some_edits_need_no_memory`). Texts only grow from turn to turn (`texts_only_grow`).
 //!
@@ -60,9 +61,10 @@ mod past;
 mod run;
 
 pub use ask::{
-    Bytes, Cause, CountedWords, FoundWords, Items, LastWrite, MOST_CONDITIONS, Numbers, Quantity,
-    Question, Relation, Sought, TextKind, Told, Trail, TrailEntry, TurnCondition, TurnConditions,
-    Unreadable, Value, VirtualWords, WantedWords, WordPattern, Words, Written,
+    Bytes, Cause, CompletionsFound, CountedWords, DiskCompletion, FoundWords, Items, LastWrite,
+    MOST_CONDITIONS, Numbers, Quantity, Question, Relation, Sought, TextKind, Told, Trail,
+    TrailEntry, TurnCondition, TurnConditions, Unreadable, Value, VirtualWords, WantedWords,
+    WordPattern, Words, Written,
 };
 pub use engine::Engine;
 pub use laws::{

@@ -1,8 +1,9 @@
 -- Turns that a search passes, and the turn that it looks at.
-use Rattle.std.proofs.Common.{◌≡◌, ◌∙◌, ℕ, zero, suc, ◌+◌, ◌-◌, ◌<◌, ◌≤◌, ◌&&◌, Bool, List, None, ap, arith, length, nat_lt, slice_index_or, subst, sym}
-use Rattle.std.proofs.lemmas.Bool.{le-ltb}
+use Rattle.std.proofs.Common.{◌≡◌, ◌∙◌, ℕ, zero, suc, ◌+◌, ◌-◌, ◌<◌, ◌≤◌, ◌&&◌, ◌==◌, Bool, List, None, ap, arith, length, nat_lt, not, slice_index_or, subst, sym}
+use Rattle.std.proofs.lemmas.Bool.{eq-eqb, le-ltb}
 use Rattle.pdp_store.specs.TracedAccess.{last_write}
 use Rattle.pdp_unibus.specs.declared.event.Event.{Event}
+use Rattle.pdp_cpu.proofs.CalmDrives.{drive_sizes_stay}
 use Rattle.pdp_cpu.proofs.CalmTurns.{size_stays}
 use Rattle.pdp_cpu.proofs.TurnLaws.{turn_keeps_words}
 use Rattle.pdp_cpu.specs.Turns.CalmTurns.{StampStays, after_calm_turns, word_stamp}
@@ -13,7 +14,8 @@ use Rattle.pdp_cpu.specs.declared.kept_text.KeptByte.{KeptByte}
 use Rattle.pdp_script.specs.Entries.{events_at}
 use Rattle.pdp_replay.specs.Past.{Past}
 use Rattle.pdp_replay.specs.Run.KeptRuns.{IsUnderWay, IsWithoutEvents}
-use Rattle.pdp_replay.specs.Run.States.{at, state_at, trace_at}
+use Rattle.pdp_replay.specs.Run.States.{at, disk_of, state_at, trace_at}
+use Rattle.pdp_replay.specs.Ask.DiskChanges.{word_on}
 use Rattle.pdp_replay.specs.Ask.Searches.{HoldsNowhere, IsFirst, or_turn}
 use Rattle.pdp_replay.specs.Ask.SoughtTurns.{act_with_trap, is_act_sought, turn_is_sought}
 use Rattle.pdp_replay.specs.Ask.TextParts.{bytes_at}
@@ -25,6 +27,7 @@ use Rattle.pdp_replay.specs.declared.ask.watch.Watchpoint.TheVariants as watch
 use Rattle.pdp_replay.proofs.run.CalmWays.{turn_after, way_on_calmly}
 use Rattle.pdp_replay.proofs.run.CoreSizes.{core_keeps_size}
 use Rattle.pdp_replay.proofs.run.KeptBytes.{as_long}
+use Rattle.pdp_replay.proofs.ask.DiskChanges.{same_length, word_stays}
 use Rattle.pdp_replay.proofs.ask.LastWrites.{stamps_are}
 use Rattle.pdp_replay.proofs.ask.Searches.{first_on, first_turn}
 use Rattle.pdp_replay.proofs.ask.SoughtTurns.{passed_calmly}
@@ -38,6 +41,8 @@ inside_same (watch.Act sought) before after same inside = tt
 inside_same (watch.Write number) before after same inside =
     let size = ap (λ (s : MachineState). length s.world.bus.core) same in omega (arith, size, inside)
 inside_same (watch.Output kind number) before after same inside = tt
+inside_same (watch.Change drive number word) before after same inside =
+    let size = ap (λ (s : MachineState). length (disk_of s.world drive)) same in omega (arith, size, inside)
 
 pub inside_turn : (watching : Watchpoint) (events : List Event) (before ready after : MachineWithTexts) → ready.state ≡ before.state
     → after.state ≡ after_turn events ready.state → IsInside watching before → IsInside watching after
@@ -47,6 +52,9 @@ inside_turn (watch.Write number) events before ready after same is inside =
     let was = ap (λ (s : MachineState). length s.world.bus.core) same in
     omega (arith, size, was, inside)
 inside_turn (watch.Output kind number) events before ready after same is inside = tt
+inside_turn (watch.Change drive number word) events before ready after same is inside =
+    let was = ap (λ (s : MachineState). length (disk_of s.world drive)) same in
+    word_stays drive number events ready.state after.state is (omega (arith, was, inside))
 
 pub inside_calmly : (watching : Watchpoint) (n : ℕ) (before after : MachineWithTexts) → after ≡ after_calm_turns n before
     → IsInside watching before → IsInside watching after
@@ -55,6 +63,10 @@ inside_calmly (watch.Write number) n before after is inside =
     let size = ap (λ (m : MachineWithTexts). length m.state.world.bus.core) is ∙ size_stays n before in
     omega (arith, size, inside)
 inside_calmly (watch.Output kind number) n before after is inside = tt
+inside_calmly (watch.Change drive number word) n before after is inside =
+    let here = ap (λ (m : MachineWithTexts). length (disk_of m.state.world drive)) is in
+    let size = same_length (after_calm_turns n before).state.world.bus.drives before.state.world.bus.drives drive (drive_sizes_stay n before) in
+    omega (arith, here, size, inside)
 
 -- the stamp of a word in a state of a run
 stamp_there : (p : Past) (number n : ℕ) (m : MachineWithTexts) → m.state ≡ at p n → number < length m.state.world.bus.core
@@ -105,6 +117,9 @@ met_there p (watch.Write number) known events before ready now turn possible tol
 met_there p (watch.Output kind number) known events before ready now turn possible told happen way on same is possible_is told_is next inside =
     let there : now.state ≡ at p (before.state.turn + 1) = on.here ∙ ap (at p) next in
     ap (λ bytes. nat_lt number (length bytes)) (sym (bytes_there kind p (before.state.turn + 1) now.state there))
+met_there p (watch.Change drive number word) known events before ready now turn possible told happen way on same is possible_is told_is next inside =
+    let there : now.state ≡ at p (before.state.turn + 1) = on.here ∙ ap (at p) next in
+    ap (λ (s : MachineState). not (word == word_on drive number s.world)) (sym there)
 
 -- and so the first of one turn
 pub first_met : (p : Past) (watching : Watchpoint) (known : ℕ) (events : List Event) (before ready now : MachineWithTexts) (turn : ℕ) (possible : Bool) (told : ActWithTrap)
@@ -146,6 +161,21 @@ silent_nowhere p kind number first now m here few =
     let size = ap length (bytes_there kind p now m here) in
     le-ltb number (length (bytes_at kind p (turn + 1))) (omega (arith, grows, size, few))
 
+-- no turn left another word on a drive, of turns after each of which the word is the same
+unchanged_nowhere : (p : Past) (drive number word known to n : ℕ) (m : MachineWithTexts) → m.state.turn + n ≤ to → IsWithoutEvents p m.state.turn to
+    → IsUnderWay p known m → PassesTo (watch.Change drive number word) n m
+    → HoldsNowhere (is_watched_at p (watch.Change drive number word)) m.state.turn (m.state.turn + n)
+unchanged_nowhere p drive number word known to n m within quiet way stays =
+    λ turn least below.
+    let k : ℕ = turn - m.state.turn in
+    let now : MachineWithTexts = after_calm_turns (k + 1) m in
+    let next : m.state.turn + (k + 1) ≡ turn + 1 = omega (arith, least) in
+    let on : IsUnderWay p known now = way_on_calmly p known to (k + 1) m (omega (arith, next, below, within)) quiet way in
+    let there : now.state ≡ at p (turn + 1) = on.here ∙ ap (at p) (turn_after (k + 1) m ∙ next) in
+    let same : word ≡ word_on drive number (state_at p (turn + 1)) =
+    stays k (omega (arith, next, below)) ∙ ap (λ (s : MachineState). word_on drive number s.world) there in
+    ap not (eq-eqb word (word_on drive number (state_at p (turn + 1))) same)
+
 -- the first of the turns that a machine passed on its way
 pub first_passed : (p : Past) (watching : Watchpoint) (known to n : ℕ) (m now : MachineWithTexts) → now ≡ after_calm_turns n m
     → now.state.turn ≡ m.state.turn + n → 0 < n → now.state.turn ≤ to → IsWithoutEvents p m.state.turn to → IsUnderWay p known m
@@ -170,3 +200,6 @@ first_passed p (watch.Output kind number) known to n m now is turn some most qui
     let on : IsUnderWay p known now = subst (IsUnderWay p known) (sym is) (way_on_calmly p known to n m (omega (arith, turn, most)) quiet way) in
     let few = subst (λ (w : MachineWithTexts). length (bytes_of kind w.state) ≤ number) (sym is) (none some) in
     silent_nowhere p kind number m.state.turn now.state.turn now.state on.here few
+first_passed p (watch.Change drive number word) known to n m now is turn some most quiet way inside none =
+    subst (HoldsNowhere (is_watched_at p (watch.Change drive number word)) m.state.turn) (sym turn)
+    (unchanged_nowhere p drive number word known to n m (omega (arith, turn, most)) quiet way none)

@@ -1,6 +1,5 @@
 -- The turns that change a word of a drive [P].
-use Rattle.std.specs.Prelude.{ℕ, ◌≡◌, ◌+◌, ◌==◌, ◌<◌, Bool, Option, Result, not, slice_index}
-use Rattle.pdp_cpu.specs.Turns.MachineState.{MachineState}
+use Rattle.std.specs.Prelude.{ℕ, ◌≡◌, ◌+◌, ◌==◌, ◌<◌, Bool, Result, not, slice_index}
 use Rattle.pdp_operand.specs.Phases.World.{World}
 use Rattle.pdp_script.specs.Refusal.{result_map}
 use Rattle.pdp_script.specs.Script.{ScriptData}
@@ -9,8 +8,8 @@ use Rattle.pdp_replay.specs.Past.{Past}
 use Rattle.pdp_replay.specs.Past.Edit.{disk_word_at}
 use Rattle.pdp_replay.specs.Past.Setup.{SetupData, drive_words}
 use Rattle.pdp_replay.specs.Run.KeptRuns.{IsKeptRun}
-use Rattle.pdp_replay.specs.Run.States.{at, disk_of, state_at}
-use Rattle.pdp_replay.specs.Ask.Searches.{IsFirst, search_checked}
+use Rattle.pdp_replay.specs.Run.States.{disk_of, state_at}
+use Rattle.pdp_replay.specs.Ask.Searches.{search_checked}
 use Rattle.pdp_replay.specs.Ask.Writes.{then_checked}
 use Rattle.pdp_replay.specs.declared.run.kept_run.KeptRun.{KeptRun}
 
@@ -28,12 +27,6 @@ word_changes drive number p t = not (word_on drive number (state_at p t)
 abbrev pub change_checked : ℕ → ℕ → ℕ → ℕ → SetupData → Result (Unit {0}) Fault
 change_checked drive number from to s = then_checked (search_checked from to) (result_map (λ _. tt)
     (disk_word_at drive number s))
-
--- this is the first turn that changes the word, of every past with this script whose machine before
--- the turns is this one
-abbrev pub IsFirstChange : ScriptData → ℕ → ℕ → ℕ → ℕ → MachineState → Option ℕ → Type 0
-IsFirstChange script drive number from to machine found = (p : Past) → p.script ≡ script → machine
-    ≡ at p from → IsFirst (word_changes drive number p) from to found
 
 -- a word can be watched in a run with this script: it is on a drive that is there
 pub record CanWatch (drive number : ℕ) (script : ScriptData) (r : KeptRun) : Type 0 where

@@ -4,11 +4,7 @@ use Rattle.std.specs.Prelude.{None, Result, Ok, Err, max, min, nat_le, if◌then
 use Rattle.pdp_unibus.specs.LastTurn.{last_turn}
 use Rattle.pdp_script.specs.declared.faults.Fault.{Fault}
 use Rattle.pdp_script.specs.declared.faults.Fault.TheVariants.{TurnTooLarge, CountOutOfRange}
-use Rattle.pdp_script.specs.Script.{ScriptData}
-use Rattle.pdp_replay.specs.Past.{Past}
-use Rattle.pdp_replay.specs.Run.States.{at}
 use Rattle.pdp_replay.specs.Timeline.{Timeline}
-use Rattle.pdp_replay.specs.declared.run.kept_run.KeptRun.{KeptRun}
 
 -- no turn from one on and before another has the property
 abbrev pub HoldsNowhere : (ℕ → Bool) → ℕ → ℕ → Type 0
@@ -56,12 +52,6 @@ turn_reached None to = to
 -- a part of a search that came to this turn came to the one after what it found, if it found one
 abbrev pub EndsAfter : ℕ → Option ℕ → Type 0
 EndsAfter turn found = turn ≡ turn_reached found turn
-
--- the machine is still in a state of each run with this script in a state of which it was
-abbrev pub StaysIn : ScriptData → KeptRun → KeptRun → Type 0
-StaysIn script before after = (p : Past) → p.script ≡ script
-    → before.machine.state ≡ at p before.machine.state.turn
-    → after.machine.state ≡ at p after.machine.state.turn
 
 -- A search of this timeline ran at most one stride of turns more than those from its first turn, or
 -- from the known one if that is earlier, to the turn that it ended at.

@@ -1,6 +1,6 @@
 -- What a search watches for, turn by turn [P].
 use Rattle.std.specs.Prelude.{ℕ, ◌≡◌, ◌+◌, ◌<◌, ◌≤◌, ◌==◌, ◌&&◌, Bool, true, false, List, length, nat_lt}
-use Rattle.std.specs.Prelude.{Option, None, Some}
+use Rattle.std.specs.Prelude.{Option, None, Some, not}
 use Rattle.pdp_store.specs.declared.Stamp.{Stamp}
 use Rattle.pdp_unibus.specs.declared.event.Event.{Event}
 use Rattle.pdp_cpu.specs.Turns.CalmTurns.{StampStays, after_calm_turns, word_stamp}
@@ -10,6 +10,8 @@ use Rattle.pdp_script.specs.Entries.{events_at}
 use Rattle.pdp_script.specs.Script.{ScriptData}
 use Rattle.pdp_replay.specs.Past.{Past}
 use Rattle.pdp_replay.specs.Run.KeptRuns.{IsOnWay, IsUnderWay, IsWithoutEvents}
+use Rattle.pdp_replay.specs.Run.States.{disk_of, state_at}
+use Rattle.pdp_replay.specs.Ask.DiskChanges.{word_on}
 use Rattle.pdp_replay.specs.Ask.Searches.{IsFirst}
 use Rattle.pdp_replay.specs.Ask.SoughtTurns.{NoneIsSought, is_act_sought, is_sought_at}
 use Rattle.pdp_replay.specs.Ask.SoughtTurns.{is_state_sought}
@@ -22,15 +24,19 @@ use Rattle.pdp_replay.specs.declared.ask.watch.Watchpoint.TheVariants as watch
 use Rattle.pdp_replay.specs.declared.run.kept_run.KeptRun.{KeptRun}
 
 -- is turn t what a search watches for? A turn that begins with what is sought; one that writes the
--- core word of this number; or one after which more than so many bytes of a text came out
+-- core word of this number; one after which more than so many bytes of a text came out; or one after
+-- which the word of this number of a drive isn't this one
 abbrev pub is_watched_at : Past → Watchpoint → ℕ → Bool
 is_watched_at p (watch.Act sought) t = is_sought_at p sought t
 is_watched_at p (watch.Write number) t = is_written p number t
 is_watched_at p (watch.Output kind number) t = is_out_after kind number p t
+is_watched_at p (watch.Change drive number word) t =
+    not (word == word_on drive number (state_at p (t + 1)))
 
--- a machine can be watched: a word is in its core
+-- a machine can be watched: a word is in its core, or on the drive
 abbrev pub IsInside : Watchpoint → MachineWithTexts → Type 0
 IsInside (watch.Write number) m = number < length m.state.world.bus.core
+IsInside (watch.Change drive number word) m = number < length (disk_of m.state.world drive)
 IsInside _ m = Unit {0}
 
 -- the bytes that came out of a machine: those that were printed on the console, or those that were
@@ -60,6 +66,8 @@ is_met (watch.Act sought) possible t told now = possible && is_act_sought sought
 is_met (watch.Write number) possible t told now = is_of_turn t (word_stamp number now)
 is_met (watch.Output kind number) possible t told now = nat_lt number (length (bytes_of kind
     now.state))
+is_met (watch.Change drive number word) possible t told now =
+    not (word == word_on drive number now.state.world)
 
 -- of a machine's next n turns without events none is watched for, but maybe the last, if that
 -- writes the word
@@ -68,6 +76,8 @@ PassesTo (watch.Act sought) n m = NoneIsSought sought n m
 PassesTo (watch.Write number) n m = StampStays number n m
 PassesTo (watch.Output kind number) n m = 0 < n → length (bytes_of kind (after_calm_turns n
     m).state) ≤ number
+PassesTo (watch.Change drive number word) n m = (k : ℕ) → k < n
+    → word ≡ word_on drive number (after_calm_turns (k + 1) m).state.world
 
 -- was the last of them, which left this machine?
 abbrev pub is_met_last : Watchpoint → ℕ → MachineWithTexts → Bool

@@ -1,6 +1,5 @@
 -- The writes to a word of core in some turns [P].
-use Rattle.std.specs.Prelude.{ℕ, ◌≡◌, ◌+◌, ◌-◌, ◌<◌, ◌++◌, zero, suc, List, []}
-use Rattle.std.specs.Prelude.{Option, None, Some, Result, Ok, Err, option_to_list, slice_get}
+use Rattle.std.specs.Prelude.{ℕ, ◌≡◌, ◌+◌, ◌-◌, ◌<◌, List, Option, None, Some, Result, Ok, Err}
 use Rattle.std.specs.Prelude.{slice_index, Bool, is_some}
 use Rattle.pdp_store.specs.TracedAccess.{last_write}
 use Rattle.pdp_cpu.specs.Turns.MachineState.{MachineState}
@@ -14,6 +13,7 @@ use Rattle.pdp_replay.specs.Past.Setup.{SetupData, core_size}
 use Rattle.pdp_replay.specs.Run.States.{state_at}
 use Rattle.pdp_replay.specs.Run.KeptRuns.{IsKeptRun, IsOnWay}
 use Rattle.pdp_replay.specs.Ask.LastWrites.{IsLastWriteIn, last_write_of}
+use Rattle.pdp_replay.specs.Ask.Listed.{in_turns, list_end}
 use Rattle.pdp_replay.specs.Past.Edit.{core_word_at}
 use Rattle.pdp_replay.specs.Ask.Searches.{HoldsNowhere, IsFirstTurn, search_checked}
 use Rattle.pdp_replay.specs.declared.ask.last_write.LastWrite.{LastWrite}
@@ -31,10 +31,8 @@ abbrev pub is_written : Past → ℕ → ℕ → Bool
 is_written p number t = is_some (write_in p number t)
 
 -- those of n turns from this one on, in their order
-unfoldable pub writes_in_turns : Past → ℕ → ℕ → ℕ → List LastWrite
-writes_in_turns p number first zero = []
-writes_in_turns p number first (suc n) =
-    writes_in_turns p number first n ++ option_to_list (write_in p number (first + n))
+abbrev pub writes_in_turns : Past → ℕ → ℕ → ℕ → List LastWrite
+writes_in_turns p number first n = in_turns (write_in p number) first n
 
 -- the turn after this write; the other turn if there is none
 abbrev pub turn_after_write : Option LastWrite → ℕ → ℕ
@@ -44,7 +42,7 @@ turn_after_write None to = to
 -- the turn that a search for writes before turn `to` ends at: the one after the 256th write that it
 -- lists, or `to` if it lists fewer
 abbrev pub turn_listed : List LastWrite → ℕ → ℕ
-turn_listed writes to = turn_after_write (slice_get writes 255) to
+turn_listed writes to = list_end (λ write. write.turn) writes to
 
 -- these are the writes of the turns from a run's on and before another, of every past with this
 -- script whose run it is

@@ -1,21 +1,19 @@
-ghost use Rattle.std.specs.Prelude.{◌≡◌, ◌+◌, ◌-◌, ◌<◌, ◌≤◌, length, max, min};
+ghost use Rattle.std.specs.Prelude.{◌≡◌, ◌+◌, ◌-◌, ◌<◌, ◌≤◌, max, min};
 ghost use Rattle.std.specs.Prelude.{false, IfOk, IsErr, Ok, OnOk};
 ghost use Rattle.pdp_script.specs.Refusal.{for_memory, question_answer, result_map};
 ghost use Rattle.pdp_replay.specs.Past.{Past};
 ghost use Rattle.pdp_replay.specs.Past.Setup.{SetupData};
-ghost use Rattle.pdp_replay.specs.Run.KeptRuns.{resumed_turn, Advances, ArrivesAt, CanGoOn, GoesOn};
-ghost use Rattle.pdp_replay.specs.Run.KeptRuns.{IsKeptRun, KeepsRun, LeavesKept};
-ghost use Rattle.pdp_replay.specs.Run.States.{disk_of};
+ghost use Rattle.pdp_replay.specs.Run.KeptRuns.{resumed_turn, Advances, ArrivesAt};
+ghost use Rattle.pdp_replay.specs.Run.KeptRuns.{IsKeptRun, KeepsRun};
 ghost use Rattle.pdp_replay.specs.Ask.Known.{LeavesPast, RunsFrom};
-ghost use Rattle.pdp_replay.specs.Ask.Searches.{first_turn_of, turn_reached, EndsAfter, IsFirst};
-ghost use Rattle.pdp_replay.specs.Ask.Searches.{IsWithinSearch, StaysIn};
+ghost use Rattle.pdp_replay.specs.Ask.Searches.{first_turn_of, turn_reached, IsFirst};
+ghost use Rattle.pdp_replay.specs.Ask.Searches.{IsWithinSearch};
 ghost use Rattle.pdp_replay.specs.Ask.Told.{IsAtTurn, IsToldOf};
-ghost use Rattle.pdp_replay.specs.Ask.DiskChanges.{change_checked, word_changes};
-ghost use Rattle.pdp_replay.specs.Ask.DiskChanges.{CanWatch, IsFirstChange};
+ghost use Rattle.pdp_replay.specs.Ask.DiskChanges.{change_checked, word_changes, CanWatch};
 
 use crate::ask::Told;
-use crate::ask::search::check_search;
-use crate::ask::watch::turn_if;
+use crate::ask::search::{check_search, search};
+use crate::ask::watch::Watchpoint;
 use crate::engine::Engine;
 use crate::past::{DRIVE_WORDS, disk_word};
 use crate::run::KeptRun;
@@ -121,68 +119,11 @@ fn find_change(
         ≤ run.old.meter + max from run.new.machine.state.turn + run.old.ladder.stride }
 {
     run.reach(alloc, script, from)?;
-    search_change(alloc, run, script, drive, number, to)
-}
-
-/// Runs turns until one changed the word of this number of the drive, or to turn `to`. Returns that
-/// turn. Keeps what is to be kept of the turns.
-///
-/// Err if memory was refused; what was kept until then stays.
-fn search_change(
-    alloc: Global,
-    run: &mut KeptRun,
-    script: &Script,
-    drive: usize,
-    number: usize,
-    to: u32,
-) -> Result<Option<u32>, NoMemory>
-    requires ready { CanGoOn run.old }
-    requires inside { number < length (disk_of run.old.machine.state.world drive) }
-    requires order { run.old.machine.state.turn ≤ to }
-    requires limit { to ≤ LAST_TURN }
-    ensures found { IfOk result (λ found. IsFirstChange script.now drive number
-        run.old.machine.state.turn to run.old.machine.state found) }
-    ensures kept { LeavesKept script.now run.old run.new }
-    ensures arrives { IfOk result (λ found. ArrivesAt (turn_reached found to) run.old run.new) }
-    ensures advances { Advances run.old.machine.state.turn to run.old run.new }
-{
-    while run.machine.turns() < to {
-        let found = watch_turn(alloc, run, script, drive, number)?;
-        if found.is_some() {
-            return Ok(found);
-        }
-    }
-    Ok(None)
-}
-
-/// Runs one turn with the events of the script, and returns it if it changed the word of this
-/// number of the drive. Keeps what is to be kept of the turn.
-///
-/// Err if memory was refused; what was kept until then stays.
-fn watch_turn(
-    alloc: Global,
-    run: &mut KeptRun,
-    script: &Script,
-    drive: usize,
-    number: usize,
-) -> Result<Option<u32>, NoMemory>
-    requires ready { CanGoOn run.old }
-    requires inside { number < length (disk_of run.old.machine.state.world drive) }
-    requires limit { run.old.machine.state.turn < LAST_TURN }
-    ensures found { IfOk result (λ found. IsFirstChange script.now drive number
-        run.old.machine.state.turn run.new.machine.state.turn run.old.machine.state found) }
-    ensures here { OnOk result (StaysIn script.now run.old run.new) }
-    ensures inside { OnOk result (number < length (disk_of run.new.machine.state.world drive)) }
-    ensures ends { IfOk result (EndsAfter run.new.machine.state.turn) }
-    ensures kept { LeavesKept script.now run.old run.new }
-    ensures way { OnOk result (GoesOn script.now run.old run.new) }
-    ensures arrives { OnOk result (ArrivesAt (run.old.machine.state.turn + 1) run.old run.new) }
-    ensures advances { Advances run.old.machine.state.turn (run.old.machine.state.turn + 1)
-        run.old run.new }
-{
-    let turn = run.machine.turns();
-    let before = run.machine.disk_word(drive, number);
-    run.step(alloc, script)?;
-    let after = run.machine.disk_word(drive, number);
-    Ok(turn_if(turn, before != after))
+    let word = run.machine.disk_word(drive, number);
+    let watch = Watchpoint::Change {
+        drive,
+        number,
+        word,
+    };
+    search(alloc, run, script, watch, to)
 }

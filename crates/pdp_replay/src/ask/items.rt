@@ -1,4 +1,4 @@
-ghost use Rattle.std.specs.Prelude.{◌≡◌, ◌+◌, ◌≤◌, length, IfOk};
+ghost use Rattle.std.specs.Prelude.{◌≡◌, ◌+◌, ◌≤◌, ◌++◌, length, option_to_list, IfOk, OnOk};
 ghost use Rattle.pdp_cpu.specs.KeptTexts.{without_turns};
 ghost use Rattle.pdp_replay.specs.Ask.Answer.{words_from};
 ghost use Rattle.pdp_replay.specs.Run.States.{disk_of};
@@ -45,6 +45,17 @@ impl<T> Items<T> {
     {
         self.items.as_slice()
     }
+}
+
+/// Adds an item, if there is one.
+pub(crate) fn add_if_there<T: Drop>(items: &mut Vec<T>, item: Option<T>) -> Result<(), NoMemory>
+    ensures length { OnOk result (length items.new.items ≤ length items.old.items + 1) }
+    ensures items { OnOk result (items.new.items ≡ items.old.items ++ option_to_list item) }
+{
+    if let Some(item) = item {
+        items.push(item)?;
+    }
+    Ok(())
 }
 
 /// `count` words of the machine's core, from the word of the number `first` on.

@@ -318,15 +318,12 @@ pub(crate) fn unmet_word(conditions: TurnConditions, machine: &PagedMachine) -> 
 fn unmet_word_if_there(condition: Option<TurnCondition>, machine: &PagedMachine) -> Option<usize>
     ensures { result ≡ unmet_word_if_there condition machine.now.state.world }
 {
-    match condition {
-        Some(condition) => {
-            if condition.is_met_by(machine) {
-                None
-            } else {
-                condition.word()
-            }
-        }
-        None => None,
+    let condition = condition?;
+    let number = condition.word()?;
+    if condition.is_met_by(machine) {
+        None
+    } else {
+        Some(number)
     }
 }
 

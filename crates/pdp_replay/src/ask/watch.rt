@@ -8,7 +8,8 @@ ghost use Rattle.pdp_cpu.specs.Turns.TurnRun.{RunsTurn};
 ghost use Rattle.pdp_replay.specs.Ask.SoughtTurns.{act_with_trap};
 ghost use Rattle.pdp_replay.specs.Ask.Watches.{is_act_watched, is_possible};
 ghost use Rattle.pdp_replay.specs.Ask.Watches.{IsInside, PassesTo};
-ghost use Rattle.pdp_replay.specs.declared.ask.watch.Watchpoint.TheVariants.{Output};
+ghost use Rattle.pdp_replay.specs.Run.States.{disk_of};
+ghost use Rattle.pdp_replay.specs.declared.ask.watch.Watchpoint.TheVariants.{Change, Output};
 
 use crate::ask::{Sought, TextKind};
 use pdp_cpu::{ActWithTrap, Meter, PagedMachine, WordTable};
@@ -21,9 +22,20 @@ pub(crate) enum Watchpoint {
     /// A turn that begins with what is sought.
     Act(Sought),
     /// A turn that writes the core word of this number (half its byte address).
-    Write { number: usize },
+    Write {
+        number: usize,
+    },
     /// A turn after which more than this many bytes of a text came out.
-    Output { kind: TextKind, number: u32 },
+    Output {
+        kind: TextKind,
+        number: u32,
+    },
+    /// A turn after which the word of this number of a drive isn't this one.
+    Change {
+        drive: usize,
+        number: usize,
+        word: u16,
+    },
 }
 
 impl Watchpoint {
@@ -34,7 +46,8 @@ impl Watchpoint {
     {
         match self {
             Watchpoint::Act(sought) => sought.is_met_by(before),
-            Watchpoint::Write { .. } | Watchpoint::Output { .. } => true,
+            Watchpoint::Write { .. } | Watchpoint::Output { .. } | Watchpoint::Change { .. } =>
+                true,
         }
     }
 
@@ -79,6 +92,11 @@ impl Watchpoint {
             Watchpoint::Act(sought) => possible && sought.is_for(told),
             Watchpoint::Write { number } => is_of_turn(turn, now.last(number)),
             Watchpoint::Output { kind, number } => count_out(kind, now) > number as usize,
+            Watchpoint::Change {
+                drive,
+                number,
+                word,
+            } => word != now.disk_word(drive, number),
         }
     }
 
@@ -106,6 +124,11 @@ impl Watchpoint {
             Watchpoint::Output { kind, number } => pass_output(
                 machine, words, meter, to, kind, number,
             ),
+            Watchpoint::Change {
+                drive,
+                number,
+                word,
+            } => pass_unchanged(machine, words, meter, to, drive, number, word),
         }
     }
 
@@ -122,7 +145,7 @@ impl Watchpoint {
                 let turn = now.turns() - 1;
                 turn_if(turn, is_of_turn(turn, now.last(number)))
             }
-            Watchpoint::Act(_) | Watchpoint::Output { .. } => None,
+            Watchpoint::Act(_) | Watchpoint::Output { .. } | Watchpoint::Change { .. } => None,
         }
     }
 }
@@ -146,6 +169,32 @@ fn pass_output(
     // This read gives the prover the range of the count.
     let _count = meter.count();
     if count_out(kind, machine) > number as usize {
+        return 0;
+    }
+    machine.run_calmly(words, meter, to)
+}
+
+/// `Watchpoint::pass` for a turn after which the word of this number of a drive isn't `word`: none
+/// is run if it isn't before.
+fn pass_unchanged(
+    machine: &mut PagedMachine,
+    words: &WordTable,
+    meter: &mut Meter,
+    to: u32,
+    drive: usize,
+    number: usize,
+    word: u16,
+) -> u32
+    requires inside { number < length (disk_of machine.old.state.world drive) }
+    ensures turns { machine.new ≡ after_calm_turns result machine.old }
+    ensures turn { machine.new.state.turn ≡ machine.old.state.turn + result }
+    ensures most { 0 < result → machine.new.state.turn ≤ to }
+    ensures none { PassesTo (Change drive number word) result machine.old }
+    ensures counted { Counts result meter.old meter.new }
+{
+    // This read gives the prover the range of the count.
+    let _count = meter.count();
+    if word != machine.disk_word(drive, number) {
         return 0;
     }
     machine.run_calmly(words, meter, to)

@@ -1,4 +1,4 @@
-ghost use Rattle.std.specs.Prelude.{◌≡◌, ◌+◌, ◌<◌, ◌≤◌, ◌++◌, ℕ, length, min, max, option_to_list};
+ghost use Rattle.std.specs.Prelude.{◌≡◌, ◌+◌, ◌<◌, ◌≤◌, ℕ, length, min, max};
 ghost use Rattle.std.specs.Prelude.{◌-◌, ◌*◌, ◌/◌, IfOk, IsErr, Ok, OnOk, false, take};
 ghost use Rattle.pdp_replay.specs.Past.{Past};
 ghost use Rattle.pdp_replay.specs.Run.KeptRuns.{resumed_turn, Advances, ArrivesAt, CanGoOn, GoesOn};
@@ -12,6 +12,7 @@ ghost use Rattle.pdp_replay.specs.Ask.Writes.{turn_after_write, turn_listed, wri
 ghost use Rattle.pdp_replay.specs.Ask.Writes.{writes_in_turns, AreWritesFrom, CanList, CanSearch};
 ghost use Rattle.pdp_replay.specs.Ask.Writes.{IsNextWriteTo, IsWriteFound};
 
+use crate::ask::items::add_if_there;
 use crate::ask::search::{check_search, search};
 use crate::ask::watch::Watchpoint;
 use crate::ask::{LastWrite, Told};
@@ -148,7 +149,7 @@ fn find_writes(
 /// `to`. Returns the writes, and keeps what is to be kept of the turns.
 ///
 /// Err if memory was refused; what was kept until then stays.
-#[tactic(auto, using(crate::proofs::ask::ListedWrites::end_listed))]
+#[tactic(auto, using(crate::proofs::ask::ListedTurns::end_of_list))]
 fn list_writes(
     alloc: Global,
     run: &mut KeptRun,
@@ -174,20 +175,9 @@ fn list_writes(
     let mut writes = Vec::new(alloc);
     while run.machine.turns() < to && writes.len() < MOST_WRITES {
         let write = next_write(alloc, run, script, number, to)?;
-        add(&mut writes, write)?;
+        add_if_there(&mut writes, write)?;
     }
     Ok(writes)
-}
-
-/// Adds a write, if there is one.
-fn add(writes: &mut Vec<LastWrite>, write: Option<LastWrite>) -> Result<(), NoMemory>
-    ensures length { OnOk result (length writes.new.items ≤ length writes.old.items + 1) }
-    ensures items { OnOk result (writes.new.items ≡ writes.old.items ++ option_to_list write) }
-{
-    if let Some(write) = write {
-        writes.push(write)?;
-    }
-    Ok(())
 }
 
 /// Runs turns to the end of the first that writes the core word of this number, or to turn `to`.

@@ -2,8 +2,8 @@ use Rattle.std.proofs.Common.{take, ◌/◌, ◌-◌, ◌≡◌, refl, subst}
 use Rattle.pdp_replay.specs.Ask.Known.{RunsFrom}
 use Rattle.pdp_replay.specs.Past.{Past, past_from}
 use Rattle.pdp_replay.specs.Timeline.{Timeline}
-use Rattle.pdp_replay.specs.Ask.Writes.{writes_in_turns}
-use Rattle.pdp_replay.proofs.ask.ListedWrites.{writes_listed}
+use Rattle.pdp_replay.specs.Ask.Writes.{write_in, writes_in_turns}
+use Rattle.pdp_replay.proofs.ask.ListedTurns.{all_listed}
 use Rattle.pdp_replay.proofs.ask.Resuming.{runs_from}
 use Rattle.pdp_replay.proofs.engine.Engine.writes.Goals as goal
 use Rattle.pdp_replay.proofs.engine.Engine.writes.Goals.{After-find_writes-found}
@@ -35,5 +35,5 @@ returns-clause-value c =
     let found = c.in_ok-writes.ensures in
     subst (λ (t : Timeline). writes.items ≡ take 256 (writes_in_turns t.past (c.args.address / 2) c.args.from (c.args.to - c.args.from))) c.self.view_is
     (subst (λ k. writes.items ≡ take 256 (writes_in_turns p k c.args.from (c.args.to - c.args.from))) c.in_ok-number.ensures.number
-    (writes_listed p c.in_ok-number.number c.args.from c.find_writes-found.new.run.machine.state.turn c.args.to writes.items
+    (all_listed (write_in p c.in_ok-number.number) c.args.from c.find_writes-found.new.run.machine.state.turn c.args.to writes.items
     found.least c.find_writes-found.ensures.advances.turn_most found.ends found.most (found.writes p refl c.self.invariant.run)))
