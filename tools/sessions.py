@@ -138,6 +138,13 @@ SEARCHES = [
         "the writes to the core word at A: turn, who wrote and the word; after 256 it ends, "
         "with 'or more' if turns are left",
     ),
+    Line(
+        "transfers N M",
+        SEARCH,
+        "transfers C",
+        "the functions of the disk that are done: turn, turn begun, function, drive, word, core "
+        "address, how many words, and RKER; after 256 it ends, with 'or more' if turns are left",
+    ),
     Line("change N M I", SEARCH, "change T", "the first turn that changes word I of the drive"),
     Line("change N M D I", SEARCH, "change T", "the same of drive D, in version 2"),
     Line("text N from F", SEARCH, "text C:", "what was printed before turn N, from byte F on"),

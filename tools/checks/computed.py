@@ -4,6 +4,7 @@ from typing import Callable
 
 from checks.places import MODES, Abort, is_register, physical
 from checks.systems import System
+from checks.transfers import transfers
 from checks.traps import may_trap, must_trap
 
 MOST_LINES = 256
@@ -204,6 +205,7 @@ COMPUTED: dict[str, Callable[[System, list[str]], str]] = {
     "counts": counts,
     "writes": writes,
     "change": change,
+    "transfers": transfers,
     "text": lambda system, words: bytes_from("text", system, words),
     "punched": lambda system, words: bytes_from("punched", system, words),
     "when": when,

@@ -198,6 +198,10 @@ class Picker:
             for span in (whole, self.span(), self.span())
         ]
 
+    def transfers(self) -> list[str]:
+        whole = f"transfers {self.first} {self.last}"
+        return [whole, *(f"transfers {self.span()}" for _ in range(6))]
+
     def bytes_out(self) -> list[str]:
         lines = []
         for command in ("text", "punched"):
@@ -287,6 +291,7 @@ class Picker:
     def lines(self) -> list[str]:
         """All lines, those of one kind not together, so that turns are asked back and forth."""
         kinds = [self.at, self.acts, self.where, self.counts, self.writes, self.changes]
+        kinds.append(self.transfers)
         kinds += [self.bytes_out, self.places, self.finds, self.finds_on_drives, self.fades]
         found = [line for kind in kinds for line in kind()] + ["events", "setup"]
         found = list(dict.fromkeys(found))

@@ -6,6 +6,7 @@ pub mod Grammar
 pub mod Command
 pub mod Reply
 pub mod PastShown
+pub mod Transfers
 -- The languages: the session language, and the search language, which has searches beside it.
 pub mod Search
 pub mod Language

@@ -9,14 +9,16 @@ use Rattle.pdp_replay.specs.Ask.Answer.{answer, question_checked}
 use Rattle.pdp_replay.specs.Ask.Backwards.{last_of_turns}
 use Rattle.pdp_replay.specs.Ask.Counts.{counts_checked, counts_in_turns}
 use Rattle.pdp_replay.specs.Ask.DiskChanges.{change_checked, word_changes}
+use Rattle.pdp_replay.specs.Ask.DiskCompletions.{completions_end, completions_in_turns}
 use Rattle.pdp_replay.specs.Ask.Fadings.{fading_checked, joined_by}
-use Rattle.pdp_replay.specs.Ask.Searches.{first_turn_of}
+use Rattle.pdp_replay.specs.Ask.Searches.{first_turn_of, search_checked}
 use Rattle.pdp_replay.specs.Ask.SoughtTurns.{is_sought_at, seek_checked}
 use Rattle.pdp_replay.specs.Ask.TextParts.{byte_checked, bytes_at, comes_out, turn_checked}
 use Rattle.pdp_replay.specs.Ask.Writes.{turn_listed, writes_checked, writes_in_turns}
 use Rattle.pdp_replay.specs.Past.{Past}
 use Rattle.pdp_replay.specs.Past.Edit.{past_edit}
 use Rattle.pdp_replay.specs.Past.Setup.{setup_numbers}
+use Rattle.pdp_replay.specs.declared.ask.disk_completions.DiskCompletion.{DiskCompletion}
 use Rattle.pdp_replay.specs.declared.ask.last_write.LastWrite.{LastWrite}
 use Rattle.pdp_replay.specs.declared.ask.text_part.TextKind.{TextKind}
 use Rattle.pdp_replay.specs.declared.ask.text_part.TextKind.TheVariants.{Printed, Punched}
@@ -25,17 +27,23 @@ use Rattle.pdp_session.specs.declared.search.Finding.TheVariants as found
 use Rattle.pdp_session.specs.declared.search.Search.{Search}
 use Rattle.pdp_session.specs.declared.search.Search.TheVariants as search
 use Rattle.pdp_session.specs.PastShown.{events_text, setup_line}
+use Rattle.pdp_session.specs.Transfers.{transfers_text}
 use Rattle.pdp_session.specs.Reply.{agent_name, bytes_line, listed_head, refusal_text, value_text}
 use Rattle.pdp_session.specs.Reply.{word_text}
 use Rattle.pdp_session.specs.Version.{version_of}
 
--- the most writes that are listed
+-- the most writes or completions that are listed
 abbrev pub most_listed : ℕ
 most_listed = 256
 
 -- the first writes to the word at an address, and whether turns were left that may have more
 abbrev pub writes_found : List LastWrite → ℕ → Finding
 writes_found writes to = found.Writes writes (nat_lt (turn_listed writes to) to)
+
+-- the first completions of the disk, and whether turns were left that may have more
+abbrev pub transfers_found : List DiskCompletion → ℕ → Finding
+transfers_found completions to =
+    found.Transfers completions (nat_lt (completions_end completions to) to)
 
 -- what a search of this past finds
 abbrev pub finding : Search → Past → Finding
@@ -45,6 +53,8 @@ finding (search.Latest from to sought) past = found.Latest (last_of_turns
     (is_sought_at past sought) from (to - from))
 finding (search.Writes from to address) past = writes_found (take most_listed
     (writes_in_turns past (address / 2) from (to - from))) to
+finding (search.Transfers from to) past = transfers_found (take most_listed
+    (completions_in_turns past from (to - from))) to
 finding (search.Change from to drive number) past = found.Change (first_turn_of
     (word_changes drive number past) from (to - from))
 finding (search.TextFrom kind turn first) past = found.TextFrom kind (drop first
@@ -64,6 +74,7 @@ abbrev pub search_permitted : Search → Past → Result (Unit {0}) Fault
 search_permitted (search.First from to sought) past = seek_checked sought from to past.setup
 search_permitted (search.Latest from to sought) past = seek_checked sought from to past.setup
 search_permitted (search.Writes from to address) past = writes_checked address from to past.setup
+search_permitted (search.Transfers from to) past = search_checked from to
 search_permitted (search.Change from to drive number) past = change_checked drive number from to
     past.setup
 search_permitted (search.TextFrom kind turn first) past = turn_checked turn
@@ -113,6 +124,7 @@ abbrev pub finding_text : Finding → List ℕ
 finding_text (found.First turn) = turn_line (codes "first") turn
 finding_text (found.Latest turn) = turn_line (codes "latest") turn
 finding_text (found.Writes writes more) = writes_text writes more
+finding_text (found.Transfers completions more) = transfers_text completions more
 finding_text (found.Change turn) = turn_line (codes "change") turn
 finding_text (found.TextFrom kind bytes) = bytes_line (text_name kind) bytes
 finding_text (found.When turn) = turn_line (codes "when") turn

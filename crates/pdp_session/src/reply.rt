@@ -11,6 +11,7 @@ mod history;
 mod past_shown;
 mod states;
 mod texts;
+mod transfers;
 
 use crate::streams::{Drain, Failed, send};
 use crate::version::Version;

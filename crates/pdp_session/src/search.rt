@@ -4,23 +4,20 @@ ghost use Rattle.std.specs.Prelude.{◌≡◌};
 ghost use Rattle.pdp_script.specs.Refusal.{for_memory, question_answer};
 ghost use Rattle.pdp_session.specs.Search.{search_result};
 
-mod count_list;
-mod event_list;
 mod finders;
-mod write_list;
+mod found_list;
 
 use crate::version::Version;
-pub use count_list::CountList;
-pub use event_list::EventList;
 use finders::{
     find_answer, find_change, find_counts, find_events, find_fading, find_first, find_latest,
-    find_setup, find_text, find_turn_of_byte, find_writes,
+    find_setup, find_text, find_transfers, find_turn_of_byte, find_writes,
 };
+pub use found_list::FoundList;
 use pdp_replay::{
-    Bytes, CountedWords, Engine, Fault, PastEdit, Question, SetupNumbers, Sought, TextKind, Value,
+    Bytes, CountedWords, DiskCompletion, Engine, Entry, Fault, LastWrite, PastEdit, Question,
+    SetupNumbers, Sought, TextKind, Value,
 };
 use std::alloc::Global;
-pub use write_list::WriteList;
 
 // A search of the run. If it has two turns, it looks at the turns from the first on and before the
 // second.
@@ -43,6 +40,11 @@ pub enum Search {
         from: u32,
         to: u32,
         address: u32,
+    },
+    // The functions of the disk that were completed.
+    Transfers {
+        from: u32,
+        to: u32,
     },
     // The first turn that changes a word of a drive.
     Change {
@@ -86,14 +88,16 @@ pub enum Finding {
     First(Option<u32>),
     Latest(Option<u32>),
     // The first writes, and whether turns were left that may have more.
-    Writes(WriteList, bool),
+    Writes(FoundList<LastWrite>, bool),
+    // The first completions of the disk, and whether turns were left that may have more.
+    Transfers(FoundList<DiskCompletion>, bool),
     Change(Option<u32>),
     TextFrom(TextKind, Bytes),
     When(Option<u32>),
     Fades(Option<u32>),
     Answer(Value),
-    Counts(CountList),
-    Events(EventList),
+    Counts(FoundList<u32>),
+    Events(FoundList<Entry>),
     Setup(Version, SetupNumbers),
 }
 
@@ -108,6 +112,7 @@ impl Search {
             Search::First { from, to, sought } => find_first(alloc, engine, from, to, sought),
             Search::Latest { from, to, sought } => find_latest(alloc, engine, from, to, sought),
             Search::Writes { from, to, address } => find_writes(alloc, engine, from, to, address),
+            Search::Transfers { from, to } => find_transfers(alloc, engine, from, to),
             Search::Change {
                 from,
                 to,

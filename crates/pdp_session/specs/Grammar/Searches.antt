@@ -12,6 +12,7 @@ use Rattle.pdp_replay.specs.declared.ask.text_part.TextKind.TheVariants.{Printed
 use Rattle.pdp_session.specs.declared.search.Search.{Search}
 use Rattle.pdp_session.specs.declared.search.Search.TheVariants.{First, Latest, Writes, Change}
 use Rattle.pdp_session.specs.declared.search.Search.TheVariants.{TextFrom, When, Fades, Ask}
+use Rattle.pdp_session.specs.declared.search.Search.TheVariants.{Transfers}
 use Rattle.pdp_session.specs.declared.search.Search.TheVariants.{Events, Setup}
 use Rattle.pdp_session.specs.declared.version.Version.{Version}
 use Rattle.pdp_session.specs.Grammar.Arguments.{◌>>=◌, first_of, one_of, two_of, drive_first}
@@ -77,6 +78,14 @@ writes_form arguments = do
   a ← number_of 8 address
   Some (Writes n m a)
 
+-- `transfers N M`
+abbrev pub transfers_form : List (List ℕ) → Option Search
+transfers_form arguments = do
+  (from, to) ← two_of arguments
+  n ← turn_named from
+  m ← turn_named to
+  Some (Transfers n m)
+
 -- `change N M I`, in version 2 `change N M D I`: a drive and the number of a word, in octal
 abbrev pub change_form : Version → List (List ℕ) → Option Search
 change_form version arguments = do
@@ -127,6 +136,7 @@ search_with version name arguments =
     if bytes_eq name (codes "first") then first_form arguments
     else if bytes_eq name (codes "latest") then latest_form arguments
     else if bytes_eq name (codes "writes") then writes_form arguments
+    else if bytes_eq name (codes "transfers") then transfers_form arguments
     else if bytes_eq name (codes "change") then change_form version arguments
     else if bytes_eq name (codes "text") then text_from_form Printed arguments
     else if bytes_eq name (codes "punched") then text_from_form Punched arguments

@@ -8,7 +8,7 @@ ghost use Rattle.pdp_session.specs.Grammar.Searches.{alone, change_form, fades_f
 ghost use Rattle.pdp_session.specs.Grammar.Searches.{latest_form, part_named, plainly_sought};
 ghost use Rattle.pdp_session.specs.Grammar.Searches.{search_named, search_with};
 ghost use Rattle.pdp_session.specs.Grammar.Searches.{sought_in_any_mode, sought_in_mode};
-ghost use Rattle.pdp_session.specs.Grammar.Searches.{sought_named, text_from_form};
+ghost use Rattle.pdp_session.specs.Grammar.Searches.{sought_named, text_from_form, transfers_form};
 ghost use Rattle.pdp_session.specs.Grammar.Searches.{when_form, writes_form};
 ghost use Rattle.pdp_session.specs.Grammar.Words.{words_of_line};
 ghost use Rattle.pdp_session.specs.Language.{language_with, search_of};
@@ -59,6 +59,8 @@ fn read_named(version: Version, name: &[u8], arguments: &[u8]) -> Option<Search>
         read_latest(arguments)
     } else if name == b"writes".as_slice() {
         read_writes(arguments)
+    } else if name == b"transfers".as_slice() {
+        read_transfers(arguments)
     } else if name == b"change".as_slice() {
         read_change(version, arguments)
     } else if name == b"text".as_slice() {
@@ -184,6 +186,16 @@ fn read_writes(arguments: &[u8]) -> Option<Search>
     let (from, to, what) = turns_first(arguments)?;
     let address = read_octal(one_word(what)?)?;
     Some(Search::Writes { from, to, address })
+}
+
+// `transfers N M`
+fn read_transfers(arguments: &[u8]) -> Option<Search>
+    ensures { result ≡ transfers_form (words_of_line arguments.now) }
+{
+    let (from, to) = two_words(arguments)?;
+    let from = read_turn(from)?;
+    let to = read_turn(to)?;
+    Some(Search::Transfers { from, to })
 }
 
 // `change N M I`, in version 2 `change N M D I`

@@ -4,12 +4,12 @@ ghost use Rattle.pdp_session.specs.Search.{count_shown, counts_line};
 ghost use Rattle.pdp_session.specs.Inside.Sends.{Sends};
 
 use super::texts::{Text, add};
-use crate::search::CountList;
+use crate::search::FoundList;
 use crate::streams::{Drain, Failed, send};
 use itoa::Buffer;
 
 // Writes counts, in one line after their name.
-pub fn send_counts<W: Drain>(counts: &CountList, writer: &mut W) -> Result<(), Failed>
+pub fn send_counts<W: Drain>(counts: &FoundList<u32>, writer: &mut W) -> Result<(), Failed>
     ensures { Sends (counts_line counts.now) (W.output writer.old) (W.output writer.new) result }
 {
     send(writer, b"counts")?;
@@ -20,11 +20,11 @@ pub fn send_counts<W: Drain>(counts: &CountList, writer: &mut W) -> Result<(), F
 }
 
 // Writes the count of this index, if there is one.
-fn send_count<W: Drain>(counts: &CountList, index: usize, writer: &mut W) -> Result<(), Failed>
+fn send_count<W: Drain>(counts: &FoundList<u32>, index: usize, writer: &mut W) -> Result<(), Failed>
     ensures { Sends (line_at count_shown counts.now index)
         (W.output writer.old) (W.output writer.new) result }
 {
-    let text = match counts.count(index) {
+    let text = match counts.item(index) {
         Some(count) => count_text(count),
         None => Text::new(),
     };

@@ -10,7 +10,8 @@ use super::history::agent_name;
 use super::past_shown::{send_events, setup_text};
 use super::send_value;
 use super::texts::{Text, add, add_word, refusal_text};
-use crate::search::{Finding, WriteList};
+use super::transfers::send_transfers;
+use crate::search::{Finding, FoundList};
 use crate::streams::{Drain, Failed, send};
 use itoa::Buffer;
 use pdp_replay::{Fault, LastWrite, TextKind};
@@ -33,6 +34,7 @@ fn send_finding<W: Drain>(finding: &Finding, writer: &mut W) -> Result<(), Faile
         Finding::First(turn) => send(writer, turn_text("first", *turn).as_slice()),
         Finding::Latest(turn) => send(writer, turn_text("latest", *turn).as_slice()),
         Finding::Writes(writes, more) => send_writes(writes, *more, writer),
+        Finding::Transfers(completions, more) => send_transfers(completions, *more, writer),
         Finding::Change(turn) => send(writer, turn_text("change", *turn).as_slice()),
         Finding::TextFrom(kind, bytes) => send_bytes(text_name(*kind), bytes.items(), writer),
         Finding::When(turn) => send(writer, turn_text("when", *turn).as_slice()),
@@ -74,7 +76,11 @@ fn text_name(kind: TextKind) -> &'static str
 }
 
 // Writes how many writes there are, whether there may be more, and a line for each.
-fn send_writes<W: Drain>(writes: &WriteList, more: bool, writer: &mut W) -> Result<(), Failed>
+fn send_writes<W: Drain>(
+    writes: &FoundList<LastWrite>,
+    more: bool,
+    writer: &mut W,
+) -> Result<(), Failed>
     ensures { Sends (writes_text writes.now more) (W.output writer.old) (W.output writer.new)
         result }
 {
@@ -95,7 +101,7 @@ fn writes_head(count: usize, more: bool) -> Text
 
 // What a list is of, how many are listed, and whether there may be more.
 pub fn listed_head(name: &str, count: usize, more: bool) -> Text
-    requires { length name.now ≤ 7 }
+    requires { length name.now ≤ 9 }
     ensures { result.items ≡ listed_head name.now count more }
 {
     let mut text = Text::new();
@@ -116,11 +122,15 @@ fn more_mark(more: bool) -> &'static str
 }
 
 // Writes the line of the write of this index, if there is one.
-fn send_write<W: Drain>(writes: &WriteList, index: usize, writer: &mut W) -> Result<(), Failed>
+fn send_write<W: Drain>(
+    writes: &FoundList<LastWrite>,
+    index: usize,
+    writer: &mut W,
+) -> Result<(), Failed>
     ensures { Sends (line_at write_line writes.now index)
         (W.output writer.old) (W.output writer.new) result }
 {
-    let text = match writes.write(index) {
+    let text = match writes.item(index) {
         Some(write) => write_text(write),
         None => Text::new(),
     };

@@ -5,14 +5,14 @@ ghost use Rattle.pdp_session.specs.PastShown.{setup_line, version_number};
 ghost use Rattle.pdp_session.specs.Inside.Sends.{Sends};
 
 use super::texts::{LONGEST_TEXT, Text, add, add_word, count_text, octal3};
-use crate::search::EventList;
+use crate::search::FoundList;
 use crate::streams::{Drain, Failed, send};
 use crate::version::Version;
 use itoa::Buffer;
 use pdp_replay::{Entry, Event, SetupNumbers};
 
 // Writes how many events a script has, and a line for each.
-pub fn send_events<W: Drain>(events: &EventList, writer: &mut W) -> Result<(), Failed>
+pub fn send_events<W: Drain>(events: &FoundList<Entry>, writer: &mut W) -> Result<(), Failed>
     ensures { Sends (events_text events.now) (W.output writer.old) (W.output writer.new) result }
 {
     let count = events.len();
@@ -24,11 +24,15 @@ pub fn send_events<W: Drain>(events: &EventList, writer: &mut W) -> Result<(), F
 }
 
 // Writes the line of the event of this index, if there is one.
-fn send_event<W: Drain>(events: &EventList, index: usize, writer: &mut W) -> Result<(), Failed>
+fn send_event<W: Drain>(
+    events: &FoundList<Entry>,
+    index: usize,
+    writer: &mut W,
+) -> Result<(), Failed>
     ensures { Sends (line_at event_line events.now index)
         (W.output writer.old) (W.output writer.new) result }
 {
-    let text = match events.event(index) {
+    let text = match events.item(index) {
         Some(entry) => entry_text(entry),
         None => Text::new(),
     };

@@ -2,7 +2,7 @@ ghost use Rattle.std.specs.Prelude.{◌≡◌};
 ghost use Rattle.pdp_script.specs.Refusal.{for_memory, question_answer};
 ghost use Rattle.pdp_session.specs.Search.{search_result};
 
-use crate::search::{CountList, EventList, Finding, Search, WriteList};
+use crate::search::{Finding, FoundList, Search};
 use crate::version::Version;
 use pdp_replay::{CountedWords, Engine, Fault, PastEdit, Question, Sought, TextKind};
 use std::alloc::Global;
@@ -53,7 +53,23 @@ pub fn find_writes(
 {
     let found = engine.writes(alloc, address, from, to)?;
     let more = found.value.reached < to;
-    Ok(Finding::Writes(WriteList::new(found.value.writes), more))
+    Ok(Finding::Writes(FoundList::new(found.value.writes), more))
+}
+
+// The functions of the disk that were completed.
+pub fn find_transfers(
+    alloc: Global,
+    engine: &mut Engine,
+    from: u32,
+    to: u32,
+) -> Result<Finding, Fault>
+    ensures finding { result ≡ question_answer
+        (search_result (Search.Transfers from to) engine.old.past) (for_memory result) }
+    ensures past { engine.new.past ≡ engine.old.past }
+{
+    let found = engine.disk_completions(alloc, from, to)?;
+    let more = found.value.reached < to;
+    Ok(Finding::Transfers(FoundList::new(found.value.completions), more))
 }
 
 // The first turn that changes a word of a drive.
@@ -137,7 +153,7 @@ pub fn find_counts(
     ensures past { engine.new.past ≡ engine.old.past }
 {
     let counted = engine.counts(alloc, words, from, to)?;
-    Ok(Finding::Counts(CountList::new(counted.value)))
+    Ok(Finding::Counts(FoundList::new(counted.value)))
 }
 
 // The events of the script.
@@ -147,7 +163,7 @@ pub fn find_events(alloc: Global, engine: &mut Engine) -> Result<Finding, Fault>
     ensures past { engine.new.past ≡ engine.old.past }
 {
     let events = engine.events(alloc)?;
-    Ok(Finding::Events(EventList::new(events)))
+    Ok(Finding::Events(FoundList::new(events)))
 }
 
 // The numbers of the setup.
