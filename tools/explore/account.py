@@ -1,0 +1,212 @@
+"""The steps of a value as lines, like an account book: what it is made of stands below it, and the
+part with the most behind it goes on at the same indent."""
+from dataclasses import dataclass, field
+from typing import Iterable, Iterator, Sequence
+
+from .cells import CODES, DRIVES, byte_of_drive, is_core, is_of_drive, is_register, name_of
+from .commands import Explorer
+from .listing import turns_in_words
+from .origins import MOST_LOOKS, MOST_TURNS_BACK, Kind
+from .steps import Source, Step, Steps
+
+MOST_LINES, MOST_LEVELS, MOST_NAMES = 100, 30, 6
+LONG_RUN, LOOKED_AT = 3, 40  # steps of one input each: from so many on they are one line
+FEW_TURNS, MOST_ENDS = 3, 6
+OTHER_ENDS = {
+    Kind.TAPE: "a byte of the tape",
+    Kind.DEVICE: "what the register {:06o} showed",
+    Kind.POINT: "where the program stood",
+}
+
+
+def ranges(numbers: Sequence[int]) -> str:
+    """Numbers in their order, such as `1, 3-5, 9`."""
+    parts: list[list[int]] = []
+    for number in numbers:
+        if parts and parts[-1][-1] + 1 == number:
+            parts[-1].append(number)
+        else:
+            parts.append([number])
+    shown = (f"{it[0]}-{it[-1]}" if len(it) > 1 else f"{it[0]}" for it in parts)
+    return ", ".join(shown) or "none"
+
+
+@dataclass
+class Line:
+    """A line, which ends with what its step is. Before it stand the steps of a run, if any."""
+
+    depth: int
+    head: str
+    step: Step
+    written: int  # the cell that the step wrote
+    run: Sequence[Step] = ()
+    note: str = ""
+
+
+@dataclass
+class Account:
+    """Makes the lines."""
+
+    explorer: Explorer
+    steps: Steps
+    lines: list[Line] = field(default_factory=list)
+    shown: set[Step] = field(default_factory=set)
+    texts: dict[int, str] = field(default_factory=dict)
+    is_cut: bool = False
+
+    def __post_init__(self) -> None:
+        self.machine = self.explorer.machine
+        lines = self.machine.patches()
+        self.patches = {tuple(it.split()[:-1]) for it in lines}
+
+    # Names and values
+
+    def name(self, cell: int) -> str:
+        return name_of(cell, self.machine.setup.version == 2)
+
+    def value(self, cell: int, turn: int) -> str:
+        """The value of the word of a cell before a turn, if a question tells it."""
+        if is_of_drive(cell):
+            at = byte_of_drive(cell)
+            return f"{self.machine.disk_word(turn, at.drive, at.word):06o}"
+        if is_core(cell):
+            return f"{self.machine.word(turn, cell & ~1):06o}"
+        if is_register(cell):
+            return f"{self.machine.registers(turn).words[self.name(cell)]:06o}"
+        if CODES <= cell < DRIVES:
+            ps = self.machine.registers(turn).ps
+            return str(ps >> cell - CODES & 1) if cell < CODES + 4 else f"{ps:06o}"
+        return ""
+
+    def named(self, cell: int, turn: int) -> str:
+        return f"{self.name(cell)} {self.value(cell, turn)}".rstrip()
+
+    def copied(self, copies: Sequence[Step]) -> str:
+        disk = sorted(it.turn for it in copies if it.kind == Kind.MOVED)
+        others = len(copies) - len(disk)
+        parts = [f"{others} times" if others > 1 else "once"] if others else []
+        if len(disk) > FEW_TURNS:
+            parts.append(f"{len(disk)} times by the disk, turns {disk[0]} to {disk[-1]}")
+        elif disk:
+            turns = f"turn{'s' if len(disk) > 1 else ''} {' and '.join(map(str, disk))}"
+            parts.append(f"by the disk in {turns}")
+        return f", copied {' and '.join(parts)}," if parts else ""
+
+    def end(self, step: Step) -> str:
+        """What an end of the way back is."""
+        if step.kind == Kind.EVENT:
+            event = self.machine.event(step.at)
+            return f"event {step.at}: {event.explained() if event else ''}, turn {step.turn}"
+        if step.kind == Kind.START:
+            return self.at_power_up(step.at)
+        if step.kind in OTHER_ENDS:
+            return OTHER_ENDS[step.kind].format(step.at)
+        looked = f"{MOST_TURNS_BACK} turns"
+        if is_of_drive(step.at):
+            looked = f"{MOST_LOOKS} looks at what the disk did"
+        return f"{self.name(step.at)} before turn {step.turn}: {looked} before it have no write"
+
+    def at_power_up(self, cell: int) -> str:
+        word = self.value(cell, 0) or "000000"
+        key = ("core", f"{cell:o}")
+        if is_of_drive(cell):
+            at = byte_of_drive(cell)
+            key = ("disk", f"{self.machine.named(at.drive)}{at.word:o}")
+        is_patch = key[:1] + tuple(key[1].split()) in self.patches
+        return f"{self.name(cell)}, {word} since power-up{' (a patch)' if is_patch else ''}"
+
+    def what(self, step: Step) -> str:
+        """What a step is. The texts of its turn must be known."""
+        if not step.is_write:
+            return self.end(step)
+        if step.kind == Kind.MOVED:
+            is_filled = not self.steps.inputs[step] and step not in self.steps.left
+            kind = "write" if is_of_drive(step.at) else "read"
+            how = "the zeros that fill the sector of" if is_filled else f"a {kind} of the disk to"
+            return f"turn {step.turn}: {how} {self.name(step.at)}"
+        return f"turn {step.turn}: {self.texts[step.turn]}"
+
+    def know(self, steps: Iterable[Step]) -> None:
+        """Asks for the texts of the turns of these steps."""
+        turns = sorted({it.turn for it in steps if it.kind == Kind.MADE} - self.texts.keys())
+        self.texts.update(zip(turns, turns_in_words(self.explorer, turns)))
+
+    def made(self, line: Line) -> str:
+        """What the step of a line is, with the value that it gave."""
+        is_write = line.step.is_write
+        value = self.value(line.written, line.step.turn + 1) if is_write else ""
+        return f"{self.what(line.step)}{f': {value}' if value else ''}"
+
+    # The tree
+
+    def add(self, source: Source, depth: int, head: str) -> None:
+        """A step and what it is made of."""
+        while not self.is_full(depth):
+            step = source.step
+            line = Line(depth, head, step, source.written)
+            self.lines.append(line)
+            sources = self.sources(line)
+            if not sources or self.add_run(line):
+                return
+            is_single = len(sources) == 1 or not sources[-1].step.is_write
+            for it in sources if is_single else sources[:-1]:
+                self.add(it, depth + 1, self.head(step, it))
+            if is_single:
+                return
+            head, source = self.head(step, sources[-1]), sources[-1]
+
+    def sources(self, line: Line) -> list[Source]:
+        """What the step of a line is made of, unless that stands above or wasn't followed."""
+        step = line.step
+        sources = self.steps.sources(step) if step.is_write else []
+        if step in self.shown and sources:
+            line.note = ", as above"
+            return []
+        self.shown.add(step)
+        if step in self.steps.left:
+            line.note = " .. followed in part" if sources else " .. not followed"
+        return sources
+
+    def is_full(self, depth: int) -> bool:
+        is_full = len(self.lines) >= MOST_LINES or depth > MOST_LEVELS
+        self.is_cut = self.is_cut or is_full
+        return is_full
+
+    def head(self, step: Step, source: Source) -> str:
+        return f"{self.named(source.cell, step.turn)}{self.copied(source.copies)} <- "
+
+    def add_run(self, line: Line) -> bool:
+        """One value that goes through many operations: one line for all of them."""
+        run = self.steps.run_of_one(line.step)
+        if len(run) <= LONG_RUN:
+            return False
+        self.shown.update(run)
+        (source,) = self.steps.sources(run[-1])
+        begin = len(self.lines)
+        self.add(source, line.depth + 1, self.head(run[-1], source))
+        if begin < len(self.lines):
+            self.lines[begin].run = run
+        return True
+
+    def run_in_words(self, run: Sequence[Step]) -> str:
+        names = dict.fromkeys(operation(self.texts[it.turn]) for it in run[:LOOKED_AT])
+        shown = " ".join(list(names)[:MOST_NAMES])
+        more = " .." if len(names) > MOST_NAMES or len(run) > LOOKED_AT else ""
+        turns = f"turns {run[-1].turn} to {run[0].turn}"
+        return f"{len(run)} operations on this one value ({shown}{more}) in {turns} <- "
+
+    def written(self) -> Iterator[str]:
+        """The lines as they are shown."""
+        self.know(it.step for it in self.lines)
+        self.know(step for it in self.lines for step in it.run[:LOOKED_AT])
+        for it in self.lines:
+            run = self.run_in_words(it.run) if it.run else ""
+            yield f"{'  ' * it.depth}{it.head}{run}{self.made(it)}{it.note}"
+        if self.is_cut:
+            yield "  .. further lines aren't shown; what follows counts all steps"
+
+
+def operation(text: str) -> str:
+    """The name of the instruction, in the text of a turn."""
+    words = text.split()
+    return next((it for it in words[2:] if not it.startswith("(")), text)
