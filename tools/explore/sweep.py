@@ -1,9 +1,6 @@
 """One event at each of many turns: `sweep`."""
 import hashlib
-import os
 import re
-import shlex
-import stat
 from contextlib import closing
 from dataclasses import dataclass, field
 from pathlib import Path
@@ -14,17 +11,18 @@ from sessions import words_of
 
 from .asked import turns_of_question
 from .commands import Arguments, Explorer, check_turn, command
-from .crew import Progress, each_of, processors
+from .crew import Progress, each_of
 from .errors import ExploreError
-from .files import OUTPUT, is_locked_here, write_whole
 from .in_words import counted, some_are
-from .interrupts import INTERRUPTS, typed_line
+from .interrupts import INTERRUPTS
 from .language import MOST_DIGITS, SEARCHES, comma_fault, explanation, is_decimal, is_edit
 from .machine import Machine, is_refused
 from .past import Event
-from .quotes import WORD, file_of, files_of, quote_fault
-from .script import past_lines, session_lines
+from .quotes import files_of, quote_fault
+from .result_files import ResultFile, job_lines, kept_in
+from .script import past_lines
 from .sweep_fades import HEADING, Fades, end_of, parted, together
+from .work_options import WorkOptions
 
 SWEEP = re.compile(
     r"(?P<fades>--fades )?(?P<event>[0-9]{1,10}|[a-z].*?)"
@@ -117,11 +115,15 @@ class Sweep:
 
     def heading(self, machine: Machine) -> str:
         """What results are of: the event, the question and the past. The turns may be others."""
-        past = "\n".join([*machine.start.options, *past_lines(machine)])
-        digest = hashlib.sha256(past.encode(errors="surrogateescape")).hexdigest()[:16]
         moved = f" moved from turn {self.moved.turn}" if self.moved else ""
         heading = HEADING if self.fades else "# sweep "
-        return f"{heading}{self.event}{moved}: {self.question}, past {digest}"
+        return f"{heading}{self.event}{moved}: {self.question}, past {digest_of(machine)}"
+
+
+def digest_of(machine: Machine) -> str:
+    """What tells a past from others: a digest of the options and the edits."""
+    past = "\n".join([*machine.start.options, *past_lines(machine)])
+    return hashlib.sha256(past.encode(errors="surrogateescape")).hexdigest()[:16]
 
 
 def check_question(question: str) -> None:
@@ -196,52 +198,6 @@ class Results:
         yield f"{counted(len(self.replies), 'turn')}, {counted(len(runs), 'run')} of equal replies"
 
 
-class ResultFile:
-    """The file of `-o`: results are added to it, and no other sweep writes to it meanwhile. If
-    there are none, no new file is left."""
-
-    def __init__(self, results: Results, path: Path):
-        self.path, self.heading = path, results.heading
-        self.is_new = not os.path.lexists(path)
-        try:
-            self.handle = os.open(path, os.O_RDWR | os.O_APPEND | os.O_CREAT, 0o666)
-        except OSError as error:
-            raise ExploreError(f"{path} can't be written: {error.strerror}") from error
-        try:
-            if stat.S_ISREG(os.fstat(self.handle).st_mode):
-                self.take(results)
-        except BaseException:
-            self.close()
-            raise
-
-    def take(self, results: Results) -> None:
-        """Takes in what is there. A last line without its end was cut off, and goes. Without any
-        the heading is written before the first result."""
-        if not is_locked_here(self.handle):
-            raise ExploreError(f"{self.path}: another sweep is writing to it")
-        data = self.path.read_bytes()
-        whole = data[: data.rfind(b"\n") + 1]
-        results.take(self.path, whole.decode(errors="replace"))
-        os.ftruncate(self.handle, len(whole))
-        if whole:
-            self.heading = ""
-
-    def add(self, turn: int, reply: str) -> None:
-        heading = f"{self.heading}\n" if self.heading else ""
-        data = f"{heading}{turn} {reply}\n".encode(errors="surrogateescape")
-        self.heading = ""
-        try:
-            while data:
-                data = data[os.write(self.handle, data) :]
-        except OSError as error:
-            raise ExploreError(f"{self.path} can't be written: {error.strerror}") from error
-
-    def close(self) -> None:
-        if self.is_new and not os.fstat(self.handle).st_size:
-            self.path.unlink(missing_ok=True)
-        os.close(self.handle)
-
-
 def swept(
     machine: Machine, sweep: Sweep, known: Container[int], hands: int
 ) -> Iterator[tuple[int, str]]:
@@ -266,13 +222,13 @@ def sweep_lines(
 ) -> Iterator[str]:
     machine = explorer.machine
     results = Results(sweep.heading(machine))
-    file = ResultFile(results, path) if path else None
+    file = ResultFile(results, path, "sweep") if path else None
     stopped = ""
     try:
         for turn, reply in swept(machine, sweep, results.replies, hands):
             results.add(turn, reply)
             if file:
-                file.add(turn, reply)
+                file.add(f"{turn} {reply}")
     except KeyboardInterrupt:
         stopped = "stopped"
     except ExploreError as error:
@@ -286,33 +242,21 @@ def sweep_lines(
     results.replies = {turn: it for turn, it in results.replies.items() if turn in sweep.turns}
     yield from results.lines(sweep.turns.step)
     if stopped:
-        kept = f"; the same line goes on from {path}" if path else "; with -o FILE it could go on"
         turns_are = some_are(len(results.replies), len(sweep.turns), "turn")
-        yield f"{stopped}: {turns_are} done{kept}"
+        yield f"{stopped}: {turns_are} done{kept_in(path)}"
 
 
-def job_lines(explorer: Explorer, sweep: Sweep, path: Path) -> Iterator[str]:
-    """Writes the commands that do the sweep in parts, and the session that they read."""
-    machine = explorer.machine
-    OUTPUT.target(path)  # if it can't be written the session isn't either
-    session = path.with_name(f"{path.name}.session").resolve()
-    write_whole(session, "".join(f"{it}\n" for it in session_lines(machine)))
+def parts_of(machine: Machine, sweep: Sweep) -> Iterator[str]:
+    """The sweeps of some of its turns each that are the whole sweep together."""
     event = sweep.event
-    if sweep.moved:  # the session's events are numbered anew, in their order
+    if sweep.moved:  # the session of the parts numbers its events anew
         event = str(machine.script.index(sweep.moved) + 1)
+    fades = "--fades " if sweep.fades else ""
     size = -(-len(sweep.turns) // JOBS)
-    parts = [sweep.turns[at : at + size] for at in range(0, len(sweep.turns), size)]
-    lines = []
-    for part in parts:
-        fades = "--fades " if sweep.fades else ""
-        text = f"{fades}{event} from {part[0]} to {part[-1]} step {part.step}: {sweep.question}"
-        lines.append(f"./explore --sweep {shlex.quote(text)} {shlex.quote(str(session))}")
-    write_whole(path, "".join(f"{it}\n" for it in lines))
-    results = shlex.quote(f"{path}.out")
-    read = "reads" if len(lines) == 1 else "read"
-    yield f"{counted(len(lines), 'command')} in {path}, which {read} {path}.session"
-    yield f"in this folder: parallel < {shlex.quote(str(path))} > {results}"
-    yield f"then: sweep --gather {results}"
+    for at in range(0, len(sweep.turns), size):
+        part = sweep.turns[at : at + size]
+        where = f"from {part[0]} to {part[-1]} step {part.step}"
+        yield f"{fades}{event} {where}: {sweep.question}"
 
 
 def gathered(paths: Sequence[str]) -> Iterator[str]:
@@ -329,23 +273,6 @@ def gathered(paths: Sequence[str]) -> Iterator[str]:
     missing = sum(it // step - 1 for it in steps)
     if missing:
         yield f"missing between the first and the last: {counted(missing, 'turn')}"
-
-
-OPTIONS = re.compile(rf"(-j|-o|--jobs)[ \t]+({WORD})[ \t]+|(-y|--fades)()[ \t]+")
-MOST_TURNS_UNASKED, MOST_HANDS = 100_000, 256
-
-
-def ask_first(explorer: Explorer, turns: range) -> None:
-    """So many turns are begun only if the user says so."""
-    said = f"{len(turns)} turns are more than {MOST_TURNS_UNASKED}"
-    if not explorer.is_terminal:
-        raise ExploreError(f"{said}; sweep -y .. does them")
-    try:
-        answer = typed_line(f"{said}; begin? (y or n) ")
-    except EOFError:
-        answer = ""
-    if answer.strip() not in ("y", "yes"):
-        raise ExploreError("not begun")
 
 
 @command(
@@ -365,33 +292,24 @@ def sweep_command(explorer: Explorer, arguments: Arguments) -> Iterator[str]:
     --jobs FILE writes commands for GNU parallel instead, on this machine or on others with the same
     folders, and --gather FILE .. reads what they have written."""
     words = arguments.text("words")
-    options: dict[str, str] = {}
     wrong = quote_fault(words)
     if wrong:
         raise ExploreError(wrong)
     if words_of(words)[0] == "--gather":
         yield from gathered(files_of(words)[1:])
         return
-    match = OPTIONS.match(words)
-    while match:
-        options[match[1] or match[3]] = match[2] or ""
-        words = words[match.end() :]
-        match = OPTIONS.match(words)
-    hands = options.get("-j", str(processors()))
-    if not is_decimal(hands) or not 1 <= int(hands[:MOST_DIGITS]) <= MOST_HANDS:
-        raise ExploreError(f"N of -j is 1 to {MOST_HANDS}")
-    head, colon, question = words.partition(":")
+    options = WorkOptions(words, ("-y", "--fades"))
+    head, colon, question = options.words.partition(":")
     question = explorer.symbols.line_in_octal(question, explorer.machine)
-    fades = "--fades " if "--fades" in options else ""
+    fades = "--fades " if options.has("--fades") else ""
     sweep = Sweep.of(explorer.machine, f"{fades}{head}{colon}{question}")
-    if len(sweep.turns) > MOST_TURNS_UNASKED and not options.keys() & {"-y", "--jobs"}:
-        ask_first(explorer, sweep.turns)
-    if "--jobs" in options:
+    options.check(explorer, "sweep", len(sweep.turns), "turns")
+    jobs = options.path("--jobs")
+    if jobs:
         sweep.check(explorer.machine)
-        yield from job_lines(explorer, sweep, Path(file_of(options["--jobs"])))
+        yield from job_lines(explorer.machine, "sweep", [*parts_of(explorer.machine, sweep)], jobs)
     else:
-        path = Path(file_of(options["-o"])) if "-o" in options else None
-        yield from sweep_lines(explorer, sweep, int(hands), path)
+        yield from sweep_lines(explorer, sweep, options.hands, options.path("-o"))
 
 
 def raw_lines(explorer: Explorer, text: str) -> Iterator[str]:
