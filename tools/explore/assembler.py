@@ -8,12 +8,22 @@ from .language import MOST_DIGITS
 
 WORDS, LARGEST, SMALLEST = 0o200000, 0o177777, -0o100000
 REGISTERS = ("R0", "R1", "R2", "R3", "R4", "R5", "SP", "PC")
-NUMBERS_OF_REGISTERS = {**{it: at for at, it in enumerate(REGISTERS)}, "R6": 6, "R7": 7}
-# A number, a symbol or `.`, and numbers after + and -.
-TERM = r"[0-9]+\.?|[A-Za-z_.$~?][A-Za-z0-9_.$~?]*"
+NUMBERS_OF_REGISTERS = {
+    **{it: at for at, it in enumerate(REGISTERS)},
+    **{f"{letter}{at}": at for letter in "R%" for at in range(8)},
+}
+# A number, a label such as 1$, a symbol or `.`, and numbers after + and -.
+TERM = r"[0-9]+[.$]?|[A-Za-z_.$~?][A-Za-z0-9_.$~?]*"
 NUMBER = re.compile(rf"(-?)({TERM})((?:[+-][0-9]+\.?)*)")
 OFFSET = re.compile(r"([+-])([0-9]+\.?)")
 MODED = re.compile(r"([^()]*)\(([^()]*)\)(\+?)")
+LABEL = re.compile(r"([0-9]{1,5}[$]|[A-Za-z_.$~?][A-Za-z0-9_.$~?]*)::?")
+LABEL_OR_NAME = rf"(?:{LABEL.pattern}|[A-Za-z])"  # how an instruction begins
+# A character after ', or two after ", with nothing beside them that would be a part of a number; or
+# any other character.
+PIECE = re.compile(
+    r"(?<![\w.$~?%'\"])(?:'(?P<one>[ -~])|\"(?P<two>[ -~]{2}))(?![\w.$~?%'\"])|.", re.DOTALL
+)
 BLANKS = " \t"
 CODES = "NZVC"  # in the order of their bits, and of a text that has several
 
@@ -41,6 +51,18 @@ def value_of(text: str) -> int:
     return int(digits, 8)
 
 
+def in_numbers(text: str) -> str:
+    """The text without a comment, and with an octal number for characters in quotes."""
+    pieces = []
+    for found in PIECE.finditer(text):
+        if found[0] == ";":
+            break
+        characters = (found["one"] or found["two"] or "").encode()
+        number = int.from_bytes(characters, "little")
+        pieces.append(f"{number:o}" if characters else found[0])
+    return "".join(pieces).strip(BLANKS)
+
+
 def check_most(text: str, value: int, largest: int) -> None:
     if value > largest:
         octal = "" if text == f"{value:o}" else f"{value:o}, "
@@ -49,11 +71,12 @@ def check_most(text: str, value: int, largest: int) -> None:
 
 @dataclass
 class Assembly:
-    """An instruction in the making: its address, what gives the number of a symbol, and the words
-    so far that follow its own."""
+    """An instruction in the making: its address, what gives the number of a symbol, its labels, and
+    the words so far that follow its own."""
 
     address: int
     symbol: Callable[[str], int]
+    labels: frozenset[str]
     following: list[int] = field(default_factory=list)
 
     @property
@@ -79,8 +102,10 @@ class Assembly:
         return value % WORDS
 
     def term(self, text: str) -> int:
-        if text == ".":
+        if text == "." or text.upper() in self.labels:
             return self.address
+        if text[0].isdigit() and text.endswith("$"):
+            raise ExploreError(f"no label {text}: stands before this instruction")
         return value_of(text) if text[0].isdigit() else self.symbol(text)
 
     def limited(self, text: str, largest: int) -> Bits:
@@ -191,18 +216,19 @@ class Kind:
             bits, text = of(making, operand)
             opcode |= bits << shift
             texts.append(text)
-        return Assembled([opcode, *making.following], f"{name} {','.join(texts)}".rstrip())
+        begin = SHOWN_AS.get(name, f"{name} ")
+        return Assembled([opcode, *making.following], f"{begin}{','.join(texts)}".rstrip())
 
 
 KINDS = (
-    Kind("no operand", (), "HALT 0 WAIT 1 RTI 2 BPT 3 IOT 4 RESET 5 RTT 6"),
+    Kind("no operand", (), "HALT 0 WAIT 1 RTI 2 BPT 3 IOT 4 RESET 5 RTT 6 RETURN 207"),
     Kind(
         "one operand",
         ((Assembly.operand, 0),),
-        "JMP 100 SWAB 300 CLR 5000 COM 5100 INC 5200 DEC 5300 NEG 5400 ADC 5500 SBC 5600 TST 5700"
-        " ROR 6000 ROL 6100 ASR 6200 ASL 6300 MFPI 6500 MTPI 6600 SXT 6700 CLRB 105000 COMB 105100"
-        " INCB 105200 DECB 105300 NEGB 105400 ADCB 105500 SBCB 105600 TSTB 105700 RORB 106000"
-        " ROLB 106100 ASRB 106200 ASLB 106300",
+        "JMP 100 CALL 4700 SWAB 300 CLR 5000 COM 5100 INC 5200 DEC 5300 NEG 5400 ADC 5500 SBC 5600"
+        " TST 5700 ROR 6000 ROL 6100 ASR 6200 ASL 6300 MFPI 6500 MTPI 6600 SXT 6700 CLRB 105000"
+        " COMB 105100 INCB 105200 DECB 105300 NEGB 105400 ADCB 105500 SBCB 105600 TSTB 105700"
+        " RORB 106000 ROLB 106100 ASRB 106200 ASLB 106300",
     ),
     Kind(
         "a source and a destination",
@@ -237,6 +263,7 @@ INSTRUCTIONS = {
     for name, opcode in zip(kind.opcodes.split()[::2], kind.opcodes.split()[1::2])
 }
 OTHER_NAMES = {"BHIS": "BCC", "BLO": "BCS"}
+SHOWN_AS = {"CALL": "JSR PC,", "RETURN": "RTS PC"}
 # The operators of condition codes, and the letters of the codes that each clears or sets.
 OPERATORS = {
     **{f"{verb}{code}": code for verb in ("CL", "SE") for code in CODES},
@@ -269,7 +296,12 @@ def assembled(text: str, address: int, symbol: Callable[[str], int]) -> Assemble
     """The instruction that this text is at this address. `symbol` gives the number of one."""
     if not text.isascii():
         raise ExploreError("an instruction has ASCII characters alone")
-    bare = text.partition(";")[0].strip(BLANKS)  # what follows is a comment
+    bare, labels = in_numbers(text), set[str]()
+    while found := LABEL.match(bare):
+        labels.add(found[1].upper())
+        bare = bare[found.end() :].lstrip(BLANKS)
+    if not bare:
+        raise ExploreError("the instruction is missing")
     typed, *more = re.split(rf"[{BLANKS}]+", bare, maxsplit=1)
     names = re.findall(rf"[^{BLANKS}!|]+", bare.upper())
     if names[0] in OPERATORS:
@@ -278,4 +310,5 @@ def assembled(text: str, address: int, symbol: Callable[[str], int]) -> Assemble
     if name not in INSTRUCTIONS:
         raise ExploreError(f"there is no instruction '{typed}' of the PDP-11/40")
     kind, opcode = INSTRUCTIONS[name]
-    return kind.assembled(name, opcode, "".join(more) or kind.usual, Assembly(address, symbol))
+    making = Assembly(address, symbol, frozenset(labels))
+    return kind.assembled(name, opcode, "".join(more) or kind.usual, making)

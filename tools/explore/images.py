@@ -3,6 +3,7 @@ import struct
 from pathlib import Path
 from typing import Iterator
 
+from .assembler import LABEL_OR_NAME
 from .commands import Arguments, Explorer, command
 from .export import core_words, drive_image
 from .files import OUTPUT
@@ -19,7 +20,8 @@ def written(path: Path, data: bytes, what: str) -> Iterator[str]:
 
 @command(
     "core FILE at N  or  core A INSTRUCTION",
-    rf"(<file:file> at <turn:decimal>|<address:address> {NO_FILE}(?P<instruction>[A-Za-z].*))",
+    rf"(<file:file> at <turn:decimal>|<address:address> {NO_FILE}"
+    rf"(?P<instruction>{LABEL_OR_NAME}.*))",
     "core before turn N, as an image; an instruction, as patches",
 )
 def core(explorer: Explorer, arguments: Arguments) -> Iterator[str]:
@@ -27,8 +29,10 @@ def core(explorer: Explorer, arguments: Arguments) -> Iterator[str]:
     the low byte first. A file that was there before is overwritten by core! FILE alone.
     With an INSTRUCTION such as MOV #5,R0 its words become those of core from address A on as of
     power-up, one patch each. It has the syntax of MACRO-11: numbers are octal, or decimal with a
-    point at their end; a symbol or . (A itself) may have numbers after + and -. Condition codes
-    that are cleared or set together have a space between them: CLV CLC. BHIS is BCC, BLO is BCS.
+    point at their end; 'c and "ab are characters; a symbol or . (A itself) may have numbers after +
+    and -. A label before it is A too: 1$: SOB R0,1$. Condition codes that are cleared or set
+    together have a space between them: CLV CLC. BHIS is BCC, BLO is BCS, %5 is R5, CALL is JSR PC
+    and RETURN is RTS PC.
     Addresses count from A modulo 200000, as in `list A C`: pages that move A aren't looked at.
     The disassembler must show the words as this instruction, or nothing is changed, and what is
     shown is its text. `undo` takes the patches back as one."""

@@ -1,27 +1,33 @@
-"""Turns and instructions with their texts: `see`, `show`, `list`."""
+"""Turns and instructions with their texts: `list`."""
 import itertools
 from dataclasses import dataclass
 from typing import Iterable, Iterator, Optional, Sequence
 
-from .commands import END_OF_RUN, Arguments, Explorer, Shown, command
+from .commands import Arguments, Explorer, command
 from .disassembly import Instruction
 from .errors import ExploreError
-from .machine import LAST_TURN, MOST_WORDS, SHORT_SENT_AHEAD, Machine
+from .machine import MOST_WORDS, SHORT_SENT_AHEAD, Machine
 from .replies import INSTRUCTION, INTERRUPT, LastWrite, Mode, Registers, Turn, turns_of, words_of
 
-INSTRUCTION_WORDS, UNIT_BYTES, SEEN_AT_ONCE = 3, 0o20000, 4_096
+INSTRUCTION_WORDS, UNIT_BYTES = 3, 0o20000
 SHOWN_AT_ONCE, VIRTUAL, PHYSICAL, IO_PAGE = 16, 0o200000, 0o1000000, 0o760000
+NOT_WHOLE = "(can't be fetched whole)"
 
 
 @dataclass(frozen=True)
 class SeenTurn:
-    """A turn as `see` shows it."""
+    """A turn as `see` shows it, with the registers before it and the words of its instruction."""
 
     turn: Turn
-    mode: Mode
+    registers: Registers
     physical: Optional[int]
+    words: Sequence[int]
     text: str
     symbol: str
+
+    @property
+    def mode(self) -> Mode:
+        return self.registers.mode
 
     def line(self) -> str:
         place = "------" if self.physical is None else f"{self.physical:06o}"
@@ -128,7 +134,7 @@ def instruction_of(explorer: Explorer, address: int, words: list[int]) -> Instru
     found = explorer.disassembler.instruction(address, padded)
     if found.words <= len(words):
         return found
-    return Instruction(len(words), f"{found.text.split()[0]} .. (can't be fetched whole)")
+    return Instruction(len(words), f"{found.text.split()[0]} .. {NOT_WHOLE}")
 
 
 def act_text(explorer: Explorer, turn: Turn, fetch: Fetch, words: list[int]) -> str:
@@ -146,10 +152,9 @@ def seen(explorer: Explorer, turns: Sequence[Turn]) -> Iterator[SeenTurn]:
     fetches = fetches_of(explorer.machine, turns)
     words = fetched_words(explorer.machine, turns, fetches)
     for turn, fetch, found in zip(turns, fetches, words):
-        mode = fetch.registers.mode
         text = act_text(explorer, turn, fetch, found)
-        symbol = explorer.symbols.near(mode, turn.pc)
-        yield SeenTurn(turn, mode, fetch.physical, text, symbol)
+        symbol = explorer.symbols.near(fetch.registers.mode, turn.pc)
+        yield SeenTurn(turn, fetch.registers, fetch.physical, found, text, symbol)
 
 
 def turns_in_words(explorer: Explorer, numbers: Sequence[int]) -> list[str]:
@@ -161,56 +166,6 @@ def turns_in_words(explorer: Explorer, numbers: Sequence[int]) -> list[str]:
 
 def turn_in_words(explorer: Explorer, turn: int) -> str:
     return turns_in_words(explorer, [turn])[0]
-
-
-@command("see [N [C]]", r"(<turn:decimal>( <count:decimal>)?)?", "the C turns before turn N")
-def see(explorer: Explorer, arguments: Arguments) -> Iterator[str]:
-    """Shows the C turns before turn N, 16 if C isn't given: the turn, the mode, PC as the program
-    has it, the address of core that it is at, the instruction or interrupt, and the symbol.
-    With mapping off both addresses are the same. Without N it is the current turn. C may be large:
-    the turns are asked upwards, so turns late in a run take little longer than early ones."""
-    end = arguments.decimal("turn", explorer.turn)
-    count = min(end, arguments.decimal("count", SHOWN_AT_ONCE))
-    if count == 0:
-        raise ExploreError("C is 1 or more" if end else "no turn comes before turn 0")
-    for first in range(end - count, end, SEEN_AT_ONCE):
-        part = min(SEEN_AT_ONCE, end - first)
-        turns = list(explorer.machine.turns(first, part))
-        yield from [HEADING] if first == end - count else []
-        yield from (it.line() for it in seen(explorer, turns))
-    explorer.turn = end
-
-
-REGISTER_ROWS = (("R0", "R3", "KSP"), ("R1", "R4", "USP"), ("R2", "R5", "PC"))
-
-
-@command("show [N]", r"(<turn:decimal>)?", "the registers before turn N, and what it does")
-def show(explorer: Explorer, arguments: Arguments) -> Iterator[str]:
-    """Shows the registers before turn N as a table, and what the machine does in turn N. Without N
-    it is the current turn. A `*` marks what is different from the last registers that `show`,
-    `step` or `back` showed."""
-    turn = arguments.decimal("turn", explorer.turn)
-    machine, before = explorer.machine, explorer.shown
-    now = Shown(turn, machine.registers(turn), machine.start, list(machine.journal))
-    words = now.registers.words
-
-    def mark(name: str) -> str:
-        return "*" if before is not None and before.registers.words[name] != words[name] else " "
-
-    since = f"   (* {difference_in_words(before, now)})" if before is not None else ""
-    yield f"before turn {turn}: {now.registers.state}{since}"
-    for row in REGISTER_ROWS:
-        yield "   ".join(f"{name:<3} {words[name]:06o}{mark(name)}" for name in row).rstrip()
-    yield f"PS  {now.registers.ps:06o}{mark('PS')}  {now.registers.status()}"
-    yield END_OF_RUN if turn == LAST_TURN else f"turn {turn}: {turn_in_words(explorer, turn)}"
-    explorer.shown, explorer.turn = now, turn
-
-
-def difference_in_words(before: Shown, now: Shown) -> str:
-    """What a mark of `show` says."""
-    if (before.start, before.journal) == (now.start, now.journal):
-        return f"changed since turn {before.turn}"
-    return f"different from turn {before.turn} of the past as it was then"
 
 
 def listed_line(address: int, words: Sequence[int], text: str, name: str = "") -> str:

@@ -4,7 +4,7 @@ from typing import Iterator
 
 from sessions import words_of
 
-from .assembler import Assembled, assembled, is_mnemonic
+from .assembler import LABEL, LABEL_OR_NAME, Assembled, assembled, is_mnemonic
 from .commands import Explorer
 from .errors import ExploreError
 from .interrupts import INTERRUPTS
@@ -17,9 +17,10 @@ def is_instruction(rest: str, symbols: Symbols) -> bool:
     """Whether what follows `core` is an address and then an instruction: not a word, nor a symbol
     alone, which is none."""
     place, word, *more = [*words_of(rest), "", ""]
-    if not re.fullmatch(ADDRESS, place) or not re.match("[A-Za-z]", word):
+    if not re.fullmatch(ADDRESS, place) or not re.match(LABEL_OR_NAME, word):
         return False
-    return any(more) or is_mnemonic(word) or not symbols.is_named(word)
+    is_alone = not any(more) and LABEL.match(word) is None
+    return not is_alone or is_mnemonic(word) or not symbols.is_named(word)
 
 
 def check_place(explorer: Explorer, address: int, count: int) -> None:

@@ -7,6 +7,9 @@ from typing import Sequence
 
 from explore.assembler import Assembled, assembled
 from explore.errors import ExploreError
+from explore.replies import Mode
+from explore.symbol_files import Symbol, symbol_file
+from explore.symbols import Symbols
 
 from . import opcodes
 from .common import BUILT, SECONDS, Case
@@ -41,6 +44,24 @@ def instructions(taken: Sequence[Sequence[int]]) -> list[tuple[str, int, list[in
         if not text.startswith(".WORD"):
             found.append((text, address, words[: int(count)]))
     return found
+
+
+class OfAListing(Case):
+    """The source of a program, beside the words that are its own."""
+
+    LINE = re.compile(r"([0-7]{6})  ((?:[0-7]{6} ?)+) +(?:\w+:)? +([A-Z]+\b(?!:).*)")
+
+    def test_each_instruction_of_the_ledger(self) -> None:
+        text = (self.folder / "examples/ledger/ledger.lst").read_text()
+        symbols = Symbols()
+        last = Symbol("LAST", 0o1624)  # which stands in a line without an address
+        symbols.take([*symbol_file(text).symbols, last], [Mode.KERNEL])
+        count = 0
+        for address, words, source in self.LINE.findall(text):
+            found = assembled(source, int(address, 8), symbols.number)
+            self.assertEqual(found.words, [int(it, 8) for it in words.split()], source)
+            count += 1
+        self.assertGreater(count, 130)
 
 
 class AllWords(unittest.TestCase):
@@ -95,6 +116,16 @@ class Typed(unittest.TestCase):
             ("BNE LOOP", "BNE 1004"),
             ("MOVB @LOOP+2(R2),_main-10.", "MOVB @1006(R2),6"),
             ("BIS #SP0+1,@a.b$", "BIS #177777,@7"),
+            ("CMPB #'A,'b(R1) ; 'c", "CMPB #101,142(R1)"),
+            ("MOV #\"ab+1,R0", "MOV #61142,R0"),
+            ("CMP #';,#',", "CMP #73,#54"),
+            ("CMP #'',#\"' ", "CMP #47,#20047"),
+            ("MOV -'\"(%1),@%6", "MOV 177736(R1),(SP)"),
+            ("SOB %5,.", "SOB R5,1000"),
+            ("call @LOOP", "JSR PC,@1004"),
+            ("RETURN ; from it", "RTS PC"),
+            ("1$: SOB R0,1$", "SOB R0,1000"),
+            ("Here:: 20$:BR here+2", "BR 1002"),
         ):
             self.assertEqual(made(typed), made(text), typed)
             self.assertEqual(made(typed).text, text, typed)
@@ -147,6 +178,15 @@ class Typed(unittest.TestCase):
             ("EMT 400", "400 is more than 377"),
             ("MARK 100", "100 is more than 77"),
             ("TRAP -1", "-1 is 177777, more than 377"),
+            ("MOV #'AB,R0", "''AB' is no number and no symbol"),
+            ("MOV #5'A,R0", "'5'A' is no number and no symbol"),
+            ("MOV #'A.,R0", "''A.' is no number and no symbol"),
+            ('MOV #"a"b,R0', "'\"a\"b' is no number and no symbol"),
+            ("CLR %8", "'%8' is no operand"),
+            ("CALL", "CALL takes one operand"),
+            ("RETURN R5", "RETURN takes no operand"),
+            ("1$: BR 2$", "no label 2$: stands before this instruction"),
+            ("1$: ; BR 1$", "the instruction is missing"),
             ("CLR #18", "18 isn't octal; the decimal number is 18."),
             ("CLR #" + "9" * 5000 + ".", "a number has 5000 digits, more than 10"),
             ("CLR \N{ARABIC-INDIC DIGIT THREE}", "an instruction has ASCII characters alone"),
@@ -158,10 +198,11 @@ class Typed(unittest.TestCase):
     def test_pieces_put_together_by_chance(self) -> None:
         """Each text is an instruction, whose text is one too, or what is wrong is said."""
         chance, count = random.Random(40), 0
-        pieces = ["R0", "PC", "LOOP", "5", "9", "18.", "CLC", "'", '"', *"(()+-@@#,,.;!$%:=    "]
+        pieces = ["R0", "PC", "LOOP", "5", "9", "18.", "CLC", "'a", '"ab', "'", '"', "1$:", "%3"]
+        pieces += "(()+-@@#,,.;!$%:=    "
+        begins = ["MOV ", "CLR ", "1$: BR 1$", "CALL ", "SOB R1,", "BR ", "XOR R1,", "SEC ", "EMT "]
         for _ in range(20_000):
-            begin = chance.choice(["MOV ", "CLR ", "SOB R1,", "BR ", "XOR R1,", "SEC ", "EMT "])
-            text = begin + "".join(chance.choices(pieces, k=chance.randrange(8)))
+            text = chance.choice(begins) + "".join(chance.choices(pieces, k=chance.randrange(8)))
             try:
                 found = made(text)
             except ExploreError:

@@ -31,6 +31,19 @@ class Patched(Case):
         self.assertEqual(written[6], "patches 5")
         self.assertEqual(written[12:], ["refused 10 BadLine", *written[13:14], "ok"])
 
+    def test_labels_of_the_line(self) -> None:
+        lines = "core 1000 1$: SOB R0,1$\ncore 1000 LOOP:BR LOOP\ncore 1000 A:\ncore 1000 1:\n"
+        self.assertEqual(
+            self.explore(lines).splitlines(),
+            [
+                "001000  077001                SOB R0,1000",
+                "001000  000777                BR 1000",
+                "core: the instruction is missing",
+                "refused 10 BadLine",
+                "  core A W: W, a word, is octal, and '1:' has ':'",
+            ],
+        )
+
     def test_undo_takes_all_words(self) -> None:
         lines = "core 1002 7\ncore 1000 MOV #5,@#2000\nundo\npatches\nredo\npatches\n"
         written = self.explore(lines).splitlines()
