@@ -5,6 +5,7 @@ from dataclasses import dataclass, field
 from typing import Callable, Iterator, Optional
 
 from .breakpoints import Breakpoints
+from .definitions import Definitions
 from .disassembly import Disassembler
 from .errors import ExploreError
 from .fades import Fading
@@ -16,6 +17,8 @@ from .replies import Mode, Registers
 from .symbols import ADDRESS, Symbols
 
 MOST_WORDS = 20  # that are looked at for missing quotes
+PROMPT = "explore> "
+ENDS = frozenset(("quit", "q", "exit"))  # the words that end explore
 
 
 @dataclass(frozen=True)
@@ -69,6 +72,28 @@ class Shown:
 
 
 @dataclass
+class Displays:
+    """The lines that are displayed, by numbers that are given once, and the current turn that they
+    were shown for last."""
+
+    lines: dict[int, str] = field(default_factory=dict)
+    count: int = 0
+    turn: int = 0
+
+
+class Interpreter:
+    """What does lines: the prompt."""
+
+    def lines(self, line: str) -> Iterator[str]:
+        """What a line shows."""
+        raise ExploreError("there is no prompt, which does lines")
+
+    def lines_as_typed(self, line: str) -> Iterator[str]:
+        """What a line shows that is done as if it were typed."""
+        return self.lines(line)
+
+
+@dataclass
 class Explorer:
     """What the commands work on. `turn` is the current turn: the one that a line found or showed
     last, also if an edit changes what happens before it. The edits that were saved last are those
@@ -86,6 +111,15 @@ class Explorer:
     sitting: Sitting = field(default_factory=Sitting)
     fading: Fading = field(default_factory=Fading)
     breakpoints: Breakpoints = field(default_factory=Breakpoints)
+    definitions: Definitions = field(default_factory=Definitions)
+    displays: Displays = field(default_factory=Displays)
+    interpreter: Interpreter = field(default_factory=Interpreter)
+    depth: int = 0  # of files that do one another
+
+    @property
+    def prompt(self) -> str:
+        """The prompt, at a terminal with the current turn if it isn't turn 0."""
+        return f"explore {self.turn}> " if self.turn and self.is_terminal else PROMPT
 
     @property
     def finder(self) -> Finder:

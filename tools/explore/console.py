@@ -10,6 +10,7 @@ from .errors import ExploreError
 from .in_words import counted
 from .language import MEANINGS
 from .machine import LAST_TURN, Machine, is_refused
+from .output import LINES
 from .pace import Pace, Slice
 from .raw_terminal import RawTerminal
 from .replies import text_of
@@ -113,6 +114,7 @@ class Console:
         if printed:
             self.last_bytes = (self.last_bytes + printed[-2:])[-2:]
             shown = printed.translate(SEVEN_BITS) if self.sitting.is_7bit else printed
+            LINES.note_printed(shown)
             terminal.show(visible_bytes(shown) if self.sitting.is_escaped else shown)
 
     def tell(self, terminal: RawTerminal, words: str) -> None:

@@ -3,3 +3,7 @@
 
 class ExploreError(Exception):
     """Why a command can't be done, for the user to read."""
+
+
+class LineRefused(ExploreError):
+    """The program has refused a line, and its reply has been shown."""

@@ -73,6 +73,20 @@ class Finder:
 
     # The text
 
+    def printed_in(self, turns: range, string: bytes) -> Optional[tuple[int, int]]:
+        """The first of the turns that prints the last byte of the string, all of which is printed
+        in these turns, and how many bytes are printed then."""
+        begin, text = self.machine.text_length(turns.start), b""
+        for part in growing_parts(turns):
+            looked_at = max(0, len(text) - len(string) + 1)
+            text += self.machine.text_from(part.stop, begin + len(text))
+            at = text.find(string, looked_at)
+            if at >= 0:
+                last = begin + at + len(string) - 1
+                (turn,) = self.machine.printed_in([last])
+                return turn, last + 1
+        return None
+
     def end_of_text(self, turns: range, string: bytes) -> Optional[tuple[int, int]]:
         """The first of the turns that prints the last byte of the string, and how many bytes are
         printed then."""

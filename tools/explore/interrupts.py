@@ -14,15 +14,17 @@ def typed_line(prompt: str) -> str:
 
 
 class Interrupts:
-    """Whether Ctrl-C ends what the main thread does now, and whether one was put off."""
+    """Whether Ctrl-C ends what the main thread does now, whether one was put off, and how many
+    came."""
 
     def __init__(self) -> None:
-        self.ends, self.came = False, False
+        self.ends, self.came, self.count = False, False, 0
 
     def install(self) -> None:
         signal.signal(signal.SIGINT, self.handle)
 
     def handle(self, number: int, frame: Optional[FrameType]) -> None:
+        self.count += 1
         if frame is not None and frame.f_code is typed_line.__code__:
             self.ends = False
             signal.default_int_handler(number, frame)  # `raise` fails if another has raised

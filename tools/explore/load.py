@@ -235,9 +235,12 @@ def names_of(path: Path) -> SymbolFile:
     return found
 
 
+SYMBOLS_PATTERN = r"<file:file>( at <address:octal>)?( (?P<mode>kernel|user))?"
+
+
 @command(
     "symbols FILE [at A] [kernel|user]",
-    r"<file:file>( at <address:octal>)?( (?P<mode>kernel|user))?",
+    SYMBOLS_PATTERN,
     "names of addresses: a list, a listing, a map, an a.out",
 )
 def read_symbols(explorer: Explorer, arguments: Arguments) -> Iterator[str]:
@@ -249,14 +252,33 @@ def read_symbols(explorer: Explorer, arguments: Arguments) -> Iterator[str]:
     lists what follows a # or ; is a comment. Lines without a symbol, or with the name of a file,
     are counted. Constants, as a listing marks them by `=`, are numbers, and no names of places. A
     symbol that is relocatable (R in a listing, text and data of an a.out) counts from A, or from 0.
-    With `kernel` or `user` the names are those of that mode alone."""
+    With `kernel` or `user` the names are those of that mode alone. They take the place of those
+    there were; `names FILE` adds to these."""
+    yield from symbol_lines(arguments, explorer.symbols.take, "symbols")
+
+
+@command(
+    "names FILE [at A] [kernel|user]",
+    SYMBOLS_PATTERN,
+    "further names of addresses, beside those there are",
+)
+def add_names(explorer: Explorer, arguments: Arguments) -> Iterator[str]:
+    """Takes names as `symbols` does, which has more. But those that are there already stay, so
+    several files can name parts of one program. A name that was there before gets the new value."""
+    yield from symbol_lines(arguments, explorer.symbols.add, "names")
+
+
+def symbol_lines(
+    arguments: Arguments, take: Callable[[Iterable[Symbol], Sequence[Mode]], None], word: str
+) -> Iterator[str]:
+    """Takes the symbols of a file, and says how many there are."""
     only, base = arguments.optional("mode"), arguments.octal("address")
     check_even(base)
     found = names_of(Path(arguments.text("file")))
     symbols = [it.moved(base) for it in found.symbols]
-    explorer.symbols.take(symbols, [Mode(only)] if only else BOTH_MODES)
+    take(symbols, [Mode(only)] if only else BOTH_MODES)
     yield found.line()
     yield from [found.remark] if found.remark else []
     relocatable = sum(it.is_relocatable for it in symbols)
     if relocatable and not arguments.optional("address"):
-        yield f"{relocatable} are relocatable, and count from 0; symbols FILE at A moves them to A"
+        yield f"{relocatable} are relocatable, and count from 0; {word} FILE at A moves them to A"

@@ -338,6 +338,10 @@ class Machine:
     def text(self, turn: int) -> bytes:
         return text_of(self.read(f"text {turn}"))
 
+    def text_from(self, turn: int, byte: int) -> bytes:
+        """What was printed before the turn, from this byte on."""
+        return text_of(self.read(f"text {turn} from {byte}"))
+
     def text_length(self, turn: int) -> int:
         """How many bytes were printed before the turn."""
         return int(self.read(f"text {turn}").partition(":")[0].split()[1])

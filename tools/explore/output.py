@@ -6,8 +6,10 @@ import os
 import select
 import sys
 import traceback
+from pathlib import Path
+from typing import Optional
 
-from .visible import escaped_character, visible
+from .visible import escaped_character, visible, visible_bytes
 
 MOST_WAITING = 65_536  # characters
 
@@ -16,19 +18,71 @@ class Unwritable(Exception):
     """Standard output can't be written."""
 
 
+class Log:
+    """A file that gets what is typed and shown."""
+
+    def __init__(self, path: Path, handle: int):
+        self.path, self.handle = path, handle
+        self.waiting = b""
+
+    def add(self, text: str) -> None:
+        self.waiting += text.encode("utf-8", "backslashreplace")
+
+    def flush(self) -> str:
+        """Writes what waits; returns why it can't be written, or an empty text."""
+        data, self.waiting = self.waiting, b""
+        try:
+            write_all(self.handle, data)
+        except OSError as error:
+            return f"the log {self.path} can't be written, and ends: {error.strerror}"
+        return ""
+
+
 class Lines:
-    """The lines that wait to be written to standard output."""
+    """The lines that wait to be written to standard output, and the log that gets them too."""
 
     def __init__(self) -> None:
         self.waiting: list[str] = []
         self.size = 0
+        self.log: Optional[Log] = None
 
     def add(self, line: str) -> None:
         self.waiting.append(f"{visible(line)}\n")
         self.size += len(line)
+        self.note(line)
+
+    def note(self, line: str) -> None:
+        """A line of the log alone: one that is typed is at the terminal already."""
+        if self.log is not None:
+            self.log.add(f"{visible(line)}\n")
+
+    def note_printed(self, printed: bytes) -> None:
+        """What a console shows, which may be much before the next line is."""
+        if self.log is None:
+            return
+        self.log.add(visible_bytes(printed).decode().replace("\r", ""))
+        if len(self.log.waiting) > MOST_WAITING:
+            self.flush_log()
+
+    def begin_log(self, log: Optional[Log]) -> None:
+        """What waits is still for the log before, which is closed."""
+        before = self.log
+        if before is not None:
+            self.flush()
+            os.close(before.handle)
+        self.log = log
+
+    def flush_log(self) -> None:
+        """If the log can't be written it ends, which is shown."""
+        fault = self.log.flush() if self.log is not None else ""
+        if fault and self.log is not None:
+            os.close(self.log.handle)
+            self.log = None
+            self.waiting.append(f"{visible(fault)}\n")
 
     def flush(self) -> None:
         """Writes them all. If they can't be written they are lost."""
+        self.flush_log()
         data = "".join(self.waiting).encode(sys.stdout.encoding, "as_typed")
         self.waiting, self.size = [], 0
         try:

@@ -187,13 +187,14 @@ def check_room(machine: Machine, keys: Sequence[int]) -> None:
 def type_text(explorer: Explorer, arguments: Arguments) -> Iterator[str]:
     r"""Adds a key for each byte of TEXT, each at the first turn at which no earlier key waits (bit
     7 of TKS is clear), and at least N turns after the one before. Without `from` it begins after
-    the last event of the script. Enter is \r; there are \n \t \e \\ \" too, and \015 for a
-    byte in octal. If the script hasn't room for all of them, none is typed."""
+    the last event of the script, or at the current turn, if that is later. Enter is \r; there are
+    \n \t \e \\ \" too, and \015 for a byte in octal. If the script hasn't room for all of them,
+    none is typed."""
     machine = explorer.machine
     every, keys = arguments.decimal("every", 1), typed_bytes(arguments.text("text"))
     check_room(machine, keys)
     after_events = max((it.turn + 1 for it in machine.script), default=0)
-    turn = arguments.decimal("first", after_events)
+    turn = arguments.decimal("first", max(after_events, explorer.turn))
     keyboard, typed = Keyboard(machine), 0
     try:
         with machine.edits_together():

@@ -13,6 +13,7 @@ from .kinds import check_known, content
 from .load import counted_patches, loaded, patches_of
 from .options import MOST_UNITS, fault_of_option
 from .restart import make
+from .simh_lines import Line, Lines, NotHere
 
 MOST_BYTES = 1_048_576  # of a command file
 MOST_KILOBYTES, LEAST_KILOBYTES, UNIT_KILOBYTES = 256, 8, 8
@@ -23,7 +24,8 @@ LONGEST_SHOWN, MOST_SHOWN = 60, 100  # characters of a line, and lines that were
 LEAST_NAMES = {
     "at": "attach", "b": "boot", "d": "deposit", "det": "detach", "do": "do", "ec": "echo",
     "e": "examine", "ex": "examine", "g": "go", "l": "load", "q": "quit", "exi": "exit",
-    "bye": "exit", "ru": "run", "se": "set", "sh": "show", "h": "help",
+    "bye": "exit", "ru": "run", "se": "set", "sh": "show", "h": "help", "br": "break",
+    "sen": "send", "exp": "expect", "s": "step", "c": "continue",
 }  # fmt: skip
 ASKING = {"echo", "examine", "show", "help"}  # they show something, and set nothing
 REGISTERS = re.compile(
@@ -72,6 +74,8 @@ class Imported:
     options: dict[str, str] = field(default_factory=dict)
     core: dict[int, int] = field(default_factory=dict)
     switches: Optional[int] = None
+    lines: Lines = field(default_factory=Lines)
+    command: str = ""  # the one that is taken now, with its place
     taken: int = 0
     without_meaning: list[str] = field(default_factory=list)
     left_out: list[str] = field(default_factory=list)
@@ -165,10 +169,15 @@ class Imported:
         for number, word in enumerate(bootstrap(drive)):
             self.deposit_word(BOOTSTRAP + 2 * number, word)
         self.options["start"] = f"{BOOTSTRAP:o}"
+        self.lines.run(self.command)
 
     def go(self, words: list[str]) -> None:
         if words:
             self.deposit_register("pc", octal_word(words[0]))
+        self.lines.run(self.command)
+
+    def go_on(self, words: list[str]) -> None:
+        self.lines.run(self.command)
 
     def load(self, words: list[str]) -> None:
         if len(words) != 1:
@@ -183,15 +192,31 @@ class Imported:
         if drive is None or self.options.pop(option_of(drive), None) is None:
             raise Unusable("no such unit is attached")
 
+    def take_line(self, whole: str, line: str) -> bool:
+        """Takes a command that a line of explore stands for, or tells that this is none."""
+        does: dict[str, Callable[[str, str], None]] = {
+            "send": self.lines.send, "expect": self.lines.expect, "break": self.lines.set_break,
+            "step": self.lines.step,
+        }  # fmt: skip
+        if whole not in does:
+            return False
+        try:
+            does[whole](line, self.command)
+        except NotHere as error:
+            raise Unusable(str(error)) from None
+        self.taken += 1
+        return True
+
     def take(self, line: str) -> None:
         """Takes a command."""
         name, *words = words_of(line)
         does: dict[str, Callable[[list[str]], None]] = {
             "attach": self.attach, "set": self.set, "deposit": self.deposit, "boot": self.boot,
             "go": self.go, "run": self.go, "load": self.load, "detach": self.detach,
+            "continue": self.go_on,
         }  # fmt: skip
         whole = whole_name(name.lower())
-        if whole in ASKING:
+        if whole in ASKING or self.take_line(whole, line):
             return
         if whole not in does:
             raise Unusable("import that file too" if whole == "do" else "it has no meaning here")
@@ -241,13 +266,27 @@ def imported(path: Path) -> Imported:
             continue
         if whole_name(line.split()[0].lower()) in ("quit", "exit"):
             break
+        found.command = f"line {number}, {shortened(line)}"
         try:
             found.take(line)
         except (Unusable, ExploreError) as error:
             is_unusable = isinstance(error, Unusable)
             into = found.without_meaning if is_unusable else found.left_out
-            into.append(f"line {number}, {shortened(line)}: {error}")
+            into.append(f"{found.command}: {error}")
+    waiting = (f"{it}: no go, boot or continue follows" for it in found.lines.left())
+    found.without_meaning += waiting
     return found
+
+
+def outcome(explorer: Explorer, lines: list[Line]) -> Iterator[str]:
+    """Does the lines that commands stand for, from turn 0 on."""
+    explorer.turn = 0
+    for it in lines:
+        yield f"{explorer.prompt}{it.line}"
+        try:
+            yield from explorer.interpreter.lines(it.line)
+        except ExploreError as error:
+            raise ExploreError(f"{it.command}: {error}; what follows isn't done") from None
 
 
 def told(lines: list[str], what: str) -> Iterator[str]:
@@ -265,9 +304,13 @@ def import_file(explorer: Explorer, arguments: Arguments) -> Iterator[str]:
     `attach` of rk0 to rk7 (option --disk, and in version 2 --disk1 to --disk7) and of ptr (--tape),
     `set cpu` with a size (--units), `deposit` of core, PC (--start) and SR (an event), `load`,
     `boot rk0` (the bootstrap at 2000), `go A`. The program is started again with these options and
-    all edits. Then it lists the commands that have no meaning here, and at the end those that were
-    left out, since a file is missing or is none that can be attached or loaded. `undo` takes an
-    import back."""
+    all edits. Then it lists the commands that have no meaning here, and those that were left out,
+    since a file is missing or is none that can be attached or loaded.
+    At the end it does the lines that stand for other commands, from turn 0 on: `break A` and
+    `break -w A` set breakpoints, `send "text"` is `type`, `step N` is `step N`. `expect "text" send
+    "text"; continue` waits for the next `go`, `boot` or `continue`: its lines are then `expect` and
+    `type`, each rule once, in their order. If all rules went on, and breakpoints are set,
+    `continue` goes on to the next one. `undo` takes an import back."""
     path, machine = Path(arguments.text("file")), explorer.machine
     found = imported(path)
 
@@ -284,3 +327,5 @@ def import_file(explorer: Explorer, arguments: Arguments) -> Iterator[str]:
     yield from (it for it in made if not it.startswith("core "))
     yield from told(found.without_meaning, "without a meaning here")
     yield from told(found.left_out, "left out")
+    if found.lines.lines:
+        yield from outcome(explorer, found.lines.lines)

@@ -16,14 +16,14 @@ def shown(explorer: Explorer, turn: int) -> Iterator[str]:
 @command("step [K]", r"<count:decimal>?", "shows the turn after the current one, or the K-th")
 def step(explorer: Explorer, arguments: Arguments) -> Iterator[str]:
     """Shows what `show` shows, K turns after the current turn, or one turn. That turn is then the
-    current one. `help` says at its end what else sets the current turn; at first it is turn 0."""
+    current one. `help turn` says what else sets the current turn; at first it is turn 0."""
     return shown(explorer, explorer.turn + arguments.decimal("count", 1))
 
 
 @command("back [K]", r"<count:decimal>?", "shows the turn before the current one, or the K-th")
 def back(explorer: Explorer, arguments: Arguments) -> Iterator[str]:
     """Shows what `show` shows, K turns before the current turn, or one turn. That turn is then the
-    current one. `help` says at its end what else sets the current turn; at first it is turn 0."""
+    current one. `help turn` says what else sets the current turn; at first it is turn 0."""
     return shown(explorer, explorer.turn - arguments.decimal("count", 1))
 
 

@@ -32,6 +32,9 @@ class Symbols:
     numbers: dict[Mode, dict[str, int]] = field(
         default_factory=lambda: {Mode.KERNEL: {}, Mode.USER: {}}
     )
+    taken: dict[Mode, list[Symbol]] = field(
+        default_factory=lambda: {Mode.KERNEL: [], Mode.USER: []}
+    )
 
     def take(self, found: Iterable[Symbol], modes: Sequence[Mode]) -> None:
         """Takes these in place of those there were. A constant has a number, and is the name of no
@@ -43,6 +46,15 @@ class Symbols:
             self.names.update({(mode, it.value): it.name for it in places})
             self.values[mode] = sorted({it.value for it in places})
             self.numbers[mode] = {it.name: it.value for it in symbols}
+            self.taken[mode] = symbols
+
+    def add(self, found: Iterable[Symbol], modes: Sequence[Mode]) -> None:
+        """Takes these beside those there are. A name that was there before gets the new value."""
+        added = list(found)
+        names = {it.name for it in added}
+        for mode in modes:
+            before = (it for it in self.taken[mode] if it.name not in names)
+            self.take([*before, *added], [mode])
 
     def near(self, mode: Mode, address: int) -> str:
         """The symbol at or before the address, such as `main+4`, or an empty text."""

@@ -48,7 +48,7 @@ class Words(Case):
         said = {it: text for it, text in self.sentences().items() if it not in COMMANDS}
         written = self.explore("".join(f"{it}\n" for it in said)).splitlines()
         self.assertEqual(written, [f"{it.split()[0]}: {text}" for it, text in said.items()])
-        self.assertEqual(self.explore("help bt\n"), f"bt: {said['bt']}\n")
+        self.assertEqual(" ".join(self.explore("help bt\n").split()), f"bt: {said['bt']}")
 
     def test_lines_of_explore_and_of_the_language_stay(self) -> None:
         self.assertEqual({*FORMS, *SEARCHES, *LISTS} & set(FOREIGN), set())

@@ -43,8 +43,51 @@ class Terminal(AtTerminal):
         self.type("see\t2\n")
         self.wait_for(b"see 2")
         self.wait_for(b"1  kernel  001004  001004  HALT")
-        self.type("help scr\t\n")
+        self.type("help scree\t\n")
         self.wait_for(b"screen [N [LAST]]")
+        self.end()
+
+    def test_symbols_are_completed_where_an_address_goes(self) -> None:
+        (self.folder / "names").write_text("BALANCE 1000\nBALSAM 1002\nother 1004\n")
+        (self.folder / "OTHER").write_text("")
+        self.begin("examples/first-run.session")
+        self.type("names names\n")
+        for typed, shown in (
+            ("last 1 BALA\t", b"last never"),
+            ("first 0 9 at BALA\t", b"first 0"),
+            ("first 0 9 where R0 = 5 and core ot\t = 0", b"first 1"),
+            ("until PC ot\t", b"turn 1: kernel 001004 (other) HALT"),
+            ("break kernel BALA\t if at BALA\t", b"breakpoint 1: break kernel 1000 (BALANCE)"),
+            ("dump BALA\t 1", b"001000  012700"),
+            ("last 1 user OTH\t", b"user 001004 is 001004 before turn 1"),
+        ):
+            self.type(f"{typed}\n")
+            self.wait_for(shown)
+        # a count is none, and a file is none
+        self.type("see BALA\t\n")
+        self.wait_for(b"the form is: see [N [C]]")
+        self.type("symbols OTH\t\n")
+        self.wait_for(b"OTHER has no symbol")
+        self.end()
+
+    def test_words_of_ones_own_and_topics_are_completed(self) -> None:
+        self.begin("examples/first-run.session")
+        self.type("define whole regs 0\n")
+        self.type("who\t\n")
+        self.wait_for(b"R0 000000")
+        self.type("help sear\t\n")
+        self.wait_for(b"searches: lines of searches")
+        (self.folder / "names").write_text("BALANCE 1000\n")
+        self.type("names names\n")
+        self.type("display pat\t\n")
+        self.wait_for(b"display 1 from now on: patches")
+        self.type("define w last 5 BAL\t\n")
+        self.wait_for(b"define w last 5 BALANCE\r\n")
+        self.type("define two mem 0 $1 1\n")
+        self.type("two BAL\t\n")
+        self.wait_for(b"mem 012700")
+        self.type("undefine tw\t\n")
+        self.wait_for(b"no more: define two mem")
         self.end()
 
     def test_the_history_is_there_the_next_time(self) -> None:

@@ -49,7 +49,8 @@ class Imports(Media):
         three = "\N{ARABIC-INDIC DIGIT THREE}"
         written = self.imports(f"set cpu {three}2k\nd mmr{three} 5\n")
         self.assertEqual(written[1], "2 without a meaning here:")
-        self.assertTrue(written[2].endswith(f"there is no {three}2k here: this is an 11/40 with EIS"))
+        no_such = f"there is no {three}2k here: this is an 11/40 with EIS"
+        self.assertTrue(written[2].endswith(no_such))
         self.assertTrue(written[3].endswith("can't be set: only core, PC and SR can"))
         for text in ("12k", "4k", "512K", "4M", "0k"):
             written = self.imports(f"SET CPU {text}\n")
@@ -81,7 +82,7 @@ class Imports(Media):
             "d rk rkcs 5\nd tti buf 101\nd rk0 5 6\nd -m 1000 MOV R0,R1\nd r0 5\nd psw 340\n"
             "d r1 0\nd 17777560 5\nd 1001 5\nd 1000 8\nd 1000\nd pc 1001\nset tto 7b\n"
             "set cpu 11/70\nset rl disable\nattach rl0 x\nattach\nboot rp0\nboot\n! ls\n"
-            "do other.ini\nsend \"x\"\nrestore x.sav\n"
+            "do other.ini\nsend x\nrestore x.sav\n"
         )
         written = self.imports(commands, "patches\n")
         self.assertEqual(written[0], "1 command taken: 0 patches")
@@ -102,6 +103,7 @@ class Imports(Media):
             (16, "there is no rl0 here: disks are rk0 to rk7, the tape is ptr"),
             (18, "only rk0 to rk7 can be booted; load FILE loads a paper tape"),
             (21, "import that file too"),
+            (22, 'its form here is: send "text"'),
         ):
             line = next(it for it in written if it.startswith(f"  line {at}, "))
             self.assertTrue(line.endswith(f": {said}"), line)
@@ -110,6 +112,66 @@ class Imports(Media):
     def test_comments_and_what_only_shows(self) -> None:
         commands = "; a\n# b\n:label\n\necho hello\nshow cpu\nexamine 1000\ne pc\nquit\nd 1000 5\n"
         self.assertEqual(self.imports(commands), ["0 commands taken: 0 patches"])
+
+    def test_what_is_done_while_it_runs(self) -> None:
+        """What the commands do is what the lines that stand for them do, one after the other."""
+        disk = "examples/moved-keys.disk"
+        commands = (
+            f'attach rk0 {disk}\nbreak 30\nexpect "\\n* " send "he\\154lo\\r"; continue\n'
+            'expect "05 KEYS"\nboot rk0\nstep 3\ncontinue\nbr -w 1000,1002\n'
+        )
+        written = self.imports(commands, "show\nevents\nundo\nevents\nbreakpoints\n")
+        at = written.index("explore> break 30")
+        self.assertEqual(written[0].split(" taken")[0], "8 commands")
+        lines = (
+            'break 30\nexpect "\\n* "\ntype "hello\\r"\nexpect "05 KEYS"\nstep 3\ncontinue\n'
+            "watch 1000\nwatch 1002\n"
+        )
+        options = ("--start", "2000", "--disk", disk, "examples/boot-rk0.session")
+        typed = self.explore(f"{lines}show\nevents\n", "--echo", *options)
+        wanted = [it for it in typed.splitlines() if it not in ("explore> show", "explore> events")]
+        self.assertEqual(written[at : at + len(wanted)], wanted)
+        self.assertIn("taken back: import it.ini (18 edits)", written)
+        self.assertEqual(written[-4], "0 events")
+
+    def test_rules_wait_for_a_run(self) -> None:
+        written = self.imports('expect "x" send "y"\nexpect "z"\n')
+        self.assertEqual(written[0], "2 commands taken: 0 patches")
+        said = "no go, boot or continue follows"
+        self.assertEqual(
+            written[1:],
+            ["2 without a meaning here:", f'  line 1, expect "x" send "y": {said}']
+            + [f'  line 2, expect "z": {said}'],
+        )
+        # one that doesn't go on ends the run, and the next waits for the next one
+        commands = 'expect "C"\nexpect "O"\nboot rk0\nbreak 1000\ngo\n'
+        written = self.imports(f"attach rk0 examples/moved-keys.disk\n{commands}")
+        typed = [it for it in written if it.startswith("explore> ")]
+        self.assertEqual(
+            typed, [f"explore> {it}" for it in ('expect "C"', "break 1000", 'expect "O"')]
+        )
+
+    def test_rules_that_can_not_be_met(self) -> None:
+        commands = (
+            'exp -r "x.*"\nexp "x" echo hello\nexp [3] "x"\nexpect\nexp "x" send y\nbr 1000;e r0\n'
+            'br -r 1000\nbr 9\nbr\nsend "\\777"\nstep x\ns -1\nexp "x;\\"y" send ";"; cont\n'
+        )
+        written = self.imports(commands)
+        self.assertEqual(written[0], "1 command taken: 0 patches")
+        self.assertEqual(written[1], "13 without a meaning here:")
+        said = "  line 2, exp \"x\" echo hello: 'echo hello' can't be an action here: "
+        self.assertTrue(written[3].startswith(said), written)
+        self.assertTrue(any(it.endswith("'\\777' is no byte") for it in written), written)
+
+    def test_a_text_that_does_not_come_ends_it(self) -> None:
+        commands = 'd 1000 5\nexpect "x" send "y"; c\ngo\nstep 4\n'
+        written = self.imports(commands, "mem 0 1000 1\nundo\nmem 0 1000 1\n")
+        self.assertRegex(
+            "\n".join(written),
+            r"import: line 2, expect .x. send .y.; c: 'x' isn't printed in the turns 0 to 99999999"
+            r"; nothing is printed there, and the processor is halted; what follows isn't done\n"
+            r"mem 000005\ntaken back: import it.ini\nmem 000000",
+        )
 
     def test_paths(self) -> None:
         (self.folder / "in").mkdir()

@@ -357,6 +357,28 @@ class Named(Media):
         ):
             self.assertTrue(self.ledger(f"{line}\n")[0].startswith(said), line)
 
+    def test_names_are_added(self) -> None:
+        (self.folder / "one").write_text("A 1000\nB 1002\n")
+        (self.folder / "two").write_text("C 1004\nB 1006\nK = 1000\n")
+        lines = "symbols one\nnames two\nlist 1000 4 at 0\nlist A 1 at 0\nlist B 1 at 0\n"
+        written = self.explore(lines).splitlines()
+        self.assertEqual(written[:2], ["2 symbols", "3 symbols"])
+        names = [it.split("HALT")[1].strip() for it in written[2:]]
+        # of two names of a place the later one in the order of letters is shown
+        self.assertEqual(names, ["K", "K+2", "C", "B", "K", "B"])
+        written = self.explore(f"{lines}symbols two\nlist A 1 at 0\n").splitlines()
+        self.assertIn("there is no symbol 'A'", written[-1])
+
+    def test_names_are_added_to_one_mode(self) -> None:
+        (self.folder / "one").write_text("A 1000\n")
+        (self.folder / "two").write_text("A 2000\nB 1000\n")
+        lists = "list A 1 at 0\nlist kernel A 1 at 0\nlist user A 1 at 0\n"
+        written = self.explore(f"names one\nnames two user\n{lists}").splitlines()
+        self.assertIn("several symbols 'A': 1000 of kernel, 2000 of user", written[2])
+        self.assertTrue(written[3].startswith("001000 "), written)
+        self.assertTrue(written[4].startswith("002000 "), written)
+        self.assertIn("names: nowhere: No such file", self.explore("names nowhere\n"))
+
     def test_a_name_with_two_numbers(self) -> None:
         self.put("k", b"HERE 1000\n")
         self.put("u", b"HERE 20\n")
