@@ -3,27 +3,35 @@
 import { Comparison } from "./comparison.js";
 import { CursorPanels } from "./cursor.js";
 import { firstSession, forgetSession, isOwn, keepSession, keptEdits } from "./kept.js";
-import { NOTHING_SAMPLED, notesOf } from "./lanes.js";
 import { Ended, Machine, Stopped } from "./machine.js";
 import { Differences } from "./differences.js";
 import { Edits } from "./edits.js";
+import { EventList } from "./events.js";
+import { Finder } from "./find.js";
+import { Happened } from "./happened.js";
 import { sameFrom } from "./fades.js";
 import {
   filesTogether, pageOfPast, saveFile, savedName, sessionOfFiles, textOfPast,
 } from "./files.js";
 import { FileError } from "./options.js";
+import { NOTHING_SAMPLED, notesOf } from "./notes.js";
+import { Minimap } from "./minimap.js";
+import { Outcome } from "./outcome.js";
 import { delayed, element } from "./page.js";
+import { NamedPasts } from "./pasts.js";
 import { PictureMaker } from "./picture.js";
 import { keepPlace } from "./place.js";
 import { LAST_TURN, WrongReply, octal, visibleName } from "./replies.js";
 import { Run } from "./run.js";
 import { lastTurnOf, symbolsOfSession } from "./session.js";
 import { Sight } from "./sight.js";
+import { Stepping } from "./stepping.js";
 import { Sweep } from "./sweep.js";
 import { showRefused } from "./refused.js";
 import { STORY, isStory } from "./story.js";
 import { ConsoleText } from "./text.js";
 import { Timeline } from "./timeline.js";
+import { Tips } from "./tips.js";
 import { Watched } from "./watched.js";
 import { WorkBar } from "./work.js";
 
@@ -34,21 +42,25 @@ export class App {
     this.disassembler = new Machine({ program: "disassemble", arguments: [], files: {} });
     this.panels = new CursorPanels(this.disassembler, {
       onTurn: turn => this.goTo(turn),
+      onRunTo: (pc, mode, direction) => this.stepping.runTo(pc, mode, direction),
       onChange: (address, word) => this.writeLine(`core ${address.toString(8)} `, octal(word)),
       onWatch: address => this.watched.turn({ kind: "core", drive: 0, at: address }),
     });
-    this.timeline = new Timeline(element("timeline"), {
-      onCursor: () => this.cursorMoved(), onView: () => this.viewChanged(),
-      onDrag: (event, turn) => this.edits.preview(event, turn),
-      onDrop: (event, turn) => this.edits.drop(event, turn),
-      onOpen: event => this.openEvent(event), onDrawn: () => this.sight.showLater(),
-    });
+    this.timeline = new Timeline(element("timeline"), this.timelineListener());
+    this.tips = new Tips(element("tip"), this);
+    this.minimap = new Minimap(element("minimap"), this.timeline);
     this.sight = new Sight(element("sight"), this.timeline, turn => this.goTo(turn));
     this.edits = new Edits(this);
+    this.finder = new Finder(this);
+    this.events = new EventList(this);
+    this.stepping = new Stepping(this);
     this.sweep = new Sweep(this);
     this.tokens = {};
     this.watched = new Watched(this);
     this.text = new ConsoleText(this);
+    this.outcome = new Outcome(this);
+    this.happened = new Happened(this);
+    this.pasts = new NamedPasts(this);
     this.waiting = { files: [], missing: [] };
     this.differences = new Differences(element("difference"), turn => this.goTo(turn));
     this.drawLater = delayed(60, () => {
@@ -59,6 +71,21 @@ export class App {
     this.keepPlaceLater = delayed(300, () => keepPlace(this.place(), false));
   }
 
+  /** What the page does as the timeline is touched. @returns {import("./timeline.js").Listener} */
+  timelineListener() {
+    return {
+      onCursor: () => this.cursorMoved(), onView: () => this.viewChanged(),
+      onDrag: (event, turn) => {
+        this.tips.hide();
+        this.edits.preview(event, turn);
+      },
+      onDrop: (event, turn) => this.edits.drop(event, turn),
+      onOpen: event => this.openEvent(event), onDrawn: () => this.drawn(),
+      onDelete: event => this.events.drop(event), onList: turn => this.events.open(turn),
+      onKey: key => this.tips.act(key), turnAt: (x, y) => this.tips.turnAt(x, y),
+    };
+  }
+
   /** A token for work of a kind: what was under way of this kind is given up. */
   token(kind) {
     if (this.tokens[kind]) this.tokens[kind].isStopped = true;
@@ -66,13 +93,13 @@ export class App {
     return this.tokens[kind];
   }
 
-  /** Does work, and shows why it failed, unless it was given up. */
-  async attempt(work) {
+  /** Does work, and shows why it failed, unless it was given up, or `complain` says it. */
+  async attempt(work, complain = () => false) {
     this.countWork(1);
     try {
       await work();
     } catch (error) {
-      if (!(error instanceof Stopped)) this.fail(error);
+      if (!(error instanceof Stopped) && !complain(error)) this.fail(error);
     } finally {
       this.countWork(-1);
     }
@@ -112,7 +139,9 @@ export class App {
     this.old = null;
     this.session = session;
     this.run = run;
-    this.begun = { lines: [...run.taken], past: run.past };
+    this.begun = { name: "as it was opened", lines: [...run.taken], past: run.past };
+    this.base = this.begun;
+    this.pasts.begin(this.begun);
     const said = showRefused(element("refused"), refused, session.lines);
     const isRefusedLine = new Set(refused.map(it => it.number));
     const taken = session.lines.filter((_, at) => !isRefusedLine.has(at + 1));
@@ -125,8 +154,9 @@ export class App {
     element("story").hidden = !this.isStory;
     this.timeline.symbols = this.symbols;
     this.timeline.whole = this.end;
-    this.watched.words = this.isStory ? STORY.words : [];
+    this.watched.begin(this.isStory ? STORY.words : []);
     this.text.begin();
+    this.outcome.begin();
     const restored = await this.edits.restore(edits);
     this.say([said, restored].filter(Boolean).join(" "));
     this.timeline.ghost = null;
@@ -237,16 +267,20 @@ export class App {
     await run.askPast();
     if (run !== this.run) return;
     timeline.picture = null;
-    timeline.showPasts(run.past, this.old ? this.begun.past : run.past);
+    this.minimap.forget();
+    timeline.showPasts(run.past, this.old ? this.base.past : run.past);
     timeline.wanted = this.isStory && !run.changes.length ? STORY.sweep.event : 0;
+    this.outcome.pastChanged();
     this.watched.show();
     timeline.draw();
     this.edits.show();
+    this.events.show();
     this.sweep.pastChanged();
     this.console?.pastChanged();
     this.drawPicture();
     this.text.ask();
     this.showCursor();
+    this.happened.ask();
     this.compare();
   }
 
@@ -267,6 +301,7 @@ export class App {
   showCursor() {
     const { run, timeline } = this;
     if (!run) return;
+    this.events.showLater();
     const token = this.token("cursor");
     this.attempt(() => this.panels.show(run, timeline.cursor, this.symbols, token));
   }
@@ -292,10 +327,17 @@ export class App {
     });
   }
 
+  /** The timeline was drawn: what shows it otherwise follows. */
+  drawn() {
+    this.sight.showLater();
+    this.minimap.draw();
+  }
+
   /** Shows a picture. One of other turns, if there is one, stays until this one is made. */
   showPicture(picture, place) {
     const { timeline } = this;
     if (picture.isMade || !timeline[place]?.isMade) timeline[place] = picture;
+    if (picture.isMade && place === "picture") this.minimap.note(picture);
     timeline.draw();
     if (place === "picture") this.isAsked = !picture.isMade;
     this.showNotes();
@@ -312,13 +354,34 @@ export class App {
 
   // Edits
 
-  /** The past as the session was opened, on a machine of its own. */
+  /** The old past, on a machine of its own: the session as it was opened, or what is chosen. */
   keepOld() {
     if (this.old) return;
-    this.old = this.newRun();
     this.timeline.ghost = this.timeline.picture;
-    this.oldIsLoaded = this.old.takeUp(this.begun.lines);
+    this.loadOld();
+  }
+
+  loadOld() {
+    this.old = this.newRun();
+    this.oldIsLoaded = this.old.takeUp(this.base.lines);
     this.attempt(() => this.oldIsLoaded);
+  }
+
+  /** Takes another past as the old one. @param {import("./pasts.js").NamedPast} base */
+  compareWith(base) {
+    this.base = base;
+    this.old?.end();
+    this.old = null;
+    this.timeline.ghost = null;
+    if (this.isEdited) this.loadOld();
+    this.text.begin();
+    this.pasts.show(this.pasts.kept.indexOf(base));
+    return this.changed();
+  }
+
+  /** Whether the past may be another one than the old past. */
+  get isEdited() {
+    return this.base !== this.begun || this.run.changes.length > 0;
   }
 
   openEvent(event) {
@@ -339,7 +402,7 @@ export class App {
     const { run, old, end } = this;
     this.timeline.part = this.timeline.same = null;
     const token = this.token("comparison");
-    if (!old || !run.changes.length) {
+    if (!old || !this.isEdited) {
       this.differences.showNone();
       return;
     }

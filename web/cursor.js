@@ -15,6 +15,7 @@ const REGISTER_NAMES = ["R0", "R1", "R2", "R3", "R4", "R5", "KSP", "USP", "PC", 
 
 export class CursorPanels {
   /** @param {{onTurn: (turn: number) => void, onWatch: (address: number) => void,
+   *   onRunTo: (pc: number, mode: string, direction: number) => void,
    *   onChange: (address: number, word: number) => void}} listener */
   constructor(disassembler, listener) {
     this.disassembler = disassembler;
@@ -114,10 +115,22 @@ export class CursorPanels {
     const goTo = turn => link(String(turn), "Go to this turn", () => this.listener.onTurn(turn));
     const rows = [
       ...past.map(it => row(it, goTo(it.turn))),
-      ...next.map((it, at) => row(it, at ? "" : make("b", {}, "\u25b6 next"))),
+      ...next.map((it, at) => row(it, at ? this.linksTo(it)
+        : make("b", {}, `\u25b6 ${nextInWords(machine)}`))),
     ];
     element("instructions").replaceChildren(
       table("Turns before, and instructions from PC on", ["turn", "mode", "PC", "", ""], rows));
+  }
+
+  /** Buttons that go back to an instruction, and on to it. */
+  linksTo({ pc, mode }) {
+    if (!["kernel", "user"].includes(mode)) return "";
+    const made = (text, what, direction) => make("button", {
+      type: "button", class: "link", title: what, "aria-label": `${what} at ${octal(pc)}`,
+      onclick: () => this.listener.onRunTo(pc, mode, direction),
+    }, text);
+    return make("span", { class: "to" }, made("\u2190", "Back to the instruction", -1),
+      made("\u2192", "On to the instruction", 1));
   }
 
   async pastInstructions(ask, trail) {
@@ -254,6 +267,10 @@ export function markTurn(place, shown, wanted) {
     place.textContent = `${still}before turn ${shown.turn}${shown.more ?? ""}${past}`;
   }
 }
+
+/** What the processor does next. */
+const nextInWords = ({ registers: { state } }) =>
+  ({ run: "next", wait: "waits", halted: "halted" })[state];
 
 /** The symbol near an address, with what can't be seen written out. */
 const symbolNear = (symbols, address) => visibleName(nearest(symbols, address));

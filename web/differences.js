@@ -1,6 +1,6 @@
 // Shows how the old past and the new one differ.
 
-import { link, make } from "./page.js";
+import { link, make, table } from "./page.js";
 import { octal } from "./replies.js";
 
 const COMPARED_SECTORS = 96;
@@ -33,7 +33,7 @@ export class Differences {
     const part = await comparison.part(last);
     const again = same === null ? [] : [this.sameLine(same)];
     const line = this.partLine(part, part.later ? last : end);
-    this.place.replaceChildren(line, ...again, atWork());
+    this.place.replaceChildren(make("h3", {}, "Registers"), line, ...again, atWork());
     return part.turn === null ? null : { turn: part.turn, isExact: !part.later };
   }
 
@@ -80,15 +80,16 @@ const atWork = () => make("p", { class: "faint at-work" }, "Comparing ..");
 
 function words(name, found, end, placeOf) {
   const count = found.count === 1 ? "1 word differs" : `${found.count} words differ`;
-  const lineOf = it => `${placeOf(it.at)}  ${octal(it.old)} \u2192 ${octal(it.now)}`;
-  const lines = found.shown.map(lineOf);
-  if (found.count > lines.length) lines.push(`and ${found.count - lines.length} more`);
-  const list = lines.length ? make("pre", { tabindex: "0" }, lines.join("\n")) : "";
-  return make("div", {}, make("h3", {}, `${name}: ${count} before turn ${end}`), list);
+  const rows = found.shown.map(it => [placeOf(it.at), octal(it.old), octal(it.now)]);
+  const left = found.count - rows.length;
+  const list = rows.length ? table(`${name}: words that differ`, ["word", "was", "is now"], rows)
+    : "";
+  return make("div", {}, make("h3", {}, `${name}: ${count} before turn ${end}`), list,
+    left > 0 ? make("p", {}, `and ${left} more`) : "");
 }
 
-/** A text as pieces, with what differs from an old text marked: in each line from its first
-    difference to its last. */
+/** A text as pieces, with what differs from an old text marked: in each line whole words and
+    numbers, from the first that differs to the last. */
 export function marked(text, oldText) {
   const [lines, olds] = [text.split("\n"), oldText.split("\n")];
   return lines.flatMap((line, at) => {
@@ -97,15 +98,18 @@ export function marked(text, oldText) {
   });
 }
 
+/** The words, numbers and other characters of a line. */
+const partsOf = line => line.match(/[A-Za-z]+[0-9]*|[0-9]+|[^]/g) ?? [];
+
 function markedLine(line, old) {
-  const least = Math.min(line.length, old.length);
+  const [now, then] = [line, old].map(partsOf), least = Math.min(now.length, then.length);
   let from = 0;
-  while (from < least && line[from] === old[from]) from++;
+  while (from < least && now[from] === then[from]) from++;
   let same = 0;
-  while (same < least - from && line.at(-1 - same) === old.at(-1 - same)) same++;
-  const piece = (name, text) => text ? [make(name, {}, text)] : [];
+  while (same < least - from && now.at(-1 - same) === then.at(-1 - same)) same++;
+  const piece = (name, parts) => parts.length ? [make(name, {}, parts.join(""))] : [];
   return [
-    line.slice(0, from), ...piece("del", old.slice(from, old.length - same)),
-    ...piece("ins", line.slice(from, line.length - same)), line.slice(line.length - same),
+    now.slice(0, from).join(""), ...piece("del", then.slice(from, then.length - same)),
+    ...piece("ins", now.slice(from, now.length - same)), now.slice(now.length - same).join(""),
   ];
 }

@@ -5,8 +5,13 @@ import { element, itemsOf, make } from "./page.js";
 import { isEdit } from "./past.js";
 import { isRefused, mustBeTaken } from "./replies.js";
 import { Priority } from "./run.js";
+import { itemsOfRun, switchItem } from "./switching.js";
 
 const MOST_REPLY = 20_000;
+// Stands before the text of what is switched off: no line begins with it.
+const OFF = "\n";
+// The program gives no event this number, or a larger one.
+const FIRST_FREE = 4_294_967_296;
 
 export class Edits {
   /** @param {import("./app.js").App} app */
@@ -14,7 +19,8 @@ export class Edits {
     this.app = app;
     this.last = Promise.resolve();
     this.tried = null;
-    this.showItems = itemsOf(element("edits"), shownChange);
+    this.list = element("edits");
+    this.showItems = itemsOf(this.list, text => this.shownItem(text));
     /** A sum of the past that was saved last, or null. */
     this.saved = null;
   }
@@ -67,29 +73,33 @@ export class Edits {
 
   /** While an event is moved its turn is tried, if the machine is quick enough. */
   preview(event, turn) {
-    const { run, end } = this.app;
+    const { run, end, text } = this.app;
     const line = `alter ${event.number} ${turn} ${event.text}`;
     this.app.say(line);
+    text.isOld();
     if (!run.isNear(end, Math.min(event.turn, turn))) return;
     for (const kind of ["picture", "cursor", "comparison", "text"]) this.app.token(kind);
     this.tried ??= { isAtWork: false, back: [] };
     const { tried } = this;
-    tried.wanted = line;
+    tried.wanted = { line, turn };
     if (tried.isAtWork) return;
     tried.isAtWork = true;
     this.inTurn(() => this.tryTurns(tried)).then(() => { tried.isAtWork = false; });
   }
 
+  /** Tries the turn that is wanted, until it is the one that was tried. What comes of another turn
+      isn't shown. */
   async tryTurns(tried) {
     const { run, end } = this.app;
-    if (!tried.now) tried.back = run.past.inverse(tried.wanted) ?? [];
+    if (!tried.now) tried.back = run.past.inverse(tried.wanted.line) ?? [];
     while (this.tried === tried && tried.wanted !== tried.now) {
       tried.now = tried.wanted;
-      const [reply, text] = await run.ask([tried.now, `text ${end}`], Priority.EDIT);
+      const [reply, text] = await run.ask([tried.now.line, `text ${end}`], Priority.EDIT);
       mustBeTaken(reply);
       this.app.panels.want(run, this.app.timeline.cursor);
       element("notes").textContent = "The lanes are those before the event's move.";
-      if (this.tried === tried) this.app.text.show(text);
+      const isWanted = this.tried === tried && tried.wanted === tried.now;
+      if (isWanted) this.app.text.show(text, tried.now.turn);
     }
   }
 
@@ -123,16 +133,43 @@ export class Edits {
     });
   }
 
+  // Switched off and on
+
+  /** Switches off what the user did at once, or on. */
+  toggle(item) {
+    return this.inTurn(async () => {
+      const { app } = this, place = [...this.list.children].indexOf(item);
+      const found = itemsOfRun(app.run)[place], [{ line }] = found.change;
+      const refused = await switchItem(app.run, place);
+      await app.changed();
+      const more = refused.length ? `, and with it off: ${refused.join(", ")}` : "";
+      this.list.children[place]?.querySelector("input").focus();
+      app.say(`${line}: switched ${found.isOn ? "off" : "on"}${more}`);
+    });
+  }
+
+  /** What the user did at once, with a box that switches it. The text has a mark before its lines
+      if it is off. */
+  shownItem(text) {
+    const isOn = !text.startsWith(OFF);
+    const lines = text.slice(isOn ? 0 : OFF.length).split("\n");
+    const box = make("input", { type: "checkbox", checked: isOn, "aria-label": `On: ${lines[0]}` });
+    const item = make("li", { class: isOn ? "" : "off" }, box, shownLines(lines));
+    box.addEventListener("change", () => this.toggle(item));
+    return item;
+  }
+
   // Kept until the tab is closed
 
   /** Makes the edits again that were kept of the session. Returns what is said of it. */
   async restore(kept) {
     const { app } = this;
     this.saved = kept?.saved ?? null;
-    if (!kept?.changes.length) return "";
+    if (!kept?.changes.length && !kept?.off?.length) return "";
     await this.inTurn(async () => {
       app.keepOld();
       app.reach(kept.end);
+      this.restoreOff(kept.off ?? []);
       app.run.undone = kept.changes.reverse();
       while (app.run.undone.length) await app.run.redo();
       await app.run.askPast();
@@ -140,11 +177,20 @@ export class Edits {
     return "The edits that this tab kept are made again: Undo takes them back.";
   }
 
+  /** What was switched off. Its events get numbers that none has: other ones may have theirs. */
+  restoreOff(off) {
+    const { run } = this.app;
+    run.off = off;
+    const events = off.flatMap(it => it.change).map(it => it.event).filter(it => it !== undefined);
+    events.forEach((it, at) => run.renumber(it, String(FIRST_FREE + at)));
+  }
+
   /** The edits as they are kept. */
   kept() {
     const { run, end } = this.app;
-    const changes = run.changes.map(it => it.map(({ line, event }) => ({ line, event })));
-    return { changes, end, saved: this.saved };
+    const kept = change => change.map(({ line, event }) => ({ line, event }));
+    const off = run.off.map(({ change, place }) => ({ change: kept(change), place }));
+    return { changes: run.changes.map(kept), off, end, saved: this.saved };
   }
 
   noteSaved() {
@@ -165,17 +211,17 @@ export class Edits {
   show() {
     const { changes, undone } = this.app.run;
     element("edits-kept").hidden = keepEdits(this.app.session, this.kept());
-    this.showItems(changes.map(it => it.map(edit => edit.line).join("\n")));
+    this.showItems(itemsOfRun(this.app.run).map(({ change, isOn }) =>
+      (isOn ? "" : OFF) + change.map(edit => edit.line).join("\n")));
     element("undo").disabled = !changes.length;
     element("redo").disabled = !undone.length;
   }
 }
 
-/** What the user did at once: its line, or how many there are, with all of them folded. */
-function shownChange(text) {
-  const lines = text.split("\n");
-  if (lines.length === 1) return make("li", {}, make("code", {}, text));
+/** The lines of what the user did at once: one, or how many there are, with all of them folded. */
+function shownLines(lines) {
+  if (lines.length === 1) return make("code", {}, lines[0]);
   const summary = make("summary", {}, `${lines.length} lines, from ${lines[0]} on`);
   const shown = lines.map(it => make("div", {}, make("code", {}, it)));
-  return make("li", {}, make("details", {}, summary, ...shown));
+  return make("details", {}, summary, ...shown);
 }

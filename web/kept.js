@@ -7,6 +7,7 @@ import { isEdit } from "./past.js";
 /**
  * The edits, the turn up to which the run was shown, and a sum of the past that was saved last.
  * @typedef {{changes: {line: string, event: string | undefined}[][], end: number,
+ *   off?: {change: {line: string, event: string | undefined}[], place: number}[],
  *   saved: string | null}} KeptEdits
  */
 
@@ -95,7 +96,9 @@ export function keptEdits(session) {
     const kept = JSON.parse(read(keyOfEdits(session)));
     const isLine = ({ line }) => isEdit(line) && !/[\r\n]/.test(line);
     const areEdits = kept?.changes.every(it => it.every(isLine));
-    return areEdits && Number.isSafeInteger(kept.end) ? kept : null;
+    const isOff = it => it.change.every(isLine) && Number.isSafeInteger(it.place);
+    const isRight = areEdits && (kept.off ?? []).every(isOff);
+    return isRight && Number.isSafeInteger(kept.end) ? kept : null;
   } catch {
     return null;
   }
@@ -103,5 +106,6 @@ export function keptEdits(session) {
 
 /** Keeps the edits of a session. Returns whether the browser does so. */
 export function keepEdits(session, edits) {
-  return keep(keyOfEdits(session), edits.changes.length ? JSON.stringify(edits) : null);
+  const hasAny = edits.changes.length || edits.off.length;
+  return keep(keyOfEdits(session), hasAny ? JSON.stringify(edits) : null);
 }

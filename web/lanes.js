@@ -1,6 +1,6 @@
 // Draws a picture of a run on a canvas, lane below lane.
 
-import { DEVICE_VECTORS, LAST_TURN, shownByte, vectorName, visibleName } from "./replies.js";
+import { LAST_TURN, shownByte, vectorName, visibleName } from "./replies.js";
 import { SWEEP_COLOURS, letterOf } from "./sweep.js";
 
 const FONT = "11px ui-monospace, Menlo, Consolas, monospace";
@@ -9,7 +9,7 @@ const HATCH = 8;
 const MOST_NAME = 8;
 const HEIGHTS = { axis: 24, events: 62, counter: 54, row: 30, steps: 40, sweep: 24 };
 const COLOURS = ["ink", "faint", "grid", "counter", "cpu", "disk", "interrupt", "ghost",
-  "accent", "ground"];
+  "accent", "ground", "good", "bad"];
 
 /** The turns that are in sight: `first` and `span` may be fractions of turns. */
 export class View {
@@ -46,7 +46,10 @@ export function ticksOf(view, most) {
   return ticks;
 }
 
-/** The lanes of a picture, from the top down, with their heights. */
+/**
+ * The lanes of a picture, from the top down, with their heights.
+ * @param {{name: string, label?: string}[]} words those that are drawn, and what they are called
+ */
 export function lanesOf(words, hasSweep = false) {
   const lanes = [
     { name: "turn", kind: "axis" }, { name: "events", kind: "events" },
@@ -55,7 +58,7 @@ export function lanesOf(words, hasSweep = false) {
     { name: "user PC", kind: "counter", mode: "user" },
     { name: "disk", kind: "row" }, { name: "interrupts", kind: "row" },
     { name: "console", kind: "row" },
-    ...words.map(name => ({ name, kind: "steps" })),
+    ...words.map(({ name, label }) => ({ name, label, kind: "steps" })),
   ];
   let top = 0;
   for (const lane of lanes) {
@@ -73,8 +76,10 @@ export class LanesDrawing {
   }
 
   /** Draws it all. `ghost` is the picture of the old past, or null. It is drawn up to turn `same`,
-      if that isn't null. */
-  draw({ view, lanes, height, width, picture, ghost, symbols, events, part, same, sweep }) {
+      if that isn't null. `target` is where an event is to be dropped, or null. */
+  draw({
+    view, lanes, height, width, picture, ghost, symbols, events, part, same, sweep, target = null,
+  }) {
     const ratio = window.devicePixelRatio || 1;
     const { canvas, pen } = this;
     canvas.width = Math.round(width * ratio);
@@ -87,31 +92,56 @@ export class LanesDrawing {
     Object.assign(this, { view, width, symbols, picture, same });
     pen.font = FONT;
     for (const lane of lanes) this.drawFrame(lane);
+    // below all that has a label: no line goes through these
+    if (target !== null) this.drawTarget(target, lanes[1], height);
+    if (part !== null) this.drawUpright(part.turn, "accent", lanes[1].top, height);
     const strip = lanes.find(it => it.kind === "sweep");
     if (strip) this.clipped(strip, () => this.drawSweep(strip, sweep));
     for (const lane of lanes) this.drawLane(lane, picture, ghost, events);
-    if (part !== null) this.drawPart(part, lanes[1], height);
+    if (part !== null) this.labelPart(part, lanes[1]);
+    if (target !== null) this.labelTarget(target, lanes[1]);
   }
 
-  /** Where the old past and the new one part, or differ if turns before weren't compared. */
-  drawPart({ turn, isExact }, lane, height) {
+  /** Where an event is to be dropped: from a turn on, after the tick before it. */
+  drawTarget({ tick, from, to }, lane, height) {
     const { pen, view } = this;
-    const x = view.x(turn);
+    this.clipped({ ...lane, height: height - lane.top }, () => {
+      pen.fillStyle = this.colours.good;
+      pen.globalAlpha = 0.16;
+      pen.fillRect(view.x(from), lane.top, view.x(to + 1) - view.x(from), height);
+      pen.globalAlpha = 1;
+      pen.fillRect(view.x(from), lane.top, 2, lane.height);
+    });
+    this.drawUpright(tick, "interrupt", lane.top, height);
+  }
+
+  labelTarget({ tick, from }, lane) {
+    const { pen, view } = this, y = lane.top + lane.height - 17, here = "the tick is here";
+    this.label(view.x(from) + 6, y, "drop it here, after the tick", "good");
+    this.label(view.x(tick) - pen.measureText(here).width - 5, y, here, "interrupt");
+  }
+
+  /** A dashed line at a turn. */
+  drawUpright(turn, colour, top, bottom) {
+    const { pen, view } = this, x = view.x(turn);
+    if (x < view.left || x > view.left + view.width) return;
+    pen.strokeStyle = this.colours[colour];
+    pen.lineWidth = 1.4;
+    pen.setLineDash([5, 4]);
+    pen.beginPath();
+    pen.moveTo(x, top);
+    pen.lineTo(x, bottom);
+    pen.stroke();
+    pen.setLineDash([]);
+  }
+
+  /** Says where the old past and the new one part, or differ if turns before weren't compared. */
+  labelPart({ turn, isExact }, lane) {
+    const { pen, view } = this, x = view.x(turn);
     if (x < view.left || x > view.left + view.width) return;
     const said = isExact ? "they part" : "they differ";
     const wide = pen.measureText(said).width + 8;
     const left = x + wide < view.left + view.width ? x + 4 : x - wide;
-    pen.strokeStyle = this.colours.accent;
-    pen.lineWidth = 1.4;
-    pen.setLineDash([5, 4]);
-    pen.beginPath();
-    pen.moveTo(x, lane.top);
-    pen.lineTo(x, height);
-    pen.stroke();
-    pen.setLineDash([]);
-    pen.strokeStyle = this.colours.ground;
-    pen.lineWidth = 4;
-    pen.strokeText(said, left, lane.top + lane.height - 3);
     this.text(left, lane.top + lane.height - 3, said, "accent");
   }
 
@@ -119,7 +149,9 @@ export class LanesDrawing {
     const { pen, view, colours } = this;
     pen.fillStyle = colours.grid;
     pen.fillRect(view.left, lane.top, view.width, 1);
-    this.text(6, lane.top + 15, lane.name, "faint", view.left - 10);
+    const most = view.left - 10;
+    this.text(6, lane.top + 15, lane.label || lane.name, lane.label ? "ink" : "faint", most);
+    if (lane.label) this.text(6, lane.top + 29, lane.name, "faint", most);
   }
 
   drawLane(lane, picture, ghost, events) {
@@ -135,11 +167,18 @@ export class LanesDrawing {
     }
   }
 
+  /** A text, round which the ground is free: no line goes through it. */
   text(x, y, text, colour = "ink", most = Infinity) {
-    const { pen } = this;
-    pen.fillStyle = this.colours[colour];
+    const { pen } = this, widest = most === Infinity ? undefined : most;
     pen.textAlign = "left";
-    pen.fillText(text, x, y, most === Infinity ? undefined : most);
+    if (this.colours.ground && colour !== "ground") {
+      pen.strokeStyle = this.colours.ground;
+      pen.lineWidth = 4;
+      pen.lineJoin = "round";
+      pen.strokeText(text, x, y, widest);
+    }
+    pen.fillStyle = this.colours[colour];
+    pen.fillText(text, x, y, widest);
   }
 
   /** A text that would be cut at the edge isn't drawn: a part of a number is another number. */
@@ -236,9 +275,13 @@ export class LanesDrawing {
 
   drawCounter(lane, picture, ghost) {
     const { view } = this;
-    const looksOf = it => it?.looks.filter(({ turn, mode, state }) => mode === lane.mode
-      && state === "run" && turn + it.step > view.first && turn < view.end) ?? [];
-    if (picture?.looks.length && !looksOf(picture).length) {
+    const isSeen = (it, { turn, mode }) =>
+      mode === lane.mode && turn + it.step > view.first && turn < view.end;
+    const looksOf = it =>
+      it?.looks.filter(look => look.state === "run" && isSeen(it, look)) ?? [];
+    const idle = picture?.looks.filter(it => it.state !== "run" && isSeen(picture, it)) ?? [];
+    this.clipped(lane, () => this.drawIdle(lane, idle, picture?.step), knownTurns(lane, picture));
+    if (picture?.looks.length && !looksOf(picture).length && !idle.length) {
       const how = picture.isMade && picture.step === 1 ? "doesn't run" : "not seen to run";
       const x = Math.max(view.left, view.x(picture.first)) + 6;
       const label = () => this.label(x, lane.top + 18, `${how} in ${lane.mode} mode`, "faint");
@@ -252,6 +295,28 @@ export class LanesDrawing {
     this.drawSymbols(lane, y, least, most);
     this.drawBoth(lane, picture, ghost, (it, isGhost) =>
       this.drawLooks(looksOf(it), it.step, y, isGhost ? "ghost" : "counter"));
+  }
+
+  /** The turns in which the processor is halted or waits, each stretch of them with its name. */
+  drawIdle(lane, looks, step) {
+    const { pen, view } = this, stretches = [];
+    for (const { turn, state } of looks) {
+      const last = stretches.at(-1);
+      if (last?.state === state && last.end >= turn) last.end = turn + step;
+      else stretches.push({ state, begin: turn, end: turn + step });
+    }
+    for (const { state, begin, end } of stretches) {
+      const x = Math.max(view.left, view.x(begin));
+      const colour = state === "halted" ? "bad" : "faint";
+      pen.fillStyle = this.colours[colour];
+      pen.globalAlpha = 0.2;
+      pen.fillRect(x, lane.top + 3, Math.max(1, view.x(end) - x), lane.height - 5);
+      pen.globalAlpha = 1;
+      const name = state === "halted" ? "halted" : "waits";
+      if (view.x(end) - x > CHARACTER * (name.length + 1)) {
+        this.label(x + 4, lane.top + lane.height / 2 + 4, name, colour);
+      }
+    }
   }
 
   drawLooks(looks, step, y, colour) {
@@ -432,36 +497,4 @@ function heightsOf(values) {
     return word => levels.get(word);
   }
   return word => (word - words[0]) / (words.at(-1) - words[0]);
-}
-
-export const NOTHING_SAMPLED = "Each turn in sight is looked at; nothing is sampled.";
-
-const sampledWords = picture =>
-  picture?.words.filter(it => it.values && !it.isWhole).map(it => it.name) ?? [];
-
-/** The interrupts that are sampled, such as `interrupts by clock`; none if all were found. */
-function sampledInterrupts(picture) {
-  const vectors = picture?.sampledVectors ?? [];
-  const isAll = vectors.length === DEVICE_VECTORS.length;
-  const by = isAll ? "" : ` by ${vectors.map(vectorName).join(", ")}`;
-  return vectors.length ? [`interrupts${by}`] : [];
-}
-
-/** What is sampled and what is cut in a picture and in that of the old past, in sentences. */
-export function notesOf(picture, ghost = null) {
-  const { step, disk, text } = picture, [interrupts] = sampledInterrupts(picture);
-  const notes = [];
-  if (step > 1) notes.push(`PC and mode: the first of each ${step} turns.`);
-  if (interrupts) notes.push(`Sampled in the first 64 of each ${step} turns: ${interrupts}.`);
-  if (!disk.isWhole) notes.push(`Disk: busy or not, at the first of each ${step} turns.`);
-  if (disk.isWhole && step > 1) {
-    notes.push(`Disk: functions less than ${step} turns apart may be drawn as one.`);
-  }
-  if (text.each > 1) notes.push(`Console: one of each ${text.each} bytes.`);
-  const sampled = sampledWords(picture);
-  if (sampled.length) notes.push(`Sampled once each ${step} turns, dotted: ${sampled.join(", ")}.`);
-  const olds = [...sampledWords(ghost), ...sampledInterrupts(ghost)]
-    .filter(it => it !== interrupts && !sampled.includes(it));
-  if (olds.length) notes.push(`Of the old past sampled: ${olds.join(", ")}.`);
-  return notes.length ? notes : [NOTHING_SAMPLED];
 }

@@ -55,6 +55,12 @@ function bindEdits(app) {
     if (/^[0-7]{1,6}$/.test(value)) app.goTo(app.timeline.cursor, parseInt(value, 8));
     else app.say("An address of core is an octal number of at most six digits.");
   });
+  onForm("keep-form", "keep-name", name => app.pasts.keep(name));
+  onForm("event-form", "event-value", () => app.events.add());
+  onForm("find-form", "find-what", () => app.finder.find(1));
+  onClick("find-before", () => app.finder.find(-1));
+  onClick("step-over", () => app.stepping.over());
+  onClick("step-out", () => app.stepping.out());
   onForm("watch-form", "watch", value => app.watched.turnNamed(value));
   onClick("undo", () => app.edits.undo());
   onClick("redo", () => app.edits.redo());

@@ -1,9 +1,10 @@
 // What the timeline draws, asked of the machine for the pixels that are there.
 
+import { nameOfWord } from "./names.js";
 import { Priority } from "./run.js";
 import {
   DEVICE_VECTORS, TURNS_OF_A_TRAIL, bytesOf, devicesOf, functionInWords, interruptsOf, isRefused,
-  lengthOf, octal, refusalInWords, registersOf, turnOf, wordsOf, writesOf,
+  lengthOf, refusalInWords, registersOf, turnOf, wordsOf, writesOf,
 } from "./replies.js";
 
 // If there are no more turns than this, each is looked at.
@@ -13,23 +14,6 @@ const LOOKS_AT_ONCE = 128;
 const TIME_OF_A_PART = 250;
 const MOST_WRITES = 400, MOST_BYTES = 1_500, MOST_CHANGES = 400, MOST_OF_A_VECTOR = 400;
 const MOST_SEARCHED_TURNS = 20_000_000;
-
-/**
- * A word that is drawn as steps: of core by its address, or of a drive by its number.
- * @typedef {{kind: "core" | "disk", drive: number, at: number}} WatchedWord
- */
-
-/** The name of a word as the session language has it. */
-export const nameOfWord = word => word.kind === "core" ? `core ${octal(word.at)}`
-  : `disk ${word.drive ? `${word.drive} ` : ""}${octal(word.at, 7)}`;
-
-/** The word with a name such as `2000`, `core 2000`, `disk 0` or `disk 1 0`, or null. */
-export function wordNamed(name) {
-  const [, core, drive = "0", index] =
-    /^(?:(?:core +)?([0-7]{1,10})|disk +(?:([0-7]{1,10}) +)?([0-7]{1,10}))$/.exec(name) ?? [];
-  if (core) return { kind: "core", drive: 0, at: parseInt(core, 8) };
-  return index ? { kind: "disk", drive: parseInt(drive, 8), at: parseInt(index, 8) } : null;
-}
 
 /** The question for a word before a turn. */
 function questionOf(past, word, turn) {
@@ -51,8 +35,9 @@ export async function whyNoWord(run, word, token = null) {
 export class PictureMaker {
   /**
    * @param {import("./run.js").Run} run
-   * @param {{first: number, end: number, columns: number, words: WatchedWord[],
-   *   listed?: number[]}} wanted `listed` are vectors whose interrupts are taken from trails
+   * @param {{first: number, end: number, columns: number,
+   *   words: import("./names.js").WatchedWord[], listed?: number[]}} wanted
+   *   `listed` are vectors whose interrupts are taken from trails
    */
   constructor(run, wanted, token, onPart) {
     Object.assign(this, { run, wanted, token, onPart, told: 0 });

@@ -87,6 +87,12 @@ function namedWords(fields, base = 8) {
 /** The name of the device or trap of a vector, or the vector. */
 export const vectorName = vector => VECTORS.get(vector) ?? octal(vector, 3);
 
+/** The vector of a device or trap with a name, or null. */
+export function vectorNamed(name) {
+  const wanted = name.toLowerCase();
+  return [...VECTORS].find(([, it]) => it.toLowerCase() === wanted)?.[0] ?? null;
+}
+
 /** The reply of `regs`. */
 export function registersOf(reply) {
   const fields = ["R0", ...fieldsOf(reply, "R0")];
@@ -297,13 +303,27 @@ export function readableText(bytes) {
   return text;
 }
 
+const KEY_NAMES = new Map(
+  [[0o11, "Tab"], [0o12, "LF"], [0o15, "CR"], [0o33, "ESC"], [0o40, "space"], [0o177, "DEL"]]);
+
 /** The name of a key's byte, such as `A`, `CR` or `Ctrl-C`. */
 export function keyName(byte) {
-  const names = new Map(
-    [[0o12, "LF"], [0o15, "CR"], [0o33, "ESC"], [0o40, "space"], [0o177, "DEL"]]);
-  if (names.has(byte)) return names.get(byte);
+  if (KEY_NAMES.has(byte)) return KEY_NAMES.get(byte);
   if (byte > 0o177) return octal(byte, 3);
   return byte < 0o40 ? `Ctrl-${String.fromCharCode(byte + 64)}` : String.fromCharCode(byte);
+}
+
+/** The byte of a key by its character, its name, such as `Enter` or `Ctrl-C`, or three octal
+    digits; null if there is none. */
+export function byteNamed(name) {
+  const code = name.charCodeAt(0);
+  if (name.length === 1) return code < 0o200 ? code : null;
+  if (/^[0-3][0-7]{2}$/.test(name)) return parseInt(name, 8);
+  const wanted = name.trim().toLowerCase();
+  if (wanted === "enter") return 0o15;
+  const [, letter] = /^ctrl-([@-_a-z])$/.exec(wanted) ?? [];
+  if (letter) return letter.toUpperCase().charCodeAt(0) & 0o37;
+  return [...KEY_NAMES].find(([, it]) => it.toLowerCase() === wanted)?.[0] ?? null;
 }
 
 /** A name from outside with what can't be seen, or turns the direction of text, written out. */

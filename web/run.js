@@ -43,6 +43,8 @@ export class Run {
     this.changes = [];
     /** @type {Edit[][]} */
     this.undone = [];
+    /** @type {{change: Edit[], place: number}[]} what is switched off; how much is before it */
+    this.off = [];
     this.turnsAtOnce = FIRST_TURNS;
     this.isAtWork = false;
     this.start();
@@ -386,7 +388,8 @@ export class Run {
   renumber(number, given) {
     const named = it => it.replace(/^(alter|drop) (\d+)/, (all, verb, old) =>
       old === number ? `${verb} ${given}` : all);
-    for (const edit of [...this.changes, ...this.undone].flat()) {
+    const off = this.off.map(it => it.change);
+    for (const edit of [...this.changes, ...this.undone, ...off].flat()) {
       edit.line = named(edit.line);
       edit.back = edit.back?.map(named) ?? null;
       if (edit.event === number) edit.event = given;

@@ -6,6 +6,9 @@ import { sumOf } from "./kept.js";
 const SUM = "pd79pa-62k3c4";
 export const STORY = { first: 126_300, span: 2_600, cursor: 126_967, wanted: "145",
   sweep: { event: 15, from: 126_600, to: 127_400 },
+  // where the event is safe: so the tests find by trying it; and the deposit before it
+  safe: { event: 15, before: 14, tick: 127_131, from: 127_165, to: 137_719 },
+  clerks: new Map([[0o30000, "clerk A"], [0o40000, "clerk B"]]), tickVector: 0o100,
   words: [
     { kind: "core", drive: 0, at: 0o30000 }, { kind: "core", drive: 0, at: 0o40000 },
     { kind: "disk", drive: 0, at: 0 },
@@ -21,6 +24,14 @@ export function depositsOf(past) {
   return [...setup, ...past.script.map(it => it.text).sort()].join("\n");
 }
 
+/** Where the event is to be dropped, or null if the past has more edits than moves of it. */
+export function targetOf(past, begun) {
+  const { event } = STORY.safe;
+  const restOf = it => JSON.stringify([it.lines().filter(line => !line.startsWith("at ")),
+    it.script.filter(({ number }) => number !== event)]);
+  return past.events.has(event) && restOf(past) === restOf(begun) ? STORY.safe : null;
+}
+
 /** Whether this is the session that the story tells of, whatever its file's name is. */
 export const isStory = (session, past) =>
   !session.arguments.length && sumOfPast(past) === SUM;
@@ -31,15 +42,28 @@ export function fourthBalance(text) {
   return balances[3] ?? null;
 }
 
-/** The balance, what it means, and how it looks. `hasOthers` says that the past has other deposits
-    than the story, or another program or disk. */
-export function verdictOf(text, hasEdits, hasOthers = false) {
+/** Which way the event is to be moved on from a turn: in a word, and as a part of a sentence. */
+function wayFrom(turn, target) {
+  if (target && turn !== null && turn < target.from) return ["further", "move it further"];
+  if (target && turn !== null && turn > target.to) return ["too far", "too far, go back"];
+  return ["lost", "try another turn"];
+}
+
+/**
+ * The balance, what it means, in a word too, and how it looks.
+ * @param {{isMoved: boolean, turn: number | null, target: typeof STORY.safe | null,
+ *   hasOthers: boolean}} past whether it is edited; the turn of the story's event, and where that
+ *   is safe, if these are known; whether it has other deposits than the story, or another program
+ *   or disk
+ */
+export function verdictOf(text, { isMoved, turn = null, target = null, hasOthers = false }) {
   const balance = fourthBalance(text);
-  if (balance === null) return { balance: "none", verdict: "not printed", look: "bad" };
-  if (hasOthers) return { balance, verdict: "not of the same day: see the edits", look: "" };
-  if (balance === STORY.wanted) return { balance, verdict: "\u2713 nothing is lost", look: "good" };
+  const found = (verdict, look, word) => ({ balance: balance ?? "none", verdict, look, word });
+  if (balance === null) return found("not printed", "bad", "");
+  if (hasOthers) return found("not of the same day: see the edits", "", "");
+  if (balance === STORY.wanted) return found("\u2713 nothing is lost", "good", "nothing is lost");
   const lost = parseInt(STORY.wanted, 8) - parseInt(balance, 8);
   const what = lost > 0 ? `a deposit of ${lost.toString(8)} is lost` : "other deposits";
-  const again = hasEdits ? "try another turn" : "it should be 145";
-  return { balance, verdict: `\u2717 ${what}; ${again}`, look: "bad" };
+  const [word, again] = isMoved ? wayFrom(turn, target) : ["", "it should be 145"];
+  return found(`\u2717 ${what}; ${again}`, "bad", word);
 }

@@ -5,7 +5,6 @@ import { marked } from "./differences.js";
 import { element } from "./page.js";
 import { readableText, tailOf } from "./replies.js";
 import { Priority } from "./run.js";
-import { depositsOf, verdictOf } from "./story.js";
 
 const MOST_TEXT = 40_000;
 
@@ -25,7 +24,6 @@ export class ConsoleText {
   /** Another session is open. */
   begin() {
     this.old = null;   // the text of the old past, and before which turn
-    this.deposits = this.app.isStory ? depositsOf(this.app.run.past) : "";
   }
 
   /** Asks for the text, and for that of the old past if that isn't known up to this turn. */
@@ -48,15 +46,20 @@ export class ConsoleText {
 
   /** Says of which turn and past the text is. */
   mark() {
-    const { run, end, isStory } = this.app;
+    const { run, end, outcome } = this.app;
     const place = element("text-turn");
     markTurn(place, this.shown, stateOf(run, end));
-    if (!isStory || !this.shown || !place.classList.contains("stale")) return;
-    element("verdict").textContent = "still from before the last edit";
-    element("outcome").className = "";
+    if (this.shown && place.classList.contains("stale")) outcome.ask();
   }
 
-  show(reply) {
+  /** The text that is shown is that of an event in another turn than it is in now. */
+  isOld() {
+    if (this.shown) this.shown = { ...this.shown, pasts: -1 };
+    this.mark();
+  }
+
+  /** Shows a text. `moved` is the turn to which an event is carried, if it is that one's. */
+  show(reply, moved = null) {
     const { app, old } = this;
     const { text, count, isCut } = shownText(reply);
     const isCompared = old?.end === app.end && !isCut && !old.isCut;
@@ -65,15 +68,6 @@ export class ConsoleText {
     this.shown = { ...stateOf(app.run, app.end), more };
     element("text").replaceChildren(...marked(text, isCompared ? old.text : text));
     this.mark();
-    if (app.isStory) this.showBalance(text);
-  }
-
-  showBalance(text) {
-    const { run } = this.app;
-    const hasOthers = depositsOf(run.past) !== this.deposits;
-    const { balance, verdict, look } = verdictOf(text, run.changes.length > 0, hasOthers);
-    element("balance").textContent = balance;
-    element("verdict").textContent = verdict;
-    element("outcome").className = look;
+    app.outcome.show(text, moved);
   }
 }

@@ -1,28 +1,26 @@
 // The timeline: lanes over turns, a cursor, and marks of events that can be dragged.
 
-import { clusterInWords, clustersOf } from "./clusters.js";
 import { LanesDrawing, View, lanesOf } from "./lanes.js";
-import { Past, differenceOf, eventInWords, eventLabel, eventsIn } from "./past.js";
-import { delayed, keepChildren } from "./page.js";
+import { Marks } from "./marks.js";
+import { Past, differenceOf, eventsIn } from "./past.js";
+import { delayed } from "./page.js";
 import { LAST_TURN } from "./replies.js";
 
 const [LEFT_WIDE, LEFT_NARROW, RIGHT] = [112, 74, 10];
 const FEWEST_PIXELS = 3;
-const MARK_ROWS = 2;
 // A move by keys ends this long after the last key was let go, if Alt isn't let go before.
 const PAUSE = 500;
 
 /** How many turns an arrow key steps. */
 const stepOf = isShifted => isShifted ? 64 : 1;
 
-/** About how many pixels a mark has from left to right. */
-const wideOf = mark => 9 + 8 * mark.textContent.length;
-
 /** What the timeline tells the page. @typedef {{
  *   onCursor: (turn: number) => void, onView: () => void, onDrawn: () => void,
  *   onDrag: (event: object, turn: number) => void,
  *   onDrop: (event: object, turn: number | null) => void, onOpen: (event: object) => void,
- * }} Listener */
+ *   onDelete: (event: object) => void, onList: (turn: number) => void,
+ *   onKey: (key: string) => boolean, turnAt: (x: number, y: number) => number,
+ * }} Listener `onKey` says whether a key did something; `turnAt` is where a click goes */
 export class Timeline {
   /** @param {Listener} listener */
   constructor(element, listener) {
@@ -31,11 +29,15 @@ export class Timeline {
     this.canvas = element.querySelector("canvas");
     this.slider = element.querySelector("[role=slider]");
     this.cursorLine = element.querySelector(".cursor");
-    this.marks = element.querySelector(".marks");
+    this.marks = new Marks(element.querySelector(".marks"), this);
+    this.carried = element.querySelector(".carried");
+    this.box = element.querySelector(".box");
     this.drawing = new LanesDrawing(this.canvas);
     this.view = new View(0, 1000);
     this.whole = 1000;
     this.cursor = 0;
+    /** What is told of the cursor's turn, if it is still there. */
+    this.told = { turn: 0, text: "" };
     this.picture = this.ghost = this.part = null;
     /** The turn from which on the old past and the new one are the same, or null. */
     this.same = null;
@@ -44,11 +46,16 @@ export class Timeline {
     this.gone = [];
     this.sweep = null;
     this.wanted = 0;
+    /** Where the wanted event is to be dropped, or null. */
+    this.target = null;
     this.symbols = {};
+    /** @type {{name: string, label: string}[]} */
     this.words = [];
     this.pointers = new Map();
     this.frame = 0;
     this.dragged = null;
+    /** What is said of the event at the turn where it is carried. */
+    this.outcome = "";
     /** Where an event was put, until the machine has taken it: {number, turn}, or null. */
     this.put = null;
     this.endMoveLater = delayed(PAUSE, () => this.endMoveByKeys());
@@ -66,7 +73,11 @@ export class Timeline {
     }
     element.addEventListener("keydown", event => this.onKey(event));
     element.addEventListener("keyup", event => this.onKeyUp(event));
-    element.addEventListener("focusout", () => this.endMoveByKeys());
+    element.addEventListener("focusin", () => this.draw());
+    element.addEventListener("focusout", () => {
+      this.endMoveByKeys();
+      this.draw();
+    });
   }
 
   resize() {
@@ -116,7 +127,15 @@ export class Timeline {
     this.cursorLine.hidden = !isSeen;
     this.cursorLine.style.transform = `translateX(${x}px)`;
     this.slider.setAttribute("aria-valuenow", String(this.cursor));
-    this.slider.setAttribute("aria-valuetext", `before turn ${this.cursor}`);
+    const told = this.told.turn === this.cursor && this.told.text;
+    this.slider.setAttribute(
+      "aria-valuetext", `before turn ${this.cursor}${told ? `; ${told}` : ""}`);
+  }
+
+  /** Says what is drawn where the cursor is. */
+  tellCursor(text) {
+    this.told = { turn: this.cursor, text };
+    this.placeCursor();
   }
 
   /** Draws at the next frame, however often it is called before. */
@@ -132,13 +151,37 @@ export class Timeline {
     const { lanes, height } = lanesOf(this.words, this.sweep !== null);
     this.lanes = lanes;
     const { view, width, picture, ghost, symbols, part, same, sweep } = this;
-    const events = this.eventsInSight(this.past.script);
+    const events = this.eventsInSight(this.past.script), target = this.targetOfTaken();
     this.drawing.draw(
-      { view, lanes, height, width, picture, ghost, symbols, events, part, same, sweep });
+      { view, lanes, height, width, picture, ghost, symbols, events, part, same, sweep, target });
     this.cursorLine.style.height = `${height}px`;
-    this.placeMarks(events);
+    this.marks.show(events);
     this.placeCursor();
+    this.placeCarried();
     this.listener.onDrawn();
+  }
+
+  /** Where the event is to be dropped that is taken by the pointer or has the focus, or null. */
+  targetOfTaken() {
+    const taken = this.dragged?.event.number ?? this.marks.focused;
+    return this.target?.event === taken ? this.target : null;
+  }
+
+  /** What an event that is moved carries with it: its turn, and what comes of it there. */
+  placeCarried() {
+    const { carried, dragged, view } = this;
+    carried.hidden = !dragged;
+    if (!dragged) return;
+    carried.textContent = [`turn ${dragged.turn}`, this.outcome].filter(Boolean).join(": ");
+    const most = this.width - carried.offsetWidth - 2;
+    const left = Math.min(most, view.x(dragged.turn) - carried.offsetWidth / 2);
+    carried.style.left = `${Math.max(2, left)}px`;
+  }
+
+  /** Says what comes of the event at the turn where it is carried now. */
+  tellOutcome(outcome) {
+    this.outcome = outcome;
+    this.placeCarried();
   }
 
   eventsInSight(script) {
@@ -158,96 +201,6 @@ export class Timeline {
       first: view.first, end: view.end, events: this.eventsInSight(this.past.script),
       gone: this.eventsInSight(this.gone), picture, ghost, part, same,
     };
-  }
-
-  // Marks of events
-
-  placeMarks(seen) {
-    if (this.dragged) {
-      for (const it of this.marks.children) this.place(it, Number(it.dataset.turn));
-      return;
-    }
-    const focused = document.activeElement?.dataset?.event;
-    keepChildren(this.marks, [...this.eventMarks(seen), ...this.ghostMarks()]);
-    if (focused) this.marks.querySelector(`[data-event="${focused}"]`)?.focus();
-  }
-
-  eventMarks(events) {
-    const ends = new Array(MARK_ROWS).fill(-Infinity);
-    return clustersOf(events, this.view).map(cluster => {
-      const button = document.createElement("button");
-      button.type = "button";
-      if (cluster.count > 1) this.markCluster(button, cluster);
-      else this.markEvent(button, cluster.event);
-      const x = this.view.x(Number(button.dataset.turn));
-      const row = Math.max(0, ends.findIndex(it => x >= it));
-      ends[row] = x + wideOf(button);
-      button.style.setProperty("--row", String(row));
-      return button;
-    });
-  }
-
-  markEvent(button, event) {
-    button.className = event.text.startsWith("key") ? "mark" : "mark other";
-    if (event.number === this.wanted) button.classList.add("wanted");
-    button.textContent = eventLabel(event);
-    button.dataset.event = String(event.number);
-    this.placeMark(button, event, this.turnOf(event));
-  }
-
-  /** Events that have one mark together: it zooms to them. */
-  markCluster(button, cluster) {
-    const said = clusterInWords(cluster);
-    button.className = "mark cluster";
-    button.textContent = `\u00d7${cluster.count}`;
-    button.title = `${said}: zoom in`;
-    button.setAttribute("aria-label", `${said}: zoom in`);
-    Object.assign(button.dataset, { first: cluster.event.turn, last: cluster.last.turn });
-    this.place(button, Math.round((cluster.event.turn + cluster.last.turn) / 2));
-  }
-
-  /** Shows the turns of a mark of many events. */
-  zoomTo({ dataset: { first, last } }) {
-    const span = Number(last) - Number(first) + 1;
-    this.show(Number(first) - span / 20, span * 1.1);
-  }
-
-  /** Puts a mark at its turn. Its text isn't cut at the right edge: a part of a number is another
-      number. */
-  place(mark, turn) {
-    const { view } = this, x = view.x(turn);
-    const most = this.width - wideOf(mark) / 2;
-    mark.dataset.turn = String(turn);
-    mark.style.left = `${x > view.left + view.width ? x : Math.min(x, most)}px`;
-  }
-
-  placeMark(button, event, turn) {
-    const words = eventInWords(event);
-    this.place(button, turn);
-    button.setAttribute("aria-label", `Event ${event.number}, ${words}, turn ${turn}`);
-    button.title = `event ${event.number}: at ${turn} ${words}`;
-  }
-
-  /** The turn of an event, or where it was put last. */
-  turnOf(event) {
-    return this.put?.number === event.number ? this.put.turn : event.turn;
-  }
-
-  ghostMarks() {
-    return clustersOf(this.eventsInSight(this.gone), this.view).map(cluster => {
-      const { event, count } = cluster;
-      const mark = document.createElement("span");
-      mark.className = "mark ghost";
-      mark.textContent = count > 1 ? `\u00d7${count}` : eventLabel(event);
-      mark.title = count > 1 ? `were there: ${clusterInWords(cluster)}`
-        : `was at ${event.turn} ${eventInWords(event)}`;
-      this.place(mark, event.turn);
-      return mark;
-    });
-  }
-
-  eventOf(button) {
-    return this.past.events.get(Number(button.dataset.event));
   }
 
   // Pointer and wheel
@@ -270,7 +223,8 @@ export class Timeline {
     if (event.button) return;
     const mark = event.target.closest?.("button.mark");
     const cluster = mark?.matches(".cluster") ? mark : null, button = cluster ? null : mark;
-    const at = { x: this.xOf(event), first: this.view.first, moved: false, cluster };
+    const isBox = event.shiftKey && !mark;
+    const at = { x: this.xOf(event), first: this.view.first, moved: false, cluster, isBox };
     this.endMoveByKeys();
     this.pointers.set(event.pointerId, at);
     this.element.setPointerCapture(event.pointerId);
@@ -300,6 +254,8 @@ export class Timeline {
       this.movePinch();
     } else if (this.dragged) {
       if (at.moved) this.dragTo(x);
+    } else if (at.moved && at.isBox) {
+      this.showBox(at.x, x);
     } else if (at.moved) {
       this.show(at.first - (x - at.x) / this.view.width * this.view.span, this.view.span);
     }
@@ -311,6 +267,26 @@ export class Timeline {
     const span = Math.max(1, this.pinch.span * this.pinch.apart / apart);
     const middle = (one.x + other.x) / 2;
     this.show(this.pinch.turn - (middle - this.view.left) / this.view.width * span, span);
+  }
+
+  /** Turns are being selected, from one pixel to another. */
+  showBox(from, to) {
+    const { box, view } = this;
+    const inside = x => Math.min(view.left + view.width, Math.max(view.left, x));
+    const [left, right] = [Math.min(from, to), Math.max(from, to)].map(inside);
+    box.hidden = false;
+    box.style.left = `${left}px`;
+    box.style.width = `${right - left}px`;
+    box.dataset.first = String(view.turn(left));
+    box.dataset.end = String(view.turn(right));
+  }
+
+  /** Shows the turns that were selected, unless that was given up. */
+  endBox(isChosen) {
+    const { box } = this, { first, end } = box.dataset;
+    if (box.hidden) return;
+    box.hidden = true;
+    if (isChosen) this.show(Number(first), Number(end) - Number(first));
   }
 
   dragTo(x) {
@@ -327,20 +303,29 @@ export class Timeline {
       if (!this.pointers.size) this.pinch = null;
       return;
     }
+    if (at.isBox && at.moved) {
+      this.endBox(event.type === "pointerup");
+      return;
+    }
     if (this.dragged) {
       const { dragged } = this;
       this.endMove(event.type === "pointerup");
       if (!at.moved) this.listener.onOpen(dragged.event);
-    } else if (!at.moved && at.cluster) this.zoomTo(at.cluster);
-    else if (!at.moved && at.x >= this.view.left) this.setCursor(this.view.turn(at.x));
+    } else if (!at.moved && at.cluster) this.marks.zoomTo(at.cluster);
+    else if (!at.moved && at.x >= this.view.left) {
+      const y = event.clientY - this.element.getBoundingClientRect().top;
+      this.setCursor(this.listener.turnAt(at.x, y));
+    }
   }
 
   // A move of an event, by the pointer or by keys
 
   beginMove(button, more) {
-    const event = this.eventOf(button), turn = this.turnOf(event);
+    const event = this.marks.eventOf(button), turn = this.marks.turnOf(event);
     this.dragged = { event, button, from: turn, turn, ...more };
+    this.outcome = "";
     button.classList.add("dragged");
+    this.draw();
   }
 
   moveTo(wanted) {
@@ -349,8 +334,10 @@ export class Timeline {
     if (turn === dragged.turn) return;
     dragged.turn = turn;
     dragged.isMoved = true;
-    this.placeMark(dragged.button, dragged.event, turn);
+    this.outcome = "";
+    this.marks.placeMark(dragged.button, dragged.event, turn);
     this.listener.onDrag(dragged.event, turn);
+    this.draw();
   }
 
   /** Ends a move: the event stays where it is now, or goes back. */
@@ -359,6 +346,7 @@ export class Timeline {
     if (!dragged) return;
     this.dragged = null;
     dragged.button.classList.remove("dragged");
+    this.draw();
     if (!dragged.isMoved) return;
     const { event, turn, from } = dragged;
     const put = { number: event.number, turn: stays ? turn : from };
@@ -375,17 +363,35 @@ export class Timeline {
   // Keys
 
   onKey(event) {
-    if (event.key === "Escape") return this.endMove(false);
+    if (event.key === "Escape") {
+      this.box.hidden = true;
+      return this.endMove(false);
+    }
     if (event.altKey || event.ctrlKey || event.metaKey) return this.onMarkKey(event);
     const button = event.target.closest?.("button.mark");
     if (button && (event.key === "Enter" || event.key === " ")) {
       event.preventDefault();
-      if (button.matches(".cluster")) this.zoomTo(button);
-      else this.listener.onOpen(this.eventOf(button));
+      if (button.matches(".cluster")) this.marks.zoomTo(button);
+      else this.listener.onOpen(this.marks.eventOf(button));
       return undefined;
     }
-    if (this.act(event.key, event.shiftKey)) event.preventDefault();
+    if (button && this.isDeleted(button, event.key)) {
+      event.preventDefault();
+      return undefined;
+    }
+    const isDone = this.listener.onKey(event.key) || this.act(event.key, event.shiftKey);
+    if (isDone) event.preventDefault();
     return undefined;
+  }
+
+  /** Delete takes out the event of a mark; the focus goes to the timeline. */
+  isDeleted(button, key) {
+    if (!["Delete", "Backspace"].includes(key) || button.matches(".cluster")) return false;
+    const event = this.marks.eventOf(button);
+    this.endMove(false);
+    this.slider.focus({ preventScroll: true });
+    this.listener.onDelete(event);
+    return true;
   }
 
   /** Alt with an arrow moves the event whose mark has the focus by a turn, with shift by 64. */

@@ -1,14 +1,23 @@
 // The words of core and of drives that the timeline draws.
 
+import { nameOfWord, namesOfSession, symbolOfWord, wordNamed } from "./names.js";
 import { element, make } from "./page.js";
-import { nameOfWord, whyNoWord, wordNamed } from "./picture.js";
+import { whyNoWord } from "./picture.js";
 
 export class Watched {
   /** @param {import("./app.js").App} app */
   constructor(app) {
     this.app = app;
-    /** @type {import("./picture.js").WatchedWord[]} */
+    /** @type {import("./names.js").WatchedWord[]} */
     this.words = [];
+    /** @type {Map<string, string>} what words are called, by their names */
+    this.called = new Map();
+  }
+
+  /** Another session is open, of which these words are drawn. */
+  begin(words) {
+    this.words = words;
+    this.called = namesOfSession(this.app.session);
   }
 
   /** Draws a word, or no longer if it is drawn already. */
@@ -20,13 +29,37 @@ export class Watched {
     this.app.timeline.draw();
   }
 
+  /** What a word is called, and its name. */
+  titleOf(name) {
+    const called = this.called.get(name);
+    return called ? `${called} (${name})` : name;
+  }
+
   /** The words that are drawn, each with a button that takes it away. */
   show() {
-    this.app.timeline.words = this.words.map(nameOfWord);
-    element("words").replaceChildren(...this.words.map(word => make("button", {
+    const names = this.words.map(nameOfWord);
+    this.app.timeline.words = names.map(name => (
+      { name, label: this.called.get(name) ?? "" }));
+    element("words").replaceChildren(...this.words.map((word, at) => make("button", {
       type: "button", title: "Draw this word no longer", onclick: () => this.turn(word),
-      "aria-label": `Draw ${nameOfWord(word)} no longer`,
-    }, `${nameOfWord(word)} \u2715`)));
+      "aria-label": `Draw ${this.titleOf(names[at])} no longer`,
+    }, `${this.titleOf(names[at])} \u2715`)));
+    for (const it of this.words) this.nameBySymbol(it);
+  }
+
+  /** A word that the session doesn't name is called as its symbol is. */
+  nameBySymbol(word) {
+    const { app } = this, name = nameOfWord(word);
+    if (this.called.has(name)) return;
+    this.called.set(name, "");
+    app.attempt(async () => {
+      const { run } = app;
+      const symbol = await symbolOfWord(run, word, app.symbols, app.timeline.cursor);
+      if (run !== app.run || !symbol) return;
+      this.called.set(name, symbol);
+      this.show();
+      app.timeline.draw();
+    });
   }
 
   /** Draws a word by its name, if the machine has it. */

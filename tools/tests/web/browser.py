@@ -283,10 +283,15 @@ class Browser:
         x, y = self.middle(selector)
         self.mouse("mouseMoved", x, y)
         self.mouse("mousePressed", x, y, button="left", buttons=1, clickCount=1)
-        for step in range(1, steps + 1):
-            self.mouse("mouseMoved", x + by * step / steps, y, button="left", buttons=1)
+        self.drag_on(selector, by, steps)
         if is_let_go:
             self.mouse("mouseReleased", x + by, y, button="left", clickCount=1)
+
+    def drag_on(self, selector: str, by: float, steps: int = 8) -> None:
+        """Drags an element further that wasn't let go."""
+        x, y = self.middle(selector)
+        for step in range(1, steps + 1):
+            self.mouse("mouseMoved", x + by * step / steps, y, button="left", buttons=1)
 
     def touch(self, kind: str, *points: tuple[float, float]) -> None:
         """Touches the page at these points: touchStart, touchMove or touchEnd."""

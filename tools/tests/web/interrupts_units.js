@@ -1,6 +1,6 @@
 // Tests of how the timeline's interrupts are found. Each throws if something isn't so.
 
-import { notesOf } from "/lanes.js";
+import { notesOf } from "/notes.js";
 import { Past } from "/past.js";
 import { PictureMaker } from "/picture.js";
 import { DEVICE_VECTORS, octal } from "/replies.js";

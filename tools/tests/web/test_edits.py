@@ -102,8 +102,14 @@ class TheLostDeposit(PageCase):
 
     def test_the_old_past_stays_in_grey(self) -> None:
         self.browser.drag(KEY, 110)
-        self.assertIn("0000000  000170 \u2192 000176", self.wait_text("#difference", "Drive 0"))
-        self.assertIn("030000  000170 \u2192 000176", self.browser.text("#difference"))
+        self.wait_text("#difference", "Drive 0")
+        rows = self.browser.value(
+            "[...document.querySelectorAll('#difference tr')].map(it =>"
+            "[...it.cells].map(cell => cell.textContent))"
+        )
+        self.assertIn(["word", "was", "is now"], rows)
+        self.assertIn(["0000000", "000170", "000176"], rows)
+        self.assertIn(["030000", "000170", "000176"], rows)
         self.assertEqual(self.wait_text(".mark.ghost", "6"), "6")
         self.wait_text("#difference", "first differ before turn ")
         line = self.edits()[0]
@@ -122,7 +128,7 @@ class TheLostDeposit(PageCase):
             self.type_line(line)
         self.wait_text("#difference", "From turn 127179 on the run is the old one again.")
         self.type_line("alter 15 127250 key 66")
-        self.wait_text("#difference", "000170 \u2192 000176")
+        self.wait_text("#difference", "0000000000170000176")
         self.assertNotIn("again", self.browser.text("#difference"))
 
     def test_the_old_past_ends_where_a_patch_fades(self) -> None:

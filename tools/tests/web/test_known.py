@@ -142,7 +142,7 @@ class Story(PageCase):
         )
         self.type_line("alter 15 127165 key 66")
         self.wait_text("#verdict", "nothing is lost")
-        self.assertEqual(self.browser.value(f"{verdicts}[0]"), "still from before the last edit")
+        self.assertEqual(self.browser.value(f"{verdicts}[0]"), "the day runs again")
 
     def test_other_deposits_have_no_verdict(self) -> None:
         self.type_line("disk 0 200")

@@ -11,7 +11,7 @@ from .common import KEY, SAFE, PageCase
 SIZES = ((1280, 900), (400, 800))
 # What the page shows for moments, or changes while the user does something else.
 WORKS = (None, "0 of 1 edits", "999999999 of 1000000000 turns")
-VERDICTS = ("", "\u2713 nothing is lost", "\u2717 a deposit of 100 is lost; try another turn")
+VERDICTS = ("", "\u2713 nothing is lost", "\u2717 a deposit of 100 is lost; too far, go back")
 # Where the button that stops the work is, and the timeline, whatever of these is shown.
 PLACES = """((works, verdicts) => {
   const found = it => document.querySelector(it);
@@ -86,8 +86,33 @@ class Tour(PageCase):
         for width in (400, 1280):
             self.browser.size(width, 800)
             self.wait_still()
-            wide = self.browser.value("document.documentElement.scrollWidth")
-            self.assertLessEqual(wide, width)
+            wide, seen = self.browser.value(
+                "(it => [it.scrollWidth, it.clientWidth])(document.documentElement)"
+            )
+            self.assertLessEqual(wide, seen)
+
+    def test_the_legend_is_one_line(self) -> None:
+        for width in (400, 1280):
+            self.browser.size(width, 800)
+            tops = self.browser.value(
+                "[...document.querySelectorAll('.sign')].map(it => it.getBoundingClientRect().top)"
+            )
+            self.assertEqual(len(tops), 3)
+            self.assertEqual(len(set(tops)), 1, width)
+
+    def test_nothing_scrolls_for_a_few_pixels(self) -> None:
+        """At a wide page, and at a narrow one; a table that is far too wide may."""
+        self.type_line("alter 15 127165 key 66")
+        self.wait_text("#difference", "Drive 0")
+        for width in (400, 1280):
+            self.browser.size(width, 800)
+            self.wait_still()
+            wide = self.browser.value(
+                "[...document.querySelectorAll('.scroll, pre, main section')]"
+                ".map(it => [it.parentElement.id, it.scrollWidth - it.clientWidth])"
+                ".filter(([_, by]) => by > 0 && by < 60)"
+            )
+            self.assertEqual(wide, [], width)
 
     def test_what_comes_and_goes_moves_nothing(self) -> None:
         """The user may be about to press it."""

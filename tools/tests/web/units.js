@@ -2,14 +2,17 @@
 
 import { byteOfKey } from "/console.js";
 import { marked } from "/differences.js";
-import { LanesDrawing, View, lanesOf, notesOf, ticksOf } from "/lanes.js";
+import { eventOfForm, eventsNear } from "/events.js";
+import { LanesDrawing, View, lanesOf, ticksOf } from "/lanes.js";
+import { namesOfSession } from "/names.js";
+import { notesOf } from "/notes.js";
 import { optionLines, optionText, shellWords } from "/options.js";
 import { PAST_LINES, isEdit } from "/past.js";
 import { fragmentOf, placeOf } from "/place.js";
 import { turnsAsked } from "/questions.js";
 import {
-  DEVICE_VECTORS, WrongReply, bytesOf, devicesOf, eventOf, functionInWords, interruptsOf, keyName,
-  lastOf, lengthOf, pageInWords, pagesOf, physicalOf, readableText, registersOf, statusInWords,
+  DEVICE_VECTORS, WrongReply, byteNamed, bytesOf, devicesOf, eventOf, functionInWords,
+  interruptsOf, keyName, lastOf, lengthOf, pageInWords, pagesOf, physicalOf, readableText, registersOf, statusInWords,
   tailOf, turnOf, turnsOf, unreadOf, visibleName, wordsOf, writesOf,
 } from "/replies.js";
 import { Priority, Run } from "/run.js";
@@ -144,16 +147,39 @@ export function test_the_table_says_what_it_leaves_out() {
 
 export function test_differences_are_marked() {
   const pieces = marked("a\nB6 =145\n", "a\nB6 =137\n");
-  equal(pieces.map(it => it.textContent ?? it).join("|"), "a\n|B6 =1|37|45||\n|");
+  equal(pieces.map(it => it.textContent ?? it).join("|"), "a\n|B6 =|137|145||\n|");
 }
 
 export function test_the_balance() {
   const text = "=000100\nA2 =000110\n=000124\nB5 =000137\n";
   equal(fourthBalance(text), "137");
   equal(fourthBalance("=000100\n"), null);
-  const looks = [verdictOf(text.replace("137", "145"), true), verdictOf(text, false),
-    verdictOf(text.replace("137", "145"), true, true)].map(it => it.look);
+  const isMoved = true, safe = text.replace("137", "145");
+  const looks = [verdictOf(safe, { isMoved }), verdictOf(text, { isMoved: false }),
+    verdictOf(safe, { isMoved, hasOthers: true })].map(it => it.look);
   equal(looks, ["good", "bad", ""]);
+  const target = { from: 100, to: 200 };
+  const ways = [99, 100, 200, 201].map(turn => verdictOf(text, { isMoved, turn, target }).verdict);
+  equal(ways.map(it => it.split("; ")[1]),
+    ["move it further", "try another turn", "try another turn", "too far, go back"]);
+}
+
+export function test_words_are_named_by_comments() {
+  const lines = ["# name core 30000 clerk A's balance", "# name disk 1 0 caf\u00c3\u00a9",
+    "# name disk 2 the day\u00e2\u0080\u00ae", "core 1000 5", "# name core 1000", "# name R0 count",
+    "# name core 30000 x", "#name core 5 y", "# name core 5 6 z"];
+  equal([...namesOfSession({ lines })], [["core 030000", "x"], ["disk 1 0000000", "caf\u00e9"],
+    ["disk 0000002", "the day\\u202e"]]);
+}
+
+/** A processor that halts is drawn as halted, in the mode in which it is. */
+export function test_a_halted_machine_is_drawn_as_halted() {
+  const look = (turn, state) => ({ turn, state, mode: "kernel", pc: 0o1000, words: [5] });
+  const looks = Array.from({ length: 100 }, (_, at) =>
+    look(at, at < 20 ? "run" : at < 50 ? "wait" : "halted"));
+  const { texts } = drawn({ ...PICTURE, looks }, { first: 0, span: 100 });
+  equal(texts.filter(it => /halted|waits|mode/.test(it)), ["waits", "halted",
+    "doesn't run in user mode"]);
 }
 
 export const SETUP = "setup version 1 units 31 start 001000 stride 10000 printer 1 reader 4 punch 4 disk 10 "
@@ -308,7 +334,7 @@ export function test_keys_and_their_bytes() {
 }
 
 /** What is drawn of a picture: each text, and each colour that is in the column of a turn. */
-function drawn(picture, { first, span, ghost = null, same = null }) {
+function drawn(picture, { first, span, ghost = null, same = null, target = null }) {
   const canvas = document.createElement("canvas");
   document.body.append(canvas);
   const colours = { faint: "#f00", ghost: "#f00", disk: "#0f0", grid: "#00f" };
@@ -320,10 +346,10 @@ function drawn(picture, { first, span, ghost = null, same = null }) {
     texts.push(text);
     write.call(drawing.pen, text, ...more);
   };
-  const { lanes, height } = lanesOf(picture.words.map(it => it.name));
+  const { lanes, height } = lanesOf(picture.words);
   drawing.draw({
     view, lanes, height, width: 1110, picture, ghost, symbols: {}, events: [], part: null, same,
-    sweep: null,
+    sweep: null, target,
   });
   const coloursOf = (lane, turn) => {
     const { top } = lanes.find(it => it.name === lane);
@@ -409,4 +435,35 @@ export function test_options_are_read_as_a_shell_reads_them() {
   equal(shellWords(optionText(["# first", ...optionLines(long), "regs 1"]), ""), long);
   equal(optionLines(long).map(it => it.length < 200), [true, true, true]);
   equal([optionText(["regs 1", "#! --start 2"]), optionText(["#!"])], [null, " "]);
+}
+
+export function test_events_of_the_form() {
+  equal([eventOfForm("key", "a"), eventOfForm("key", " "), eventOfForm("key", "Ctrl-C"),
+    eventOfForm("key", "esc"), eventOfForm("key", "015"), eventOfForm("tick", "x")],
+  ["key 141", "key 40", "key 3", "key 33", "key 15", "tick"]);
+  equal([eventOfForm("key", ""), eventOfForm("key", "ab"), eventOfForm("key", "400"),
+    eventOfForm("key", "\u00e9"), eventOfForm("switches", "8"), eventOfForm("switches", "200000"),
+    eventOfForm("switches", " 000017 ")], [null, null, null, null, null, null, "switches 17"]);
+  const codes = Array.from({ length: 128 }, (_, it) => it);
+  equal(codes.filter(it => byteNamed(keyName(it)) !== it), []);
+}
+
+export function test_the_events_near_a_turn() {
+  const script = Array.from({ length: 100 }, (_, at) => ({ number: at + 1, turn: 10 * at }));
+  const near = (turn, most) => {
+    const { shown, before, after } = eventsNear(script, turn, most);
+    return [shown[0]?.turn, shown.length, before, after];
+  };
+  equal([near(0, 10), near(500, 10), near(9999, 10), near(5, 1000)],
+    [[0, 10, 0, 90], [450, 10, 45, 45], [900, 10, 90, 0], [0, 100, 0, 0]]);
+  equal(eventsNear([], 5), { shown: [], before: 0, after: 0 });
+}
+
+export function test_where_an_event_is_to_be_dropped_is_told() {
+  const target = { tick: 40, from: 50, to: 70 };
+  const { texts } = drawn(PICTURE, { first: 0, span: 100, target });
+  equal(texts.filter(it => it.includes("the tick")),
+    ["drop it here, after the tick", "the tick is here"]);
+  const gone = drawn(PICTURE, { first: 60, span: 100, target }).texts;
+  equal(gone.filter(it => it.includes("the tick")), []);
 }

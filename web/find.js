@@ -1,0 +1,151 @@
+// Finds the next turn, or the one before, in which something is so. Each way to find is a search of
+// the program; of the console's text the bytes are looked through here.
+
+import { nameOfWord, wordNamed } from "./names.js";
+import { element } from "./page.js";
+import {
+  bytesOf, lastOf, lengthOf, mustBeTaken, turnOf, vectorNamed, visibleName, writesOf,
+} from "./replies.js";
+import { Priority } from "./run.js";
+import { latin1 } from "./session.js";
+
+// Changes of a drive are searched forwards alone: backwards in stretches, each twice as long.
+const [FIRST_STRETCH, MOST_CHANGES] = [65_536, 4_096];
+
+/** Why something can't be looked for, for the user to read. */
+export class FindError extends Error {}
+
+export class Finder {
+  /** @param {import("./app.js").App} app */
+  constructor(app) {
+    this.app = app;
+    this.kind = element("find-kind");
+    this.what = element("find-what");
+    this.kind.addEventListener("change", () => {
+      this.what.placeholder = this.kind.selectedOptions[0].dataset.example;
+    });
+  }
+
+  say(text) {
+    element("find-said").textContent = text;
+  }
+
+  /** Goes to the next turn after the cursor's, or with -1 to the one before. */
+  find(direction) {
+    const { app } = this, { end, timeline: { cursor } } = app;
+    const kind = this.kind.value, what = this.what.value.trim();
+    const token = app.token("find");
+    this.say("");
+    return app.attempt(async () => {
+      if (!what) {
+        this.say("Say what to find.");
+        return;
+      }
+      const one = line => app.run.askOne(line, Priority.QUESTION, token).then(mustBeTaken);
+      const last = Math.max(end, cursor);
+      const turn = await this.foundBy(kind, what, direction, { cursor, end: last, one });
+      const where = direction > 0 ? `after turn ${cursor}, up to ${last}` : `before turn ${cursor}`;
+      if (turn !== null) app.goTo(turn);
+      this.say(turn === null ? `None ${where}.` : `Turn ${turn}.`);
+    }, error => this.complain(what, error));
+  }
+
+  /** Says why something can't be found; returns whether that is so. */
+  complain(what, error) {
+    const isKnown = error instanceof FindError || error.reply !== undefined;
+    if (isKnown) this.say(`${visibleName(what)}: ${error.message}.`);
+    return isKnown;
+  }
+
+  async foundBy(kind, what, direction, turns) {
+    switch (kind) {
+      case "at": return this.search(`at ${this.placeOf(what)}`, direction, turns);
+      case "where": return this.search(`where ${what}`, direction, turns);
+      case "vector": return this.vector(what, direction, turns);
+      case "text": return this.text(what, direction, turns);
+      default: return this.write(what, direction, turns);
+    }
+  }
+
+  /** The first turn after the cursor's that fits, or the last before it. */
+  async search(what, direction, { cursor, end, one }) {
+    if (direction < 0) return turnOf(await one(`latest 0 ${cursor} ${what}`));
+    return turnOf(await one(`first ${Math.min(cursor + 1, end)} ${end} ${what}`));
+  }
+
+  /** An address, or a symbol as the address in its mode. */
+  placeOf(what) {
+    if (/^[0-7]{1,6}( (kernel|user))?$/.test(what)) return what;
+    for (const mode of ["kernel", "user"]) {
+      const symbol = this.app.symbols[mode]?.find(it => it.name === what);
+      if (symbol) return `${symbol.value.toString(8)} ${mode}`;
+    }
+    throw new FindError("no symbol has this name, and an address is octal");
+  }
+
+  /** An interrupt or a trap by a vector, whichever comes first. */
+  async vector(what, direction, turns) {
+    const vector = /^[0-7]{1,3}$/.test(what) ? parseInt(what, 8) : vectorNamed(what);
+    if (vector === null) throw new FindError("a vector is octal, or a name such as clock");
+    const found = [];
+    for (const kind of ["vector", "trap"]) {
+      const turn = await this.search(`${kind} ${vector.toString(8)}`, direction, turns);
+      if (turn !== null) found.push(turn);
+    }
+    if (!found.length) return null;
+    return direction > 0 ? Math.min(...found) : Math.max(...found);
+  }
+
+  /** The turn that printed the first byte of a text. */
+  async text(what, direction, { cursor, end, one }) {
+    const printed = latin1(bytesOf(await one(`text ${end}`)));
+    const turn = direction > 0 ? Math.min(cursor + 1, end) : cursor;
+    const before = lengthOf(await one(`text ${turn}`));
+    const at = direction > 0 ? printed.indexOf(what, before)
+      : before ? printed.lastIndexOf(what, before - 1) : -1;
+    return at < 0 ? null : turnOf(await one(`when ${at}`));
+  }
+
+  /** A word by its name in the session language, by what the session calls it, or a symbol. */
+  wordOf(what) {
+    const { watched, symbols } = this.app;
+    const called = [...watched.called].find(([, name]) => name === what)?.[0];
+    const symbol = symbols.kernel?.find(it => it.name === what);
+    const word = wordNamed(called ?? what) ?? (symbol && wordNamed(symbol.value.toString(8)));
+    if (!word) throw new FindError("a word is named as 2000, core 2000, disk 0 or disk 1 0 are");
+    return word;
+  }
+
+  async write(what, direction, turns) {
+    const word = this.wordOf(what), { cursor, end, one } = turns, at = word.at.toString(8);
+    if (word.kind === "disk") return this.change(word, direction, turns);
+    if (direction < 0) return lastOf(await one(`last ${cursor} ${at}`))?.turn ?? null;
+    const reply = await one(`writes ${Math.min(cursor + 1, end)} ${end} ${at}`);
+    return writesOf(reply).writes[0]?.turn ?? null;
+  }
+
+  async change(word, direction, { cursor, end, one }) {
+    const drive = this.app.run.past.version === 2 ? `${word.drive} ` : "";
+    if (word.drive && !drive) throw new FindError(`${nameOfWord(word)}: there is one drive`);
+    const next = async (from, to) =>
+      turnOf(await one(`change ${from} ${to} ${drive}${word.at.toString(8)}`));
+    if (direction > 0) return next(Math.min(cursor + 1, end), end);
+    let to = cursor;
+    for (let length = FIRST_STRETCH; to > 0; length *= 2) {
+      const from = Math.max(0, to - length), turn = await this.lastChange(from, to, next);
+      if (turn !== null) return turn;
+      to = from;
+    }
+    return null;
+  }
+
+  async lastChange(from, to, next) {
+    let last = null;
+    for (let count = 0; ; count++) {
+      const turn = await next(last === null ? from : last + 1, to);
+      if (turn === null) return last;
+      if (count === MOST_CHANGES) throw new FindError("it changes too often to search back");
+      last = turn;
+    }
+  }
+}

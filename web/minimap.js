@@ -1,0 +1,134 @@
+// The whole run in a strip below the lanes: its events, what was looked at, and what is in sight,
+// which the pointer and keys move.
+
+import { LAST_TURN } from "./replies.js";
+
+const HEIGHT = 26;
+const COLOURS = ["grid", "faint", "counter", "key", "accent", "bad", "ghost"];
+// Looks at this many stretches of turns are kept.
+const MOST_STRETCHES = 500;
+
+/**
+ * Turns that were looked at, each of them or samples.
+ * @typedef {{first: number, end: number, isWhole: boolean}} Stretch
+ */
+
+/** Adds a stretch; those of the same kind that it meets become one. @param {Stretch[]} stretches */
+export function withStretch(stretches, { first, end, isWhole }) {
+  const meets = it => it.isWhole === isWhole && it.first <= end && it.end >= first;
+  const met = stretches.filter(meets);
+  const joined = {
+    first: Math.min(first, ...met.map(it => it.first)),
+    end: Math.max(end, ...met.map(it => it.end)), isWhole,
+  };
+  return [...stretches.filter(it => !meets(it)), joined].slice(-MOST_STRETCHES);
+}
+
+export class Minimap {
+  /** @param {HTMLElement} place @param {import("./timeline.js").Timeline} timeline */
+  constructor(place, timeline) {
+    Object.assign(this, { place, timeline });
+    this.canvas = place.querySelector("canvas");
+    this.forget();
+    place.addEventListener("pointerdown", event => {
+      place.setPointerCapture(event.pointerId);
+      this.goTo(event);
+    });
+    place.addEventListener("pointermove", event => event.buttons & 1 && this.goTo(event));
+    place.addEventListener("keydown", event => this.onKey(event));
+  }
+
+  /** Another session is open, or another past. */
+  forget() {
+    /** @type {Stretch[]} */
+    this.stretches = [];
+  }
+
+  /** A picture was made: its turns were looked at. */
+  note({ first, end, step }) {
+    this.stretches = withStretch(this.stretches, { first, end, isWhole: step === 1 });
+  }
+
+  /** Where a turn is in the strip. */
+  x(turn) {
+    const { view, whole } = this.timeline;
+    return view.left + Math.min(1, turn / Math.max(1, whole)) * view.width;
+  }
+
+  /** Brings what lies under the pointer into the middle of what is in sight. */
+  goTo(event) {
+    const { timeline } = this, { view, whole } = timeline;
+    const x = event.clientX - this.place.getBoundingClientRect().left;
+    const turn = (x - view.left) / view.width * whole;
+    timeline.show(Math.min(whole, Math.max(0, turn)) - view.span / 2, view.span);
+  }
+
+  onKey(event) {
+    const { timeline } = this, { view } = timeline, step = view.span / 4;
+    const first = {
+      ArrowLeft: view.first - step, ArrowRight: view.first + step, ArrowDown: view.first - step,
+      ArrowUp: view.first + step, PageUp: view.first - view.span, PageDown: view.first + view.span,
+      Home: 0, End: timeline.whole - view.span,
+    }[event.key];
+    if (first === undefined || event.altKey || event.ctrlKey || event.metaKey) return;
+    event.preventDefault();
+    event.stopPropagation();
+    timeline.show(first, view.span);
+  }
+
+  draw() {
+    const { canvas, place, timeline } = this, { view, width, whole, past } = timeline;
+    const ratio = window.devicePixelRatio || 1, pen = canvas.getContext("2d");
+    canvas.width = Math.round(width * ratio);
+    canvas.height = Math.round(HEIGHT * ratio);
+    canvas.style.height = `${HEIGHT}px`;
+    pen.setTransform(ratio, 0, 0, ratio, 0, 0);
+    const style = getComputedStyle(canvas);
+    this.colours = Object.fromEntries(
+      COLOURS.map(it => [it, style.getPropertyValue(`--${it}`).trim()]));
+    this.drawStretches(pen);
+    this.drawEvents(pen, past.script);
+    this.drawSight(pen);
+    const first = Math.max(0, Math.floor(view.first));
+    const end = Math.min(LAST_TURN, Math.ceil(view.end));
+    place.setAttribute("aria-valuemax", String(Math.max(whole, first)));
+    place.setAttribute("aria-valuenow", String(first));
+    place.setAttribute("aria-valuetext", `turns ${first} to ${end} of ${whole}`);
+  }
+
+  drawStretches(pen) {
+    const { view } = this.timeline;
+    pen.fillStyle = this.colours.grid;
+    pen.fillRect(view.left, 12, view.width, 2);
+    for (const { first, end, isWhole } of this.stretches) {
+      pen.globalAlpha = isWhole ? 0.7 : 0.25;
+      pen.fillStyle = this.colours.counter;
+      pen.fillRect(this.x(first), 9, Math.max(1, this.x(end) - this.x(first)), 8);
+    }
+    pen.globalAlpha = 1;
+  }
+
+  drawEvents(pen, script) {
+    pen.fillStyle = this.colours.key;
+    let free = 0;
+    for (const { turn } of script) {
+      const x = this.x(turn);
+      if (x < free) continue;
+      pen.fillRect(x, 19, 1, 5);
+      free = x + 1;
+    }
+  }
+
+  drawSight(pen) {
+    const { view, cursor } = this.timeline;
+    const left = this.x(Math.max(0, view.first)), right = Math.max(left + 3, this.x(view.end));
+    pen.strokeStyle = this.colours.accent;
+    pen.lineWidth = 2;
+    pen.strokeRect(left, 3, right - left, 20);
+    pen.fillStyle = this.colours.bad;
+    pen.fillRect(this.x(cursor) - 0.5, 3, 1, 20);
+    pen.fillStyle = this.colours.faint;
+    pen.font = "11px ui-monospace, Menlo, Consolas, monospace";
+    pen.fillText("whole run", 6, 17, view.left - 10);
+  }
+}

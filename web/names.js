@@ -1,0 +1,48 @@
+// The words that are drawn, and what they are called: by the session language, and by the session's
+// own names or the symbols.
+
+import { octal, physicalOf, visibleName } from "./replies.js";
+import { Priority } from "./run.js";
+import { readableLine } from "./session.js";
+
+/**
+ * A word that is drawn as steps: of core by its address, or of a drive by its number.
+ * @typedef {{kind: "core" | "disk", drive: number, at: number}} WatchedWord
+ */
+
+/** The name of a word as the session language has it. */
+export const nameOfWord = word => word.kind === "core" ? `core ${octal(word.at)}`
+  : `disk ${word.drive ? `${word.drive} ` : ""}${octal(word.at, 7)}`;
+
+/** The word with a name such as `2000`, `core 2000`, `disk 0` or `disk 1 0`, or null. */
+export function wordNamed(name) {
+  const [, core, drive = "0", index] =
+    /^(?:(?:core +)?([0-7]{1,10})|disk +(?:([0-7]{1,10}) +)?([0-7]{1,10}))$/.exec(name) ?? [];
+  if (core) return { kind: "core", drive: 0, at: parseInt(core, 8) };
+  return index ? { kind: "disk", drive: parseInt(drive, 8), at: parseInt(index, 8) } : null;
+}
+
+/**
+ * What a session calls its words, by their names: lines `# name core 30000 clerk A's balance`.
+ * @returns {Map<string, string>}
+ */
+export function namesOfSession({ lines }) {
+  const found = new Map();
+  for (const line of lines) {
+    const [, place, name] =
+      /^# name ((?:core|disk)(?: [0-7]{1,10}){1,2}) ([^\s0-7].*)$/.exec(line) ?? [];
+    const word = place ? wordNamed(place) : null;
+    if (word) found.set(nameOfWord(word), visibleName(readableLine(name)));
+  }
+  return found;
+}
+
+/** The symbol of a word of core that the kernel has at the same virtual address before a turn, or
+    an empty text. */
+export async function symbolOfWord(run, { kind, at }, symbols, turn) {
+  const symbol = kind === "core" && symbols.kernel?.find(it => it.value === at);
+  if (!symbol) return "";
+  const line = `translate ${turn} kernel ${at.toString(8)}`;
+  const place = physicalOf(await run.askOne(line, Priority.PICTURE));
+  return place === at ? visibleName(symbol.name) : "";
+}

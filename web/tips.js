@@ -1,0 +1,153 @@
+// Tells what is drawn: under the pointer, of the mark that has the focus, and of the thing to which
+// a key went. Of a write it is asked which instruction made it.
+
+import { thingAt, thingFrom, thingsOf } from "./things.js";
+import { octal, registersOf, turnsOf, visibleName } from "./replies.js";
+import { Priority } from "./run.js";
+import { symbolNear } from "./session.js";
+
+export class Tips {
+  /** @param {HTMLElement} place @param {import("./app.js").App} app */
+  constructor(place, app) {
+    const { timeline } = app;
+    Object.assign(this, { place, app, timeline, told: null, where: [0, 0] });
+    /** The name of the lane whose things keys go to, or null: all but those of PC. */
+    this.lane = null;
+    const { element } = timeline;
+    /** Whether the pointer was used last, and no key: then the focus tells nothing. */
+    this.isByPointer = false;
+    element.addEventListener("pointerdown", () => { this.isByPointer = true; });
+    addEventListener("keydown", () => { this.isByPointer = false; });
+    element.addEventListener("pointermove", event => this.onPointer(event));
+    element.addEventListener("pointerleave", () => this.hide());
+    element.addEventListener("focusin", event => this.onFocus(event));
+    element.addEventListener("focusout", () => this.hide());
+  }
+
+  /** The thing at a place of the timeline: of the past as it is, or of the old one. */
+  at(x, y) {
+    const { timeline } = this, { view, symbols } = timeline;
+    const lane = timeline.lanes?.find(it => y >= it.top && y < it.top + it.height);
+    if (!lane || x < view.left || x > view.left + view.width) return null;
+    const touched = picture => thingAt(lane, thingsOf(lane, picture, symbols), view, x);
+    const now = touched(timeline.picture), old = now ? null : touched(timeline.ghost);
+    return now ? { ...now, isOld: false } : old && { ...old, isOld: true };
+  }
+
+  /** The turn to which a click goes. */
+  turnAt(x, y) {
+    const found = this.at(x, y);
+    return found?.isThere ? found.thing.goTo : this.timeline.view.turn(x);
+  }
+
+  onPointer(event) {
+    const { timeline } = this, isOther = event.target.closest?.("button");
+    if (isOther || timeline.pointers.size || event.pointerType === "touch") return this.hide();
+    const { left, top } = timeline.element.getBoundingClientRect();
+    const [x, y] = [event.clientX - left, event.clientY - top], found = this.at(x, y);
+    return found ? this.tell(found, x, y + 16) : this.hide();
+  }
+
+  onFocus({ target }) {
+    const mark = target.closest?.("button.mark");
+    if (!mark || this.isByPointer) return;
+    this.told = null;
+    this.show(mark.getAttribute("aria-label"), mark.offsetLeft, mark.offsetTop + 30);
+  }
+
+  /** Tells of a thing, and of a write which instruction made it once that is known. */
+  async tell({ thing, isOld }, x, y) {
+    const text = `${isOld ? `${this.app.pasts.inWords()}: ` : ""}turn ${thing.turn}: ${thing.text}`;
+    if (this.told?.begin !== text) this.told = { begin: text, text, isAsked: false };
+    const { told } = this;
+    this.show(told.text, x, y);
+    if (!thing.isWrite || isOld || told.isAsked) return;
+    told.isAsked = true;
+    const maker = await this.makerOf(thing.goTo);
+    if (!maker || this.told !== told) return;
+    told.text = `${text}, ${maker}`;
+    if (!this.place.hidden) this.show(told.text, ...this.where);
+  }
+
+  /** The instruction of a turn, by its place, such as `at CLERK+12 (user 000012)`; an empty text if
+      the turn has none. */
+  async makerOf(turn) {
+    const { app, timeline } = this, token = app.token("tip");
+    let found = "";
+    await app.attempt(async () => {
+      const lines = [`trail ${turn + 1} 1`, `regs ${turn}`];
+      const [trail, registers] = await app.run.ask(lines, Priority.QUESTION, token);
+      const [{ pc, act }] = turnsOf(trail), { mode } = registersOf(registers);
+      if (act !== "instr") return;
+      const symbol = visibleName(symbolNear(timeline.symbols[mode], pc));
+      const place = `${mode} ${octal(pc)}`;
+      found = symbol ? `at ${symbol} (${place})` : `at ${place}`;
+    });
+    return found;
+  }
+
+  show(text, x, y) {
+    const { place, timeline } = this;
+    this.where = [x, y];
+    place.textContent = text;
+    place.hidden = false;
+    const most = timeline.width - place.offsetWidth - 2;
+    place.style.left = `${Math.max(2, Math.min(x + 8, most))}px`;
+    const lowest = timeline.element.clientHeight - place.offsetHeight - 2;
+    place.style.top = `${Math.max(2, Math.min(y, lowest))}px`;
+  }
+
+  hide() {
+    this.place.hidden = true;
+  }
+
+  // Keys
+
+  /** What a key does to the lane that is chosen, or to the cursor. Returns whether it does so. */
+  act(key) {
+    const act = {
+      ArrowUp: () => this.chooseLane(-1), ArrowDown: () => this.chooseLane(1),
+      n: () => this.goOn(1), p: () => this.goOn(-1),
+    }[key];
+    act?.();
+    return act !== undefined;
+  }
+
+  /** The lanes that have things, each with them. */
+  lanesWithThings() {
+    const { lanes = [], picture, symbols } = this.timeline;
+    return lanes.map(lane => ({ lane, things: thingsOf(lane, picture, symbols) }))
+      .filter(it => it.things.length);
+  }
+
+  /** Chooses the lane above or below, for the keys that go to things. */
+  chooseLane(by) {
+    const lanes = this.lanesWithThings().map(it => it.lane);
+    if (!lanes.length) return;
+    const at = lanes.findIndex(it => it.name === this.lane);
+    const next = lanes[at < 0 ? 0 : Math.min(lanes.length - 1, Math.max(0, at + by))];
+    this.lane = next.name;
+    this.told = null;
+    this.show(next.label || next.name, 0, next.top);
+    this.timeline.tellCursor(`lane ${next.label || next.name}`);
+  }
+
+  /** Goes to the next thing, or with -1 to the one before. */
+  async goOn(direction) {
+    const { timeline } = this;
+    const found = this.lanesWithThings()
+      .filter(({ lane }) => this.lane ? lane.name === this.lane : lane.kind !== "counter")
+      .map(({ lane, things }) => (
+        { lane, thing: thingFrom(things, timeline.cursor, direction) }))
+      .filter(it => it.thing !== null)
+      .sort((a, b) => direction * (a.thing.goTo - b.thing.goTo))[0];
+    if (!found) return;
+    const { lane, thing } = found;
+    timeline.setCursor(thing.goTo);
+    const told = this.tell({ thing, isOld: false },
+      timeline.view.x(thing.turn), lane.top + lane.height);
+    timeline.tellCursor(this.told.text);
+    await told;
+    if (timeline.cursor === thing.goTo) timeline.tellCursor(this.told?.text ?? "");
+  }
+}
