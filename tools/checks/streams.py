@@ -53,8 +53,9 @@ def ended(
     return ran.returncode, ran.stderr.decode(), (ran.stdout or b"").decode()
 
 
-def runs_of_streams(program: str, folder: str) -> Iterator[tuple[str, bool]]:
-    """Each run on a stream that fails, and whether it ended as it must."""
+def runs_of_streams(program: str, folder: str, step: int) -> Iterator[tuple[str, bool]]:
+    """Each run on a stream that fails, and whether it ended as it must. Of the numbers of bytes
+    that an output takes, each step-th one is tried."""
     lines = os.path.join(folder, "lines")
     with open(lines, "w", encoding="ascii") as file:
         file.write("regs 0\n")
@@ -67,7 +68,7 @@ def runs_of_streams(program: str, folder: str) -> Iterator[tuple[str, bool]]:
             got = ended(program, words, reader, full)
             yield f"an output that takes nothing {words}", got == (*INPUT_OR_OUTPUT, "")
     os.close(at_folder)
-    yield "an output that takes a part of the replies", takes_each_part(program, folder)
+    yield "an output that takes a part of the replies", takes_each_part(program, folder, step)
     yield "a reply before the next line", replies_at_once(program)
     yield "an image in two parts", takes_two_parts(program)
 
@@ -76,9 +77,9 @@ def let_files_grow_to(size: int) -> None:
     resource.setrlimit(resource.RLIMIT_FSIZE, (size, size))
 
 
-def takes_each_part(program: str, folder: str) -> bool:
+def takes_each_part(program: str, folder: str, step: int) -> bool:
     """Whether the program fails at a file that takes only the first bytes of its replies, for each
-    number of bytes, and has written these."""
+    step-th number of bytes, and has written these."""
     lines, output = os.path.join(folder, "lines"), os.path.join(folder, "output")
     with open(lines, "w", encoding="ascii") as file:
         file.write(LINES)
@@ -92,7 +93,7 @@ def takes_each_part(program: str, folder: str) -> bool:
 
     whole, replies = taken(1 << 20)
     cut = (*INPUT_OR_OUTPUT, "")
-    parts = (taken(size) == (cut, replies[:size]) for size in range(len(replies)))
+    parts = (taken(size) == (cut, replies[:size]) for size in range(0, len(replies), step))
     return whole == (*DONE, "") and len(replies) > 100 and all(parts)
 
 
@@ -136,16 +137,20 @@ def runs_of_images(program: str, folder: str) -> Iterator[tuple[str, bool]]:
         yield f"{option}, {size + more} bytes", got == (*BAD_IMAGE, "")
 
 
+def runs(program: str, step: int = 1) -> list[tuple[str, bool]]:
+    """Each run of the program, and whether it ended as it must."""
+    with tempfile.TemporaryDirectory() as folder:
+        return [*runs_of_streams(program, folder, step), *runs_of_images(program, folder)]
+
+
 def main() -> int:
     as_it_is = argparse.RawDescriptionHelpFormatter
     parser = argparse.ArgumentParser(description=__doc__, formatter_class=as_it_is)
     parser.add_argument("program", metavar="PROGRAM", type=sessions.existing_program)
-    program = parser.parse_args().program
-    with tempfile.TemporaryDirectory() as folder:
-        runs = [*runs_of_streams(program, folder), *runs_of_images(program, folder)]
-    wrong = [name for name, is_well in runs if not is_well]
+    found = runs(parser.parse_args().program)
+    wrong = [name for name, is_well in found if not is_well]
     print("".join(f"{name}: another end\n" for name in wrong), end="")
-    print(f"{len(runs) - len(wrong)} passed, {len(wrong)} failed")
+    print(f"{len(found) - len(wrong)} passed, {len(wrong)} failed")
     return int(len(wrong) > 0)
 
 

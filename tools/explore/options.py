@@ -67,6 +67,29 @@ class Parser(argparse.ArgumentParser):
         super().error(visible(message))
 
 
+def release() -> str:
+    """The newest release that CHANGELOG.md names, by its day."""
+    path = Path(__file__).resolve().parents[2] / "CHANGELOG.md"
+    try:
+        found = re.search(r"^## (\S+)$", path.read_text(encoding="utf-8"), re.M)
+    except (OSError, ValueError) as error:
+        raise ExploreError(f"{path} can't be read: {error}") from error
+    if found is None:
+        raise ExploreError(f"{path} names no release")
+    return found[1]
+
+
+class ShowVersion(argparse.Action):
+    """The option --version, which ends explore as --help does."""
+
+    def __init__(self, option_strings: list[str], dest: str, **more: Any):
+        super().__init__(option_strings, dest, nargs=0, **more)
+
+    def __call__(self, parser: argparse.ArgumentParser, *ignored: Any) -> None:
+        put(f"explore of Nezdrab, release {release()} or later")
+        parser.exit()
+
+
 def add_options(parser: argparse.ArgumentParser) -> None:
     """Has a parser take the options of the program."""
     of_program = parser.add_argument_group("options of pdp11 (./pdp11 --help)")

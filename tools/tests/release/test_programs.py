@@ -1,7 +1,27 @@
 """Which program ./pdp11 and tools/program find, and what they say if there is none."""
 import os
+import re
+import shutil
+import signal
+import subprocess
+import unittest
 
-from .tree import BUILT, CRATES, NEWER_GLIBC, PROGRAM, RELEASE, ROOT, STORED_HELP, Tree
+from checks import by_node
+from pseudo_terminal import PseudoTerminal
+
+from .tree import BUILT, CRATES, NEWER_GLIBC, PROGRAM, RELEASE, ROOT, SECONDS
+from .tree import STORED_HELP, Tree, path_without
+
+# Node of a version, which takes an option of its machine if this begins as one of these.
+NODE = """\
+#!/bin/sh
+case $1 in
+--version) echo v{version} ;;
+--wasm*) [ {takes} ] || exit 9; [ "$2" = --version ] || echo by node: "$@" ;;
+*) echo by node: "$@" ;;
+esac
+"""
+OTHER_SYSTEM = "#!/bin/sh\n[ $1 = -s ] && echo Darwin || echo arm64\n"
 
 
 class Found(Tree):
@@ -60,8 +80,9 @@ class Found(Tree):
 
     def test_another_system(self) -> None:
         self.make_release()
-        self.write("../bin/uname", "#!/bin/sh\n[ $1 = -s ] && echo Darwin || echo arm64\n", 0o755)
-        self.assertRefuses("darwin-arm64", "Linux on x86-64")
+        self.write("../bin/uname", OTHER_SYSTEM, 0o755)
+        self.path = path_without(self.folder, "rt", "node")
+        self.assertRefuses("darwin-arm64", "Linux on x86-64", "or install node, 16 or later")
 
     def test_from_source(self) -> None:
         self.make_release()
@@ -93,3 +114,148 @@ class Found(Tree):
     def test_help_is_the_programs_own(self) -> None:
         self.make_release()
         self.assertEqual(self.run_in("./pdp11", "--help").stdout, "a program: --help\n")
+
+
+class ByNode(Tree):
+    """The program by node, where the release file can't run."""
+
+    def setUp(self) -> None:
+        super().setUp()
+        self.make_release(NEWER_GLIBC)
+        self.module("a module")
+        self.node("16.0.0")
+
+    def node(self, version: str, takes: str = "yes") -> None:
+        self.write("../bin/node", NODE.format(version=version, takes=takes), 0o755)
+
+    def assertByNode(self, *options: str) -> None:
+        ended = self.run_in("./pdp11", "a", "b c")
+        host = str(self.tree / "tools/by-node/host.mjs")
+        begin = " ".join(["by node:", *options, host, "pdp11 "])
+        self.assertEqual((ended.stderr, ended.returncode), ("", 0))
+        self.assertRegex(ended.stdout, f"^{re.escape(begin)}[0-9a-f]? a b c\n$")
+
+    def test_where_the_release_file_cannot_run(self) -> None:
+        self.assertByNode("--wasm-tiering-budget=18000000")
+        self.node("16.0.0", takes="")
+        self.assertByNode()
+        self.write("../bin/uname", OTHER_SYSTEM, 0o755)
+        self.assertByNode()
+
+    def test_where_the_release_file_runs(self) -> None:
+        self.make_release()
+        self.assertRuns()
+
+    def test_node_that_is_too_old(self) -> None:
+        for version in "14.21.3", "9.0.0", "unknown":
+            self.node(version)
+            self.assertRefuses("version GLIBC_2.34 not found", "or install node, 16 or later")
+
+    def test_a_module_of_other_sources_or_bytes(self) -> None:
+        for name in "release/pdp11.wasm", "release/pdp11.wasm.sources":
+            self.change_a_byte(name)
+            self.assertRefuses("node can't run it either, since release/pdp11.wasm isn't the file")
+            self.change_a_byte(name)
+        self.change_a_byte("crates/low/src/lib.rt")
+        self.assertRefuses("release/pdp11-linux-x86_64 was made of other sources")
+
+    def test_commands_that_another_system_lacks(self) -> None:
+        self.write("../bin/uname", OTHER_SYSTEM, 0o755)
+        self.path = path_without(self.folder, "rt", "sha256sum", "tac")
+        self.assertByNode("--wasm-tiering-budget=18000000")
+
+    def test_it_is_told_once_at_a_terminal(self) -> None:
+        path = os.pathsep.join(map(str, [self.folder / "bin", *self.path]))
+        environment = {**os.environ, "PATH": path}
+        command = ["sh", "-c", "tools/program search; tools/program disassemble; echo end"]
+        self.write("crates.txt", f"{CRATES}search: low\n")
+        self.write("../bin/uname", OTHER_SYSTEM, 0o755)
+        for name in "search", "disassemble":
+            self.module("a module", name)
+        with PseudoTerminal(command, str(self.tree), environment) as terminal:
+            terminal.wait_for(b"search: release/search-linux-x86_64 can't run here, so node runs")
+            terminal.wait_for(b"tools/by-node/search\r\n/")
+            terminal.wait_for(b"tools/by-node/disassemble\r\nend\r\n")
+
+
+@unittest.skipUnless(shutil.which("node"), "node isn't installed")
+class ByThisNode(Tree):
+    """The tree has this repository's module, and node is the one that is here."""
+
+    def setUp(self) -> None:
+        super().setUp()
+        self.make_release(NEWER_GLIBC)
+        self.module((ROOT / "release/pdp11.wasm").read_bytes())
+        for name in "web/host.js", "web/heap.js", "web/package.json":
+            self.copy(name)
+
+    def test_a_session(self) -> None:
+        given = (ROOT / "examples/first-run.session").read_text()
+        ended = self.run_in("./pdp11", given=given)
+        wanted = (ROOT / "examples/first-run.expected").read_text()
+        self.assertEqual((ended.stdout, ended.stderr, ended.returncode), (wanted, "", 0))
+
+    def test_streams_that_are_closed(self) -> None:
+        for closed in "<&-", ">&-":
+            ended = self.run_in("sh", "-c", f"./pdp11 --help {closed}", given="regs 0\n")
+            wanted = 0 if closed == "<&-" else 3
+            self.assertEqual(ended.returncode, wanted, self.said)
+        ended = self.run_in("sh", "-c", "./pdp11 <&-")
+        self.assertEqual((ended.returncode, self.said), (3, "pdp11: input or output\n"))
+
+    def test_names_that_are_not_ascii(self) -> None:
+        """The program itself takes no name that isn't UTF-8."""
+        self.write("../image\u00e4", b"\x01\x02")
+        ended = self.run_in("./pdp11", "--core", "../image\u00e4", given="mem 0 0 1\n")
+        self.assertEqual((ended.stdout, ended.stderr), ("mem 001001\n", ""))
+        ended = self.run_in("./pdp11", "--core", "../image\udcff")
+        self.assertEqual((ended.returncode, self.said), (2, "pdp11: bad arguments\n"))
+
+    def test_a_module_that_node_cannot_run(self) -> None:
+        self.module("a module")
+        ended = self.run_in("./pdp11")
+        self.assertEqual((ended.returncode, ended.stdout), (1, ""))
+        self.assertRegex(ended.stderr, "^pdp11: node can't run it: [^\n]*\n$")
+
+    def ended_by(self, sent: signal.Signals, *before: str) -> int:
+        """The status of a program that is sent a signal while it computes, and killed after."""
+        path = os.pathsep.join(map(str, [self.folder / "bin", *self.path]))
+        environment, pipe = {**os.environ, "PATH": path}, subprocess.PIPE
+        command = [*before, str(self.tree / "pdp11")]
+        with subprocess.Popen(command, env=environment, stdin=pipe, stdout=pipe) as ran:
+            assert ran.stdin and ran.stdout
+            ran.stdin.write(b"core 1000 777\nregs 1000000000\n")
+            ran.stdin.flush()
+            self.assertEqual(ran.stdout.readline(), b"ok\n")
+            ran.send_signal(sent)
+            ran.send_signal(signal.SIGTERM)
+            return ran.wait(SECONDS)
+
+    def test_signals_end_it_unless_they_are_ignored(self) -> None:
+        self.assertEqual(self.ended_by(signal.SIGINT), -signal.SIGINT)
+        self.assertEqual(self.ended_by(signal.SIGHUP), -signal.SIGHUP)
+        shell = ["sh", "-c", "trap '' HUP INT; exec \"$0\""]
+        for sent in signal.SIGINT, signal.SIGHUP:
+            self.assertEqual(self.ended_by(sent, *shell), -signal.SIGTERM)
+
+
+class CheckNode(Tree):
+    """What tools/check-node finds."""
+
+    @unittest.skipUnless(shutil.which("node"), "node isn't installed")
+    def test_a_session_with_another_reply(self) -> None:
+        for name, reply in ("right", "refused 7 TurnTooLarge"), ("wrong", "refused 8 BadCount"):
+            self.write(f"sessions/{name}.transcript", f"regs 1000000001\n{reply}\n")
+        right, wrong = by_node.of_sessions("pdp11", [str(self.tree / "sessions")], ".session")
+        self.assertIsNone(right)
+        self.assertIn("sessions/wrong: line 1 of the output is ", wrong or "")
+
+    def test_without_node(self) -> None:
+        self.path = path_without(self.folder, "rt", "node")
+        ended = self.run_in(str(ROOT / "tools" / "check-node"), str(ROOT / "rows"))
+        self.assertEqual((ended.returncode, self.said), (77, "node isn't installed\n"))
+
+    def test_no_such_folder(self) -> None:
+        ended = self.run_in(str(ROOT / "tools" / "check-node"), "nowhere")
+        self.assertEqual((ended.returncode, ended.stdout), (2, ""))
+        self.assertIn("nowhere: no such folder", ended.stderr)

@@ -1,5 +1,4 @@
 """The release files that tools/release makes, checks and packs."""
-import hashlib
 import os
 import shutil
 import subprocess
@@ -138,19 +137,6 @@ class Checked(Tree):
         self.path = path_without(self.folder, "rt", "git")
         self.assertIsNone(self.archive("first"))
         self.assertEqual(self.said, "release: an archive is made by git, which isn't on PATH\n")
-
-    def module(self, content: str) -> None:
-        """A module of pdp11 with this content, as made of these sources."""
-        self.write("release/pdp11.wasm", content)
-        way = b"".join(
-            it.name.encode() + b"\n" + it.read_bytes()
-            for it in sorted((self.tree / "tools/webassembly").iterdir())
-            if it.name in ("heap.ll", "kit.py", "retarget.py")
-        )
-        sources = self.run_in("tools/sources-sum", "pdp11").stdout.strip()
-        sums = [hashlib.sha256(it).hexdigest() for it in (way, content.encode())]
-        lines = f"sources {sources}\nway {sums[0]}\nkit any\nbinaryen any\nmodule {sums[1]}\n"
-        self.write("release/pdp11.wasm.sources", lines)
 
     @BY_GIT
     def test_an_archive_has_no_module_that_is_older(self) -> None:

@@ -1,4 +1,5 @@
 """A small tree of four crates. Scripts stand in the place of the programs and of the kit's rt."""
+import hashlib
 import os
 import shutil
 import subprocess
@@ -16,6 +17,7 @@ TOOLS = [
     *("search", "explore", "tools/start-explore", "tools/python_needed.py", "tools/refuse-each"),
     *(str(it.relative_to(ROOT)) for it in sorted(ROOT.glob("tools/explore/*.py"))),
     *(str(it.relative_to(ROOT)) for it in sorted(ROOT.glob("tools/webassembly/*.*"))),
+    *(str(it.relative_to(ROOT)) for it in sorted(ROOT.glob("tools/by-node/*"))),
 ]
 STORED_HELP = "rows/program/help.expected"
 RELEASE = "release/pdp11-linux-x86_64"
@@ -97,6 +99,20 @@ class Tree(unittest.TestCase):
         self.assertEqual(made.returncode, 0, self.said)
         for name in "pdp11", "disassemble":
             shutil.rmtree(self.tree / "crates" / name / "out")
+
+    def module(self, content: Union[str, bytes], name: str = "pdp11") -> None:
+        """A module of a program with this content, as made of these sources."""
+        held = content.encode() if isinstance(content, str) else content
+        self.write(f"release/{name}.wasm", held)
+        way = b"".join(
+            it.name.encode() + b"\n" + it.read_bytes()
+            for it in sorted((self.tree / "tools/webassembly").iterdir())
+            if it.name in ("heap.ll", "kit.py", "retarget.py")
+        )
+        sources = self.run_in("tools/sources-sum", name).stdout.strip()
+        sums = [hashlib.sha256(it).hexdigest() for it in (way, held)]
+        lines = f"sources {sources}\nway {sums[0]}\nkit any\nbinaryen any\nmodule {sums[1]}\n"
+        self.write(f"release/{name}.wasm.sources", lines)
 
     def assertRuns(self) -> None:
         ended = self.run_in("./pdp11", "a", "b")

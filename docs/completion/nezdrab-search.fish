@@ -1,0 +1,16 @@
+# Made by tools/make-manual: completes the options and the sessions of nezdrab-search.
+complete -c nezdrab-search -f
+complete -c nezdrab-search -l core -r -F -d 'Words of core from address 0 on [default: zeros]'
+complete -c nezdrab-search -l disk -r -F -d 'Words of the drive from word 0 on [default: zeros]'
+complete -c nezdrab-search -l disk1 -r -F -d 'Words of drive 1, which version 2 has [default: zeros]'
+complete -c nezdrab-search -l disk2 -r -F -d 'The same of drive 2'
+complete -c nezdrab-search -l disk3 -r -F -d 'The same of drive 3'
+complete -c nezdrab-search -l disk4 -r -F -d 'The same of drive 4'
+complete -c nezdrab-search -l disk5 -r -F -d 'The same of drive 5'
+complete -c nezdrab-search -l disk6 -r -F -d 'The same of drive 6'
+complete -c nezdrab-search -l disk7 -r -F -d 'The same of drive 7'
+complete -c nezdrab-search -l tape -r -F -d 'Paper tape, a file of plain bytes [default: empty]'
+complete -c nezdrab-search -l units -x -d 'Units of core of 4096 words, 1 to 31 [default: 31]'
+complete -c nezdrab-search -l start -x -d 'Start address, octal and even [default: 1000]'
+complete -c nezdrab-search -l stride -x -d 'Turns between kept states, 1 to 2000000000 [default: 10000]'
+complete -c nezdrab-search -s h -l help -d 'Print help'

@@ -1,0 +1,17 @@
+#compdef nezdrab-search
+# Made by tools/make-manual: completes the options and the sessions of nezdrab-search.
+_arguments \
+  '--core=[Words of core from address 0 on \[default\: zeros\]]:FILE:_files' \
+  '--disk=[Words of the drive from word 0 on \[default\: zeros\]]:FILE:_files' \
+  '--disk1=[Words of drive 1, which version 2 has \[default\: zeros\]]:FILE:_files' \
+  '--disk2=[The same of drive 2]:FILE:_files' \
+  '--disk3=[The same of drive 3]:FILE:_files' \
+  '--disk4=[The same of drive 4]:FILE:_files' \
+  '--disk5=[The same of drive 5]:FILE:_files' \
+  '--disk6=[The same of drive 6]:FILE:_files' \
+  '--disk7=[The same of drive 7]:FILE:_files' \
+  '--tape=[Paper tape, a file of plain bytes \[default\: empty\]]:FILE:_files' \
+  '--units=[Units of core of 4096 words, 1 to 31 \[default\: 31\]]:N: ' \
+  '--start=[Start address, octal and even \[default\: 1000\]]:A: ' \
+  '--stride=[Turns between kept states, 1 to 2000000000 \[default\: 10000\]]:N: ' \
+  '(-h --help)'{-h,--help}'[Print help]'

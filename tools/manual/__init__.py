@@ -1,0 +1,1 @@
+"""The manual pages of the programs, and what completes their options in a shell."""
