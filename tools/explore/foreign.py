@@ -20,6 +20,7 @@ DEPOSIT = "`core A W` sets the word at A from power-up on: it changes the past"
 RUN = "each turn is there already: `show N`, `text N`; `until PC A` finds the turn that comes to A"
 KEPT = "no state has to be kept: `show N` shows any turn, and `save FILE` saves the past"
 BOOT = "`console from 0` sits down at power-up; examples/boot-rk0.session has a bootstrap"
+LINES = "`do FILE` does the lines of FILE, `define NAME LINE` makes a word of your own"
 ATTACH = "a disk is the option --disk FILE of explore; `import FILE` takes over commands of SIMH"
 
 # Each sentence has lines to type, in `such quotes`. A command of explore comes before a word here.
@@ -40,15 +41,18 @@ FOREIGN = {
     **dict.fromkeys(("l", "disas", "disassemble"), INSTRUCTIONS),
     "d": f"{DEPOSIT}; `delete N` takes away a breakpoint",
     **dict.fromkeys(("dep", "deposit"), DEPOSIT),
-    "set": f"{DEPOSIT}; `delay L N` sets how long a device takes",
+    "set": f"{DEPOSIT}; `delay L N` sets how long a device takes; `define NAME LINE` makes a word",
     "history": "`see N C` shows the C turns before turn N; nothing has to be switched on for it",
+    **dict.fromkeys(("gprof", "perf"), "`profile N M` shows in which routines the turns were"),
+    "gcov": "`covered FILE` shows a listing with how often each line ran",
     **dict.fromkeys(("r", "go", "start"), RUN),
     **dict.fromkeys(("checkpoint", "restart", "restore"), KEPT),
     **dict.fromkeys(("boot", "reset"), BOOT),
     **dict.fromkeys(("attach", "att"), ATTACH),
-    "send": "`type TEXT from N` strikes keys from turn N on",
-    "expect": "`until text STRING` finds the turn that prints the last byte of STRING",
-    "h": "`help` lists what there is, `help WORD` says what one does",
+    **dict.fromkeys(("source", "alias", "macro"), LINES),
+    "logging": "`log FILE` writes what is typed and shown to FILE too",
+    "send": "`type TEXT` strikes keys from the current turn on, or behind the last event",
+    "h": "`help` lists the topics, `help WORD` says what one does",
 }
 # `x/20i A` of gdb: how many, and the letters of the format.
 EXAMINED = re.compile(r"(?:x|p|print|e|ex|examine)/([0-9]{0,4})([a-z]{0,2})")

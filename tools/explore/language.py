@@ -151,7 +151,7 @@ def explanation(line: str, reply: str, version: int) -> str:
         more = f"; a CONDITION is {sessions.CONDITIONS}" if "where" in words else ""
         return f"the forms are: {'; '.join(forms_of_searches(word))}{more}"
     if word not in FORMS:
-        return f"there is no line '{word}'; help lists the commands"
+        return f"there is no line '{word}'; help lists the topics"
     form = form_of(word, version)
     wrong = fault_of_words(form.split()[1:], words) or "it has another form"
     if word in FORMS_OF_EIGHT_DRIVES:

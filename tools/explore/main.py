@@ -9,6 +9,7 @@ from typing import Iterator, Optional
 
 import sessions
 
+from . import matters, sweep
 from .commands import Explorer, Step
 from .disassembly import Disassembler
 from .errors import ExploreError
@@ -19,19 +20,18 @@ from .journal import there_already, told
 from .language import explanation
 from .load import warnings_of
 from .machine import Machine, Start, existing_program, in_parts, is_refused
-from .options import Options, Parser, add_options, check_options, check_session
+from .options import Options, Parser, ShowVersion, add_options, check_options, check_session
 from .options import option_lines, options_of, words_of_options
 from .output import Unwritable, complain, fault_in_words, flush
 from .output import leave_streams, prepare_streams, put
 from .prompt import Prompt, read_at_terminal, read_lines
-from .sweep import raw_lines
 
 LINES_AT_ONCE, LONGEST_SHOWN = 10_000, 200
 ROOT = Path(__file__).resolve().parents[2]
 DESCRIPTION = """\
 A prompt over the session language of Nezdrab's PDP-11 (docs/LANGUAGE.md). Its lines go through,
 and beside them there are commands to see instructions, to find the turn in which something happens,
-to sweep an event over many turns, and to draw a run. At the prompt `help` lists them all.
+to sweep an event over many turns, and to draw a run. At the prompt `help` has them by topic.
 
 SESSION is read first: its edits are made, its questions aren't asked. Options may stand in it, in
 comment lines `#! OPTIONS` before its first line, as `save` writes them. Without such a line those
@@ -46,7 +46,8 @@ the keys of a console or of `type` a power cut may lose those of the last moment
 edits are saved, or with `quit!`; the 30 newest are kept."""
 
 
-def arguments(words: list[str]) -> argparse.Namespace:
+def new_parser() -> Parser:
+    """What reads the arguments of explore."""
     parser = Parser(
         prog="explore",
         description=DESCRIPTION,
@@ -54,13 +55,18 @@ def arguments(words: list[str]) -> argparse.Namespace:
         formatter_class=argparse.RawDescriptionHelpFormatter,
     )
     add_options(parser)
+    parser.add_argument("--version", action=ShowVersion, help="shows the newest release, and ends")
     parser.add_argument(
         "--echo", action="store_true", help="shows each line from a pipe before its replies"
     )
-    parser.add_argument(
+    part = parser.add_mutually_exclusive_group()
+    part.add_argument(
         "--sweep",
         metavar="TEXT",
         help="does one part of a sweep, as `sweep --jobs` writes it, and ends",
+    )
+    part.add_argument(
+        "--matters", metavar="TEXT", help="the same with a part that `matters --jobs` writes"
     )
     parser.add_argument(
         "--program", metavar="FILE", help="a built search, in place of what tools/program finds"
@@ -79,7 +85,11 @@ def arguments(words: list[str]) -> argparse.Namespace:
     journal.add_argument("--journal", metavar="FILE", help="the journal is FILE, from a pipe too")
     journal.add_argument("--no-journal", action="store_true", help="there is no journal")
     parser.add_argument("session", metavar="SESSION", nargs="?")
-    return parser.parse_args(words)
+    return parser
+
+
+def arguments(words: list[str]) -> argparse.Namespace:
+    return new_parser().parse_args(words)
 
 
 def found_program(name: str) -> str:
@@ -210,10 +220,21 @@ def begun(found: argparse.Namespace) -> Explorer:
     explorer.steps.count = len(machine.journal)
     explorer.saved = list(machine.journal)
     machine.file = journal_of(found, options)
-    if explorer.is_terminal and not found.no_journal and found.sweep is None:
+    if explorer.is_terminal and not found.no_journal and not has_part(found):
         for line in told():
             put(line)
     return explorer
+
+
+def has_part(found: argparse.Namespace) -> bool:
+    return found.sweep is not None or found.matters is not None
+
+
+def part_lines(explorer: Explorer, found: argparse.Namespace) -> Iterator[str]:
+    """What a part of long work gives."""
+    if found.sweep is not None:
+        return sweep.raw_lines(explorer, found.sweep)
+    return matters.raw_lines(explorer, found.matters)
 
 
 def explore(found: argparse.Namespace) -> None:
@@ -221,9 +242,9 @@ def explore(found: argparse.Namespace) -> None:
         explorer = begun(found)
     prompt = Prompt(explorer, found.echo)
     try:
-        if found.sweep is not None:
+        if has_part(found):
             with INTERRUPTS.allowed():
-                prompt.show(raw_lines(explorer, found.sweep))
+                prompt.show(part_lines(explorer, found))
         elif explorer.is_terminal:
             read_at_terminal(prompt)
         else:

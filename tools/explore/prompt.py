@@ -1,21 +1,25 @@
 """The prompt: lines of the session language go through, explore's own commands are done here."""
-import os
 import re
 import readline
 import shlex
 import sys
 from pathlib import Path
-from typing import Iterable, Optional, Sequence
+from typing import Iterable, Iterator, Optional, Sequence
 
 import sessions
 
 # these add commands
 from . import compare, console, edits, export, listing, page, screen, script, search  # noqa: F401
-from . import breaking, calls, difference, dump, stepping, sweep  # noqa: F401
+from . import breaking, calls, changes, covered, difference, dump, follow  # noqa: F401
+from . import lost, matters, profile, seeing, stepping, sweep, why  # noqa: F401
 from . import images, load, simh  # noqa: F401
+from . import defining, display, do_file, expecting, log  # noqa: F401
 from .at_work import AtWork
-from .commands import COMMANDS, Explorer
-from .errors import ExploreError
+from .commands import COMMANDS, ENDS, PROMPT, Explorer, Interpreter
+from .completion import HELP, completions
+from .defining import definition_line
+from .display import displays_after_move
+from .errors import ExploreError, LineRefused
 from .fades import MOST_TURNS
 from .files import OUTPUT
 from .foreign import sentence
@@ -26,17 +30,19 @@ from .language import FADING, FORMS, LISTS, SEARCHES, SUMMARIES
 from .language import explanation, form_of, forms_of_searches, is_decimal, is_edit
 from .machine import is_refused
 from .mapped import MAPPED_HELP, MAPPED_WORDS, in_core
-from .output import Unwritable, fault_in_words, flush, put
+from .output import LINES, Unwritable, fault_in_words, flush, put
+from .pager import Pager, fit, paragraphs_of
 from .patching import is_instruction
-from .quotes import RULE, begun_word, in_quotes, is_plain
+from .quotes import RULE
+from .topics import LINES as LINES_OF, TOPICS, command_lines, commands_of, forms_in_lines
+from .topics import SESSION, language_lines, search_lines
 
-PROMPT, BLANKS = "explore> ", " \t"
+BLANKS = " \t"
 INTRODUCTION = "lines of the session language, and help, console, see, until ..; quit ends"
 OWN_HELP = {
-    "help": ("help [WORD]", "what there is, or what the command WORD does"),
+    "help": ("help [TOPIC|WORD|all]", "what there is, or what the command WORD does"),
     "quit": ("quit", "ends, as q, exit and Ctrl-D do; quit! drops edits that weren't saved"),
 }
-ENDS = {"quit", "q", "exit"}
 SEARCH_HELP = (
     "With N and M it is about the turns from N on and before M, with N alone about the machine "
     "before turn N; `when` may go on to turn 1000000000. Details: docs/LANGUAGE.md, Searches"
@@ -48,7 +54,7 @@ FADES_HELP = (
     "docs/LANGUAGE.md, Searches"
 )
 # With `!` these overwrite a file that this run hasn't written.
-WRITING = {"save", "page", "export", "sweep", "core", "disk"}
+WRITING = {"save", "page", "export", "sweep", "core", "disk", "covered", "log", "matters", "why"}
 # The replies of these lines of the language begin with the turn that they have found.
 FINDING = ("last", "first", "latest", "change", "when", "fades")
 CONDITION_HELP = f"A CONDITION is {sessions.CONDITIONS}"
@@ -59,22 +65,44 @@ NUMBERS = (
 )
 CURRENT_TURN = (
     "The current turn is the one that a line found (until, next, where, first, latest, last, "
-    "change, when, fades, continue) or showed (show, step, back, over, finish, see, list, calls, "
-    "dump, screen) last, also by a line with reverse-, or where you left the console. The lines "
-    "that show begin there if they name no turn. Other lines, edits too, leave it as it is. The "
-    "prompt at a terminal names it, if it isn't turn 0."
+    "change, when, fades, continue, expect) or showed (show, step, back, over, finish, see, list,"
+    " calls, dump, screen, why) last, also by a line with reverse-, or where you left the "
+    "console. The lines that show begin there if they name no turn, and so do `expect` and, if no"
+    " event lies behind it, `type`. Other lines, edits too, leave it as it is. The prompt at a "
+    "terminal names it, if it isn't turn 0."
 )
+# Topics of help that are rules: a title, and the rules.
+RULES = {
+    "numbers": (
+        "numbers, symbols, files and texts in lines",
+        NUMBERS,
+        MAPPED_HELP,
+        f"{RULE[0].upper()}{RULE[1:]}.",
+    ),
+    "turn": ("the current turn", CURRENT_TURN),
+}
+TOPIC_WIDTH = 11
 
 
-class Prompt:
+class Ended(Exception):
+    """A line has ended explore."""
+
+    def __init__(self, is_dropped: bool):
+        super().__init__()
+        self.is_dropped = is_dropped
+
+
+class Prompt(Interpreter):
     """Does lines, and shows what each gives."""
 
     def __init__(self, explorer: Explorer, echo: bool = False):
+        explorer.interpreter = self
         self.completions: list[str] = []
         self.told_fault = ""
         self.explorer = explorer
         self.echo = echo
-        self.is_stopped = False
+        self.is_stopped = self.is_paged = False
+        self.pager = Pager()
         self.at_work = AtWork("")
 
     def show(self, lines: Iterable[str]) -> None:
@@ -88,21 +116,20 @@ class Prompt:
         if not bare or line.startswith("#"):
             return False
         word = sessions.first_word(bare)
-        rest, name = bare[len(word) :].lstrip(BLANKS), word.rstrip("!")
-        if self.explorer.machine.file is not None:
-            self.explorer.machine.file.begins(bare)
+        name = word.rstrip("!")
+        self.explorer.depth = 0
+        self.begins(bare)
         try:
-            if name in ENDS:
-                self.end(is_dropped=word != name)
+            if self.is_ended_by(line, name):
                 return True
-            with AtWork(name) as self.at_work, INTERRUPTS.allowed():
-                self.do(word, rest, line)
         except (BrokenPipeError, Unwritable):
             raise
         except KeyboardInterrupt:
             self.is_stopped = True
             self.show([f"\n{name}: stopped; the edits are all there"])
             INTERRUPTS.forget()
+        except LineRefused:
+            pass
         except (ExploreError, OSError) as error:
             self.show([f"{name}: {error}"])
         except Exception as error:
@@ -111,6 +138,24 @@ class Prompt:
         flush()
         return False
 
+    def is_ended_by(self, line: str, name: str) -> bool:
+        """Shows what a line gives, and tells whether it, or a line of its file, ends explore."""
+        try:
+            if name in ENDS:
+                raise Ended(is_dropped=sessions.first_word(line) != name)
+            with AtWork(name) as self.at_work, INTERRUPTS.allowed():
+                lines = self.lines_and_displays(line)
+                self.show(self.pager.pages(lines) if name in HELP and self.is_paged else lines)
+        except Ended as ended:
+            self.end(ended.is_dropped)
+            return True
+        return False
+
+    def begins(self, line: str) -> None:
+        """The next edits are those of this line."""
+        if self.explorer.machine.file is not None:
+            self.explorer.machine.file.begins(line)
+
     def pasted(self, lines: Sequence[str]) -> bool:
         """Does lines that came in one piece, as a terminal gives a paste. Each is shown again
         before its replies. After Ctrl-C and after `quit` the others aren't done. Tells whether one
@@ -118,8 +163,26 @@ class Prompt:
         is_last = self.is_stopped = False
         for line in lines:
             if not is_last and not self.is_stopped and line.strip(BLANKS):
-                put(f"{prompt_at(self.explorer.turn)}{line}")
+                put(f"{self.explorer.prompt}{line}")
                 is_last = self.onecmd(line)
+        return is_last
+
+    def at_terminal(self, typed: str) -> bool:
+        """Does what was typed, a line or a paste, and what is typed to the pages of help; tells
+        whether a line was the last one."""
+        is_last, self.pager.line = False, typed
+        while self.pager.line and not is_last:
+            typed, self.pager.line = self.pager.line, ""
+            lines = typed.replace("\r\n", "\n").split("\n")
+            is_last = self.pasted(lines) if len(lines) > 1 else self.alone(lines[0])
+        return is_last
+
+    def alone(self, line: str) -> bool:
+        """Does a line that was typed alone. Its help has pages."""
+        LINES.note(f"{self.explorer.prompt}{line}")
+        self.is_paged = True
+        is_last = self.onecmd(line)
+        self.is_paged = False
         return is_last
 
     def fault(self, error: Exception) -> str:
@@ -156,46 +219,83 @@ class Prompt:
         """The completion of a word with this number, for readline."""
         if number == 0:
             before = readline.get_line_buffer()[: readline.get_begidx()]
-            is_word = before.strip() in ("", "help", "?")
-            self.completions = words_from(text) if is_word else typed_paths(before, text)
+            self.completions = completions(self.explorer, before, text)
         return self.completions[number] if number < len(self.completions) else None
 
     # What a line does
 
-    def do(self, word: str, rest: str, line: str) -> None:
+    def lines_as_typed(self, line: str) -> Iterator[str]:
+        """What a line of a file shows. Its edits are one step for `undo`."""
+        bare = line.strip(BLANKS)
+        if self.explorer.is_terminal or self.echo:
+            yield f"{self.explorer.prompt}{line}"
+        self.begins(bare)
+        try:
+            yield from self.lines_and_displays(line)
+        except ExploreError:
+            self.note(bare)
+            raise
+        self.note(bare)
+
+    def lines_and_displays(self, line: str) -> Iterator[str]:
+        """What a line shows, and what is displayed then."""
+        yield from self.lines(line)
+        yield from displays_after_move(self.explorer)
+
+    def lines(self, line: str) -> Iterator[str]:
+        line = self.explorer.definitions.expanded(line, str(self.explorer.turn))
         mapped = in_core(self.explorer, line)
         if mapped is not None:
             line, said = mapped
-            rest = line[len(word) :].lstrip(BLANKS)
-            self.show([said])
-        if word in ("help", "?"):
-            self.show(self.help_lines(rest))
+            yield said
+        word = sessions.first_word(line)
+        rest = line.strip(BLANKS)[len(word) :].lstrip(BLANKS)
+        if not word or line.startswith("#"):  # what a defined word may stand for
+            return
+        if word.rstrip("!") in ENDS:
+            raise Ended(is_dropped=word[-1] == "!")
+        if word in HELP:
+            yield from self.help_lines(rest)
         elif is_own(word, rest) or self.is_instruction(word, rest):
             OUTPUT.command, OUTPUT.overwrites = word.rstrip("!"), word[-1] == "!"
-            self.show(COMMANDS[OUTPUT.command].lines(self.explorer, rest))
+            yield from COMMANDS[OUTPUT.command].lines(self.explorer, rest)
         elif not is_of_language(word) and sentence(word, rest):
             raise ExploreError(sentence(word, rest))
         else:
-            self.pass_on(line)
+            yield from self.pass_on(line)
 
     def is_instruction(self, word: str, rest: str) -> bool:
         return word == "core" and is_instruction(rest, self.explorer.symbols)
 
-    def pass_on(self, line: str) -> None:
+    def pass_on(self, line: str) -> Iterator[str]:
         machine = self.explorer.machine
         line = self.explorer.symbols.line_in_octal(line, machine)
         is_looked_at = self.explorer.is_terminal and is_edit(line)
         fading = self.explorer.fading
         reply = fading.make(machine, [line])[0] if is_looked_at else machine.ask(line)
-        why = explanation(line, reply, machine.setup.version) if is_refused(reply) else ""
-        self.show([reply, f"  {why}"] if why else [reply])
-        if is_looked_at and not is_refused(reply):
-            self.show(fading.said(machine))
+        yield reply
+        if is_refused(reply):
+            why = explanation(line, reply, machine.setup.version)
+            yield from [f"  {why}"] if why else []
+            raise LineRefused(reply)
+        if is_looked_at:
+            yield from fading.said(machine)
         found = re.match(rf"({'|'.join(FINDING)}) ([0-9]+)", reply)
         if found:
             self.explorer.turn = int(found[2])
 
+    # Help
+
     def help_lines(self, word: str) -> list[str]:
+        """The lines of help, which fit the terminal."""
+        topic = [] if word in COMMANDS or not word else self.topic(word)
+        found = topic or (self.about(word) if word else self.overview())
+        if word in TOPICS and word in COMMANDS:
+            found += ["", *self.topic(word)]
+        return fit(found)
+
+    def about(self, word: str) -> list[str]:
+        """What lines that begin with this word do."""
         version = self.explorer.machine.setup.version
         lines: list[str] = []
         if word in FORMS:
@@ -206,33 +306,41 @@ class Prompt:
             lines.append(FADES_HELP if word == "fades" else SEARCH_HELP)
         if word in COMMANDS:  # also in place of a list, such as `events`
             found = COMMANDS[word]
-            lines += [*([""] if lines else []), found.form, "", *found.detail.splitlines()]
+            forms = [it.strip() for it in forms_in_lines(found.form)]
+            lines += [*([""] if lines else []), *forms, "", *paragraphs_of(found.detail)]
         elif word in LISTS:
             lines += [word, "", f"{LISTS[word]}. Details: docs/LANGUAGE.md, Searches"]
         if word in OWN_HELP:
             return [" : ".join(OWN_HELP[word])]
+        if word in self.explorer.definitions.lines:
+            return [definition_line(word, self.explorer.definitions.lines[word])]
         if word in MAPPED_WORDS:
             lines += ["", MAPPED_HELP]
-        if word and not lines:
-            unknown = f"there is no command '{word}'; help lists them"
-            return [f"{word}: {sentence(word)}" if sentence(word) else unknown]
-        return lines or self.overview()
+        unknown = f"there is no command '{word}'; help lists the topics"
+        return lines or [f"{word}: {sentence(word)}" if sentence(word) else unknown]
+
+    def topic(self, word: str) -> list[str]:
+        """The lines of a topic, or none if there is no such topic."""
+        version = self.explorer.machine.setup.version
+        if word in TOPICS:
+            found = TOPICS[word]
+            remark = [found.remark] if found.remark else []
+            return [f"{word}: {found.title}", *command_lines(commands_of(word)), *remark]
+        if word == "all":
+            topics = (["", *self.topic(it)] for it in (*TOPICS, *LINES_OF, *RULES))
+            return [line for topic in topics for line in topic][1:]
+        if word in LINES_OF:
+            is_session = word == SESSION
+            lines = language_lines(version) if is_session else search_lines()
+            return [f"{word}: {LINES_OF[word]}", *lines, *([] if is_session else [CONDITION_HELP])]
+        return [f"{word}: {RULES[word][0]}", *RULES[word][1:]] if word in RULES else []
 
     def overview(self) -> list[str]:
-        version = self.explorer.machine.setup.version
-        own = sorted([*((it.form, it.summary) for it in COMMANDS.values()), *OWN_HELP.values()])
-        lines = ["commands of explore (help WORD has more):"]
-        for form, summary in own:
-            for part in form.split("  or  "):
-                lines.append(f"  {part}")
-            lines.append(f"      {summary}")
-        lines += ["", "lines of the session language (docs/LANGUAGE.md):"]
-        lines += [f"  {form_of(word, version):<16}  {text}" for word, text in SUMMARIES.items()]
-        lines += ["", "lines of searches (docs/LANGUAGE.md):"]
-        lines += [f"  {it.form}" for it in sessions.SEARCHES if it.form not in COMMANDS]
-        lines.append(f"{CONDITION_HELP}.")
-        rules = [NUMBERS, MAPPED_HELP, f"{RULE[0].upper()}{RULE[1:]}."]
-        return [*lines, "", *rules, "", CURRENT_TURN]
+        titles = {it: TOPICS[it].title for it in TOPICS}
+        titles.update({**LINES_OF, **{it: RULES[it][0] for it in RULES}, "all": "all of these"})
+        lines = [f"  {it:<{TOPIC_WIDTH}}  {title}" for it, title in titles.items()]
+        own = [f"  {form}: {said}" for form, said in OWN_HELP.values()]
+        return ["help TOPIC has the lines of a topic, help WORD what a line does:", *lines, *own]
 
 
 def is_of_language(word: str) -> bool:
@@ -247,39 +355,6 @@ def is_own(word: str, rest: str) -> bool:
         writes = word in WRITING and re.search(r"[ \t]at[ \t]+[^ \t]+$", rest)
         return word in COMMANDS and (rest.startswith("from") or bool(writes))
     return word in COMMANDS or word[-1] == "!" and word[:-1] in WRITING
-
-
-def words_from(text: str) -> list[str]:
-    """The commands and lines that begin so. After the only one comes a space."""
-    found = [it for it in {*COMMANDS, *OWN_HELP, *FORMS, *SEARCHES, *LISTS} if it.startswith(text)]
-    return sorted(found) if len(found) > 1 else [f"{it} " for it in found]
-
-
-def typed_paths(before: str, text: str) -> list[str]:
-    """The paths that a word may go on to, after what is before it, as they are typed."""
-    begun = begun_word(before)
-    typed = begun + text
-    quote = typed[:1] if typed[:1] in ("'", '"') else ""
-    paths = paths_from(typed[len(quote) :])
-    if not quote and not all(map(is_plain, paths)):
-        quote = "'" if any('"' in it or "\\" in it for it in paths) else '"'
-    return [in_quotes(it, quote)[len(begun) :] for it in paths]
-
-
-def paths_from(text: str) -> list[str]:
-    """The files and folders whose path begins so, and has nothing that a terminal doesn't show."""
-    folder, name = os.path.split(text)
-    try:
-        with os.scandir(folder or ".") as entries:
-            found = [(it.name, it.is_dir()) for it in entries if it.name.startswith(name)]
-    except OSError:
-        return []
-    is_shown = [
-        (it, is_folder)
-        for it, is_folder in found
-        if it.isprintable() and (name or not it.startswith("."))
-    ]
-    return sorted(os.path.join(folder, it) + "/" * is_folder for it, is_folder in is_shown)
 
 
 def read_history(path: Optional[Path]) -> None:
@@ -300,11 +375,6 @@ def write_history(path: Optional[Path]) -> None:
         pass
 
 
-def prompt_at(turn: int) -> str:
-    """The prompt at a terminal, with the current turn if it isn't turn 0."""
-    return f"explore {turn}> " if turn else PROMPT
-
-
 def read_at_terminal(prompt: Prompt) -> None:
     """The loop at a terminal: line editing and history; Ctrl-C at the prompt drops the line."""
     folder = state_folder()
@@ -318,8 +388,7 @@ def read_at_terminal(prompt: Prompt) -> None:
     while not is_last:
         try:
             with INTERRUPTS.allowed():
-                typed = typed_line(prompt_at(prompt.explorer.turn))
-                lines = typed.replace("\r\n", "\n").split("\n")
+                typed = typed_line(prompt.explorer.prompt)
         except EOFError:
             put("")
             prompt.end()
@@ -327,7 +396,7 @@ def read_at_terminal(prompt: Prompt) -> None:
         except KeyboardInterrupt:
             put("^C")
         else:
-            is_last = prompt.pasted(lines) if len(lines) > 1 else prompt.onecmd(lines[0])
+            is_last = prompt.at_terminal(typed)
     write_history(path)
 
 
@@ -338,6 +407,7 @@ def read_lines(prompt: Prompt) -> None:
         with INTERRUPTS.allowed():
             line = sys.stdin.buffer.readline()
         text = sessions.without_end(line).decode(errors="surrogateescape")
-        if prompt.echo and text.strip(BLANKS):
-            put(text if text.startswith("#") else f"{PROMPT}{text}")
+        shown = text if text.startswith("#") else f"{PROMPT}{text}"
+        if text.strip(BLANKS):
+            put(shown) if prompt.echo else LINES.note(shown)
         is_last = not line or prompt.onecmd(text)
