@@ -33,9 +33,9 @@ impl Rk {
         sector_number(self.disk_address) * WORDS_OF_SECTOR
     }
 
-    /// How many words the function moved or compared that was under way in `before` and left the
-    /// controller as it is: all that were asked for, if it didn't fail, and otherwise as many as
-    /// RKWC counted. That this is what the completion does is a law (`words_done_are_counted`).
+    /// How many words a function moved or compared. It was under way in `before` and is done in
+    /// `self`. If it didn't fail it did all words that it was asked for, otherwise as many as RKWC
+    /// counted up. The law `words_done_are_counted` says that its completion did so many.
     ///
     /// PDP-11 Peripherals Handbook, RK11.
     pub fn words_done(&self, before: &Rk) -> u32
