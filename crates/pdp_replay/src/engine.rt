@@ -137,12 +137,7 @@ impl Engine {
         let answered = question.answer(alloc, &mut self.run, &self.script);
         self.highest = self.highest.max(self.run.known);
         let value = answered?;
-        Ok(Told {
-            value,
-            ran: self.run.meter.count() - before,
-            known: self.run.known,
-            stride: self.run.ladder.stride(),
-        })
+        Ok(Told::of(value, &self.run, before))
     }
 
     /// All events of the script, with their numbers and turns, in the order in which they happen.

@@ -1,5 +1,5 @@
 -- What a search watches for, turn by turn [P].
-use Rattle.std.specs.Prelude.{ℕ, ◌≡◌, ◌+◌, ◌<◌, ◌≤◌, ◌==◌, ◌&&◌, Bool, true, false, List, length, nat_lt}
+use Rattle.std.specs.Prelude.{ℕ, ◌≡◌, ◌+◌, ◌-◌, ◌<◌, ◌≤◌, ◌==◌, ◌&&◌, Bool, true, false, List, length, nat_lt}
 use Rattle.std.specs.Prelude.{Option, None, Some, not}
 use Rattle.pdp_store.specs.declared.Stamp.{Stamp}
 use Rattle.pdp_unibus.specs.declared.event.Event.{Event}
@@ -9,7 +9,7 @@ use Rattle.pdp_cpu.specs.declared.turn_trap.ActWithTrap.{ActWithTrap}
 use Rattle.pdp_script.specs.Entries.{events_at}
 use Rattle.pdp_script.specs.Script.{ScriptData}
 use Rattle.pdp_replay.specs.Past.{Past}
-use Rattle.pdp_replay.specs.Run.KeptRuns.{IsOnWay, IsUnderWay, IsWithoutEvents}
+use Rattle.pdp_replay.specs.Run.KeptRuns.{IsOnWay, IsUnderWay, IsWithoutEvents, MetersTurns}
 use Rattle.pdp_replay.specs.Run.States.{disk_of, state_at}
 use Rattle.pdp_replay.specs.Ask.DiskChanges.{word_on}
 use Rattle.pdp_replay.specs.Ask.Searches.{IsFirst}
@@ -132,12 +132,11 @@ StaysOnWay script before after = (p : Past) (known : ℕ) → p.script ≡ scrip
     → IsUnderWay p known before → IsUnderWay p known after
 
 -- A part of a search took a machine from one state to another, of turn `to` at the latest, and a
--- meter from one count to another: it counted no more than the turns that were run. The machine can
--- still be watched.
+-- meter from one count to another: it counted each turn that was run. The machine can still be
+-- watched.
 pub record SearchesTo (to : ℕ) (watch : Watchpoint) (before after : MachineWithTexts)
     (metered counted : ℕ) : Type 0 where
   pub inside : IsInside watch after
   pub least : before.state.turn ≤ after.state.turn
   pub most : after.state.turn ≤ to
-  pub ran : counted + before.state.turn ≤ metered + after.state.turn
-  pub counted_least : metered ≤ counted
+  pub ran : MetersTurns (after.state.turn - before.state.turn) metered counted

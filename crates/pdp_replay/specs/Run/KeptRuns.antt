@@ -1,5 +1,5 @@
 -- The run that an engine keeps, between its calls and on the way [P].
-use Rattle.std.specs.Prelude.{ℕ, ◌≡◌, ◌+◌, ◌*◌, ◌-◌, ◌/◌, ◌<◌, ◌≤◌, ◌&&◌, Bool, true, false}
+use Rattle.std.specs.Prelude.{ℕ, ◌≡◌, ◌+◌, ◌*◌, ◌-◌, ◌/◌, ◌^◌, ◌<◌, ◌≤◌, ◌&&◌, Bool, true, false}
 use Rattle.std.specs.Prelude.{◌++◌, List, [], ◌∷◌, Some, length, max, min, nat_le, nat_lt}
 use Rattle.std.specs.Prelude.{if◌then◌else◌}
 use Rattle.std.specs.List.{All, filter}
@@ -29,13 +29,16 @@ pub record IsUnderWay (p : Past) (known : ℕ) (m : MachineWithTexts) : Type 0 w
   pub here : m.state ≡ at p m.state.turn
   pub texts : KeepsTexts p (max known m.state.turn) m
 
+-- a meter counted so many turns; at 18,446,744,073,709,551,615 it stays there
+abbrev pub MetersTurns : ℕ → ℕ → ℕ → Type 0
+MetersTurns turns before after = after ≡ min (before + turns) (max before (2 ^ 64 - 1))
+
 -- A machine was run from one state to another, of turn `to` at the latest, and a meter from one
--- count to another: it counted no more than the turns that were run.
+-- count to another: it counted each turn that was run.
 pub record RunsUpTo (to : ℕ) (before after : MachineWithTexts) (metered counted : ℕ) : Type 0 where
   pub least : before.state.turn ≤ after.state.turn
   pub most : after.state.turn ≤ to
-  pub ran : counted + before.state.turn ≤ metered + after.state.turn
-  pub counted_least : metered ≤ counted
+  pub ran : MetersTurns (after.state.turn - before.state.turn) metered counted
 
 -- no turn from this one on and before that one has events
 abbrev pub IsWithoutEvents : Past → ℕ → ℕ → Type 0
@@ -142,6 +145,11 @@ pub record Advances (from to : ℕ) (before after : KeptRun) : Type 0 where
   pub stride : KeepsStride before after
   pub ran : after.meter + from ≤ before.meter + after.machine.state.turn
   pub counted : before.meter ≤ after.meter
+
+-- a run's meter counted each turn that its machine went on
+abbrev pub MetersWay : KeptRun → KeptRun → Type 0
+MetersWay before after = MetersTurns (after.machine.state.turn - before.machine.state.turn)
+    before.meter after.meter
 
 -- a run came to this turn, which is known now, and is before the next turn whose state is to be
 -- kept

@@ -4,7 +4,7 @@ ghost use Rattle.pdp_script.specs.Refusal.{for_memory, question_answer, result_m
 ghost use Rattle.pdp_replay.specs.Past.{Past};
 ghost use Rattle.pdp_replay.specs.Run.KeptRuns.{resumed_turn, Advances, ArrivesAt, CanGoOn, GoesOn};
 ghost use Rattle.pdp_replay.specs.Run.KeptRuns.{IsKeptRun, IsRunOf, KeepsRun, LeavesKept};
-ghost use Rattle.pdp_replay.specs.Run.KeptRuns.{RunsUpTo};
+ghost use Rattle.pdp_replay.specs.Run.KeptRuns.{MetersWay, RunsUpTo};
 ghost use Rattle.pdp_replay.specs.Ask.Known.{LeavesPast, RunsFrom};
 ghost use Rattle.pdp_replay.specs.Ask.Searches.{IsWithinSearch};
 ghost use Rattle.pdp_replay.specs.Ask.Told.{IsAtTurn, IsToldOf};
@@ -85,12 +85,7 @@ impl Engine {
         let counted = find_counts(alloc, &mut self.run, &self.script, words, from, to);
         self.highest = self.highest.max(self.run.known);
         let counts = counted?;
-        Ok(Told {
-            value: counts,
-            ran: self.run.meter.count() - before,
-            known: self.run.known,
-            stride: self.run.ladder.stride(),
-        })
+        Ok(Told::of(counts, &self.run, before))
     }
 }
 
@@ -237,6 +232,7 @@ fn count_leg(
     ensures way { OnOk result (GoesOn script.now run.old run.new) }
     ensures arrives { OnOk result (ArrivesAt run.new.machine.state.turn run.old run.new) }
     ensures advances { Advances run.old.machine.state.turn to run.old run.new }
+    ensures metered { MetersWay run.old run.new }
 {
     let end = run.ladder.next().min(to);
     // While the meter is apart from the machine, the loop counts in a register.

@@ -70,12 +70,7 @@ impl Engine {
         );
         self.highest = self.highest.max(self.run.known);
         let turn = found?;
-        Ok(Told {
-            value: turn,
-            ran: self.run.meter.count() - before,
-            known: self.run.known,
-            stride: self.run.ladder.stride(),
-        })
+        Ok(Told::of(turn, &self.run, before))
     }
 }
 

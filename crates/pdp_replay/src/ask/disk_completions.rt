@@ -6,6 +6,7 @@ ghost use Rattle.pdp_script.specs.Refusal.{for_memory, question_answer, result_m
 ghost use Rattle.pdp_replay.specs.Past.{Past};
 ghost use Rattle.pdp_replay.specs.Run.KeptRuns.{resumed_turn, Advances, ArrivesAt, CanGoOn, GoesOn};
 ghost use Rattle.pdp_replay.specs.Run.KeptRuns.{IsKeptRun, IsRunOf, KeepsRun, LeavesKept};
+ghost use Rattle.pdp_replay.specs.Run.KeptRuns.{MetersWay};
 ghost use Rattle.pdp_replay.specs.Ask.Known.{LeavesPast, RunsFrom};
 ghost use Rattle.pdp_replay.specs.Ask.Searches.{search_checked, IsWithinSearch};
 ghost use Rattle.pdp_replay.specs.Ask.Told.{IsAtTurn, IsToldOf};
@@ -140,15 +141,11 @@ impl Engine {
         let found = find_completions(alloc, &mut self.run, &self.script, from, to);
         self.highest = self.highest.max(self.run.known);
         let completions = found?;
-        Ok(Told {
-            value: CompletionsFound {
-                completions,
-                reached: self.run.machine.turns(),
-            },
-            ran: self.run.meter.count() - before,
-            known: self.run.known,
-            stride: self.run.ladder.stride(),
-        })
+        let value = CompletionsFound {
+            completions,
+            reached: self.run.machine.turns(),
+        };
+        Ok(Told::of(value, &self.run, before))
     }
 }
 
@@ -235,6 +232,7 @@ fn pass_turn(alloc: Global, run: &mut KeptRun, script: &Script) -> Result<DiskTu
     ensures arrives { OnOk result (ArrivesAt (run.old.machine.state.turn + 1) run.old run.new) }
     ensures advances { Advances run.old.machine.state.turn (run.old.machine.state.turn + 1)
         run.old run.new }
+    ensures metered { MetersWay run.old run.new }
 {
     run.machine.ready()?;
     let turn = run.machine.turns();

@@ -4,6 +4,7 @@ ghost use Rattle.pdp_script.specs.Refusal.{for_memory, question_answer, result_m
 ghost use Rattle.pdp_replay.specs.Past.{Past};
 ghost use Rattle.pdp_replay.specs.Run.KeptRuns.{resumed_turn, Advances, ArrivesAt, CanGoOn, GoesOn};
 ghost use Rattle.pdp_replay.specs.Run.KeptRuns.{IsKeptRun, IsRunOf, KeepsRun, LeavesKept};
+ghost use Rattle.pdp_replay.specs.Run.KeptRuns.{MetersWay};
 ghost use Rattle.pdp_replay.specs.Ask.Known.{LeavesPast, RunsFrom};
 ghost use Rattle.pdp_replay.specs.Ask.Searches.{first_turn_of, search_checked, turn_reached};
 ghost use Rattle.pdp_replay.specs.Ask.Searches.{EndsAfter, IsFirst, IsWithinSearch};
@@ -70,12 +71,7 @@ impl Engine {
         let found = find_first(alloc, &mut self.run, &self.script, sought, from, to);
         self.highest = self.highest.max(self.run.known);
         let turn = found?;
-        Ok(Told {
-            value: turn,
-            ran: self.run.meter.count() - before,
-            known: self.run.known,
-            stride: self.run.ladder.stride(),
-        })
+        Ok(Told::of(turn, &self.run, before))
     }
 }
 
@@ -190,6 +186,7 @@ fn search_leg(
     ensures way { OnOk result (GoesOn script.now run.old run.new) }
     ensures arrives { OnOk result (ArrivesAt run.new.machine.state.turn run.old run.new) }
     ensures advances { Advances run.old.machine.state.turn to run.old run.new }
+    ensures metered { MetersWay run.old run.new }
 {
     let end = run.ladder.next().min(to);
     // While the meter is apart from the machine, the loop counts in a register.

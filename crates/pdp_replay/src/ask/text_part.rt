@@ -77,12 +77,7 @@ impl Engine {
         let read = read_from(alloc, &mut self.run, &self.script, kind, turn, first);
         self.highest = self.highest.max(self.run.known);
         let bytes = read?;
-        Ok(Told {
-            value: bytes,
-            ran: self.run.meter.count() - before,
-            known: self.run.known,
-            stride: self.run.ladder.stride(),
-        })
+        Ok(Told::of(bytes, &self.run, before))
     }
 
     /// The first turn in which the byte of this number, counted from 0, was printed or punched, of
@@ -115,12 +110,7 @@ impl Engine {
         let found = find_byte(alloc, &mut self.run, &self.script, kind, number);
         self.highest = self.highest.max(self.run.known);
         let turn = found?;
-        Ok(Told {
-            value: turn,
-            ran: self.run.meter.count() - before,
-            known: self.run.known,
-            stride: self.run.ladder.stride(),
-        })
+        Ok(Told::of(turn, &self.run, before))
     }
 }
 

@@ -1,3 +1,7 @@
+ghost use Rattle.std.specs.Prelude.{◌≡◌, ◌-◌, ◌≤◌};
+
+use crate::run::KeptRun;
+
 /// What was asked for, with what it took.
 #[derive(Drop)]
 pub struct Told<T> {
@@ -10,4 +14,22 @@ pub struct Told<T> {
     pub known: u32,
     /// The stride after it, in turns.
     pub stride: u32,
+}
+
+impl<T> Told<T> {
+    /// This value, with what it took of the run since its meter was at `before`.
+    pub(crate) fn of(value: T, run: &KeptRun, before: u64) -> Told<T>
+        requires { before ≤ run.now.meter }
+        ensures value { result.value ≡ value }
+        ensures ran { result.ran ≡ run.now.meter - before }
+        ensures known { result.known ≡ run.now.known }
+        ensures stride { result.stride ≡ run.now.ladder.stride }
+    {
+        Told {
+            value,
+            ran: run.meter.count() - before,
+            known: run.known,
+            stride: run.ladder.stride(),
+        }
+    }
 }

@@ -85,15 +85,11 @@ impl Engine {
         let found = find_writes(alloc, &mut self.run, &self.script, number, from, to);
         self.highest = self.highest.max(self.run.known);
         let writes = found?;
-        Ok(Told {
-            value: Written {
-                writes,
-                reached: self.run.machine.turns(),
-            },
-            ran: self.run.meter.count() - before,
-            known: self.run.known,
-            stride: self.run.ladder.stride(),
-        })
+        let value = Written {
+            writes,
+            reached: self.run.machine.turns(),
+        };
+        Ok(Told::of(value, &self.run, before))
     }
 }
 

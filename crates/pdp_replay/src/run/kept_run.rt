@@ -8,7 +8,7 @@ ghost use Rattle.pdp_replay.specs.Run.KeptRuns.{is_current_by, resumed_turn, Adv
 ghost use Rattle.pdp_replay.specs.Run.KeptRuns.{CanGoOn, GoesOn, IsKeptRun, IsOnWay, IsOnWayOf};
 ghost use Rattle.pdp_replay.specs.Run.KeptRuns.{IsResumed};
 ghost use Rattle.pdp_replay.specs.Run.KeptRuns.{IsRunOf, IsSomeRun, IsUnderWay, KeepsRun};
-ghost use Rattle.pdp_replay.specs.Run.KeptRuns.{LeavesKept, with_near};
+ghost use Rattle.pdp_replay.specs.Run.KeptRuns.{LeavesKept, MetersWay, with_near};
 ghost use Rattle.pdp_replay.specs.Run.Checkpoints.{AreStatesOf};
 ghost use Rattle.pdp_replay.specs.Past.{Past, past_without_events};
 ghost use Rattle.pdp_replay.specs.Past.Setup.{first_setup, IsGood};
@@ -205,6 +205,7 @@ impl KeptRun {
         ensures on { OnOk result (self.old.machine.state.turn < self.new.machine.state.turn) }
         ensures arrives { OnOk result (ArrivesAt self.new.machine.state.turn self.old self.new) }
         ensures advances { Advances self.old.machine.state.turn to self.old self.new }
+        ensures metered { MetersWay self.old self.new }
     {
         let end = self.ladder.next().min(to);
         // While the meter is apart from the machine, the loop counts in a register.
@@ -232,6 +233,7 @@ impl KeptRun {
             (ArrivesAt (self.old.machine.state.turn + 1) self.old self.new) }
         ensures advances { Advances self.old.machine.state.turn (self.old.machine.state.turn + 1)
             self.old self.new }
+        ensures metered { MetersWay self.old self.new }
     {
         self.machine.ready()?;
         let turn = self.machine.turns();

@@ -9,7 +9,7 @@ loop-words-init c =
       way = λ p known same way. way;
       counted = λ p known same way. adds_none p c.args.words c.args.machine.now.state.turn c.args.machine.now.state.turn c.args.counts.now.items refl;
       few = c.requires.few;
-      runs = record { least = omega arith; most = omega (arith, forward); ran = omega arith; counted_least = omega arith };
+      runs = record { least = omega arith; most = omega (arith, forward); ran = omega arith };
     }
 
 pub loop-words-preserved : goal.loop-words-preserved
@@ -18,13 +18,12 @@ loop-words-preserved c =
     let runs = before.runs in
     let least = runs.least in
     let ran = runs.ran in
-    let counted_least = runs.counted_least in
     let part = c.in_ok-count_stretch.ensures in
     let on = part.on in
     let then = c.count_stretch.ensures.runs in
+    let then_least = then.least in
     let then_most = then.most in
     let then_ran = then.ran in
-    let then_counted = then.counted_least in
     record {
       way = λ p known same way. c.count_stretch.ensures.way p known same (before.way p known same way);
       counted = λ p known same way.
@@ -35,8 +34,7 @@ loop-words-preserved c =
       runs = record {
         least = omega (arith, least, on);
         most = then_most;
-        ran = omega (arith, ran, then_ran);
-        counted_least = omega (arith, counted_least, then_counted);
+        ran = omega (arith, ran, then_ran, least, then_least);
       };
     }
 

@@ -9,7 +9,7 @@ loop-words-init c =
       way = λ p known quiet way. way;
       counted = λ p known quiet way. adds_none p c.args.words c.args.machine.now.state.turn c.args.machine.now.state.turn c.args.counts.now.items refl;
       few = c.requires.few;
-      runs = record { least = omega arith; most = omega (arith, forward); ran = omega arith; counted_least = omega arith };
+      runs = record { least = omega arith; most = omega (arith, forward); ran = omega arith };
     }
 
 pub loop-words-preserved : goal.loop-words-preserved
@@ -18,12 +18,11 @@ loop-words-preserved c =
     let runs = before.runs in
     let least = runs.least in
     let ran = runs.ran in
-    let counted_least = runs.counted_least in
     let turn = c.in_ok-count_turn.ensures in
     let on = turn.on in
     let then = c.count_turn.ensures.runs in
+    let then_least = then.least in
     let then_ran = then.ran in
-    let then_counted = then.counted_least in
     let short = c.loop-words-test.true in
     let here = c.turns.ensures in
     record {
@@ -37,8 +36,7 @@ loop-words-preserved c =
       runs = record {
         least = omega (arith, least, on);
         most = omega (arith, short, here, on);
-        ran = omega (arith, ran, then_ran);
-        counted_least = omega (arith, counted_least, then_counted);
+        ran = omega (arith, ran, then_ran, least, then_least);
       };
     }
 

@@ -1,7 +1,7 @@
 use Rattle.std.proofs.Common.{◌≡◌, ◌∙◌, ◌+◌, ap, arith, refl, subst}
 use Rattle.pdp_cpu.specs.Turns.MachineState.{MachineState}
 use Rattle.pdp_replay.specs.Past.{Past}
-use Rattle.pdp_replay.specs.Run.KeptRuns.{Advances, ArrivesAt, IsOnWay, IsUnderWay}
+use Rattle.pdp_replay.specs.Run.KeptRuns.{Advances, ArrivesAt, IsOnWay, IsUnderWay, MetersWay}
 use Rattle.pdp_replay.proofs.run.Coming.{advances_from, arrives_from}
 use Rattle.pdp_replay.proofs.run.OnWay.{on_way_settled, way_stepped}
 use Rattle.pdp_replay.proofs.ask.DiskCompletions.{disk_turn_there}
@@ -64,3 +64,21 @@ returns-clause-disk c = λ p same on.
     disk_turn_there p c.args.script.now c.at.result.now c.args.run.now.machine.state c.ready.new.self.state c.turns-turn.result
     c.disk-before.result c.turn_and_tell_disk-after.result same on.here c.ready.ensures.same c.at.ensures.events c.turns-turn.ensures
     c.disk-before.ensures c.turn_and_tell_disk-after.ensures.disk
+
+-- and the meter counted each turn
+metered : (c : After-settle) → MetersWay c.args.run.now c.settle.new.self
+metered c =
+    let turn = turn_on c in
+    let counted = c.turn_and_tell_disk-after.ensures.runs.counted.0 in
+    let grows = c.turn_and_tell_disk-after.ensures.runs.counted.1 in
+    let settled = c.settle.ensures.advances in
+    let most = settled.turn_most in
+    let on = settled.ran in
+    let meter = c.settle.ensures.meter in
+    omega (arith, turn, counted, grows, most, on, meter)
+
+pub returns-in_err-settle-clause-metered : goal.returns-in_err-settle-clause-metered
+returns-in_err-settle-clause-metered c = metered (goal.at.returns-in_err-settle-clause-metered c).After-settle
+
+pub returns-clause-metered : goal.returns-clause-metered
+returns-clause-metered c = metered (goal.at.returns-clause-metered c).After-settle

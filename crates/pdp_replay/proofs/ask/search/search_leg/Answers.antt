@@ -2,7 +2,7 @@ use Rattle.std.proofs.Common.{◌≡◌, ap, arith, refl, subst, sym}
 use Rattle.std.proofs.lemmas.Result.{IfOk-weaker, on_ok_weaker}
 use Rattle.pdp_cpu.specs.Turns.MachineState.{MachineWithTexts}
 use Rattle.pdp_replay.specs.Past.{Past}
-use Rattle.pdp_replay.specs.Run.KeptRuns.{Advances, IsOnWay, IsUnderWay}
+use Rattle.pdp_replay.specs.Run.KeptRuns.{Advances, IsOnWay, IsUnderWay, MetersWay}
 use Rattle.pdp_replay.specs.Ask.Searches.{EndsAfter}
 use Rattle.pdp_replay.specs.Ask.Watches.{IsFirstInRun, IsFirstOnWay, IsFirstTo, IsInside}
 use Rattle.pdp_replay.proofs.run.Coming.{advances_from, arrives_from, arrives_where}
@@ -22,10 +22,10 @@ advanced c =
     let part = c.search_part-found.ensures.runs in
     let before = c.replace-counting.ensures.value in
     let ran = part.ran in
-    let counted = part.counted_least in
+    let least = part.least in
     let most = part.most in
     let end = c.min-end.ensures in
-    advances_from _ _ _ c.args.run.now _ c.settle.new.self refl refl (omega (arith, ran, before)) (omega (arith, counted, before)) c.settle.ensures.advances (omega (arith, most, end))
+    advances_from _ _ _ c.args.run.now _ c.settle.new.self refl refl (omega (arith, ran, least, before)) (omega (arith, ran, before)) c.settle.ensures.advances (omega (arith, most, end))
 
 pub returns-in_err-settle-clause-kept : goal.returns-in_err-settle-clause-kept
 returns-in_err-settle-clause-kept c = λ p same on. c.settle.ensures.kept p on.kept.states (came (goal.at.returns-in_err-settle-clause-kept c).After-settle p same on)
@@ -78,3 +78,22 @@ returns-clause-inside c =
     let runs = c.search_part-found.ensures.runs in
     on_ok_weaker c.search_part-found.result (λ _. subst (IsInside c.args.watch) (sym c.in_ok-settle.ensures.machine) runs.inside)
     c.search_part-found.ensures.on
+
+-- and the meter counted each turn
+metered : (c : After-settle) → MetersWay c.args.run.now c.settle.new.self
+metered c =
+    let part = c.search_part-found.ensures.runs in
+    let before = c.replace-counting.ensures.value in
+    let ran = part.ran in
+    let least = part.least in
+    let settled = c.settle.ensures.advances in
+    let most = settled.turn_most in
+    let on = settled.ran in
+    let meter = c.settle.ensures.meter in
+    omega (arith, before, ran, least, most, on, meter)
+
+pub returns-in_err-settle-clause-metered : goal.returns-in_err-settle-clause-metered
+returns-in_err-settle-clause-metered c = metered (goal.at.returns-in_err-settle-clause-metered c).After-settle
+
+pub returns-clause-metered : goal.returns-clause-metered
+returns-clause-metered c = metered (goal.at.returns-clause-metered c).After-settle

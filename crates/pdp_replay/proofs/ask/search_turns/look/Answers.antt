@@ -61,7 +61,6 @@ returns-in_err-ready-clause-runs c =
       least = omega (arith, turn);
       most = omega (arith, turn);
       ran = omega (arith, turn);
-      counted_least = omega arith;
     }
 
 pub returns-clause-runs : goal.returns-clause-runs
@@ -74,6 +73,5 @@ returns-clause-runs c =
       inside = inside after;
       least = omega (arith, turn);
       most = omega (arith, turn);
-      ran = omega (arith, turn, counted);
-      counted_least = grows;
+      ran = omega (arith, turn, counted, grows);
     }

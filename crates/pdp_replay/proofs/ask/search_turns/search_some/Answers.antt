@@ -49,12 +49,12 @@ pub returns-then-pass-gt0-clause-runs : goal.returns-then-pass-gt0-clause-runs
 returns-then-pass-gt0-clause-runs c =
     let turn = c.pass.ensures.turn in
     let counted = c.pass.ensures.counted.0 in
+    let grows = c.pass.ensures.counted.1 in
     record {
       inside = inside (goal.at.returns-then-pass-gt0-clause-runs c).After-pass;
       least = omega (arith, turn);
       most = c.pass.ensures.most c.if-pass-gt0.true;
-      ran = omega (arith, turn, counted);
-      counted_least = c.pass.ensures.counted.1;
+      ran = omega (arith, turn, counted, grows);
     }
 
 pub returns-clause-found : goal.returns-clause-found
@@ -78,11 +78,9 @@ returns-clause-runs c =
     let runs = c.search_idle.ensures.runs in
     let least = runs.least in
     let ran = runs.ran in
-    let counted_least = runs.counted_least in
     record {
       inside = runs.inside;
       least = omega (arith, turn, least);
       most = runs.most;
-      ran = omega (arith, turn, none, counted, ran);
-      counted_least = omega (arith, grows, counted_least);
+      ran = omega (arith, turn, none, counted, grows, ran);
     }

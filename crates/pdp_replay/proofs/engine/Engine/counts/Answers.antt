@@ -32,5 +32,6 @@ returns-clause-value c =
     let p : Past = past_from e.base_setup e.run.machine.state.world.bus.tape e.delays e.patches e.script in
     let words = c.args.words in
     let counts = c.in_ok-counts.counts in
+    rw c.of.ensures.value (
     subst (λ (t : Timeline). counts.items ≡ counts_in_turns t.past words.mode words.first words.count c.args.from (c.args.to - c.args.from)) c.self.view_is
-    (c.in_ok-counts.ensures.counts p refl c.self.invariant.run)
+    (c.in_ok-counts.ensures.counts p refl c.self.invariant.run))

@@ -34,6 +34,7 @@ returns-clause-value c =
     let completions = c.in_ok-completions.completions in
     let found = c.in_ok-completions.ensures in
     let from = c.args.from in
+    rw c.of.ensures.value (
     subst (λ (t : Timeline). completions.items ≡ take 256 (completions_in_turns t.past from (c.args.to - from))) c.self.view_is
     (all_listed (completion_in p from) from c.find_completions-found.new.run.machine.state.turn c.args.to completions.items
-    found.least c.find_completions-found.ensures.advances.turn_most found.early found.most (found.completions p refl c.self.invariant.run))
+    found.least c.find_completions-found.ensures.advances.turn_most found.early found.most (found.completions p refl c.self.invariant.run)))

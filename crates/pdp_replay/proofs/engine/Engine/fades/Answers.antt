@@ -25,4 +25,5 @@ returns-clause-turn c =
     let e = c.self.inside in
     let p : Past = past_from e.base_setup e.run.machine.state.world.bus.tape e.delays e.patches e.script in
     let told = rw c.in_ok-turn.was at c.find_fading-found.ensures.turn p (record { same = refl; run = c.self.invariant.run; units = refl; drives = refl }) in
-    subst (λ (t : Timeline). Ok c.in_ok-turn.turn ≡ question_answer (fading c.args.edit c.args.to t.past) false) c.self.view_is told
+    rw c.of.ensures.value (
+    subst (λ (t : Timeline). Ok c.in_ok-turn.turn ≡ question_answer (fading c.args.edit c.args.to t.past) false) c.self.view_is told)

@@ -33,7 +33,8 @@ returns-clause-value c =
     let e = c.self.inside in
     let p : Past = past_from e.base_setup e.run.machine.state.world.bus.tape e.delays e.patches e.script in
     let turn = c.in_ok-turn.turn in
+    rw c.of.ensures.value (
     first_is (word_changes c.args.drive c.args.number c.args.self.now.past) c.args.from c.args.to turn c.in_ok-check_change.ensures.order
     (subst (λ (t : Timeline). IsFirst (word_changes c.args.drive c.args.number t.past) c.args.from c.args.to turn) c.self.view_is
     (subst (λ drive. IsFirst (word_changes drive c.args.number p) c.args.from c.args.to turn) c.from.ensures
-    (c.in_ok-turn.ensures.found p refl c.self.invariant.run)))
+    (c.in_ok-turn.ensures.found p refl c.self.invariant.run))))

@@ -34,6 +34,7 @@ returns-clause-value c =
     let e = c.self.inside in
     let p : Past = past_from e.base_setup e.run.machine.state.world.bus.tape e.delays e.patches e.script in
     let turn = c.in_ok-turn.turn in
+    rw c.of.ensures.value (
     first_is (comes_out c.args.kind c.args.number c.args.self.now.past) 0 last_turn turn (omega arith)
     (subst (λ (t : Timeline). IsFirst (comes_out c.args.kind c.args.number t.past) 0 last_turn turn) c.self.view_is
-    (c.in_ok-turn.ensures.found p refl c.self.invariant.run))
+    (c.in_ok-turn.ensures.found p refl c.self.invariant.run)))

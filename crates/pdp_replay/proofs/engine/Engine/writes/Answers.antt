@@ -33,7 +33,8 @@ returns-clause-value c =
     let p : Past = past_from e.base_setup e.run.machine.state.world.bus.tape e.delays e.patches e.script in
     let writes = c.in_ok-writes.writes in
     let found = c.in_ok-writes.ensures in
+    rw c.of.ensures.value (
     subst (λ (t : Timeline). writes.items ≡ take 256 (writes_in_turns t.past (c.args.address / 2) c.args.from (c.args.to - c.args.from))) c.self.view_is
     (subst (λ k. writes.items ≡ take 256 (writes_in_turns p k c.args.from (c.args.to - c.args.from))) c.in_ok-number.ensures.number
     (all_listed (write_in p c.in_ok-number.number) c.args.from c.find_writes-found.new.run.machine.state.turn c.args.to writes.items
-    found.least c.find_writes-found.ensures.advances.turn_most found.ends found.most (found.writes p refl c.self.invariant.run)))
+    found.least c.find_writes-found.ensures.advances.turn_most found.ends found.most (found.writes p refl c.self.invariant.run))))

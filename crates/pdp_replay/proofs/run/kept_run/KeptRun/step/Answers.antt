@@ -1,7 +1,7 @@
 use Rattle.std.proofs.Common.{◌≡◌, ◌+◌, ap, arith, refl, subst}
 use Rattle.pdp_cpu.specs.Turns.MachineState.{MachineState}
 use Rattle.pdp_replay.specs.Past.{Past}
-use Rattle.pdp_replay.specs.Run.KeptRuns.{Advances, ArrivesAt, IsOnWay, IsUnderWay}
+use Rattle.pdp_replay.specs.Run.KeptRuns.{Advances, ArrivesAt, IsOnWay, IsUnderWay, MetersWay}
 use Rattle.pdp_replay.proofs.run.Coming.{advances_from, arrives_from}
 use Rattle.pdp_replay.proofs.run.OnWay.{on_way_settled, way_stepped}
 use Rattle.pdp_replay.proofs.run.kept_run.KeptRun.step.Goals as goal
@@ -54,3 +54,21 @@ returns-in_err-settle-clause-advances c = advanced (goal.at.returns-in_err-settl
 
 pub returns-clause-advances : goal.returns-clause-advances
 returns-clause-advances c = advanced (goal.at.returns-clause-advances c).After-settle
+
+-- and the meter counted each turn
+metered : (c : After-settle) → MetersWay c.args.self.now c.settle.new.self
+metered c =
+    let turn = turn_on c in
+    let counted = c.turn-act.ensures.runs.counted.0 in
+    let grows = c.turn-act.ensures.runs.counted.1 in
+    let settled = c.settle.ensures.advances in
+    let most = settled.turn_most in
+    let on = settled.ran in
+    let meter = c.settle.ensures.meter in
+    omega (arith, turn, counted, grows, most, on, meter)
+
+pub returns-in_err-settle-clause-metered : goal.returns-in_err-settle-clause-metered
+returns-in_err-settle-clause-metered c = metered (goal.at.returns-in_err-settle-clause-metered c).After-settle
+
+pub returns-clause-metered : goal.returns-clause-metered
+returns-clause-metered c = metered (goal.at.returns-clause-metered c).After-settle
