@@ -59,8 +59,8 @@ export class Comparison {
   }
 
   /** The first compared turn before which the registers differ.
-      @returns {Promise<Part>}
-      @param {number} end */
+      @param {number} end
+      @returns {Promise<Part>} */
   async part(end) {
     const edited = this.editedTurns();
     let before = edited[0] ?? null;
@@ -170,8 +170,8 @@ function differ(reply, old) {
 
 /** What is compared of the turns up to `end`: the turns after each edit one by one, as far as they
     are few, and samples between.
-    @returns {Stretch[]}
-    @param {number[]} edited @param {number} end */
+    @param {number[]} edited @param {number} end
+    @returns {Stretch[]} */
 function stretchesOf(edited, end) {
   /** @type {Stretch[]} */
   const singles = [];

@@ -18,8 +18,8 @@ const MOST_CHANGES = 2;
  */
 
 /** The changes of the ledger from a turn on.
-    @returns {Promise<Change[]>}
-    @param {number} first @param {number} end @param {Ask} one */
+    @param {number} first @param {number} end @param {Ask} one
+    @returns {Promise<Change[]>} */
 async function changesFrom(first, end, one) {
   /** @type {(Change | null)[]} */
   const found = [];

@@ -107,8 +107,8 @@ export async function keepSession(session) {
 }
 
 /** The edits of a session that were kept, or null.
-    @returns {KeptEdits | null}
-    @param {Session} session */
+    @param {Session} session
+    @returns {KeptEdits | null} */
 export function keptEdits(session) {
   try {
     const kept = JSON.parse(read(keyOfEdits(session)) ?? "null");

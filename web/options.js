@@ -23,8 +23,8 @@ export class FileError extends Error {}
 export const namesFile = option => FILES.test(option);
 
 /** The options in these words, each value by its option's name.
-    @returns {Map<string, string>}
-    @param {string[]} words @param {string} where */
+    @param {string[]} words @param {string} where
+    @returns {Map<string, string>} */
 export function optionsOf(words, where) {
   const left = words.flatMap(it => it.startsWith("--") ? it.split(/=(.*)/s, 2) : [it]);
   const found = new Map();

@@ -15,8 +15,8 @@ export function fragmentOf({ turn, first, span, core }) {
 }
 
 /** The place that a fragment names, as far as it does.
-    @returns {Partial<Place>}
-    @param {string} fragment */
+    @param {string} fragment
+    @returns {Partial<Place>} */
 export function placeOf(fragment) {
   const words = new URLSearchParams(fragment.replace(/^#/, ""));
   /** @param {string} name @param {RegExp} form @param {(text: string) => number} valueOf */

@@ -24,8 +24,8 @@ const thing = (turn, text, more = {}) =>
   ({ turn, until: turn, goTo: turn, isWrite: false, text, ...more });
 
 /** What is drawn in a lane of a picture, by turns.
-    @returns {Thing[]}
-    @param {Lane} lane @param {Picture | null} picture @param {Partial<Symbols>} symbols */
+    @param {Lane} lane @param {Picture | null} picture @param {Partial<Symbols>} symbols
+    @returns {Thing[]} */
 export function thingsOf(lane, picture, symbols) {
   if (!picture) return [];
   if (lane.kind === "counter") return looksOf(lane, picture, symbols);
@@ -87,8 +87,8 @@ function writesOf({ name, label }, { words, disk }) {
 
 /** The thing of a lane that is touched at a pixel, or null. Of several it is the nearest; a word
     has a value between its writes too: then nothing is there to go to.
-    @returns {{thing: Thing, isThere: boolean} | null}
-    @param {Lane} lane @param {Thing[]} things @param {View} view @param {number} x */
+    @param {Lane} lane @param {Thing[]} things @param {View} view @param {number} x
+    @returns {{thing: Thing, isThere: boolean} | null} */
 export function thingAt(lane, things, view, x) {
   /** @param {Thing} it */
   const apart = it => Math.abs(view.x(it.turn) - x), turn = view.turn(x);
