@@ -9,7 +9,8 @@ const INPUT = 0;
 const UNWOUND_BYTES = 1 << 20;
 const UNWINDING = 1, REWINDING = 2;     // states of binaryen's asyncify
 
-/** Gives at most this number of bytes, none at the end. It may promise them.
+/**
+ * Gives at most this number of bytes, none at the end. It may promise them.
  * @typedef {(most: number) => Uint8Array | Promise<Uint8Array>} Reader
  */
 

@@ -1,6 +1,7 @@
 // Elements of the page. Text from outside becomes text, never HTML.
 
-/** What an attribute is; one that begins with `on` is called at that event.
+/**
+ * What an attribute is; one that begins with `on` is called at that event.
  * @typedef {string | number | boolean | null | undefined | ((event: any) => void)} Attribute
  * @typedef {Node | string | number} Inside an element, or a text
  */

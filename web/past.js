@@ -12,7 +12,8 @@ import { eventsOf, keyName, patchesOf, setupOf } from "./replies.js";
 const EDITS_OF_SCRIPT = new Set(["at", "alter", "drop"]);
 const EDITS = new Set(
   ["core", "uncore", "disk", "tape", "delay", "version", ...EDITS_OF_SCRIPT]);
-/** The lines that tell the past, and what each reply has of it.
+/**
+ * The lines that tell the past, and what each reply has of it.
  * @type {Object<string, (reply: string) => Partial<Past>>}
  */
 const TOLD = {
