@@ -18,7 +18,7 @@ from typing import Mapping, NamedTuple, Sequence
 WORKER = "machine-worker.js"
 IMPORT = re.compile(r'^import \{([^}]*)\} from "\./([a-z-]+\.js)";\n', re.M)
 EXPORT = re.compile(r"^export (?=(?:async )?(?:function|class|const) (\w+))", re.M)
-COMMENT = re.compile(r"^\s*(?:/?\*|//).*$", re.M)
+COMMENT = re.compile(r"^\s*(?:/\*.*?\*/|//[^\n]*)", re.M | re.S)
 OTHER_FORMS = re.compile(r"^(?:import|export)\b.*|\bimport(?:\(|\.meta)", re.M)
 ENDS_SCRIPT = re.compile(r"</script|<!--", re.I)
 SCRIPT = re.compile(r'<script type="module" src="([a-z-]+\.js)"></script>')

@@ -27,7 +27,8 @@ export const SURFACES = {surfaces};
 export const SECTORS = {sectors};
 export const SECTOR_WORDS = {sector_words};
 
-/** The devices that interrupt, by their vectors. @type {{Map<number, string>}} */
+/** The devices that interrupt, by their vectors.
+    @type {{Map<number, string>}} */
 export const INTERRUPTS = new Map([
 {interrupts}]);
 

@@ -6,26 +6,34 @@ const PIXELS = 48;
 
 /**
  * Events that follow one another on the timeline.
- * @typedef {{event: object, last: object, count: number}} Cluster the first, the last, how many
+ * @typedef {{event: ScriptEvent, last: ScriptEvent, count: number}} Cluster
+ *   the first, the last, how many
+ * @typedef {import("./past.js").ScriptEvent} ScriptEvent
+ * @typedef {import("./lanes.js").View} View
  */
 
-/** The clusters of events in sight. They lie the same when the turns in sight move. */
+/** The clusters of events in sight. They lie the same when the turns in sight move.
+    @param {ScriptEvent[]} events @param {View} view */
 export function clustersOf(events, view) {
   if (events.length <= MOST_MARKS) return events.map(it => ({ event: it, last: it, count: 1 }));
   const turns = Math.max(1, view.span / view.width * PIXELS);
+  /** @type {Cluster[]} */
   const found = [];
   let before = null;
   for (const event of events) {
-    const place = Math.floor(event.turn / turns);
-    if (place !== before) found.push({ event, last: event, count: 0 });
+    const place = Math.floor(event.turn / turns), cluster = found.at(-1);
+    if (!cluster || place !== before) found.push({ event, last: event, count: 1 });
+    else {
+      cluster.last = event;
+      cluster.count += 1;
+    }
     before = place;
-    found.at(-1).last = event;
-    found.at(-1).count += 1;
   }
   return found;
 }
 
-/** A cluster in words, such as `1000 events in the turns 5 to 900`. */
+/** A cluster in words, such as `1000 events in the turns 5 to 900`.
+    @param {Cluster} cluster */
 export function clusterInWords({ event, last, count }) {
   const turns = event.turn === last.turn ? `turn ${event.turn}`
     : `the turns ${event.turn} to ${last.turn}`;

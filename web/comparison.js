@@ -18,18 +18,32 @@ const PARTS_AT_ONCE = 64;
  */
 
 /**
+ * @typedef {import("./run.js").Run} Run
+ * @typedef {import("./past.js").Past} Past
+ * @typedef {import("./tasks.js").Token} Token
+ */
+
+/**
+ * Words that differ, the first of them, and how many there are.
+ * @typedef {{shown: {at: number, now: number, old: number}[], count: number}} Found
+ */
+
+/**
  * How far two pasts were compared. `turn` is the first compared turn before which the registers
  * differ, or null; `edited` the first that the edits can change, or null. Each turn up to `single`
  * was compared, and so many `later` ones.
  * @typedef {{edited: number | null, turn: number | null, single: number, later: number}} Part
  */
 export class Comparison {
-  /** @param {import("./run.js").Run} run @param {import("./run.js").Run} old */
+  /** @param {Run} run @param {Run} old @param {Token} token */
   constructor(run, old, token) {
-    Object.assign(this, { run, old, token });
+    this.run = run;
+    this.old = old;
+    this.token = token;
   }
 
-  /** The replies of both; the lines may depend on the past. */
+  /** The replies of both; the lines may depend on the past.
+      @param {(past: Past) => string[]} linesOf */
   async both(linesOf) {
     const asked = [this.run, this.old].map(it =>
       it.ask(linesOf(it.past), Priority.COMPARISON, this.token));
@@ -44,10 +58,13 @@ export class Comparison {
     return all.sort((a, b) => a - b);
   }
 
-  /** The first compared turn before which the registers differ. @returns {Part} */
+  /** The first compared turn before which the registers differ.
+      @param {number} end
+      @returns {Promise<Part>} */
   async part(end) {
     const edited = this.editedTurns();
     let before = edited[0] ?? null;
+    /** @type {Part} */
     const found = { edited: before, turn: null, single: before ?? end, later: 0 };
     for (const { first, count, step } of stretchesOf(edited, end)) {
       const turn = await this.firstOf({ first, count, step });
@@ -55,7 +72,7 @@ export class Comparison {
       if (step === 1 && !found.later) found.single = first + compared - 1;
       else found.later += compared;
       if (turn !== null) {
-        const low = turn === first ? before : turn - step;
+        const low = turn === first ? before ?? first : turn - step;
         return { ...found, turn: await this.halved(low, turn) };
       }
       before = first + (count - 1) * step;
@@ -63,7 +80,8 @@ export class Comparison {
     return found;
   }
 
-  /** The first turn of a stretch before which the registers differ, or null. */
+  /** The first turn of a stretch before which the registers differ, or null.
+      @param {Stretch} stretch */
   async firstOf({ first, count, step }) {
     for (let at = 0; at < count; at += TURNS_OF_A_PART) {
       const length = Math.min(TURNS_OF_A_PART, count - at);
@@ -75,7 +93,8 @@ export class Comparison {
     return null;
   }
 
-  /** A turn before which the registers differ, and before the turn before it they don't. */
+  /** A turn before which the registers differ, and before the turn before it they don't.
+      @param {number} low @param {number} high */
   async halved(low, high) {
     while (high - low > 1) {
       const middle = low + high >> 1;
@@ -86,10 +105,14 @@ export class Comparison {
     return high;
   }
 
-  /** Words that differ before a turn, the first of them, and how many there are. */
+  /** Words that differ before a turn, the first of them, and how many there are.
+      @param {(past: Past, begin: number, count: number) => string} question
+      @param {number} count */
   async words(question, count) {
+    /** @type {Found} */
     const found = { shown: [], count: 0 };
     for (let first = 0; first < count; first += PARTS_AT_ONCE * WORDS_AT_ONCE) {
+      /** @type {number[]} */
       const begins = [];
       for (let at = 0; at < PARTS_AT_ONCE && first + at * WORDS_AT_ONCE < count; at++) {
         begins.push(first + at * WORDS_AT_ONCE);
@@ -101,6 +124,7 @@ export class Comparison {
     return found;
   }
 
+  /** @param {Found} found @param {number} first @param {string} reply @param {string} oldReply */
   add(found, first, reply, oldReply) {
     if (!differ(reply, oldReply)) return;
     const olds = wordsOf(oldReply);
@@ -113,6 +137,7 @@ export class Comparison {
     });
   }
 
+  /** @param {number} turn */
   core(turn) {
     return this.words((_, begin, count) =>
       `mem ${turn} ${(2 * begin).toString(8)} ${count}`, this.run.past.core / 2);
@@ -128,21 +153,27 @@ export class Comparison {
     return isOne ? [0] : [0, 1, 2, 3, 4, 5, 6, 7];
   }
 
+  /** @param {number} turn @param {number} drive @param {number} sectors */
   disk(turn, drive, sectors) {
+    /** @param {Past} past */
     const name = past => past.version === 2 ? `${drive} ` : "";
     return this.words((past, begin, count) =>
       `dsk ${turn} ${name(past)}${begin.toString(8)} ${count}`, sectors * SECTOR_WORDS);
   }
 }
 
-/** Whether two replies differ. Neither may be a refusal. */
+/** Whether two replies differ. Neither may be a refusal.
+    @param {string} reply @param {string} old */
 function differ(reply, old) {
   return mustBeTaken(reply) !== mustBeTaken(old);
 }
 
 /** What is compared of the turns up to `end`: the turns after each edit one by one, as far as they
-    are few, and samples between. @returns {Stretch[]} */
+    are few, and samples between.
+    @param {number[]} edited @param {number} end
+    @returns {Stretch[]} */
 function stretchesOf(edited, end) {
+  /** @type {Stretch[]} */
   const singles = [];
   let left = MOST_SINGLE_TURNS;
   for (const [at, turn] of edited.entries()) {
@@ -159,7 +190,8 @@ function stretchesOf(edited, end) {
 }
 
 /** The stretches with what lies between them and up to `end`: turn by turn as far as enough are
-    left, from the first on, and otherwise samples. */
+    left, from the first on, and otherwise samples.
+    @param {Stretch[]} singles @param {number} end @param {number} left */
 function withSamples(singles, end, left) {
   const gaps = singles.map(({ first, count }, at) => {
     const begin = first + count, length = (singles[at + 1]?.first ?? end + 1) - begin;

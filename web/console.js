@@ -1,7 +1,7 @@
 // The console: once it is begun, the machine runs on from the cursor's turn while the pane has the
 // focus. It shows what is printed, and each key that is struck is an event.
 
-import { element } from "./page.js";
+import { choice, element } from "./page.js";
 import {
   LAST_TURN, bytesOf, counted, devicesOf, lengthOf, readableText, registersOf, tailOf,
 } from "./replies.js";
@@ -13,15 +13,24 @@ const [TICK, MOST_TURNS, MOST_BYTES] = [50, 4_000_000, 20_000];
 const KEYS = new Map(
   [["Enter", 0o15], ["Backspace", 0o177], ["Delete", 0o177], ["Escape", 0o33]]);
 
-/** The byte of a key, or null if it has none. Tab leaves the pane. */
+/** The byte of a key, or null if it has none. Tab leaves the pane.
+    @param {KeyboardEvent} event */
 export function byteOfKey(event) {
   if (event.altKey || event.metaKey) return null;
-  if (KEYS.has(event.key)) return KEYS.get(event.key);
+  const named = KEYS.get(event.key);
+  if (named !== undefined) return named;
   if ([...event.key].length !== 1) return null;
   const code = event.key.charCodeAt(0);
   if (event.ctrlKey) return code >= 0o100 && code < 0o177 ? code & 0o37 : null;
   return code < 0o200 ? code : null;
 }
+
+/**
+ * A time of running: the turn up to which it is, whether the line that is typed goes on, and what
+ * gives it up.
+ * @typedef {{turn: number, isInLine: boolean, token: import("./tasks.js").Token}} Running
+ * @typedef {import("./run.js").Run} Run
+ */
 
 export class Console {
   /** @param {import("./app.js").App} app */
@@ -29,11 +38,19 @@ export class Console {
     this.app = app;
     this.pane = element("terminal");
     this.status = element("terminal-status");
-    this.speed = element("speed");
+    this.speed = choice("speed");
+    /** @type {number[]} bytes that were struck and wait */
     this.keys = [];
-    /** What tells one time of running from the next; null if it doesn't run. */
+    /** @type {Running | null} what tells one time of running from the next, if it runs */
     this.running = null;
-    this.isOf = { run: null, pasts: 0 };   // the past whose text is shown
+    /** @type {{run: Run | null, pasts: number}} the past whose text is shown */
+    this.isOf = { run: null, pasts: 0 };
+    /** How many turns are run before the next look. */
+    this.step = 0;
+    /** How many bytes were printed, and the last of them. */
+    this.printed = 0;
+    /** @type {number[]} */
+    this.bytes = [];
     element("terminal-run").addEventListener("click", () => {
       this.pane.focus();
       this.begin();
@@ -42,7 +59,12 @@ export class Console {
     this.pane.addEventListener("keydown", event => this.strike(event));
   }
 
-  /** A key goes to the machine if it runs; otherwise Enter begins. Enter isn't repeated. */
+  sessionEnds() {
+    this.end();
+  }
+
+  /** A key goes to the machine if it runs; otherwise Enter begins. Enter isn't repeated.
+      @param {KeyboardEvent} event */
   strike(event) {
     const byte = byteOfKey(event), isEnter = event.key === "Enter";
     if (byte === null || !this.running && !isEnter) return;
@@ -55,7 +77,7 @@ export class Console {
   begin() {
     if (this.running) return;
     const token = { isStopped: false };
-    const running = { turn: this.app.timeline.cursor, isInLine: false, token };
+    const running = { turn: this.app.view.timeline.cursor, isInLine: false, token };
     this.running = running;
     this.keys = [];
     this.pane.classList.add("running");
@@ -71,29 +93,30 @@ export class Console {
     this.running = null;
     running.token.isStopped = true;
     this.pane.classList.remove("running");
-    app.reach(running.turn);
-    app.timeline.setCursor(running.turn);
+    app.view.reach(running.turn);
+    app.view.timeline.setCursor(running.turn);
     const left = this.keys.length;
     if (left) app.say(`Left out, since the keyboard wasn't ready: ${counted(left, "key")}.`);
   }
 
   keepPast() {
-    const { run } = this.app;
-    this.isOf = { run, pasts: run.pasts };
+    const { run } = this.app.session;
+    this.isOf = { run, pasts: run.ledger.pasts };
   }
 
   /** A text of another past isn't shown any longer. */
   pastChanged() {
-    const { run } = this.app, { isOf } = this;
-    if (this.running || isOf.run === run && isOf.pasts === run.pasts) return;
+    const { run } = this.app.session, { isOf } = this;
+    if (this.running || isOf.run === run && isOf.pasts === run.ledger.pasts) return;
     for (const it of [this.pane, this.status]) it.textContent = "";
   }
 
-  /** Runs on until it is ended. */
+  /** Runs on until it is ended.
+      @param {Running} running */
   async runOn(running) {
     this.step = TURNS_A_SECOND * TICK / 1000;
     const [reply] = await this.ask(running, `text ${running.turn}`);
-    this.bytes = tailOf(reply, MOST_BYTES).bytes;
+    this.bytes = [...tailOf(reply, MOST_BYTES).bytes];
     this.printed = lengthOf(reply);
     this.show(running.turn, "run");
     let hasKeys = false;
@@ -111,16 +134,19 @@ export class Console {
     }
   }
 
+  /** @param {Running} running @param {string[]} lines */
   ask(running, ...lines) {
-    return this.app.run.ask(lines, Priority.CURSOR, running.token);
+    return this.app.session.run.ask(lines, Priority.CURSOR, running.token);
   }
 
-  /** Strikes the next key, if the keyboard can take one. One undo takes back a typed line. */
+  /** Strikes the next key, if the keyboard can take one. One undo takes back a typed line.
+      @param {Running} running */
   async strikeNext(running) {
-    if (!this.keys.length) return false;
+    const [byte] = this.keys;
+    if (byte === undefined) return false;
     const [devices] = await this.ask(running, `devices ${running.turn}`);
     if (devicesOf(devices).keyWaits) return false;
-    const byte = this.keys.shift();
+    this.keys.shift();
     await this.app.edits.make(`at ${running.turn} key ${byte.toString(8)}`, running.isInLine);
     running.isInLine = byte !== KEYS.get("Enter");
     this.app.edits.show();
@@ -128,6 +154,7 @@ export class Console {
     return true;
   }
 
+  /** @param {Running} running */
   async goOn(running) {
     const turn = Math.min(LAST_TURN, running.turn + Math.round(this.step));
     const [text, registers] = await this.ask(
@@ -144,13 +171,15 @@ export class Console {
     this.show(turn, registersOf(registers).state, more.length > 0);
   }
 
-  /** At the machine's rate, or as many turns as are run in the time between two looks. */
+  /** At the machine's rate, or as many turns as are run in the time between two looks.
+      @param {number} time */
   adapt(time) {
     if (this.speed.value === "real") this.step = TURNS_A_SECOND * TICK / 1000;
     else if (time < TICK) this.step = Math.min(MOST_TURNS, this.step * 1.5);
     else this.step = Math.max(1_000, this.step / 2);
   }
 
+  /** @param {number} turn @param {string} state */
   show(turn, state, isNew = true) {
     const cut = this.printed > this.bytes.length ? `, the last ${this.bytes.length} bytes` : "";
     this.status.textContent = `before turn ${turn}, ${state}${cut}`;

@@ -1,8 +1,9 @@
 // What the panels show of the machine before the turn of the cursor.
 
+import { Machine } from "./machine.js";
 import { Priority } from "./run.js";
 import { element, link, make, table } from "./page.js";
-import { symbolNear as nearest } from "./session.js";
+import { symbolNear as nearest, symbolsOfMode } from "./session.js";
 import {
   devicesOf, functionInWords, lastOf, octal, pageInWords, pagesOf, physicalOf, registersOf,
   shownByte, statusInWords, turnsOf, unreadOf, vectorName, visibleName, wordsOf,
@@ -13,16 +14,66 @@ const WORDS_OF_AN_INSTRUCTION = 3;
 const PANELS = ["registers", "devices", "pages", "instructions", "stack", "memory"];
 const REGISTER_NAMES = ["R0", "R1", "R2", "R3", "R4", "R5", "KSP", "USP", "PC", "PS"];
 
+/**
+ * The machine before a turn, as the edits that a run has taken make it; what a panel shows may say
+ * more.
+ * @typedef {{run: Run, turn: number, pasts: number}} State
+ * @typedef {State & {more?: string}} Shown
+ * @typedef {import("./run.js").Run} Run
+ * @typedef {import("./session.js").Symbols} Symbols
+ * @typedef {import("./names.js").WatchedWord} WatchedWord
+ * @typedef {import("./tasks.js").Token} Token
+ * @typedef {import("./session.js").Symbol} Symbol
+ * @typedef {import("./page.js").Inside} Inside
+ */
+
+/**
+ * What asks lines; what replies have; and the mode that a line names for the addresses of a mode,
+ * or null if the mode has no pages.
+ * @typedef {(lines: string[]) => Promise<string[]>} Ask
+ * @typedef {ReturnType<typeof registersOf>} Registers
+ * @typedef {ReturnType<typeof devicesOf>} Devices
+ * @typedef {ReturnType<typeof pagesOf>} Pages
+ * @typedef {ReturnType<typeof turnsOf>} Trail
+ * @typedef {string | null} Space
+ * @typedef {{turn: number, core: number, registers: Registers, space: Space}} TheMachine
+ */
+
+/**
+ * An instruction at an address, or what a turn did if it ran none.
+ * @typedef {{mode: string, pc: number, text: string, symbol: string}} Instruction
+ * @typedef {{turn: number, pc: number, act: string, vector: number | null}} Turn
+ * @typedef {Instruction & Turn} PastTurn
+ * @typedef {Turn & {mode: string, space: Space, words: number[], text: string | null}} Fetched
+ */
+
 export class CursorPanels {
-  /** @param {{onTurn: (turn: number) => void, onWatch: (address: number) => void,
-   *   onRunTo: (pc: number, mode: string, direction: number) => void,
-   *   onChange: (address: number, word: number) => void}} listener */
-  constructor(disassembler, listener) {
-    this.disassembler = disassembler;
-    this.listener = listener;
+  /** @param {import("./app.js").App} app */
+  constructor(app) {
+    this.app = app;
+    this.disassembler = new Machine({ program: "disassemble" });
+    /** The first word of core that is shown. */
     this.address = 0o2000;
+    /** @type {State | null} the state that is asked for */
     this.wanted = null;
-    this.shown = new Map();   // by panel, the state of the machine that it shows
+    /** @type {Map<string, State>} by panel, the state that it shows */
+    this.shown = new Map();
+    /** @type {Symbols} */
+    this.symbols = { kernel: [], user: [] };
+  }
+
+  pastChanged() {
+    this.ask();
+  }
+
+  cursorMoved() {
+    this.ask();
+  }
+
+  /** Asks for the machine before the turn of the cursor, and shows it. */
+  ask() {
+    const { app } = this, { run, symbols } = app.session, token = app.token("cursor");
+    app.attempt(() => this.show(run, app.view.timeline.cursor, symbols, token));
   }
 
   /** The turn that the panels show, or null. */
@@ -35,21 +86,25 @@ export class CursorPanels {
     for (const name of PANELS) markTurn(element(`${name}-turn`), this.shown.get(name), this.wanted);
   }
 
-  /** The state that is asked for, which no panel may show yet. */
+  /** The state that is asked for, which no panel may show yet.
+      @param {Run} run @param {number} turn */
   want(run, turn) {
     this.wanted = stateOf(run, turn);
     this.mark();
     return this.wanted;
   }
 
+  /** @param {string} name @param {State} state */
   isShown(name, state) {
     this.shown.set(name, state);
     this.mark();
   }
 
-  /** Shows the machine before a turn. */
+  /** Shows the machine before a turn.
+      @param {Run} run @param {number} turn @param {Symbols} symbols @param {Token} token */
   async show(run, turn, symbols, token) {
     const state = this.want(run, turn);
+    /** @type {Ask} */
     const ask = lines => run.ask(lines, Priority.CURSOR, token);
     const before = Math.max(0, turn - 1), count = Math.min(TURNS_BEFORE, turn);
     const lines = [`regs ${before}`, `regs ${turn}`, `pages ${turn}`, `devices ${turn}`];
@@ -72,6 +127,7 @@ export class CursorPanels {
     }));
   }
 
+  /** @param {Registers} old @param {Registers} now */
   showRegisters(old, now) {
     const cells = REGISTER_NAMES.map(name => {
       const isChanged = old.words[name] !== now.words[name];
@@ -83,6 +139,7 @@ export class CursorPanels {
       make("p", {}, status), make("p", { class: "faint" }, "* changed by the turn before"));
   }
 
+  /** @param {Devices} devices */
   showDevices(devices) {
     const words = Object.entries(devices.words);
     const cells = words.map(([name, word]) => make("div", { class: "register" },
@@ -94,13 +151,15 @@ export class CursorPanels {
       make("dl", { class: "registers" }, ...cells));
   }
 
+  /** @param {Pages} pages */
   showPages(pages) {
     if (!(pages.sr0 & 1)) {
       element("pages").replaceChildren(make("p", {},
         "Mapping is off: addresses up to 157777 are physical ones, the others the I/O page."));
       return;
     }
-    const rows = ["kernel", "user"].flatMap(mode => Array.from({ length: 8 }, (_, page) => page)
+    const all = Array.from({ length: 8 }, (_, page) => page);
+    const rows = /** @type {const} */ (["kernel", "user"]).flatMap(mode => all
       .filter(page => pages.descriptors[mode][page] >> 1 & 3)
       .map(page => [mode, octal(page << 13), pageInWords(pages, mode, page)]));
     element("pages").replaceChildren(table("Pages that are there", ["mode", "from", "is"], rows));
@@ -108,11 +167,14 @@ export class CursorPanels {
 
   // Instructions
 
+  /** @param {Ask} ask @param {TheMachine} machine @param {Trail} trail */
   async showInstructions(ask, machine, trail) {
     const past = await this.pastInstructions(ask, trail);
     const next = await this.nextInstructions(ask, machine);
+    /** @param {Instruction} it @param {Inside} turn @returns {Inside[]} */
     const row = (it, turn) => [turn, it.mode, octal(it.pc), it.text, it.symbol];
-    const goTo = turn => link(String(turn), "Go to this turn", () => this.listener.onTurn(turn));
+    /** @param {number} turn */
+    const goTo = turn => link(String(turn), "Go to this turn", () => this.app.goTo(turn));
     const rows = [
       ...past.map(it => row(it, goTo(it.turn))),
       ...next.map((it, at) => row(it, at ? this.linksTo(it)
@@ -122,22 +184,27 @@ export class CursorPanels {
       table("Turns before, and instructions from PC on", ["turn", "mode", "PC", "", ""], rows));
   }
 
-  /** Buttons that go back to an instruction, and on to it. */
+  /** Buttons that go back to an instruction, and on to it.
+      @param {Instruction} instruction */
   linksTo({ pc, mode }) {
     if (!["kernel", "user"].includes(mode)) return "";
+    /** @param {string} text @param {string} what @param {number} direction */
     const made = (text, what, direction) => make("button", {
       type: "button", class: "link", title: what, "aria-label": `${what} at ${octal(pc)}`,
-      onclick: () => this.listener.onRunTo(pc, mode, direction),
+      onclick: () => this.app.stepping.runTo(pc, mode, direction),
     }, text);
     return make("span", { class: "to" }, made("\u2190", "Back to the instruction", -1),
       made("\u2192", "On to the instruction", 1));
   }
 
+  /** @param {Ask} ask @param {Trail} trail @returns {Promise<PastTurn[]>} */
   async pastInstructions(ask, trail) {
     const replies = await ask(trail.flatMap(it => [`regs ${it.turn}`, `pages ${it.turn}`]));
+    /** @type {Fetched[]} */
     const turns = trail.map((it, at) => {
       const { mode } = registersOf(replies[2 * at]);
-      return { ...it, mode, space: spaceOf(pagesOf(replies[2 * at + 1]), mode), words: [] };
+      const space = spaceOf(pagesOf(replies[2 * at + 1]), mode);
+      return { ...it, mode, space, words: [], text: null };
     });
     await Promise.all(turns.filter(it => it.act === "instr").map(async it => {
       it.words = await wordsAt(ask, it, it.pc, WORDS_OF_AN_INSTRUCTION);
@@ -145,11 +212,13 @@ export class CursorPanels {
     const fetched = turns.filter(it => it.words.length);
     const texts = await this.texts(fetched);
     fetched.forEach((it, number) => { it.text = texts[number].text; });
-    return turns.map(it => ({
-      ...it, text: it.text ?? actInWords(it), symbol: symbolNear(this.symbols[it.mode], it.pc),
-    }));
+    return turns.map(it => {
+      const symbol = symbolNear(symbolsOfMode(this.symbols, it.mode), it.pc);
+      return { ...it, text: it.text ?? actInWords(it), symbol };
+    });
   }
 
+  /** @param {Ask} ask @param {TheMachine} machine @returns {Promise<Instruction[]>} */
   async nextInstructions(ask, machine) {
     const { registers: { mode, pc } } = machine;
     const words = await wordsAt(ask, machine, pc, INSTRUCTIONS * WORDS_OF_AN_INSTRUCTION);
@@ -159,14 +228,15 @@ export class CursorPanels {
     const found = [];
     for (let at = 0; at < texts.length && found.length < INSTRUCTIONS;) {
       const address = pc + 2 * at & 0o177777;
-      const symbol = symbolNear(this.symbols[mode], address);
+      const symbol = symbolNear(symbolsOfMode(this.symbols, mode), address);
       found.push({ mode, pc: address, text: texts[at].text, symbol });
       at += texts[at].words;
     }
     return found;
   }
 
-  /** The texts of instructions, each from its address, its word and the two that follow. */
+  /** The texts of instructions, each from its address, its word and the two that follow.
+      @param {{pc: number, words: number[]}[]} asked */
   async texts(asked) {
     if (!asked.length) return [];
     const lines = asked.map(({ pc, words }) =>
@@ -181,6 +251,7 @@ export class CursorPanels {
 
   // Words
 
+  /** @param {Ask} ask @param {TheMachine} machine */
   async showStack(ask, machine) {
     const { turn, registers } = machine;
     const name = registers.mode === "kernel" ? "KSP" : "USP";
@@ -194,6 +265,7 @@ export class CursorPanels {
       : make("p", {}, `${name} ${octal(sp)} is no word of core.`));
   }
 
+  /** @param {Ask} ask @param {TheMachine} machine */
   async showMemory(ask, { turn, core }) {
     const { address } = this;
     const places = Array.from({ length: WORDS_OF_MEMORY }, (_, at) => address + 2 * at)
@@ -204,35 +276,44 @@ export class CursorPanels {
       : make("p", {}, `${octal(address)} is no word of core.`));
   }
 
-  /** Each word with who wrote it last: a click goes to that turn. */
+  /** Each word with who wrote it last: a click goes to that turn.
+      @param {Ask} ask @param {number} turn @param {number[]} places */
   async wordRows(ask, turn, places) {
     const replies = await ask(places.flatMap(it => [
       `mem ${turn} ${it.toString(8)} 1`, `last ${turn} ${it.toString(8)}`]));
     return places.map((place, at) => this.wordRow(place, replies[2 * at], replies[2 * at + 1]));
   }
 
+  /** @param {number} place @param {string} value @param {string} written @returns {Inside[]} */
   wordRow(place, value, written) {
     const [word] = wordsOf(value);
     const last = lastOf(written);
-    const { onWatch, onTurn, onChange } = this.listener;
-    const watch = link(octal(place), "Draw this word on the timeline", () => onWatch(place));
+    const { app } = this;
+    /** @type {WatchedWord} */
+    const drawn = { kind: "core", drive: 0, at: place };
+    const turn = () => app.watched.turn(drawn);
+    const watch = link(octal(place), "Draw this word on the timeline", turn);
+    /** @param {{turn: number, writer: string}} it */
     const goTo = it => link(`${it.writer}, turn ${it.turn}`, "Go to the turn that wrote it",
-      () => onTurn(it.turn));
+      () => app.goTo(it.turn));
     const text = shownByte(word & 0o377) + shownByte(word >> 8);
-    const write = () => onChange(place, word);
+    const write = () => app.edits.writeLine(`core ${place.toString(8)} `, octal(word));
     const change = link(octal(word), "Change this word as of power-up", write);
     return [watch, change, text, last ? goTo(last) : "never"];
   }
 }
 
 /** The mode that a line names for the addresses of a mode: while mapping is off they are the same
-    in all modes. Null while it is on for the modes 01 and 10, which have no pages. */
+    in all modes. Null while it is on for the modes 01 and 10, which have no pages.
+    @param {Pages} pages @param {string} mode @returns {Space} */
 function spaceOf({ sr0, descriptors }, mode) {
   if (!(sr0 & 1)) return "kernel";
-  return descriptors[mode] ? mode : null;
+  return Object.hasOwn(descriptors, mode) ? mode : null;
 }
 
-/** The words at virtual addresses that an instruction can read, up to the first that it can't. */
+/** The words at virtual addresses that an instruction can read, up to the first that it can't.
+    @param {Ask} ask @param {{turn: number, space: Space}} machine @param {number} address
+    @param {number} count @returns {Promise<number[]>} */
 export async function wordsAt(ask, { turn, space }, address, count) {
   if (!space || address % 2 || !count) return [];
   const most = Math.min(count, 0o200000 - address >> 1);
@@ -242,25 +323,35 @@ export async function wordsAt(ask, { turn, space }, address, count) {
   return [...wordsOf(reply), ...await wordsAt(ask, { turn, space }, 0, count - most)];
 }
 
-/** The physical addresses of words at virtual ones, as far as they are core. */
+/** The physical addresses of words at virtual ones, as far as they are core.
+    @param {Ask} ask @param {{turn: number, space: Space, core: number}} machine
+    @param {number} address @param {number} count */
 export async function placesAt(ask, { turn, space, core }, address, count) {
   if (!space || address % 2) return [];
   const replies = await ask(Array.from({ length: count }, (_, at) =>
     `translate ${turn} ${space} ${(address + 2 * at & 0o177777).toString(8)}`));
-  const places = replies.map(physicalOf), end = places.findIndex(it => it === null || it >= core);
-  return end < 0 ? places : places.slice(0, end);
+  /** @type {number[]} */
+  const places = [];
+  for (const it of replies.map(physicalOf)) {
+    if (it === null || it >= core) break;
+    places.push(it);
+  }
+  return places;
 }
 
-/** The machine before a turn, as the edits that a run has taken make it. */
-export const stateOf = (run, turn) => ({ run, turn, pasts: run.pasts });
+/** The machine before a turn, as the edits that a run has taken make it.
+    @param {Run} run @param {number} turn @returns {State} */
+export const stateOf = (run, turn) => ({ run, turn, pasts: run.ledger.pasts });
 
-/** Says of which turn a panel is: `wanted` is the state that is asked for, `shown` what it has. */
+/** Says of which turn a panel is: `wanted` is the state that is asked for, `shown` what it has.
+    @param {HTMLElement} place @param {Shown | null | undefined} shown
+    @param {State | null} wanted */
 export function markTurn(place, shown, wanted) {
   const isNow = shown?.run === wanted?.run && shown?.pasts === wanted?.pasts;
   const isStale = !isNow || shown?.turn !== wanted?.turn;
   place.classList.toggle("stale", isStale);
   if (!shown) place.textContent = "not known yet";
-  else if (shown.run !== wanted.run) place.textContent = "still of the session before";
+  else if (shown.run !== wanted?.run) place.textContent = "still of the session before";
   else {
     const past = isNow ? "" : ", from before the last edit";
     const still = isStale ? "still " : "";
@@ -268,15 +359,20 @@ export function markTurn(place, shown, wanted) {
   }
 }
 
-/** What the processor does next. */
+/** What the processor does next.
+    @param {TheMachine} machine */
 const nextInWords = ({ registers: { state } }) =>
   ({ run: "next", wait: "waits", halted: "halted" })[state];
 
-/** The symbol near an address, with what can't be seen written out. */
+/** The symbol near an address, with what can't be seen written out.
+    @param {Symbol[]} symbols @param {number} address */
 const symbolNear = (symbols, address) => visibleName(nearest(symbols, address));
 
-function actInWords(turn) {
-  if (turn.act === "irq") return `interrupt ${octal(turn.vector, 3)} ${vectorName(turn.vector)}`;
-  if (turn.act === "instr") return "(can't be fetched)";
-  return { idle: "waits or is halted", trace: "trace trap", stack: "stack trap" }[turn.act];
+/** @param {Turn} turn */
+function actInWords({ act, vector }) {
+  if (act === "irq" && vector !== null) {
+    return `interrupt ${octal(vector, 3)} ${vectorName(vector)}`;
+  }
+  if (act === "instr") return "(can't be fetched)";
+  return { idle: "waits or is halted", trace: "trace trap", stack: "stack trap" }[act] ?? act;
 }

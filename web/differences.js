@@ -5,7 +5,14 @@ import { octal } from "./replies.js";
 
 const COMPARED_SECTORS = 96;
 
+/**
+ * @typedef {import("./comparison.js").Comparison} Comparison
+ * @typedef {import("./comparison.js").Part} Part
+ * @typedef {import("./comparison.js").Found} Found
+ */
+
 export class Differences {
+  /** @param {HTMLElement} place @param {(turn: number) => void} onTurn */
   constructor(place, onTurn) {
     this.place = place;
     this.onTurn = onTurn;
@@ -27,7 +34,8 @@ export class Differences {
   }
 
   /** Shows the first turn in which the pasts part; returns it for the timeline, or null. From turn
-      `same` on they are the same, if that isn't null. */
+      `same` on they are the same, if that isn't null.
+      @param {Comparison} comparison @param {number} end @param {number | null} same */
   async show(comparison, end, same) {
     const last = Math.min(end, same || end);
     const part = await comparison.part(last);
@@ -37,11 +45,13 @@ export class Differences {
     return part.turn === null ? null : { turn: part.turn, isExact: !part.later };
   }
 
+  /** @param {number} same */
   sameLine(same) {
     const go = link(`turn ${same}`, "Go there", () => this.onTurn(same));
     return make("p", {}, "From ", go, " on the run is the old one again.");
   }
 
+  /** @param {Part} part @param {number} end */
   partLine({ edited, turn, single, later }, end) {
     const compared = `compared before each of the turns ${edited} to ${single}`
       + `, and before ${later} of those from there to ${turn ?? end}`;
@@ -58,11 +68,15 @@ export class Differences {
       `. They were ${compared}: between those they may have differed before.`);
   }
 
-  /** Shows the words of core and of the disk that differ. */
+  /** Shows the words of core and of the disk that differ.
+      @param {Comparison} comparison @param {number} end */
   async showWords(comparison, end) {
-    const add = it => this.place.lastElementChild.before(it);
+    /** @param {Node} it */
+    const add = it => this.place.lastElementChild?.before(it);
     add(words("Core", await comparison.core(end), end, it => octal(2 * it)));
-    const sectors = `${COMPARED_SECTORS} sectors`, same = [];
+    const sectors = `${COMPARED_SECTORS} sectors`;
+    /** @type {number[]} */
+    const same = [];
     for (const drive of comparison.drives) {
       const disk = await comparison.disk(end, drive, COMPARED_SECTORS);
       const name = `Drive ${drive}, its first ${sectors}`;
@@ -72,12 +86,14 @@ export class Differences {
     const none = `Drives ${same.join(", ")}: no word of the first ${sectors} differs.`;
     if (same.length) add(make("p", {}, none));
     if (comparison.versionsDiffer) add(make("p", {}, "One of the pasts has drive 0 alone."));
-    this.place.lastElementChild.remove();
+    this.place.lastElementChild?.remove();
   }
 }
 
 const atWork = () => make("p", { class: "faint at-work" }, "Comparing ..");
 
+/** @param {string} name @param {Found} found @param {number} end
+    @param {(at: number) => string} placeOf */
 function words(name, found, end, placeOf) {
   const count = found.count === 1 ? "1 word differs" : `${found.count} words differ`;
   const rows = found.shown.map(it => [placeOf(it.at), octal(it.old), octal(it.now)]);
@@ -89,7 +105,8 @@ function words(name, found, end, placeOf) {
 }
 
 /** A text as pieces, with what differs from an old text marked: in each line whole words and
-    numbers, from the first that differs to the last. */
+    numbers, from the first that differs to the last.
+    @param {string} text @param {string} oldText */
 export function marked(text, oldText) {
   const [lines, olds] = [text.split("\n"), oldText.split("\n")];
   return lines.flatMap((line, at) => {
@@ -98,15 +115,18 @@ export function marked(text, oldText) {
   });
 }
 
-/** The words, numbers and other characters of a line. */
+/** The words, numbers and other characters of a line.
+    @param {string} line @returns {string[]} */
 const partsOf = line => line.match(/[A-Za-z]+[0-9]*|[0-9]+|[^]/g) ?? [];
 
+/** @param {string} line @param {string} old */
 function markedLine(line, old) {
   const [now, then] = [line, old].map(partsOf), least = Math.min(now.length, then.length);
   let from = 0;
   while (from < least && now[from] === then[from]) from++;
   let same = 0;
   while (same < least - from && now.at(-1 - same) === then.at(-1 - same)) same++;
+  /** @param {string} name @param {string[]} parts */
   const piece = (name, parts) => parts.length ? [make(name, {}, parts.join(""))] : [];
   return [
     now.slice(0, from).join(""), ...piece("del", then.slice(from, then.length - same)),

@@ -1,11 +1,11 @@
 // What the user does to the past: edits, moves of events, undo and redo, one after the other.
 
 import { keepEdits, sumOf } from "./kept.js";
-import { element, itemsOf, make } from "./page.js";
+import { button, element, field, itemsOf, make } from "./page.js";
 import { isEdit } from "./past.js";
-import { isRefused, mustBeTaken } from "./replies.js";
+import { isRefused } from "./replies.js";
 import { Priority } from "./run.js";
-import { itemsOfRun, switchItem } from "./switching.js";
+import { itemsOf as itemsOfLedger, switchItem } from "./switching.js";
 
 const MOST_REPLY = 20_000;
 // Stands before the text of what is switched off: no line begins with it.
@@ -13,105 +13,142 @@ const OFF = "\n";
 // The program gives no event this number, or a larger one.
 const FIRST_FREE = 4_294_967_296;
 
+/**
+ * A move of an event that isn't ended: the turns that are wanted and tried, each with its line.
+ * @typedef {{line: string, turn: number}} Move
+ * @typedef {{isAtWork: boolean, wanted: Move, now: Move | null}} Moves
+ * @typedef {import("./past.js").ScriptEvent} ScriptEvent
+ * @typedef {import("./ledger.js").Edit} Edit
+ * @typedef {import("./kept.js").KeptEdits} KeptEdits
+ * @typedef {import("./kept.js").KeptEdit} KeptEdit
+ */
+
 export class Edits {
   /** @param {import("./app.js").App} app */
   constructor(app) {
     this.app = app;
+    /** @type {Promise<void>} */
     this.last = Promise.resolve();
-    this.tried = null;
+    /** @type {Moves | null} */
+    this.moves = null;
     this.list = element("edits");
     this.showItems = itemsOf(this.list, text => this.shownItem(text));
-    /** A sum of the past that was saved last, or null. */
+    /** @type {string | null} a sum of the past that was saved last */
     this.saved = null;
   }
 
-  /** Does work after all that was begun before it, unless another session is open by then. */
+  pastChanged() {
+    this.show();
+  }
+
+  /** Does work after all that was begun before it, unless another session is open by then.
+      @param {() => Promise<void>} work */
   inTurn(work) {
-    const { app } = this;
-    const { run } = app;
-    this.last = this.last.then(() => run === app.run ? app.attempt(work) : undefined);
+    const { app } = this, { opened } = app;
+    this.last = this.last.then(() => opened === app.opened ? app.attempt(work) : undefined);
     return this.last;
   }
 
-  /** A line of the user: an edit, or a question. */
+  /** A line of the user: an edit, or a question.
+      @param {string} line */
   do(line) {
     const { app } = this;
     if (isEdit(line)) return this.edit(line);
     return app.attempt(() => this.askQuestion(line));
   }
 
-  /** Shows the reply to a question. Another question gives up the one before it. */
+  /** Shows the reply to a question. Another question gives up the one before it.
+      @param {string} line */
   async askQuestion(line) {
-    const { app } = this;
-    const reply = await app.run.askOne(line, Priority.QUESTION, app.token("question"));
+    const { app } = this, { run } = app.session;
+    const reply = await run.askOne(line, Priority.QUESTION, app.token("question"));
     const lines = reply.includes("\n") ? `\n${reply}` : reply;
     const left = lines.length - MOST_REPLY;
     const cut = left > 0 ? `\n.. ${left} characters more aren't shown` : "";
     app.say(`${line}: ${lines.slice(0, MOST_REPLY)}${cut}`);
   }
 
+  /** Makes an edit, and shows what follows.
+      @param {string} line */
   edit(line) {
     return this.inTurn(() => this.makeShown(line));
   }
 
+  /** @param {string} line */
   async makeShown(line) {
     if (isRefused(await this.make(line))) this.show();
     else await this.app.changed();
   }
 
-  /** Makes an edit. One that joins is undone with the one before it. Returns the reply. */
+  /** Makes an edit. One that joins is undone with the one before it. Returns the reply.
+      @param {string} line */
   async make(line, joins = false) {
-    const { app } = this;
-    app.keepOld();
-    const reply = await app.run.edit(line, joins);
-    await app.run.askPast();
+    const { app } = this, { run } = app.session;
+    app.pasts.keepOld();
+    const reply = await run.commit(line, joins);
+    await run.askPast();
     app.say(`${line}: ${reply}`);
     return reply;
   }
 
+  /** Puts an event's edit into the field.
+      @param {ScriptEvent} event */
+  openEvent(event) {
+    this.writeLine(`alter ${event.number} `, String(event.turn), ` ${event.text}`);
+  }
+
+  /** Puts a line into the field, with the part selected that is to be changed.
+      @param {string} before @param {string} changed */
+  writeLine(before, changed, after = "") {
+    const line = field("line");
+    line.value = `${before}${changed}${after}`;
+    line.focus();
+    line.setSelectionRange(before.length, before.length + changed.length);
+  }
+
   // Moves of events
 
-  /** While an event is moved its turn is tried, if the machine is quick enough. */
+  /** While an event is moved its turn is tried, if the machine is quick enough.
+      @param {ScriptEvent} event @param {number} turn */
   preview(event, turn) {
-    const { run, end, text } = this.app;
-    const line = `alter ${event.number} ${turn} ${event.text}`;
-    this.app.say(line);
-    text.isOld();
+    const { app } = this, { run, end } = app.session, wanted = { line: moveOf(event, turn), turn };
+    app.say(wanted.line);
+    app.text.isOld();
     if (!run.isNear(end, Math.min(event.turn, turn))) return;
-    for (const kind of ["picture", "cursor", "comparison", "text"]) this.app.token(kind);
-    this.tried ??= { isAtWork: false, back: [] };
-    const { tried } = this;
-    tried.wanted = { line, turn };
-    if (tried.isAtWork) return;
-    tried.isAtWork = true;
-    this.inTurn(() => this.tryTurns(tried)).then(() => { tried.isAtWork = false; });
+    for (const kind of ["picture", "cursor", "comparison", "text"]) app.token(kind);
+    /** @type {Moves} */
+    const moves = this.moves ?? { isAtWork: false, wanted, now: null };
+    this.moves = moves;
+    moves.wanted = wanted;
+    if (moves.isAtWork) return;
+    moves.isAtWork = true;
+    this.inTurn(() => this.tryTurns(moves)).then(() => { moves.isAtWork = false; });
   }
 
   /** Tries the turn that is wanted, until it is the one that was tried. What comes of another turn
-      isn't shown. */
-  async tryTurns(tried) {
-    const { run, end } = this.app;
-    if (!tried.now) tried.back = run.past.inverse(tried.wanted.line) ?? [];
-    while (this.tried === tried && tried.wanted !== tried.now) {
-      tried.now = tried.wanted;
-      const [reply, text] = await run.ask([tried.now.line, `text ${end}`], Priority.EDIT);
-      mustBeTaken(reply);
-      this.app.panels.want(run, this.app.timeline.cursor);
-      element("notes").textContent = "The lanes are those before the event's move.";
-      const isWanted = this.tried === tried && tried.wanted === tried.now;
-      if (isWanted) this.app.text.show(text, tried.now.turn);
+      isn't shown.
+      @param {Moves} moves */
+  async tryTurns(moves) {
+    const { app } = this, { run, end } = app.session;
+    while (this.moves === moves && moves.wanted !== moves.now) {
+      const now = moves.wanted;
+      moves.now = now;
+      const [text] = await run.preview(now.line, [`text ${end}`]);
+      app.panels.want(run, app.view.timeline.cursor);
+      app.pictures.say("The lanes are those before the event's move.");
+      if (this.moves === moves && moves.wanted === now) app.text.show(text, now.turn);
     }
   }
 
-  /** Ends a move: the event is put back, and then altered by one edit. */
+  /** Ends a move: the event is put back, and then altered by one edit, unless the turn is null.
+      @param {ScriptEvent} event @param {number | null} turn */
   drop(event, turn) {
-    const { tried, app } = this;
-    this.tried = null;
+    const { app } = this;
+    this.moves = null;
     return this.inTurn(async () => {
-      const replies = await app.run.ask(tried?.back ?? [], Priority.EDIT);
-      replies.forEach(mustBeTaken);
-      if (turn === null) await app.changed();
-      else await this.makeShown(`alter ${event.number} ${turn} ${event.text}`);
+      if (turn !== null) return this.makeShown(moveOf(event, turn));
+      await app.session.run.putBack();
+      return app.changed();
     });
   }
 
@@ -119,7 +156,7 @@ export class Edits {
 
   undo() {
     return this.inTurn(async () => {
-      await this.app.run.undo();
+      await this.app.session.run.undo();
       await this.app.changed();
       this.app.say("undone");
     });
@@ -127,7 +164,7 @@ export class Edits {
 
   redo() {
     return this.inTurn(async () => {
-      await this.app.run.redo();
+      await this.app.session.run.redo();
       await this.app.changed();
       this.app.say("made again");
     });
@@ -135,21 +172,24 @@ export class Edits {
 
   // Switched off and on
 
-  /** Switches off what the user did at once, or on. */
+  /** Switches off what the user did at once, or on.
+      @param {Element} item */
   toggle(item) {
     return this.inTurn(async () => {
-      const { app } = this, place = [...this.list.children].indexOf(item);
-      const found = itemsOfRun(app.run)[place], [{ line }] = found.change;
-      const refused = await switchItem(app.run, place);
+      const { app } = this, { run } = app.session;
+      const place = [...this.list.children].indexOf(item);
+      const found = itemsOfLedger(run.ledger)[place], [{ line }] = found.change;
+      const refused = await switchItem(run, place);
       await app.changed();
       const more = refused.length ? `, and with it off: ${refused.join(", ")}` : "";
-      this.list.children[place]?.querySelector("input").focus();
+      this.list.children[place]?.querySelector("input")?.focus();
       app.say(`${line}: switched ${found.isOn ? "off" : "on"}${more}`);
     });
   }
 
   /** What the user did at once, with a box that switches it. The text has a mark before its lines
-      if it is off. */
+      if it is off.
+      @param {string} text */
   shownItem(text) {
     const isOn = !text.startsWith(OFF);
     const lines = text.slice(isOn ? 0 : OFF.length).split("\n");
@@ -161,36 +201,37 @@ export class Edits {
 
   // Kept until the tab is closed
 
-  /** Makes the edits again that were kept of the session. Returns what is said of it. */
+  /** Makes the edits again that were kept of the session. Returns what is said of it.
+      @param {KeptEdits | null} kept */
   async restore(kept) {
-    const { app } = this;
+    const { app } = this, { run } = app.session;
     this.saved = kept?.saved ?? null;
     if (!kept?.changes.length && !kept?.off?.length) return "";
     await this.inTurn(async () => {
-      app.keepOld();
-      app.reach(kept.end);
-      this.restoreOff(kept.off ?? []);
-      app.run.undone = kept.changes.reverse();
-      while (app.run.undone.length) await app.run.redo();
-      await app.run.askPast();
+      app.pasts.keepOld();
+      app.view.reach(kept.end);
+      run.ledger.off = (kept.off ?? []).map(it => ({ ...it, change: it.change.map(restored) }));
+      this.renumberOff();
+      run.ledger.undone = kept.changes.map(it => it.map(restored)).reverse();
+      while (run.ledger.undone.length) await run.redo();
+      await run.askPast();
     });
     return "The edits that this tab kept are made again: Undo takes them back.";
   }
 
-  /** What was switched off. Its events get numbers that none has: other ones may have theirs. */
-  restoreOff(off) {
-    const { run } = this.app;
-    run.off = off;
-    const events = off.flatMap(it => it.change).map(it => it.event).filter(it => it !== undefined);
-    events.forEach((it, at) => run.renumber(it, String(FIRST_FREE + at)));
+  /** The events of what is switched off get numbers that none has: other ones may have theirs. */
+  renumberOff() {
+    const { ledger } = this.app.session.run;
+    const events = ledger.off.flatMap(it => it.change).flatMap(it => it.event ?? []);
+    events.forEach((it, at) => ledger.renumber(it, String(FIRST_FREE + at)));
   }
 
-  /** The edits as they are kept. */
+  /** The edits as they are kept.
+      @returns {KeptEdits} */
   kept() {
-    const { run, end } = this.app;
-    const kept = change => change.map(({ line, event }) => ({ line, event }));
-    const off = run.off.map(({ change, place }) => ({ change: kept(change), place }));
-    return { changes: run.changes.map(kept), off, end, saved: this.saved };
+    const { run: { ledger }, end } = this.app.session;
+    const off = ledger.off.map(({ change, place }) => ({ change: change.map(kept), place }));
+    return { changes: ledger.changes.map(it => it.map(kept)), off, end, saved: this.saved };
   }
 
   noteSaved() {
@@ -199,26 +240,40 @@ export class Edits {
   }
 
   sum() {
-    return sumOf([this.app.run.past.lines().join("\n")]);
+    return sumOf([this.app.session.run.past.lines().join("\n")]);
   }
 
   /** Whether something would be lost if the page were left now. */
   areUnsaved() {
-    return Boolean(this.app.run?.changes.length) && this.sum() !== this.saved;
+    const { opened } = this.app;
+    return Boolean(opened?.run.ledger.changes.length) && this.sum() !== this.saved;
   }
 
   /** Shows what the user did, and keeps it. */
   show() {
-    const { changes, undone } = this.app.run;
-    element("edits-kept").hidden = keepEdits(this.app.session, this.kept());
-    this.showItems(itemsOfRun(this.app.run).map(({ change, isOn }) =>
+    const { contents, run: { ledger } } = this.app.session;
+    element("edits-kept").hidden = keepEdits(contents, this.kept());
+    this.showItems(itemsOfLedger(ledger).map(({ change, isOn }) =>
       (isOn ? "" : OFF) + change.map(edit => edit.line).join("\n")));
-    element("undo").disabled = !changes.length;
-    element("redo").disabled = !undone.length;
+    button("undo").disabled = !ledger.changes.length;
+    button("redo").disabled = !ledger.undone.length;
   }
 }
 
-/** The lines of what the user did at once: one, or how many there are, with all of them folded. */
+/** The edit that moves an event into a turn.
+    @param {ScriptEvent} event @param {number} turn */
+const moveOf = (event, turn) => `alter ${event.number} ${turn} ${event.text}`;
+
+/** An edit as it is kept.
+    @param {Edit} edit @returns {KeptEdit} */
+const kept = ({ line, event }) => ({ line, event });
+
+/** The edit that was kept, which isn't made yet.
+    @param {KeptEdit} edit @returns {Edit} */
+const restored = ({ line, event }) => ({ line, event, back: null, before: 0 });
+
+/** The lines of what the user did at once: one, or how many there are, with all of them folded.
+    @param {string[]} lines */
 function shownLines(lines) {
   if (lines.length === 1) return make("code", {}, lines[0]);
   const summary = make("summary", {}, `${lines.length} lines, from ${lines[0]} on`);

@@ -1,7 +1,7 @@
 // The events as a list with links, and a form that makes one where the cursor is: no line of the
 // language is needed.
 
-import { delayed, element, link, make, table } from "./page.js";
+import { choice, delayed, element, field, link, make, table } from "./page.js";
 import { eventInWords, eventsIn } from "./past.js";
 import { byteNamed, counted } from "./replies.js";
 
@@ -10,7 +10,8 @@ const MOST_TEXT = 40;
 const LARGEST_WORD = 0o177777;
 
 /** The event that a form's kind and value make, as the session language has it; null if the value
-    is none for it. */
+    is none for it.
+    @param {string} kind @param {string} value */
 export function eventOfForm(kind, value) {
   if (kind === "key") {
     const byte = byteNamed(value);
@@ -21,7 +22,8 @@ export function eventOfForm(kind, value) {
   return isWord ? `switches ${parseInt(value, 8).toString(8)}` : null;
 }
 
-/** The events of a script that lie nearest to a turn, in their order, and how many are left out. */
+/** The events of a script that lie nearest to a turn, in their order, and how many are left out.
+    @param {ScriptEvent[]} script @param {number} turn */
 export function eventsNear(script, turn, most = MOST_ROWS) {
   const place = script.findIndex(it => it.turn >= turn), middle = place < 0 ? script.length : place;
   const first = Math.max(0, Math.min(middle - Math.floor(most / 2), script.length - most));
@@ -29,17 +31,34 @@ export function eventsNear(script, turn, most = MOST_ROWS) {
   return { shown, before: first, after: script.length - first - shown.length };
 }
 
+/** @typedef {import("./past.js").ScriptEvent} ScriptEvent */
+
+/** Puts the focus on what a selector finds in the list, if it is there.
+    @param {string} selector */
+function focusOn(selector) {
+  const it = element("events").querySelector(selector);
+  if (it instanceof HTMLElement) it.focus();
+}
+
 export class EventList {
   /** @param {import("./app.js").App} app */
   constructor(app) {
     this.app = app;
-    this.kind = element("event-kind");
-    this.value = element("event-value");
+    this.kind = choice("event-kind");
+    this.value = field("event-value");
     this.kind.addEventListener("change", () => this.showKind());
     /** What the list shows, as a text. */
     this.key = "";
     this.showLater = delayed(150, () => this.show());
     this.showKind();
+  }
+
+  pastChanged() {
+    this.show();
+  }
+
+  cursorMoved() {
+    this.showLater();
   }
 
   /** Which value an event has, if it has one. */
@@ -58,28 +77,31 @@ export class EventList {
         : "The switches are a word: up to six octal digits, at most 177777.");
       return undefined;
     }
-    return app.edits.edit(`at ${app.timeline.cursor} ${event}`);
+    return app.edits.edit(`at ${app.view.timeline.cursor} ${event}`);
   }
 
-  /** Takes an event out. */
+  /** Takes an event out.
+      @param {ScriptEvent} event */
   drop(event) {
     return this.app.edits.edit(`drop ${event.number}`);
   }
 
-  /** Goes to a turn with many events, and to the list of them. */
+  /** Goes to a turn with many events, and to the list of them.
+      @param {number} turn */
   open(turn) {
     const { app } = this;
     app.goTo(turn);
     this.show();
     element("events-panel").scrollIntoView({ block: "nearest" });
-    element("events").querySelector(`[data-turn="${turn}"]`)?.focus();
+    focusOn(`[data-turn="${turn}"]`);
   }
 
   /** Shows the events near the cursor. */
   show() {
-    const { run, timeline: { cursor } } = this.app;
-    if (!run) return;
-    const { script } = run.past, { shown, before, after } = eventsNear(script, cursor);
+    const { opened, view: { timeline: { cursor } } } = this.app;
+    if (!opened) return;
+    const { script } = opened.run.past, { shown, before, after } = eventsNear(script, cursor);
+    /** @param {number} count @param {string} where */
     const left = (count, where) => count ? [`${counted(count, "event")} ${where}`] : [];
     const others = [...left(before, "before these"), ...left(after, "after them")].join(", ");
     const here = eventsIn(script, cursor, cursor).length;
@@ -92,19 +114,22 @@ export class EventList {
       shown.map(it => this.row(it))), make("p", { class: "faint" }, others));
   }
 
-  /** Puts another list into the place of this one. The focus stays at the event where it was. */
+  /** Puts another list into the place of this one. The focus stays at the event where it was.
+      @param {Node[]} made */
   replace(...made) {
-    const place = element("events"), { activeElement } = document;
-    const name = place.contains(activeElement) ? activeElement.dataset.name : null;
+    const place = element("events"), { activeElement: it } = document;
+    const name = it instanceof HTMLElement && place.contains(it) ? it.dataset.name : null;
     place.replaceChildren(...made);
-    if (name) place.querySelector(`[data-name="${name}"]`)?.focus();
+    if (name) focusOn(`[data-name="${name}"]`);
   }
 
+  /** @param {ScriptEvent} event */
   row(event) {
     const { app } = this, { number, turn } = event, words = eventInWords(event);
     const goTo = link(String(turn), "Go to this turn", () => app.goTo(turn));
     Object.assign(goTo.dataset, { turn, name: `turn of ${number}` });
-    const move = () => app.edits.edit(`alter ${number} ${app.timeline.cursor} ${event.text}`);
+    const move = () => app.edits.edit(`alter ${number} ${app.view.timeline.cursor} ${event.text}`);
+    /** @param {string} text @param {string} what @param {() => void} onclick */
     const button = (text, what, onclick) => make("button", {
       type: "button", class: "link", title: what, "data-name": `${text} ${number}`, onclick,
       "aria-label": `${what}: event ${number}, ${words}`,

@@ -7,7 +7,15 @@ import { Priority } from "./run.js";
 // The program is asked up to so many turns after the edit at first, then twice as many, and so on.
 const [FIRST_TURNS, MOST_TURNS] = [65_536, 4_194_304];
 
-/** A script in which one event is gone and another came, if there are such. */
+/**
+ * @typedef {import("./past.js").ScriptEvent} ScriptEvent
+ * @typedef {import("./past.js").Past} Past
+ * @typedef {import("./tasks.js").Token} Token
+ */
+
+/** A script in which one event is gone and another came, if there are such.
+    @param {ScriptEvent[]} script @param {ScriptEvent | undefined} gone
+    @param {ScriptEvent | undefined} come */
 function scriptWith(script, gone, come) {
   if (gone && come?.turn === gone.turn) return script.map(it => it === gone ? come : it);
   const rest = script.filter(it => it !== gone);
@@ -16,6 +24,7 @@ function scriptWith(script, gone, come) {
   return rest;
 }
 
+/** @param {ScriptEvent} event */
 const lineOf = ({ turn, text }) => `${turn} ${text}`;
 
 /**
@@ -23,6 +32,7 @@ const lineOf = ({ turn, text }) => `${turn} ${text}`;
  * a patch; an empty line if they are the same. Null if it takes more edits, or one that the line
  * `fades` of the program doesn't take: it takes `core`, `disk`, `at`, `alter` and `drop`.
  * @returns {{line: string, last: number} | null}
+ * @param {Past} old @param {Past} now
  */
 export function editBetween(old, now) {
   const patches = now.patchesFrom(old);
@@ -32,7 +42,8 @@ export function editBetween(old, now) {
   return turns.length ? null : { line: patches[0], last: 0 };
 }
 
-/** The same of two scripts. */
+/** The same of two scripts.
+    @param {ScriptEvent[]} old @param {ScriptEvent[]} now */
 function eventBetween(old, now) {
   const { gone: [gone, otherGone], come: [come, otherCome] } = differenceOf(old, now);
   if (otherGone || otherCome) return null;
@@ -47,6 +58,7 @@ function eventBetween(old, now) {
  * The turn from which on a run and the old one are the same, or null if that isn't known: there is
  * none up to `end`, it is far from the edit, or the program is an older one without the line.
  * @param {import("./run.js").Run} old
+ * @param {Past} now @param {number} end @param {Token | null} token
  */
 export async function sameFrom(old, now, end, token) {
   const edit = editBetween(old.past, now);

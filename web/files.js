@@ -7,7 +7,13 @@ import { pageWith } from "./packed.js";
 import { visibleName } from "./replies.js";
 import { kindOfFile, latin1, linesOf, readableLine, withFile } from "./session.js";
 
-/** Gives the user a file. */
+/**
+ * @typedef {import("./session.js").Session} Session
+ * @typedef {import("./past.js").Past} Past
+ */
+
+/** Gives the user a file.
+    @param {string} name @param {string} contents @param {string} type */
 export function saveFile(name, contents, type) {
   const address = URL.createObjectURL(new Blob([contents], { type }));
   const made = document.createElement("a");
@@ -16,13 +22,15 @@ export function saveFile(name, contents, type) {
   setTimeout(() => URL.revokeObjectURL(address), 10_000);
 }
 
-/** The name of a file that was saved, by the session's name. */
+/** The name of a file that was saved, by the session's name.
+    @param {Session} session @param {string} end */
 export function savedName(session, end) {
   const name = session.name.replace(/\.session$/, "") || "my";
   return `${visibleName(name).replace(/[^\w.-]+/g, "-")}${end}`;
 }
 
-/** The past as a session, with its options. What these name isn't in it. */
+/** The past as a session, with its options. What these name isn't in it.
+    @param {Session} session @param {Past} past @param {number} end */
 export function textOfPast(session, past, end) {
   // a comment has at most 200 bytes too
   const head = `# ${visibleName(session.name).slice(0, 40)}, saved by the page.`;
@@ -30,14 +38,17 @@ export function textOfPast(session, past, end) {
   return `${[head, ...optionLines(session.arguments), ...past.lines(), ...asked].join("\n")}\n`;
 }
 
-/** The page as one file with the past and its files in it. */
+/** The page as one file with the past and its files in it.
+    @param {Session} session @param {Past} past @param {number} end */
 export function pageOfPast(session, past, end) {
   return pageWith({ ...session, lines: [...past.lines(), `regs ${end}`] });
 }
 
 /** The files that were opened before and wait for others, and those that are opened now, unless
-    these begin another session. */
+    these begin another session.
+    @param {{files: File[], missing: string[]}} waiting @param {File[]} given */
 export function filesTogether({ files, missing }, given) {
+  /** @param {File} it */
   const isOther = it => kindOfFile(it.name) === "session" && !missing.includes(it.name);
   return given.some(isOther) ? given : [...files, ...given];
 }
@@ -45,10 +56,10 @@ export function filesTogether({ files, missing }, given) {
 /**
  * The session that these files make: a session file begins a new one with the files that its
  * options name; images and symbols are added to it, or to the one that is open.
- * @param {import("./session.js").Session} open
+ * @param {Session} open
  * @param {string[]} lines those of the session that is open
  * @param {File[]} files
- * @returns {Promise<{session: import("./session.js").Session, notes: string[], missing: string[]}>}
+ * @returns {Promise<{session: Session, notes: string[], missing: string[]}>}
  *   `missing` are names of files that the options name and that aren't here
  */
 export async function sessionOfFiles(open, lines, files) {
@@ -71,22 +82,25 @@ export async function sessionOfFiles(open, lines, files) {
 
 /** The session that a session file among these begins, or the one that is open, with the options
     that stand in it or in a file of options, and the files that they name. What is used of the
-    files is taken out of them. */
+    files is taken out of them.
+    @param {Session} open @param {Map<string, Uint8Array>} left */
 function begun(open, left) {
   const names = [...left.keys()];
+  /** @param {string} name */
   const isSession = name => kindOfFile(name) === "session";
   const name = names.find(it => it.endsWith(".session")) ?? names.find(isSession);
   const beside = names.find(it => kindOfFile(it) === "arguments");
+  /** @param {string} it */
   const take = it => {
-    const bytes = left.get(it);
+    const bytes = left.get(it) ?? new Uint8Array();
     left.delete(it);
     return bytes;
   };
-  const lines = name === undefined ? null : linesOf(latin1(take(name)));
-  const text = lines && optionText(lines);
-  const base = lines ? { name, arguments: [], files: {}, lines } : open;
-  if (typeof text === "string") {
-    return withOptions(base, shellWords(readableLine(text), visibleName(name)), left, take);
+  const base = name === undefined ? open
+    : { name, arguments: [], files: {}, lines: linesOf(latin1(take(name))) };
+  const text = base === open ? null : optionText(base.lines);
+  if (text !== null) {
+    return withOptions(base, shellWords(readableLine(text), visibleName(base.name)), left, take);
   }
   if (beside === undefined) return base;
   const words = linesOf(new TextDecoder().decode(take(beside)));
@@ -94,14 +108,16 @@ function begun(open, left) {
 }
 
 /** The session with these options in the place of its own of the same names. A file is known by its
-    name without its folders. */
+    name without its folders.
+    @param {Session} session @param {string[]} words @param {Map<string, Uint8Array>} left
+    @param {(name: string) => Uint8Array} take @returns {Session} */
 function withOptions(session, words, left, take) {
   const where = visibleName(session.name);
   const options = optionsOf(words, where), paths = new Map();
   let { files } = session;
   for (const [option, path] of options) {
     if (!namesFile(option)) continue;
-    const name = path.split("/").at(-1);
+    const name = path.slice(path.lastIndexOf("/") + 1);
     if (paths.has(name) && paths.get(name) !== path) {
       throw new FileError(`${where}: two of its files are called ${visibleName(name)}.`);
     }
@@ -113,7 +129,8 @@ function withOptions(session, words, left, take) {
   return { ...session, files, arguments: wordsOfOptions(all) };
 }
 
-/** Takes files that are dropped on the page. */
+/** Takes files that are dropped on the page.
+    @param {HTMLElement} place @param {(files: File[]) => void} onFiles */
 export function takeDrops(place, onFiles) {
   place.addEventListener("dragover", event => {
     event.preventDefault();
@@ -123,7 +140,7 @@ export function takeDrops(place, onFiles) {
   place.addEventListener("drop", event => {
     event.preventDefault();
     place.classList.remove("over");
-    const files = [...event.dataTransfer.files];
+    const files = [...event.dataTransfer?.files ?? []];
     if (files.length) onFiles(files);
   });
 }

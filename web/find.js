@@ -2,7 +2,7 @@
 // the program; of the console's text the bytes are looked through here.
 
 import { nameOfWord, wordNamed } from "./names.js";
-import { element } from "./page.js";
+import { choice, element, field } from "./page.js";
 import {
   bytesOf, lastOf, lengthOf, mustBeTaken, turnOf, vectorNamed, visibleName, writesOf,
 } from "./replies.js";
@@ -15,33 +15,44 @@ const [FIRST_STRETCH, MOST_CHANGES] = [65_536, 4_096];
 /** Why something can't be looked for, for the user to read. */
 export class FindError extends Error {}
 
+/**
+ * The cursor's turn, the last turn that is searched, and what asks one line.
+ * @typedef {{cursor: number, end: number, one: (line: string) => Promise<string>}} Turns
+ * @typedef {(from: number, to: number) => Promise<number | null>} Next change in these turns
+ * @typedef {import("./names.js").WatchedWord} WatchedWord
+ */
+
 export class Finder {
   /** @param {import("./app.js").App} app */
   constructor(app) {
     this.app = app;
-    this.kind = element("find-kind");
-    this.what = element("find-what");
+    this.kind = choice("find-kind");
+    this.what = field("find-what");
     this.kind.addEventListener("change", () => {
-      this.what.placeholder = this.kind.selectedOptions[0].dataset.example;
+      this.what.placeholder = this.kind.selectedOptions[0].dataset.example ?? "";
     });
   }
 
+  /** @param {string} text */
   say(text) {
     element("find-said").textContent = text;
   }
 
-  /** Goes to the next turn after the cursor's, or with -1 to the one before. */
+  /** Goes to the next turn after the cursor's, or with -1 to the one before.
+      @param {number} direction */
   find(direction) {
-    const { app } = this, { end, timeline: { cursor } } = app;
+    const { app } = this, { cursor } = app.view.timeline;
     const kind = this.kind.value, what = this.what.value.trim();
     const token = app.token("find");
     this.say("");
     return app.attempt(async () => {
+      const { run, end } = app.session;
       if (!what) {
         this.say("Say what to find.");
         return;
       }
-      const one = line => app.run.askOne(line, Priority.QUESTION, token).then(mustBeTaken);
+      /** @param {string} line */
+      const one = line => run.askOne(line, Priority.QUESTION, token).then(mustBeTaken);
       const last = Math.max(end, cursor);
       const turn = await this.foundBy(kind, what, direction, { cursor, end: last, one });
       const where = direction > 0 ? `after turn ${cursor}, up to ${last}` : `before turn ${cursor}`;
@@ -50,13 +61,16 @@ export class Finder {
     }, error => this.complain(what, error));
   }
 
-  /** Says why something can't be found; returns whether that is so. */
+  /** Says why something can't be found; returns whether that is so.
+      @param {string} what @param {any} error */
   complain(what, error) {
     const isKnown = error instanceof FindError || error.reply !== undefined;
     if (isKnown) this.say(`${visibleName(what)}: ${error.message}.`);
     return isKnown;
   }
 
+  /** @param {string} kind @param {string} what @param {number} direction @param {Turns} turns
+      @returns {Promise<number | null>} */
   async foundBy(kind, what, direction, turns) {
     switch (kind) {
       case "at": return this.search(`at ${this.placeOf(what)}`, direction, turns);
@@ -67,26 +81,30 @@ export class Finder {
     }
   }
 
-  /** The first turn after the cursor's that fits, or the last before it. */
+  /** The first turn after the cursor's that fits, or the last before it.
+      @param {string} what @param {number} direction @param {Turns} turns */
   async search(what, direction, { cursor, end, one }) {
     if (direction < 0) return turnOf(await one(`latest 0 ${cursor} ${what}`));
     return turnOf(await one(`first ${Math.min(cursor + 1, end)} ${end} ${what}`));
   }
 
-  /** An address, or a symbol as the address in its mode. */
+  /** An address, or a symbol as the address in its mode.
+      @param {string} what */
   placeOf(what) {
     if (/^[0-7]{1,6}( (kernel|user))?$/.test(what)) return what;
-    for (const mode of ["kernel", "user"]) {
-      const symbol = this.app.symbols[mode]?.find(it => it.name === what);
+    for (const mode of /** @type {const} */ (["kernel", "user"])) {
+      const symbol = this.app.session.symbols[mode].find(it => it.name === what);
       if (symbol) return `${symbol.value.toString(8)} ${mode}`;
     }
     throw new FindError("no symbol has this name, and an address is octal");
   }
 
-  /** An interrupt or a trap by a vector, whichever comes first. */
+  /** An interrupt or a trap by a vector, whichever comes first.
+      @param {string} what @param {number} direction @param {Turns} turns */
   async vector(what, direction, turns) {
     const vector = /^[0-7]{1,3}$/.test(what) ? parseInt(what, 8) : vectorNamed(what);
     if (vector === null) throw new FindError("a vector is octal, or a name such as clock");
+    /** @type {number[]} */
     const found = [];
     for (const kind of ["vector", "trap"]) {
       const turn = await this.search(`${kind} ${vector.toString(8)}`, direction, turns);
@@ -96,7 +114,8 @@ export class Finder {
     return direction > 0 ? Math.min(...found) : Math.max(...found);
   }
 
-  /** The turn that printed the first byte of a text. */
+  /** The turn that printed the first byte of a text.
+      @param {string} what @param {number} direction @param {Turns} turns */
   async text(what, direction, { cursor, end, one }) {
     const printed = latin1(bytesOf(await one(`text ${end}`)));
     const turn = direction > 0 ? Math.min(cursor + 1, end) : cursor;
@@ -106,16 +125,19 @@ export class Finder {
     return at < 0 ? null : turnOf(await one(`when ${at}`));
   }
 
-  /** A word by its name in the session language, by what the session calls it, or a symbol. */
+  /** A word by its name in the session language, by what the session calls it, or a symbol.
+      @param {string} what */
   wordOf(what) {
-    const { watched, symbols } = this.app;
+    const { watched, session: { symbols } } = this.app;
     const called = [...watched.called].find(([, name]) => name === what)?.[0];
-    const symbol = symbols.kernel?.find(it => it.name === what);
+    const symbol = symbols.kernel.find(it => it.name === what);
     const word = wordNamed(called ?? what) ?? (symbol && wordNamed(symbol.value.toString(8)));
     if (!word) throw new FindError("a word is named as 2000, core 2000, disk 0 or disk 1 0 are");
     return word;
   }
 
+  /** @param {string} what @param {number} direction @param {Turns} turns
+      @returns {Promise<number | null>} */
   async write(what, direction, turns) {
     const word = this.wordOf(what), { cursor, end, one } = turns, at = word.at.toString(8);
     if (word.kind === "disk") return this.change(word, direction, turns);
@@ -124,9 +146,12 @@ export class Finder {
     return writesOf(reply).writes[0]?.turn ?? null;
   }
 
+  /** @param {WatchedWord} word @param {number} direction @param {Turns} turns
+      @returns {Promise<number | null>} */
   async change(word, direction, { cursor, end, one }) {
-    const drive = this.app.run.past.version === 2 ? `${word.drive} ` : "";
+    const drive = this.app.session.run.past.version === 2 ? `${word.drive} ` : "";
     if (word.drive && !drive) throw new FindError(`${nameOfWord(word)}: there is one drive`);
+    /** @type {Next} */
     const next = async (from, to) =>
       turnOf(await one(`change ${from} ${to} ${drive}${word.at.toString(8)}`));
     if (direction > 0) return next(Math.min(cursor + 1, end), end);
@@ -139,9 +164,12 @@ export class Finder {
     return null;
   }
 
+  /** @param {number} from @param {number} to @param {Next} next */
   async lastChange(from, to, next) {
+    /** @type {number | null} */
     let last = null;
     for (let count = 0; ; count++) {
+      /** @type {number | null} */
       const turn = await next(last === null ? from : last + 1, to);
       if (turn === null) return last;
       if (count === MOST_CHANGES) throw new FindError("it changes too often to search back");

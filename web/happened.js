@@ -14,10 +14,14 @@ const MOST_CHANGES = 2;
  * @typedef {{turn: number, clerk: string, value: number, written: number,
  *   read: {turn: number, word: number}, tick: number | null}} Change
  * @typedef {{turn: number, text: string}} Step
+ * @typedef {(line: string) => Promise<string>} Ask
  */
 
-/** The changes of the ledger from a turn on. @returns {Promise<Change[]>} */
+/** The changes of the ledger from a turn on.
+    @param {number} first @param {number} end @param {Ask} one
+    @returns {Promise<Change[]>} */
 async function changesFrom(first, end, one) {
+  /** @type {(Change | null)[]} */
   const found = [];
   for (let from = first; found.length < MOST_CHANGES;) {
     const turn = turnOf(await one(`change ${from} ${end} 0`));
@@ -25,25 +29,28 @@ async function changesFrom(first, end, one) {
     found.push(await changeIn(turn, one));
     from = turn + 1;
   }
-  return found.filter(it => it !== null);
+  return found.flatMap(it => it ?? []);
 }
 
-/** The change of the ledger in a turn, or null if no clerk's balance went there. */
+/** The change of the ledger in a turn, or null if no clerk's balance went there.
+    @param {number} turn @param {Ask} one @returns {Promise<Change | null>} */
 async function changeIn(turn, one) {
   const { busAddress } = devicesOf(await one(`devices ${turn}`));
   const clerk = STORY.clerks.get(busAddress), place = busAddress.toString(8);
   const [value] = wordsOf(await one(`dsk ${turn + 1} 0 1`));
   const written = clerk ? lastOf(await one(`last ${turn} ${place}`)) : null;
   const read = written ? lastOf(await one(`last ${written.turn} ${place}`)) : null;
-  if (!read) return null;
+  if (!clerk || !written || !read) return null;
   const vector = STORY.tickVector.toString(8);
   const tick = turnOf(await one(`first ${read.turn} ${written.turn} vector ${vector}`));
   return { turn, clerk, value, written: written.turn, read, tick };
 }
 
+/** @param {number} word */
 const octal = word => word.toString(8);
 
-/** The changes in steps, by their turns. @param {Change[]} changes @returns {Step[]} */
+/** The changes in steps, by their turns.
+    @param {Change[]} changes @returns {Step[]} */
 export function stepsOf(changes) {
   const steps = changes.flatMap(({ turn, clerk, value, read, tick }, at) => {
     const before = changes[at - 1];
@@ -62,15 +69,20 @@ export class Happened {
     this.app = app;
   }
 
+  pastChanged() {
+    this.ask();
+  }
+
   /** Asks what happened in the past as it is now. Until that is known, nothing is shown. */
   ask() {
-    const { app } = this, { run, end, timeline } = app;
+    const { app } = this, { run, end, isStory } = app.session, { timeline } = app.view;
     const token = app.token("happened");
-    element("happened").hidden = !app.isStory;
+    element("happened").hidden = !isStory;
     element("steps").replaceChildren();
     if (!timeline.target) return;
     const { events } = run.past, { event, before } = STORY.safe;
     const first = Math.min(...[event, before].map(it => events.get(it)?.turn ?? 0));
+    /** @param {string} line */
     const one = line => run.askOne(line, Priority.TEXT, token);
     app.attempt(async () => this.show(stepsOf(await changesFrom(first, end, one))));
   }

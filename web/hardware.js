@@ -6,7 +6,8 @@ export const SURFACES = 2;
 export const SECTORS = 12;
 export const SECTOR_WORDS = 256;
 
-/** The devices that interrupt, by their vectors. @type {Map<number, string>} */
+/** The devices that interrupt, by their vectors.
+    @type {Map<number, string>} */
 export const INTERRUPTS = new Map([
   [0o60, "keyboard"],
   [0o64, "printer"],

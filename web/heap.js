@@ -7,28 +7,38 @@ const SMALLEST = 16;
 const GROWTH = 256;
 
 export class Heap {
-  // It refuses requests past `limit` bytes of memory, and the requests whose number, from 1,
-  // `isRefused` is true of.
+  /**
+   * It refuses requests past `limit` bytes of memory, and the requests whose number, from 1,
+   * `isRefused` is true of.
+   * @param {WebAssembly.Memory} memory @param {number} base
+   * @param {{limit?: number, isRefused?: (number: number) => boolean}} options
+   */
   constructor(memory, base, { limit = 2 ** 32 - PAGE, isRefused = () => false } = {}) {
-    Object.assign(this, { memory, limit, isRefused });
+    this.memory = memory;
+    this.limit = limit;
+    this.isRefused = isRefused;
     // the end of the blocks that were ever given; no block is at 0, which says that it was refused
     this.end = Math.max(Math.ceil(base / PAGE), 1) * PAGE;
-    this.sizes = new Map();   // by address, the sizes of the blocks in use
-    this.spare = new Map();   // by size, the addresses of blocks given back
+    /** @type {Map<number, number>} by address, the sizes of the blocks in use */
+    this.sizes = new Map();
+    /** @type {Map<number, number[]>} by size, the addresses of blocks given back */
+    this.spare = new Map();
     this.requests = 0;
   }
 
-  // The address of a block of at least `bytes` bytes, or 0 if it is refused.
+  /** The address of a block of at least `bytes` bytes, or 0 if it is refused.
+      @param {number} bytes */
   malloc(bytes) {
     this.requests += 1;
     return this.isRefused(this.requests) ? 0 : this.block(bytes);
   }
 
+  /** @param {number} address @param {number} bytes */
   realloc(address, bytes) {
     if (address === 0) return this.malloc(bytes);
     this.requests += 1;
     if (this.isRefused(this.requests)) return 0;
-    const size = this.sizes.get(address);
+    const size = this.sizes.get(address) ?? 0;
     if (bytes <= size) return address;
     const moved = this.block(bytes);
     if (moved === 0) return 0;
@@ -37,14 +47,17 @@ export class Heap {
     return moved;
   }
 
+  /** @param {number} address */
   free(address) {
-    if (address === 0) return;
     const size = this.sizes.get(address);
+    if (address === 0 || size === undefined) return;
     this.sizes.delete(address);
-    if (!this.spare.has(size)) this.spare.set(size, []);
-    this.spare.get(size).push(address);
+    const spare = this.spare.get(size) ?? [];
+    this.spare.set(size, spare);
+    spare.push(address);
   }
 
+  /** @param {number} bytes */
   block(bytes) {
     const size = sizeOfBlock(bytes);
     const spare = this.spare.get(size);
@@ -58,13 +71,15 @@ export class Heap {
     return address;
   }
 
-  // Whether the memory has this number of bytes, after it has grown if it must.
+  /** Whether the memory has this number of bytes, after it has grown if it must.
+      @param {number} bytes */
   reaches(bytes) {
     if (bytes > this.limit) return false;
     const missing = Math.ceil((bytes - this.memory.buffer.byteLength) / PAGE);
     return missing <= 0 || this.grows(Math.max(missing, GROWTH)) || this.grows(missing);
   }
 
+  /** @param {number} pages */
   grows(pages) {
     try {
       this.memory.grow(pages);
@@ -76,7 +91,8 @@ export class Heap {
   }
 }
 
-// A power of two up to a page, and then whole pages: so a block that was given back fits again.
+/** A power of two up to a page, and then whole pages: so a block that was given back fits again.
+    @param {number} bytes */
 function sizeOfBlock(bytes) {
   if (bytes > PAGE) return Math.ceil(bytes / PAGE) * PAGE;
   let size = SMALLEST;

@@ -9,18 +9,42 @@ const INPUT = 0;
 const UNWOUND_BYTES = 1 << 20;
 const UNWINDING = 1, REWINDING = 2;     // states of binaryen's asyncify
 
+/**
+ * Gives at most this number of bytes, none at the end. It may promise them.
+ * @typedef {(most: number) => Uint8Array | Promise<Uint8Array>} Reader
+ */
+
 export class Host {
-  // `read(most)` gives at most this number of bytes of standard input, none at its end. The result
-  // may be a promise if the module can wait. `write(descriptor, bytes)` takes the bytes that go to
-  // standard output (1) or error (2). `open(name)` gives a file's reader, a function of the most
-  // bytes, or null if there is no such file. `heap` has the options of the heap.
+  /**
+   * `read(most)` gives at most this number of bytes of standard input, none at its end. The result
+   * may be a promise if the module can wait. `write(descriptor, bytes)` takes the bytes that go to
+   * standard output (1) or error (2). `open(name)` gives a file's reader, or null if there is no
+   * such file. `heap` has the options of the heap.
+   * @param {WebAssembly.Module} module
+   * @param {{args: string[], read: Reader, write: (descriptor: number, bytes: Uint8Array) => void,
+   *   open?: (name: string) => Reader | null, heap?: object}} options
+   */
   constructor(module, { args, read, write, open = () => null, heap = {} }) {
-    Object.assign(this, { module, args, read, write, open, heapOptions: heap });
+    this.module = module;
+    this.args = args;
+    this.read = read;
+    this.write = write;
+    this.open = open;
+    this.heapOptions = heap;
+    /** @type {any} what the module exports, once it is begun */
+    this.exports = null;
+    /** @type {Heap | null} */
+    this.heap = null;
+    this.canWait = false;
+    /** Where the stack is kept while the module waits. */
+    this.unwound = 0;
     this.errno = 0;
     this.files = new Map([[INPUT, read]]);
     this.nextFile = 3;
-    this.wanted = null;                 // where the bytes of a read go, and how many may
-    this.waiting = null;                // what `read` promised, while the module waits
+    /** Where the bytes of a read go, and how many may. */
+    this.wanted = { address: 0n, count: 0 };
+    /** @type {Promise<Uint8Array>} what `read` promised, while the module waits */
+    this.waiting = Promise.resolve(new Uint8Array());
     this.bytesRead = 0;
   }
 
@@ -38,27 +62,31 @@ export class Host {
   }
 
   begin() {
+    /** @type {{exports: any}} */
     const { exports } = new WebAssembly.Instance(this.module, { host: this.imports() });
     this.exports = exports;
-    this.heap = new Heap(exports.memory, Number(exports.__heap_base.value), this.heapOptions);
+    const heap = new Heap(exports.memory, Number(exports.__heap_base.value), this.heapOptions);
+    this.heap = heap;
     this.canWait = "asyncify_get_state" in exports;
     if (!this.canWait) return;
     // A record of asyncify: where the kept stack ends so far, and where it may end.
-    this.unwound = this.heap.block(UNWOUND_BYTES);
+    this.unwound = heap.block(UNWOUND_BYTES);
     const bounds = new Uint32Array(exports.memory.buffer, this.unwound, 2);
     bounds.set([this.unwound + 8, this.unwound + UNWOUND_BYTES]);
   }
 
+  /** @param {bigint | number} address @param {bigint | number} count */
   bytes(address, count) {
     return new Uint8Array(this.exports.memory.buffer, Number(address), Number(count));
   }
 
-  // Addresses and sizes are 64-bit integers at this border, also in a memory of 32 bits.
+  /** Addresses and sizes are 64-bit integers at this border, also in a memory of 32 bits.
+      @returns {Object<string, (...words: any[]) => any>} */
   imports() {
     return {
-      malloc: size => BigInt(this.heap.malloc(Number(size))),
-      realloc: (address, size) => BigInt(this.heap.realloc(Number(address), Number(size))),
-      free: address => this.heap.free(Number(address)),
+      malloc: size => BigInt(this.theHeap.malloc(Number(size))),
+      realloc: (address, size) => BigInt(this.theHeap.realloc(Number(address), Number(size))),
+      free: address => this.theHeap.free(Number(address)),
       read: (descriptor, address, count) => this.readInto(descriptor, address, count),
       write: (descriptor, address, count) => {
         this.write(descriptor, this.bytes(address, count).slice());
@@ -74,16 +102,25 @@ export class Host {
     };
   }
 
+  /** The heap, which is there while the module runs. */
+  get theHeap() {
+    if (!this.heap) throw new Error("the module isn't begun");
+    return this.heap;
+  }
+
+  /** @param {number} errno */
   fails(errno) {
     this.errno = errno;
     return -1;
   }
 
+  /** @param {number} address */
   textAt(address) {
     const memory = new Uint8Array(this.exports.memory.buffer);
     return new TextDecoder().decode(memory.subarray(address, memory.indexOf(0, address)));
   }
 
+  /** @param {string} name */
   openFile(name) {
     const reader = this.open(name);
     if (reader === null) return this.fails(NO_SUCH_FILE);
@@ -91,6 +128,7 @@ export class Host {
     return this.nextFile++;
   }
 
+  /** @param {number} at @param {bigint} address @param {bigint} count */
   argumentInto(at, address, count) {
     if (at >= this.args.length) return -1n;
     const argument = new TextEncoder().encode(this.args[at]);
@@ -98,6 +136,7 @@ export class Host {
     return BigInt(argument.length);
   }
 
+  /** @param {number} descriptor @param {bigint} address @param {bigint} count */
   readInto(descriptor, address, count) {
     if (this.canWait && this.exports.asyncify_get_state() === REWINDING) {
       this.exports.asyncify_stop_rewind();
@@ -113,7 +152,8 @@ export class Host {
     return 0n;
   }
 
-  // Puts bytes to where the module reads; returns how many.
+  /** Puts bytes to where the module reads; returns how many.
+      @param {Uint8Array} found */
   put(found) {
     const { address, count } = this.wanted;
     if (found.length > count) throw new RangeError("a reader gave more than was asked of it");
@@ -122,7 +162,8 @@ export class Host {
   }
 }
 
-// Readers of bytes that are all there, and of a file of zeros without an end.
+/** A reader of bytes that are all there.
+    @param {Uint8Array} bytes @returns {(most: number) => Uint8Array} */
 export function readerOf(bytes) {
   let at = 0;
   return most => {
@@ -132,4 +173,6 @@ export function readerOf(bytes) {
   };
 }
 
+/** A reader of a file of zeros without an end.
+    @param {number} most */
 export const zeros = most => new Uint8Array(most);

@@ -5,13 +5,23 @@ import { packedSession, packedText, sessionOfText, textOfSession } from "./packe
 import { isEdit } from "./past.js";
 
 /**
+ * An edit, and the number of the event that it made.
+ * @typedef {{line: string, event: string | undefined}} KeptEdit
+ */
+
+/**
  * The edits, the turn up to which the run was shown, and a sum of the past that was saved last.
- * @typedef {{changes: {line: string, event: string | undefined}[][], end: number,
- *   off?: {change: {line: string, event: string | undefined}[], place: number}[],
+ * @typedef {{changes: KeptEdit[][], end: number, off?: {change: KeptEdit[], place: number}[],
  *   saved: string | null}} KeptEdits
  */
 
-/** The bytes of a text, or bytes, as words of 32 bits with their count before them. */
+/**
+ * @typedef {string | ArrayLike<number>} Part
+ * @typedef {import("./session.js").Session} Session
+ */
+
+/** The bytes of a text, or bytes, as words of 32 bits with their count before them.
+    @param {Part} part */
 function wordsOf(part) {
   const bytes = typeof part === "string" ? new TextEncoder().encode(part) : part;
   const words = new Uint32Array(1 + (bytes.length + 3 >> 2));
@@ -20,7 +30,8 @@ function wordsOf(part) {
   return words;
 }
 
-/** A sum of parts, texts and bytes. That two which differ have the same one is hardly ever so. */
+/** A sum of parts, texts and bytes. That two which differ have the same one is hardly ever so.
+    @param {Part[]} parts */
 export function sumOf(parts) {
   let [one, other] = [0x811c9dc5, 0x41c6ce57];
   for (const words of parts.map(wordsOf)) {
@@ -36,6 +47,7 @@ export function sumOf(parts) {
 
 const sums = new WeakMap();
 
+/** @param {Session} session */
 function keyOfEdits(session) {
   const { files, ...texts } = session;
   if (!sums.has(session)) {
@@ -46,6 +58,7 @@ function keyOfEdits(session) {
 
 const keyOfPage = () => `nezdrab session ${location.pathname} ${sumOf([packedText()])}`;
 
+/** @param {string} key */
 function read(key) {
   try {
     return sessionStorage.getItem(key);
@@ -54,7 +67,8 @@ function read(key) {
   }
 }
 
-/** Keeps a text, or with null nothing. Returns whether the browser does so. */
+/** Keeps a text, or with null nothing. Returns whether the browser does so.
+    @param {string} key @param {string | null} text */
 function keep(key, text) {
   try {
     sessionStorage.removeItem(key);
@@ -67,7 +81,8 @@ function keep(key, text) {
 
 const own = new WeakSet();
 
-/** Whether a session is the one in the page. */
+/** Whether a session is the one in the page.
+    @param {Session} session */
 export const isOwn = session => own.has(session);
 
 /** The session to begin with: the one that was opened in this tab, or the one in the page. */
@@ -85,17 +100,22 @@ export async function firstSession() {
 
 export const forgetSession = () => keep(keyOfPage(), null);
 
-/** Keeps a session that was opened. Returns whether the browser does so: it may be too large. */
+/** Keeps a session that was opened. Returns whether the browser does so: it may be too large.
+    @param {Session} session */
 export async function keepSession(session) {
   return keep(keyOfPage(), await textOfSession(session));
 }
 
-/** The edits of a session that were kept, or null. @returns {KeptEdits | null} */
+/** The edits of a session that were kept, or null.
+    @param {Session} session
+    @returns {KeptEdits | null} */
 export function keptEdits(session) {
   try {
-    const kept = JSON.parse(read(keyOfEdits(session)));
+    const kept = JSON.parse(read(keyOfEdits(session)) ?? "null");
+    /** @param {KeptEdit} edit */
     const isLine = ({ line }) => isEdit(line) && !/[\r\n]/.test(line);
-    const areEdits = kept?.changes.every(it => it.every(isLine));
+    const areEdits = kept?.changes.every((/** @type {KeptEdit[]} */ it) => it.every(isLine));
+    /** @param {{change: KeptEdit[], place: number}} it */
     const isOff = it => it.change.every(isLine) && Number.isSafeInteger(it.place);
     const isRight = areEdits && (kept.off ?? []).every(isOff);
     return isRight && Number.isSafeInteger(kept.end) ? kept : null;
@@ -104,8 +124,9 @@ export function keptEdits(session) {
   }
 }
 
-/** Keeps the edits of a session. Returns whether the browser does so. */
+/** Keeps the edits of a session. Returns whether the browser does so.
+    @param {Session} session @param {KeptEdits} edits */
 export function keepEdits(session, edits) {
-  const hasAny = edits.changes.length || edits.off.length;
+  const hasAny = edits.changes.length || edits.off?.length;
   return keep(keyOfEdits(session), hasAny ? JSON.stringify(edits) : null);
 }

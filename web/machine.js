@@ -3,6 +3,11 @@ import { newWorker, packedModule } from "./packed.js";
 import { isEdit } from "./past.js";
 import { isRefused } from "./replies.js";
 
+/**
+ * What waits for its replies.
+ * @typedef {{resolve: (replies: string[]) => void, reject: (reason: any) => void}} Asked
+ */
+
 // Why a question has no reply: it was stopped, or the program ended with this status, which is null
 // if its module failed.
 export class Stopped extends Error {
@@ -12,6 +17,7 @@ export class Stopped extends Error {
 }
 
 export class Ended extends Error {
+  /** @param {number | null} status @param {string} text */
   constructor(status, text) {
     super(text.trim() || `the program ended with status ${status}`);
     this.status = status;
@@ -19,36 +25,49 @@ export class Ended extends Error {
 }
 
 export class Machine {
-  // `program` is search or disassemble; `arguments` are the words of its command line, `files` the
-  // bytes of the files that they name.
-  constructor({ program = "search", arguments: words = [], files = {} } = {}) {
+  /**
+   * `program` is search or disassemble; `arguments` are the words of its command line, `files` the
+   * bytes of the files that they name. Each edit that is taken is added to `taken`.
+   * @param {{program?: string, arguments?: string[], files?: Object<string, Uint8Array>,
+   *   taken?: import("./ledger.js").Taken[]}} start
+   */
+  constructor({ program = "search", arguments: words = [], files = {}, taken = [] } = {}) {
     this.start = { program, arguments: words, files };
-    this.journal = [];        // each edit that was taken: {line, reply}
+    this.taken = taken;
     this.lastId = 0;
-    this.begin();
+    /** @type {Error | null} why nothing more can be asked */
+    this.closed = null;
+    /** @type {Map<number, Asked>} by number, what waits for its replies */
+    this.asked = new Map();
+    this.worker = this.newWorker();
+    this.started = this.begin();
   }
 
-  // Resolves with the reply to each line: with its line feeds, and empty for a comment. Rejects
-  // with Stopped or Ended; then none of these lines is an edit that holds.
+  /** Resolves with the reply to each line: with its line feeds, and empty for a comment. Rejects
+      with Stopped or Ended; then none of these lines is an edit that holds.
+      @param {string[]} lines */
   async ask(lines) {
     const replies = await this.send(lines);
     lines.forEach((line, at) => this.keep(line, replies[at]));
     return replies;
   }
 
-  // The edits that hold, as lines of a session.
+  /** The edits that hold, as lines of a session. */
   get edits() {
-    return this.journal.map(it => it.line);
+    return this.taken.map(it => it.line);
   }
 
-  // Stops what is asked. A new worker takes up the edits, and what is asked from now on.
+  /** Stops what is asked. A new worker takes up the edits, and what is asked from now on. */
   stop() {
-    this.close(new Stopped());
-    this.begin();
-    if (this.journal.length > 0) this.takeUp();
+    this.close();
+    this.closed = null;
+    this.worker = this.newWorker();
+    this.started = this.begin();
+    if (this.taken.length > 0) this.takeUp();
   }
 
-  // Ends the worker. Nothing more can be asked.
+  /** Ends the worker. Nothing more can be asked.
+      @param {Error} reason */
   close(reason = new Stopped()) {
     this.worker.terminate();
     this.closed = reason;
@@ -56,19 +75,24 @@ export class Machine {
     this.asked.clear();
   }
 
-  begin() {
-    this.closed = null;
-    this.asked = new Map();   // by number, what waits for its replies
+  newWorker() {
     const worker = newWorker();
-    this.worker = worker;
     worker.onmessage = ({ data }) => this.worker === worker && this.hear(data);
     worker.onerror = event => this.worker === worker && this.close(new Error(event.message));
-    this.started = packedModule(this.start.program).then(
-      module => worker.postMessage({ start: { ...this.start, module } }),
-    );
-    this.started.catch(error => this.worker === worker && this.close(error));
+    return worker;
   }
 
+  /** Gives the worker its program. Resolves once it has it. */
+  begin() {
+    const { worker, start } = this;
+    const started = packedModule(start.program).then(
+      module => worker.postMessage({ start: { ...start, module } }),
+    );
+    started.catch(error => this.worker === worker && this.close(error));
+    return started;
+  }
+
+  /** @param {string[]} lines @returns {Promise<string[]>} */
   send(lines) {
     if (this.closed) return Promise.reject(this.closed);
     const id = ++this.lastId, { worker } = this;
@@ -76,28 +100,30 @@ export class Machine {
     return new Promise((resolve, reject) => this.asked.set(id, { resolve, reject }));
   }
 
+  /** @param {{id: number, replies: string[], ended?: number | null, error: string}} message */
   hear({ id, replies, ended, error }) {
     if (ended !== undefined) {
       this.close(new Ended(ended, error));
       return;
     }
-    const { resolve } = this.asked.get(id);
+    const asked = this.asked.get(id);
     this.asked.delete(id);
-    resolve(replies);
+    asked?.resolve(replies);
   }
 
+  /** @param {string} line @param {string} reply */
   keep(line, reply) {
-    if (isEdit(line) && !isRefused(reply)) this.journal.push({ line, reply });
+    if (isEdit(line) && !isRefused(reply)) this.taken.push({ line, reply });
   }
 
-  // The journal's edits must have the same replies again, since later lines name their events.
+  /** The edits must have the same replies again, since later lines name their events. */
   async takeUp() {
-    const edits = [...this.journal];
+    const edits = [...this.taken];
     try {
       const replies = await this.send(edits.map(it => it.line));
       if (edits.every(({ reply }, at) => reply === replies[at])) return;
       this.close(new Error("the edits can't be made again"));
-    } catch (reason) {
+    } catch {
       // stopped again, or closed: who asks next hears of it
     }
   }

@@ -1,58 +1,67 @@
 // Begins: the page's parts are bound to what they do, and the session in the page is opened.
 
 import { App } from "./app.js";
-import { Console } from "./console.js";
 import { takeDrops } from "./files.js";
 import { firstSession, forgetSession } from "./kept.js";
 import { keepLook } from "./look.js";
-import { element } from "./page.js";
+import { choice, element, field } from "./page.js";
 import { placeOf } from "./place.js";
 import { LAST_TURN } from "./replies.js";
 
+/** @param {string} id @param {() => void} act */
 function onClick(id, act) {
   element(id).addEventListener("click", act);
 }
 
-/** The field's form does this with its value, which is trimmed. */
-function onForm(id, field, act) {
+/** The field's form does this with its value, which is trimmed.
+    @param {string} id @param {string} name @param {(value: string) => void} act */
+function onForm(id, name, act) {
   element(id).addEventListener("submit", event => {
     event.preventDefault();
-    act(element(field).value.trim());
+    act(field(name).value.trim());
   });
 }
 
+/** @param {App} app */
 function bindFiles(app) {
-  onClick("open", () => element("files").click());
-  element("files").addEventListener("change", () => {
-    const files = [...element("files").files];
-    element("files").value = "";
-    if (files.length) app.openFiles(files);
+  const chooser = field("files");
+  onClick("open", () => chooser.click());
+  chooser.addEventListener("change", () => {
+    const files = [...chooser.files ?? []];
+    chooser.value = "";
+    if (files.length) app.opening.openFiles(files);
   });
-  onClick("own", () => app.openOwn());
-  onClick("save", () => app.saveSession());
-  onClick("save-page", () => app.savePage());
-  takeDrops(document.body, files => app.openFiles(files));
+  onClick("own", () => app.opening.openOwn());
+  onClick("save", () => app.opening.saveSession());
+  onClick("save-page", () => app.opening.savePage());
+  takeDrops(document.body, (/** @type {File[]} */ files) => app.opening.openFiles(files));
 }
 
+/** @param {App} app */
 function bindTurns(app) {
   onForm("turn-form", "turn", value => {
     if (/^\d{1,10}$/.test(value) && Number(value) <= LAST_TURN) app.goTo(Number(value));
     else app.say(`A turn is a number from 0 to ${LAST_TURN}.`);
   });
-  for (const button of document.querySelectorAll("[data-key]")) {
-    button.addEventListener("click", event => app.timeline.act(button.dataset.key, event.shiftKey));
+  /** @type {NodeListOf<HTMLElement>} */
+  const buttons = document.querySelectorAll("[data-key]");
+  for (const it of buttons) {
+    const key = it.dataset.key ?? "";
+    it.addEventListener("click", event => app.view.timeline.act(key, event.shiftKey));
   }
   document.body.addEventListener("keydown", event => {
-    const isFree = event.target === document.body || event.target.closest(".link");
+    const at = event.target instanceof Element ? event.target : null;
+    const isFree = at === document.body || at?.closest(".link");
     if (!isFree || event.altKey || event.ctrlKey || event.metaKey || event.key === " ") return;
-    if (app.timeline.act(event.key, event.shiftKey)) event.preventDefault();
+    if (app.view.timeline.act(event.key, event.shiftKey)) event.preventDefault();
   });
 }
 
+/** @param {App} app */
 function bindEdits(app) {
   onForm("edit-form", "line", line => line && app.edits.do(line));
   onForm("memory-form", "address", value => {
-    if (/^[0-7]{1,6}$/.test(value)) app.goTo(app.timeline.cursor, parseInt(value, 8));
+    if (/^[0-7]{1,6}$/.test(value)) app.goTo(app.view.timeline.cursor, parseInt(value, 8));
     else app.say("An address of core is an octal number of at most six digits.");
   });
   onForm("keep-form", "keep-name", name => app.pasts.keep(name));
@@ -74,15 +83,14 @@ function begin() {
   bindFiles(app);
   bindTurns(app);
   bindEdits(app);
-  app.console = new Console(app);
-  keepLook(element("look"), () => app.timeline.draw());
+  keepLook(choice("look"), () => app.view.timeline.draw());
   for (const name of ["popstate", "hashchange"]) {
-    addEventListener(name, () => app.goToPlace(placeOf(location.hash)));
+    addEventListener(name, () => app.view.goToPlace(placeOf(location.hash)));
   }
   addEventListener("beforeunload", event => app.edits.areUnsaved() && event.preventDefault());
   app.attempt(async () => {
     try {
-      await app.open(await firstSession(), placeOf(location.hash));
+      await app.opening.open(await firstSession(), placeOf(location.hash));
     } catch (error) {
       forgetSession();
       throw error;

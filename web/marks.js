@@ -7,37 +7,52 @@ import { eventInWords, eventLabel } from "./past.js";
 
 const MARK_ROWS = 2;
 
-/** About how many pixels a mark has from left to right. */
-const wideOf = mark => 9 + 8 * mark.textContent.length;
+/** About how many pixels a mark has from left to right.
+    @param {HTMLElement} mark */
+const wideOf = mark => 9 + 8 * (mark.textContent ?? "").length;
+
+/**
+ * @typedef {import("./past.js").ScriptEvent} ScriptEvent
+ * @typedef {import("./clusters.js").Cluster} Cluster
+ */
 
 export class Marks {
   /** @param {HTMLElement} place @param {import("./timeline.js").Timeline} timeline */
   constructor(place, timeline) {
-    Object.assign(this, { place, timeline });
+    this.place = place;
+    this.timeline = timeline;
   }
 
   /** The number of the event whose mark has the focus, or null. */
   get focused() {
     const { activeElement: it } = document;
-    return this.place.contains(it) && it.dataset.event ? Number(it.dataset.event) : null;
+    if (!(it instanceof HTMLElement) || !this.place.contains(it)) return null;
+    return it.dataset.event ? Number(it.dataset.event) : null;
   }
 
-  /** Shows a mark for each of the events in sight. */
+  /** The marks that are shown. */
+  shown() {
+    return /** @type {HTMLElement[]} */ ([...this.place.children]);
+  }
+
+  /** Shows a mark for each of the events in sight.
+      @param {ScriptEvent[]} seen */
   show(seen) {
     if (this.timeline.dragged) {
-      for (const it of this.place.children) this.put(it, Number(it.dataset.turn));
+      for (const it of this.shown()) this.put(it, Number(it.dataset.turn));
       return;
     }
     const { focused } = this;
     // the grey ones lie below the others
     const ends = new Array(MARK_ROWS).fill(-Infinity);
     const marks = [...this.ghostMarks(), ...this.eventMarks(seen)];
-    const inOrder = [...marks].sort((a, b) => a.dataset.turn - b.dataset.turn);
+    const inOrder = [...marks].sort((a, b) => Number(a.dataset.turn) - Number(b.dataset.turn));
     for (const it of inOrder) this.putIntoRow(it, ends);
     keepChildren(this.place, marks);
-    if (focused !== null) this.place.querySelector(`[data-event="${focused}"]`)?.focus();
+    if (focused !== null) this.shown().find(it => it.dataset.event === `${focused}`)?.focus();
   }
 
+  /** @param {ScriptEvent[]} events */
   eventMarks(events) {
     return clustersOf(events, this.timeline.view).map(cluster => {
       const button = document.createElement("button");
@@ -48,7 +63,8 @@ export class Marks {
     });
   }
 
-  /** Puts a mark into the first row that is free at its turn. */
+  /** Puts a mark into the first row that is free at its turn.
+      @param {HTMLElement} mark @param {number[]} ends */
   putIntoRow(mark, ends) {
     const x = this.timeline.view.x(Number(mark.dataset.turn));
     const row = Math.max(0, ends.findIndex(it => x >= it));
@@ -56,6 +72,7 @@ export class Marks {
     mark.style.setProperty("--row", String(row));
   }
 
+  /** @param {HTMLElement} button @param {ScriptEvent} event */
   markEvent(button, event) {
     button.className = event.text.startsWith("key") ? "mark" : "mark other";
     if (event.number === this.timeline.wanted) button.classList.add("wanted");
@@ -64,7 +81,8 @@ export class Marks {
     this.placeMark(button, event, this.turnOf(event));
   }
 
-  /** Events that have one mark together: it zooms to them. */
+  /** Events that have one mark together: it zooms to them.
+      @param {HTMLElement} button @param {Cluster} cluster */
   markCluster(button, cluster) {
     const how = cluster.event.turn === cluster.last.turn ? "list them" : "zoom in";
     const said = `${clusterInWords(cluster)}: ${how}`;
@@ -76,7 +94,8 @@ export class Marks {
     this.put(button, Math.round((cluster.event.turn + cluster.last.turn) / 2));
   }
 
-  /** Shows the turns of a mark of many events; those of one turn as a list. */
+  /** Shows the turns of a mark of many events; those of one turn as a list.
+      @param {HTMLElement} mark */
   zoomTo({ dataset: { first, last } }) {
     if (first === last) {
       this.timeline.listener.onList(Number(first));
@@ -87,7 +106,8 @@ export class Marks {
   }
 
   /** Puts a mark at its turn. Its text isn't cut at the right edge: a part of a number is another
-      number. */
+      number.
+      @param {HTMLElement} mark @param {number} turn */
   put(mark, turn) {
     const { view, width } = this.timeline, x = view.x(turn);
     const most = width - wideOf(mark) / 2;
@@ -95,6 +115,7 @@ export class Marks {
     mark.style.left = `${x > view.left + view.width ? x : Math.min(x, most)}px`;
   }
 
+  /** @param {HTMLElement} button @param {ScriptEvent} event @param {number} turn */
   placeMark(button, event, turn) {
     const words = eventInWords(event);
     this.put(button, turn);
@@ -102,7 +123,8 @@ export class Marks {
     button.title = `event ${event.number}: at ${turn} ${words}`;
   }
 
-  /** The turn of an event, or where it was put last. */
+  /** The turn of an event, or where it was put last.
+      @param {ScriptEvent} event */
   turnOf(event) {
     const { put } = this.timeline;
     return put?.number === event.number ? put.turn : event.turn;
@@ -122,6 +144,7 @@ export class Marks {
     });
   }
 
+  /** @param {HTMLElement} button */
   eventOf(button) {
     return this.timeline.past.events.get(Number(button.dataset.event));
   }

@@ -11,10 +11,14 @@ const MOST_STRETCHES = 500;
 /**
  * Turns that were looked at, each of them or samples.
  * @typedef {{first: number, end: number, isWhole: boolean}} Stretch
+ * @typedef {import("./picture.js").Picture} Picture
  */
 
-/** Adds a stretch; those of the same kind that it meets become one. @param {Stretch[]} stretches */
+/** Adds a stretch; those of the same kind that it meets become one.
+    @param {Stretch[]} stretches
+    @param {Stretch} stretch */
 export function withStretch(stretches, { first, end, isWhole }) {
+  /** @param {Stretch} it */
   const meets = it => it.isWhole === isWhole && it.first <= end && it.end >= first;
   const met = stretches.filter(meets);
   const joined = {
@@ -27,9 +31,14 @@ export function withStretch(stretches, { first, end, isWhole }) {
 export class Minimap {
   /** @param {HTMLElement} place @param {import("./timeline.js").Timeline} timeline */
   constructor(place, timeline) {
-    Object.assign(this, { place, timeline });
-    this.canvas = place.querySelector("canvas");
-    this.forget();
+    this.place = place;
+    this.timeline = timeline;
+    this.canvas = /** @type {HTMLCanvasElement} */ (place.querySelector("canvas"));
+    this.pen = /** @type {CanvasRenderingContext2D} */ (this.canvas.getContext("2d"));
+    /** @type {Stretch[]} */
+    this.stretches = [];
+    /** @type {Object<string, string>} by their names */
+    this.colours = {};
     place.addEventListener("pointerdown", event => {
       place.setPointerCapture(event.pointerId);
       this.goTo(event);
@@ -40,22 +49,24 @@ export class Minimap {
 
   /** Another session is open, or another past. */
   forget() {
-    /** @type {Stretch[]} */
     this.stretches = [];
   }
 
-  /** A picture was made: its turns were looked at. */
+  /** A picture was made: its turns were looked at.
+      @param {Picture} picture */
   note({ first, end, step }) {
     this.stretches = withStretch(this.stretches, { first, end, isWhole: step === 1 });
   }
 
-  /** Where a turn is in the strip. */
+  /** Where a turn is in the strip.
+      @param {number} turn */
   x(turn) {
     const { view, whole } = this.timeline;
     return view.left + Math.min(1, turn / Math.max(1, whole)) * view.width;
   }
 
-  /** Brings what lies under the pointer into the middle of what is in sight. */
+  /** Brings what lies under the pointer into the middle of what is in sight.
+      @param {PointerEvent} event */
   goTo(event) {
     const { timeline } = this, { view, whole } = timeline;
     const x = event.clientX - this.place.getBoundingClientRect().left;
@@ -63,13 +74,15 @@ export class Minimap {
     timeline.show(Math.min(whole, Math.max(0, turn)) - view.span / 2, view.span);
   }
 
+  /** @param {KeyboardEvent} event */
   onKey(event) {
     const { timeline } = this, { view } = timeline, step = view.span / 4;
-    const first = {
+    /** @type {Object<string, number>} */
+    const places = {
       ArrowLeft: view.first - step, ArrowRight: view.first + step, ArrowDown: view.first - step,
       ArrowUp: view.first + step, PageUp: view.first - view.span, PageDown: view.first + view.span,
       Home: 0, End: timeline.whole - view.span,
-    }[event.key];
+    }, first = places[event.key];
     if (first === undefined || event.altKey || event.ctrlKey || event.metaKey) return;
     event.preventDefault();
     event.stopPropagation();
@@ -78,7 +91,7 @@ export class Minimap {
 
   draw() {
     const { canvas, place, timeline } = this, { view, width, whole, past } = timeline;
-    const ratio = window.devicePixelRatio || 1, pen = canvas.getContext("2d");
+    const ratio = window.devicePixelRatio || 1, { pen } = this;
     canvas.width = Math.round(width * ratio);
     canvas.height = Math.round(HEIGHT * ratio);
     canvas.style.height = `${HEIGHT}px`;
@@ -96,6 +109,7 @@ export class Minimap {
     place.setAttribute("aria-valuetext", `turns ${first} to ${end} of ${whole}`);
   }
 
+  /** @param {CanvasRenderingContext2D} pen */
   drawStretches(pen) {
     const { view } = this.timeline;
     pen.fillStyle = this.colours.grid;
@@ -108,6 +122,7 @@ export class Minimap {
     pen.globalAlpha = 1;
   }
 
+  /** @param {CanvasRenderingContext2D} pen @param {{turn: number}[]} script */
   drawEvents(pen, script) {
     pen.fillStyle = this.colours.key;
     let free = 0;
@@ -119,6 +134,7 @@ export class Minimap {
     }
   }
 
+  /** @param {CanvasRenderingContext2D} pen */
   drawSight(pen) {
     const { view, cursor } = this.timeline;
     const left = this.x(Math.max(0, view.first)), right = Math.max(left + 3, this.x(view.end));

@@ -8,13 +8,17 @@ import { readableLine } from "./session.js";
 /**
  * A word that is drawn as steps: of core by its address, or of a drive by its number.
  * @typedef {{kind: "core" | "disk", drive: number, at: number}} WatchedWord
+ * @typedef {import("./run.js").Run} Run
+ * @typedef {import("./session.js").Symbols} Symbols
  */
 
-/** The name of a word as the session language has it. */
+/** The name of a word as the session language has it.
+    @param {WatchedWord} word */
 export const nameOfWord = word => word.kind === "core" ? `core ${octal(word.at)}`
   : `disk ${word.drive ? `${word.drive} ` : ""}${octal(word.at, 7)}`;
 
-/** The word with a name such as `2000`, `core 2000`, `disk 0` or `disk 1 0`, or null. */
+/** The word with a name such as `2000`, `core 2000`, `disk 0` or `disk 1 0`, or null.
+    @param {string} name @returns {WatchedWord | null} */
 export function wordNamed(name) {
   const [, core, drive = "0", index] =
     /^(?:(?:core +)?([0-7]{1,10})|disk +(?:([0-7]{1,10}) +)?([0-7]{1,10}))$/.exec(name) ?? [];
@@ -24,6 +28,7 @@ export function wordNamed(name) {
 
 /**
  * What a session calls its words, by their names: lines `# name core 30000 clerk A's balance`.
+ * @param {{lines: string[]}} session
  * @returns {Map<string, string>}
  */
 export function namesOfSession({ lines }) {
@@ -38,7 +43,9 @@ export function namesOfSession({ lines }) {
 }
 
 /** The symbol of a word of core that the kernel has at the same virtual address before a turn, or
-    an empty text. */
+    an empty text.
+    @param {Run} run @param {WatchedWord} word @param {Partial<Symbols>} symbols
+    @param {number} turn */
 export async function symbolOfWord(run, { kind, at }, symbols, turn) {
   const symbol = kind === "core" && symbols.kernel?.find(it => it.value === at);
   if (!symbol) return "";

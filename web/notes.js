@@ -2,12 +2,19 @@
 
 import { DEVICE_VECTORS, vectorName } from "./replies.js";
 
+/**
+ * @typedef {import("./picture.js").Picture} Picture
+ * @typedef {Partial<Picture>} Sampled of which words and interrupts are told
+ */
+
 export const NOTHING_SAMPLED = "Each turn in sight is looked at; nothing is sampled.";
 
+/** @param {Sampled | null} picture */
 const sampledWords = picture =>
-  picture?.words.filter(it => it.values && !it.isWhole).map(it => it.name) ?? [];
+  picture?.words?.filter(it => it.values && !it.isWhole).map(it => it.name) ?? [];
 
-/** The interrupts that are sampled, such as `interrupts by clock`; none if all were found. */
+/** The interrupts that are sampled, such as `interrupts by clock`; none if all were found.
+    @param {Sampled | null} picture */
 function sampledInterrupts(picture) {
   const vectors = picture?.sampledVectors ?? [];
   const isAll = vectors.length === DEVICE_VECTORS.length;
@@ -15,7 +22,8 @@ function sampledInterrupts(picture) {
   return vectors.length ? [`interrupts${by}`] : [];
 }
 
-/** What is sampled and what is cut in a picture and in that of the old past, in sentences. */
+/** What is sampled and what is cut in a picture and in that of the old past, in sentences.
+    @param {Picture} picture @param {Sampled | null} ghost */
 export function notesOf(picture, ghost = null) {
   const { step, disk, text } = picture, [interrupts] = sampledInterrupts(picture);
   const notes = [];

@@ -19,9 +19,12 @@ const NUMBERS = new Map([
 /** Why files make no session, for the user to read. */
 export class FileError extends Error {}
 
+/** @param {string} option */
 export const namesFile = option => FILES.test(option);
 
-/** The options in these words, each value by its option's name. @returns {Map<string, string>} */
+/** The options in these words, each value by its option's name.
+    @param {string[]} words @param {string} where
+    @returns {Map<string, string>} */
 export function optionsOf(words, where) {
   const left = words.flatMap(it => it.startsWith("--") ? it.split(/=(.*)/s, 2) : [it]);
   const found = new Map();
@@ -32,24 +35,28 @@ export function optionsOf(words, where) {
     if (value === undefined) throw new FileError(`${where}: ${option} has no value.`);
     if (found.has(name)) throw new FileError(`${where}: ${option} stands there twice.`);
     if (!isRight(name, value)) {
-      throw new FileError(`${where}: ${option} is ${NUMBERS.get(name).told}.`);
+      throw new FileError(`${where}: ${option} is ${NUMBERS.get(name)?.told}.`);
     }
     found.set(name, value);
   }
   return found;
 }
 
-/** Whether an option's value is in its range, if it is a number. */
+/** Whether an option's value is in its range, if it is a number.
+    @param {string} name @param {string} value */
 function isRight(name, value) {
-  if (!NUMBERS.has(name)) return true;
-  const { form, base, least, most } = NUMBERS.get(name), number = parseInt(value, base);
+  const wanted = NUMBERS.get(name);
+  if (!wanted) return true;
+  const { form, base, least, most } = wanted, number = parseInt(value, base);
   return form.test(value) && number >= least && number <= most;
 }
 
+/** @param {Map<string, string>} options */
 export const wordsOfOptions = options => [...options].flatMap(([name, it]) => [`--${name}`, it]);
 
 /** What the comment lines of options say, or null if there are none. They stand before the first
-    line that is no comment. */
+    line that is no comment.
+    @param {string[]} lines */
 export function optionText(lines) {
   const first = lines.findIndex(it => !it.startsWith("#") && it.trim());
   let [text, goesOn, isThere] = ["", false, false];
@@ -64,11 +71,15 @@ export function optionText(lines) {
   return isThere ? text : null;
 }
 
-/** The words of a line with quotes, as a shell reads them. */
+/** The words of a line with quotes, as a shell reads them.
+    @param {string} text @param {string} where */
 export function shellWords(text, where) {
+  /** @type {string[]} */
   const words = [];
   const piece = /'([^']*)'|"((?:[^"\\]|\\.)*)"|\\(.)|([^\s'"\\]+)|(\s+)/sy;
-  for (let word = null, at = 0; at < text.length || word !== null; at = piece.lastIndex) {
+  /** @type {string | null} */
+  let word = null;
+  for (let at = 0; at < text.length || word !== null; at = piece.lastIndex) {
     piece.lastIndex = at;
     const found = piece.exec(text);
     if (!found && at < text.length) {
@@ -86,10 +97,12 @@ export function shellWords(text, where) {
   return words;
 }
 
+/** @param {string} word */
 const quoted = word =>
   /^[\w@%+=:,./-]+$/.test(word) ? word : `'${word.replaceAll("'", "'\"'\"'")}'`;
 
-/** The options as comment lines. One that is too long goes on in the next line. */
+/** The options as comment lines. One that is too long goes on in the next line.
+    @param {string[]} words */
 export function optionLines(words) {
   if (!words.length) return [];
   if (words.join("").includes("\n")) {

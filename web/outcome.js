@@ -14,35 +14,38 @@ export class Outcome {
   }
 
   /** Another session is open. */
-  begin() {
-    const { app } = this;
-    this.deposits = app.isStory ? depositsOf(app.run.past) : "";
-    if (app.isStory) this.put(ASKED);
+  sessionBegins() {
+    const { isStory, begun } = this.app.session;
+    element("story").hidden = !isStory;
+    this.deposits = isStory ? depositsOf(begun.past) : "";
+    if (isStory) this.put(ASKED);
   }
 
   /** The past has changed: the event may have another place where it is safe. */
   pastChanged() {
-    const { app } = this, { past } = app.run;
-    app.timeline.target = app.isStory ? targetOf(past, app.begun.past) : null;
+    const { app } = this, { isStory, begun, run } = app.session;
+    app.view.timeline.target = isStory ? targetOf(run.past, begun.past) : null;
   }
 
   /** What is shown was of another turn, or of another past. */
   ask() {
-    if (this.app.isStory) this.put(ASKED);
+    if (this.app.session.isStory) this.put(ASKED);
   }
 
-  /** Shows what comes of a past by its text. `moved` is the turn to which the event is carried. */
+  /** Shows what comes of a past by its text. `moved` is the turn to which the event is carried.
+      @param {string} text @param {number | null} moved */
   show(text, moved = null) {
-    const { app } = this, { run, timeline } = app;
-    if (!app.isStory) return;
+    const { session: { run, isStory }, view: { timeline } } = this.app;
+    if (!isStory) return;
     const turn = moved ?? run.past.events.get(STORY.safe.event)?.turn ?? null;
-    const isMoved = moved !== null || run.changes.length > 0;
+    const isMoved = moved !== null || run.ledger.changes.length > 0;
     const hasOthers = depositsOf(run.past) !== this.deposits;
     const found = verdictOf(text, { isMoved, turn, target: timeline.target, hasOthers });
     this.put(found);
     if (moved !== null) timeline.tellOutcome(`${found.balance}, ${found.word}`);
   }
 
+  /** @param {{balance: string, verdict: string, look: string}} found */
   put({ balance, verdict, look }) {
     element("balance").textContent = balance;
     element("verdict").textContent = verdict;

@@ -1,40 +1,58 @@
 // What the page's one file holds besides its code: the modules, the text of the worker, and a
 // session. `tools/web --pack` puts each into an element of its own, which the browser doesn't run.
 
-const textOf = id => document.getElementById(id).textContent;
+/** @typedef {import("./session.js").Session} Session */
+
+/** @param {Element} it */
+function copyOf(it) {
+  return /** @type {Element} */ (it.cloneNode(true));
+}
+
+/** @param {string} id */
+const textOf = id => document.getElementById(id)?.textContent ?? "";
 
 // The page as it was when it was opened: a module's script runs once all is there.
-const opened = document.documentElement.cloneNode(true);
+const opened = copyOf(document.documentElement);
 
+/** @param {string} base64 */
 const bytesOf = base64 => Uint8Array.from(atob(base64), it => it.charCodeAt(0));
 
+// The browser has these; the checker of types doesn't know them.
+/** @type {any} */
+const { CompressionStream: Deflating, DecompressionStream: Inflating } = globalThis;
+
+/** @param {string} base64 */
 async function inflated(base64) {
-  const stream = new Blob([bytesOf(base64)]).stream().pipeThrough(new DecompressionStream("gzip"));
+  const stream = new Blob([bytesOf(base64)]).stream().pipeThrough(new Inflating("gzip"));
   return new Uint8Array(await new Response(stream).arrayBuffer());
 }
 
+/** @param {Uint8Array} bytes @returns {Promise<string>} */
 async function deflated(bytes) {
-  const stream = new Blob([bytes]).stream().pipeThrough(new CompressionStream("gzip"));
+  const stream = new Blob([bytes]).stream().pipeThrough(new Deflating("gzip"));
   const packed = await new Response(stream).blob();
   const reader = new FileReader();
   return new Promise((resolve, reject) => {
-    reader.onload = () => resolve(reader.result.replace(/^[^,]*,/, ""));
+    reader.onload = () => resolve(String(reader.result).replace(/^[^,]*,/, ""));
     reader.onerror = () => reject(reader.error);
     reader.readAsDataURL(packed);
   });
 }
 
+/** @type {Map<string, Promise<WebAssembly.Module>>} */
 const modules = new Map();
 
-// The compiled module of a program; it is compiled once.
+/** The compiled module of a program; it is compiled once.
+    @param {string} program @returns {Promise<WebAssembly.Module>} */
 export function packedModule(program) {
-  if (!modules.has(program)) {
-    const bytes = inflated(textOf(`${program}.wasm`));
-    modules.set(program, bytes.then(it => WebAssembly.compile(it)));
-  }
-  return modules.get(program);
+  const known = modules.get(program);
+  if (known) return known;
+  const made = inflated(textOf(`${program}.wasm`)).then(it => WebAssembly.compile(it));
+  modules.set(program, made);
+  return made;
 }
 
+/** @type {string | null} */
 let workerAddress = null;
 
 export function newWorker() {
@@ -44,13 +62,15 @@ export function newWorker() {
   return new Worker(workerAddress);
 }
 
-// A session, {name, arguments: [..], lines: [..], files: {name: Uint8Array}}, as a text and back.
+/** A session as a text, and back.
+    @param {Session} session */
 export async function textOfSession({ files, ...session }) {
   const packed = Object.entries(files).map(async ([name, it]) => [name, await deflated(it)]);
   const held = { ...session, files: Object.fromEntries(await Promise.all(packed)) };
   return JSON.stringify(held);
 }
 
+/** @param {string} text @returns {Promise<Session>} */
 export async function sessionOfText(text) {
   const { files, ...session } = JSON.parse(text);
   const found = Object.entries(files).map(async ([name, it]) => [name, await inflated(it)]);
@@ -62,11 +82,13 @@ export const packedText = () => textOf("session");
 
 export const packedSession = () => sessionOfText(packedText());
 
-// The text of this page's file with another session in it.
+/** The text of this page's file with another session in it.
+    @param {Session} session */
 export async function pageWith(session) {
-  const page = opened.cloneNode(true);
+  const page = copyOf(opened);
   const text = await textOfSession(session);
   // `<` can't stand in the element as itself: it may begin its end
-  page.querySelector("#session").textContent = text.replaceAll("<", "\\u003c");
+  const held = /** @type {Element} */ (page.querySelector("#session"));
+  held.textContent = text.replaceAll("<", "\\u003c");
   return `<!DOCTYPE html>\n${page.outerHTML}\n`;
 }

@@ -3,10 +3,19 @@
 import { DELAYS } from "./hardware.js";
 import { eventsOf, keyName, patchesOf, setupOf } from "./replies.js";
 
+/**
+ * An event of a script: its number, its turn and what it is, as the session language has it.
+ * @typedef {{number: number, turn: number, text: string}} ScriptEvent
+ * @typedef {Object<string, number>} Delays of the devices, by their names
+ */
+
 const EDITS_OF_SCRIPT = new Set(["at", "alter", "drop"]);
 const EDITS = new Set(
   ["core", "uncore", "disk", "tape", "delay", "version", ...EDITS_OF_SCRIPT]);
-// The lines that tell the past, and what each reply has of it.
+/**
+ * The lines that tell the past, and what each reply has of it.
+ * @type {Object<string, (reply: string) => Partial<Past>>}
+ */
 const TOLD = {
   setup: setupOf,
   patches: reply => ({ patches: patchesOf(reply) }),
@@ -17,32 +26,39 @@ const TOLD = {
 };
 export const PAST_LINES = Object.keys(TOLD);
 
-/** The words of a line; a comment has none. */
+/** The words of a line; a comment has none.
+    @param {string} line */
 export const wordsOfLine = line => line.startsWith("#") ? [] : line.split(/[ \t]+/).filter(Boolean);
 
+/** @param {string} line */
 export const isEdit = line => EDITS.has(wordsOfLine(line)[0]);
 
-/** The lines that tell what an edit has changed. */
+/** The lines that tell what an edit has changed.
+    @param {string} line */
 export const linesThatTell = line =>
   EDITS_OF_SCRIPT.has(wordsOfLine(line)[0]) ? ["events"] : ["setup", "patches"];
 
-/** Whether a line runs no turns, whatever the past is. */
+/** Whether a line runs no turns, whatever the past is.
+    @param {string} line */
 export const runsNothing = line => isEdit(line) || PAST_LINES.includes(line);
 
-/** An event with the name of its key, such as `key 66 '6'`. */
+/** An event with the name of its key, such as `key 66 '6'`.
+    @param {ScriptEvent} event */
 export function eventInWords(event) {
   const [word, byte] = event.text.split(" ");
   return word === "key" ? `key ${byte} '${keyName(parseInt(byte, 8))}'` : event.text;
 }
 
-/** What stands on an event's mark. */
+/** What stands on an event's mark.
+    @param {ScriptEvent} event */
 export function eventLabel(event) {
   const [word, value] = event.text.split(" ");
   if (word === "key") return keyName(parseInt(value, 8));
   return value === undefined ? word : `${word} ${value}`;
 }
 
-/** Where in a script the events of a turn begin, or those of later ones. */
+/** Where in a script the events of a turn begin, or those of later ones.
+    @param {ScriptEvent[]} script @param {number} turn */
 function placeIn(script, turn) {
   let [low, high] = [0, script.length];
   while (low < high) {
@@ -53,31 +69,38 @@ function placeIn(script, turn) {
   return low;
 }
 
-/** The events of a script in the turns from `first` to `last`. */
+/** The events of a script in the turns from `first` to `last`.
+    @param {ScriptEvent[]} script @param {number} first @param {number} last */
 export const eventsIn = (script, first, last) =>
   script.slice(placeIn(script, first), placeIn(script, Math.floor(last) + 1));
 
 /** Version, size of core, patches, tape, delays and events, as the program told them. */
 export class Past {
   constructor() {
-    Object.assign(this, { version: 1, core: 0, delays: DELAYS });
+    this.version = 1;
+    /** How many bytes core has. */
+    this.core = 0;
+    /** @type {Delays} */
+    this.delays = DELAYS;
     /** @type {string | null} the line that put the tape in */
     this.tape = null;
     /** @type {Map<string, string>} by `core A`, `disk I` or `disk D I`, its word; all in octal */
     this.patches = new Map();
-    /** @type {Map<number, {number: number, turn: number, text: string}>} */
+    /** @type {Map<number, ScriptEvent>} */
     this.events = new Map();
-    /** all events, in the order in which they happen */
+    /** @type {ScriptEvent[]} all events, in the order in which they happen */
     this.script = [];
   }
 
-  /** The past of which these lines of PAST_LINES have these replies; the rest of it is as here. */
+  /** The past of which these lines of PAST_LINES have these replies; the rest of it is as here.
+      @param {string[]} lines @param {string[]} replies @param {string | null} tape */
   told(lines, replies, tape) {
     const parts = lines.map((it, at) => TOLD[it](replies[at]));
     return Object.assign(new Past(), this, { tape }, ...parts);
   }
 
-  /** The lines that take back an edit, asked before the edit is made; null if none is known. */
+  /** The lines that take back an edit, asked before the edit is made; null if none is known.
+      @param {string} line */
   inverse(line) {
     const [word, ...rest] = wordsOfLine(line);
     if (word === "core" || word === "disk") return this.inverseOfPatch(word, rest.slice(0, -1));
@@ -87,7 +110,8 @@ export class Past {
     return null;
   }
 
-  /** A disk's word without a patch has its image's value, which isn't known here. */
+  /** A disk's word without a patch has its image's value, which isn't known here.
+      @param {string} kind @param {string[]} where */
   inverseOfPatch(kind, where) {
     const name = [kind, ...where.map(it => parseInt(it, 8).toString(8))].join(" ");
     const word = this.patches.get(name);
@@ -95,7 +119,8 @@ export class Past {
     return kind === "core" ? [`uncore ${where[0]}`] : null;
   }
 
-  /** The event as it was, and after it those that came after it in the same turn. */
+  /** The event as it was, and after it those that came after it in the same turn.
+      @param {number} number @param {string} word */
   inverseOfEvent(number, word) {
     const event = this.events.get(number);
     if (!event) return null;
@@ -103,14 +128,18 @@ export class Past {
       : `alter ${number} ${event.turn} ${event.text}`;
     const ofTurn = eventsIn(this.script, event.turn, event.turn);
     const later = ofTurn.slice(ofTurn.indexOf(event) + 1);
+    /** @param {ScriptEvent} it */
     const away = it => `alter ${it.number} ${Math.abs(it.turn - 1)} ${it.text}`;
+    /** @param {ScriptEvent} it */
     const again = it => `alter ${it.number} ${it.turn} ${it.text}`;
     return [back, ...later.flatMap(it => [away(it), again(it)])];
   }
 
   /** The lines of the patches that make the setup of another past this one, or null if it takes
-      further edits. */
+      further edits.
+      @param {Past} past */
   patchesFrom(past) {
+    /** @param {Past} it */
     const rest = it => JSON.stringify([it.version, it.tape, it.delays]);
     const lacks = [...past.patches.keys()].some(it => !this.patches.has(it));
     if (lacks || rest(past) !== rest(this)) return null;
@@ -123,15 +152,18 @@ export class Past {
     const found = [];
     if (this.version !== 1) found.push(`version ${this.version}`);
     if (this.tape !== null) found.push(this.tape);
+    /** @type {Delays} */
+    const usual = DELAYS;
     for (const [device, turns] of Object.entries(this.delays)) {
-      if (turns !== DELAYS[device]) found.push(`delay ${device} ${turns}`);
+      if (turns !== usual[device]) found.push(`delay ${device} ${turns}`);
     }
     const patches = [...this.patches].map(it => it.join(" "));
     return [...found, ...patches, ...this.script.map(it => `at ${it.turn} ${it.text}`)];
   }
 }
 
-/** The events of a turn that others of it don't have too. */
+/** The events of a turn that others of it don't have too.
+    @param {ScriptEvent[]} events @param {ScriptEvent[]} others */
 function without(events, others) {
   const left = others.map(it => it.text);
   return events.filter(({ text }) => {
@@ -142,12 +174,14 @@ function without(events, others) {
 }
 
 /** How a script differs from an old one: the events that are gone and that came, and the turns
-    whose events, or their order, are others. */
+    whose events, or their order, are others.
+    @param {ScriptEvent[]} old @param {ScriptEvent[]} now */
 export function differenceOf(old, now) {
-  const gone = [], come = [], turns = [];
+  /** @type {{gone: ScriptEvent[], come: ScriptEvent[], turns: number[]}} */
+  const { gone, come, turns } = { gone: [], come: [], turns: [] };
   for (let at = 0, place = 0; at < old.length || place < now.length;) {
     const [one, other] = [old[at], now[place]];
-    if (one?.turn === other?.turn && one.text === other.text) {
+    if (one && other && one.turn === other.turn && one.text === other.text) {
       at++;
       place++;
     } else {

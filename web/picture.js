@@ -15,14 +15,53 @@ const TIME_OF_A_PART = 250;
 const MOST_WRITES = 400, MOST_BYTES = 1_500, MOST_CHANGES = 400, MOST_OF_A_VECTOR = 400;
 const MOST_SEARCHED_TURNS = 20_000_000;
 
-/** The question for a word before a turn. */
+/**
+ * What is drawn of a run: the turns and words that are wanted, in how many columns; `listed` are
+ * vectors whose interrupts are taken from trails.
+ * @typedef {{first: number, end: number, columns: number, words: WatchedWord[],
+ *   listed?: number[]}} Wanted
+ * @typedef {import("./names.js").WatchedWord} WatchedWord
+ * @typedef {import("./past.js").Past} Past
+ * @typedef {import("./run.js").Run} Run
+ * @typedef {import("./tasks.js").Token} Token
+ */
+
+/**
+ * A look at the machine before a turn: PC, mode, what the disk does if it is busy, and the words.
+ * @typedef {{turn: number, pc: number, mode: string, priority: number, state: string,
+ *   busy: Devices | null, words: number[]}} Look
+ * @typedef {ReturnType<typeof devicesOf>} Devices
+ * @typedef {{turn: number, vector: number}} Interrupt
+ * @typedef {{begin: number | null, end: number | null, name: string, title: string}} Bar
+ * @typedef {{bars: Bar[], busy: Look[], isWhole: boolean}} Disk functions, or looks that are busy
+ * @typedef {{bytes: {turn: number, byte: number}[], printed: number, each: number}} Printed
+ * @typedef {{turn: number, word: number, writer: string}} Value
+ * @typedef {{name: string, values?: Value[], isWhole?: boolean, why?: string}} DrawnWord
+ *   or why the machine has no such word
+ */
+
+/**
+ * What was asked for the turns from `first` to `end`, up to `reached` so far.
+ * @typedef {{first: number, end: number, reached: number, step: number, isMade: boolean,
+ *   looks: Look[], interrupts: Interrupt[], sampledVectors: number[], disk: Disk, text: Printed,
+ *   words: DrawnWord[]}} Picture
+ */
+
+/**
+ * The turns between which the disk begins to be busy, or ends.
+ * @typedef {{low: number, high: number, isBusy: boolean}} Edge
+ */
+
+/** The question for a word before a turn.
+    @param {Past} past @param {WatchedWord} word @param {number} turn */
 function questionOf(past, word, turn) {
   if (word.kind === "core") return `mem ${turn} ${word.at.toString(8)} 1`;
   const drive = past.version === 2 ? `${word.drive} ` : "";
   return `dsk ${turn} ${drive}${word.at.toString(8)} 1`;
 }
 
-/** Why the machine has no such word, as a part of a sentence; an empty text if it has it. */
+/** Why the machine has no such word, as a part of a sentence; an empty text if it has it.
+    @param {Run} run @param {WatchedWord} word @param {Token | null} token */
 export async function whyNoWord(run, word, token = null) {
   if (word.drive && run.past.version === 1) {
     return "there is one drive; the line `version 2` gives eight";
@@ -34,18 +73,26 @@ export async function whyNoWord(run, word, token = null) {
 /** Collects a picture in parts, and tells of each part so that it is drawn at once. */
 export class PictureMaker {
   /**
-   * @param {import("./run.js").Run} run
-   * @param {{first: number, end: number, columns: number,
-   *   words: import("./names.js").WatchedWord[], listed?: number[]}} wanted
-   *   `listed` are vectors whose interrupts are taken from trails
+   * @param {Run} run @param {Wanted} wanted @param {Token} token
+   * @param {(picture: Picture) => void} onPart
    */
   constructor(run, wanted, token, onPart) {
-    Object.assign(this, { run, wanted, token, onPart, told: 0 });
+    this.run = run;
+    this.wanted = wanted;
+    this.token = token;
+    this.onPart = onPart;
+    /** When a part was told last. */
+    this.told = 0;
     this.past = run.past;
+    /** @type {WatchedWord[]} those of the wanted words that the machine has */
+    this.words = [];
+    /** @type {DrawnWord[]} the others */
+    this.missing = [];
     const turns = wanted.end - wanted.first;
     this.step = turns <= MOST_SINGLE_TURNS ? 1 : Math.ceil(turns / wanted.columns);
     /** Whether too many turns are in sight to search them for interrupts: each look has a trail. */
     this.isListed = turns * DEVICE_VECTORS.length > MOST_SEARCHED_TURNS;
+    /** @type {Picture} */
     this.picture = {
       first: wanted.first, end: wanted.end, reached: wanted.first, step: this.step, isMade: false,
       looks: [], interrupts: [],
@@ -55,6 +102,7 @@ export class PictureMaker {
     };
   }
 
+  /** @param {string[]} lines */
   ask(lines) {
     return this.run.ask(lines, Priority.PICTURE, this.token);
   }
@@ -79,6 +127,7 @@ export class PictureMaker {
   async look() {
     const { words } = this;
     const { first, end } = this.wanted;
+    /** @type {number[]} */
     const turns = [];
     for (let turn = first; turn < end; turn += this.step) turns.push(turn);
     const asked = turns.map(it => this.linesOfLook(it, words));
@@ -102,6 +151,7 @@ export class PictureMaker {
     this.onPart(this.picture);
   }
 
+  /** @param {number} turn @param {WatchedWord[]} words */
   linesOfLook(turn, words) {
     const lines = [`regs ${turn}`, `devices ${turn}`];
     lines.push(...words.map(it => questionOf(this.past, it, turn)));
@@ -109,11 +159,13 @@ export class PictureMaker {
     return lines;
   }
 
+  /** @param {number} turn */
   trailFrom(turn) {
     const count = Math.min(TURNS_OF_A_TRAIL, this.wanted.end - turn);
     return `trail ${turn + count} ${count}`;
   }
 
+  /** @param {number} turn @param {string[]} replies */
   addLook(turn, replies) {
     const [registers, devices, ...rest] = replies;
     const { pc, mode, priority, state } = registersOf(registers);
@@ -146,13 +198,17 @@ export class PictureMaker {
     if (step > TURNS_OF_A_TRAIL) picture.sampledVectors = many;
   }
 
-  /** The turns of the interrupts by a vector, or null if there are too many. */
+  /** The turns of the interrupts by a vector, or null if there are too many.
+      @param {number} vector */
   async turnsOf(vector) {
-    const { first, end } = this.wanted, turns = [];
-    for (let begin = first; turns.length <= MOST_OF_A_VECTOR; begin = turns.at(-1) + 1) {
+    const { first, end } = this.wanted;
+    /** @type {number[]} */
+    const turns = [];
+    for (let begin = first; turns.length <= MOST_OF_A_VECTOR;) {
       const turn = turnOf(await this.one(`first ${begin} ${end} vector ${vector.toString(8)}`));
       if (turn === null) return turns;
       turns.push(turn);
+      begin = turn + 1;
     }
     return null;
   }
@@ -165,13 +221,15 @@ export class PictureMaker {
     const before = lengthOf(await this.one(`text ${first}`));
     const text = bytesOf(await this.one(`text ${end} from ${before}`));
     const each = Math.ceil(text.length / MOST_BYTES) || 1;
+    /** @type {number[]} */
     const places = [];
     for (let at = 0; at < text.length; at += each) places.push(at);
     const turns = (await this.ask(places.map(it => `when ${before + it}`))).map(turnOf);
-    const bytes = places.map((it, at) => ({ turn: turns[at], byte: text[it] }));
+    const bytes = places.map((it, at) => ({ turn: turns[at] ?? end, byte: text[it] }));
     this.picture.text = { bytes, printed: text.length, each };
   }
 
+  /** @param {string} line */
   async one(line) {
     return (await this.ask([line]))[0];
   }
@@ -190,6 +248,7 @@ export class PictureMaker {
       this.picture.disk = { bars: [], busy, isWhole };
       return;
     }
+    /** @type {Edge[]} */
     const edges = [];
     looks.forEach((look, at) => {
       const isBusy = Boolean(look.busy);
@@ -201,7 +260,8 @@ export class PictureMaker {
     this.picture.disk = { bars: this.barsOf(edges, looks), busy: [], isWhole };
   }
 
-  /** Narrows each edge to the turn after whose beginning the disk is busy or ready. */
+  /** Narrows each edge to the turn after whose beginning the disk is busy or ready.
+      @param {Edge[]} edges */
   async halve(edges) {
     for (;;) {
       const wide = edges.filter(it => it.high - it.low > 1);
@@ -216,12 +276,16 @@ export class PictureMaker {
     }
   }
 
+  /** @param {Edge[]} edges @param {Look[]} looks */
   barsOf(edges, looks) {
+    /** @type {Bar[]} */
     const bars = [];
+    /** @type {number | null | undefined} */
     let begin = looks[0]?.busy ? null : undefined;
+    /** @param {number} low @param {number} high */
     const what = (low, high) => {
       const found = looks.find(it => it.busy && it.turn >= low && it.turn <= high);
-      return found ? { name: found.busy.diskFunction, title: functionInWords(found.busy) }
+      return found?.busy ? { name: found.busy.diskFunction, title: functionInWords(found.busy) }
         : { name: "busy", title: "busy" };
     };
     for (const edge of edges) {
@@ -243,28 +307,33 @@ export class PictureMaker {
     this.picture.words = [...await Promise.all(found), ...this.missing];
   }
 
+  /** @param {WatchedWord} word @param {number} at @returns {DrawnWord} */
   samplesOf(word, at) {
+    /** @param {Look} it */
     const valueOf = it => ({ turn: it.turn, word: it.words[at], writer: "" });
     const values = this.picture.looks.map(valueOf);
     return { name: nameOfWord(word), values, isWhole: false };
   }
 
-  /** All writes to a core word, or the values at the looks if there are too many. */
+  /** All writes to a core word, or the values at the looks if there are too many.
+      @param {WatchedWord} word @param {number} at @returns {Promise<DrawnWord>} */
   async writesOf(word, at) {
     const { first, end } = this.wanted;
     if (end - first > MOST_SEARCHED_TURNS) return this.samplesOf(word, at);
+    /** @type {Value[]} */
     const values = [{ turn: first, word: this.picture.looks[0].words[at], writer: "" }];
     for (let begin = first; values.length <= MOST_WRITES;) {
       const { writes, hasMore } = writesOf(
         await this.one(`writes ${begin} ${end} ${word.at.toString(8)}`));
       values.push(...writes);
       if (!hasMore) return { name: nameOfWord(word), values, isWhole: true };
-      begin = writes.at(-1).turn + 1;
+      begin = writes[writes.length - 1].turn + 1;
     }
     return this.samplesOf(word, at);
   }
 
-  /** The changes of a word of a drive. Only a function's completion changes it. */
+  /** The changes of a word of a drive. Only a function's completion changes it.
+      @param {WatchedWord} word @param {number} at @returns {Promise<DrawnWord>} */
   async changesOf(word, at) {
     const { looks } = this.picture;
     const { first, end } = this.wanted;

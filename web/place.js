@@ -5,6 +5,7 @@
  */
 
 // What is in sight is kept to a thousandth of a turn, which is less than a pixel.
+/** @param {number} turns */
 const rounded = turns => Math.round(turns * 1000) / 1000;
 
 /** @param {Place} place */
@@ -13,9 +14,12 @@ export function fragmentOf({ turn, first, span, core }) {
   return `${turns}&core=${core.toString(8)}`;
 }
 
-/** The place that a fragment names, as far as it does. @returns {Partial<Place>} */
+/** The place that a fragment names, as far as it does.
+    @param {string} fragment
+    @returns {Partial<Place>} */
 export function placeOf(fragment) {
   const words = new URLSearchParams(fragment.replace(/^#/, ""));
+  /** @param {string} name @param {RegExp} form @param {(text: string) => number} valueOf */
   const number = (name, form, valueOf = Number) => {
     const text = words.get(name) ?? "";
     return form.test(text) ? valueOf(text) : undefined;
@@ -27,7 +31,8 @@ export function placeOf(fragment) {
   };
 }
 
-/** Puts a place into the address: as a new one to go back from, or in the place of the last. */
+/** Puts a place into the address: as a new one to go back from, or in the place of the last.
+    @param {Place} place @param {boolean} isNew */
 export function keepPlace(place, isNew) {
   const fragment = fragmentOf(place);
   if (fragment === location.hash) return;

@@ -14,10 +14,12 @@ const LONGEST_LINE = 200;
 // In the first turns of a run a question is answered at once. A trail has at most so many turns.
 const EARLY = 64;
 
-/** A turn as the program takes it: it refuses any other at once. */
+/** A turn as the program takes it: it refuses any other at once.
+    @param {string} word */
 const isTurn = word => /^\d{1,10}$/.test(word ?? "") && Number(word) <= LAST_TURN;
 
-/** The turns from one before which a question is to one; both are 0 if the program runs none. */
+/** The turns from one before which a question is to one; both are 0 if the program runs none.
+    @param {string} line */
 export function turnsAsked(line) {
   if (line.length > LONGEST_LINE) return [0, 0];
   const [word, ...rest] = wordsOfLine(line);
@@ -26,7 +28,8 @@ export function turnsAsked(line) {
   return end < begin ? [0, 0] : [begin ?? 0, end ?? begin ?? 0];
 }
 
-/** A question like this one about early turns. It is refused if this one is, whatever its turn. */
+/** A question like this one about early turns. It is refused if this one is, whatever its turn.
+    @param {string} line */
 export function earlyQuestion(line) {
   const [word, ...rest] = wordsOfLine(line);
   if (word === "when") return `text ${EARLY} from ${rest.join(" ")}`;
@@ -36,13 +39,16 @@ export function earlyQuestion(line) {
 }
 
 /** What is asked of the line of a session that is opened: an edit as it is, of a question one that
-    runs nothing. */
+    runs nothing.
+    @param {string} line */
 export const askedAtOnce = line =>
   turnsAsked(line)[1] > 0 || byteAsked(line) !== null ? earlyQuestion(line) : line;
 
+/** @param {string} line */
 export const isSearch = line => OF_TURNS.has(wordsOfLine(line)[0]);
 
-/** The byte of the console's text that `when` is about; null for any other line. */
+/** The byte of the console's text that `when` is about; null for any other line.
+    @param {string} line */
 export function byteAsked(line) {
   if (line.length > LONGEST_LINE) return null;
   const [, byte] = /^[ \t]*when[ \t]+(\d{1,10})[ \t]*$/.exec(line) ?? [];
@@ -57,34 +63,39 @@ export function byteAsked(line) {
  * @typedef {{from: number, end: number, isBackwards: boolean,
  *   line: (from: number, to: number) => string,
  *   add: (reply: string, isLast: boolean) => string | null}} Search
- * @returns {Search | null}
+ * @param {string} line @returns {Search | null}
  */
 export function searchOf(line) {
   const [word, , , ...rest] = wordsOfLine(line);
   const [from, to] = turnsAsked(line);
   if (!OF_TURNS.has(word) || to === from) return null;
+  /** @param {number} low @param {number} high */
   const part = (low, high) => [word, low, high, ...rest].join(" ");
-  const found = [];
+  /** @type {{writes: string[], counts: number[]}} */
+  const { writes, counts } = { writes: [], counts: [] };
+  /** @param {string} reply @param {boolean} isLast */
   const add = (reply, isLast) => {
     if (isRefused(reply)) return reply;
-    if (word === "writes") return addWrites(found, reply, isLast, to);
-    if (word === "counts") return addCounts(found, reply, isLast);
+    if (word === "writes") return addWrites(writes, reply, isLast, to);
+    if (word === "counts") return addCounts(counts, reply, isLast);
     return turnOf(reply) === null && !isLast ? null : reply;
   };
   return { from, end: to, isBackwards: word === "latest", line: part, add };
 }
 
-/** Adds the writes of a part; returns the reply to the whole search if it is known. */
+/** Adds the writes of a part; returns the reply to the whole search if it is known.
+    @param {string[]} found @param {string} reply @param {boolean} isLast @param {number} end */
 function addWrites(found, reply, isLast, end) {
   found.push(...reply.split("\n").slice(1));
   const lines = found.slice(0, MOST_WRITES);
   const isFull = lines.length === MOST_WRITES;
   if (!isFull && !isLast) return null;
-  const hasMore = isFull && Number(lines.at(-1).split(" ")[0]) + 1 < end;
+  const hasMore = isFull && Number(lines[MOST_WRITES - 1].split(" ")[0]) + 1 < end;
   return [`writes ${lines.length}${hasMore ? " or more" : ""}`, ...lines].join("\n");
 }
 
-/** Adds the counts of a part; returns the reply to the whole search after its last part. */
+/** Adds the counts of a part; returns the reply to the whole search after its last part.
+    @param {number[]} found @param {string} reply @param {boolean} isLast */
 function addCounts(found, reply, isLast) {
   reply.split(" ").slice(1).forEach((it, at) => { found[at] = (found[at] ?? 0) + Number(it); });
   return isLast ? ["counts", ...found].join(" ") : null;

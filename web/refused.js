@@ -7,10 +7,12 @@ import { readableLine } from "./session.js";
 
 const MOST_SHOWN = 20, LONGEST_SHOWN = 80;
 
+/** @typedef {{number: number, line: string, reply: string}} Refused */
+
 /**
  * Lists the refused lines of a session with their numbers and replies, at most some of them.
  * Returns how many they are, in a sentence, or an empty text.
- * @param {{number: number, line: string, reply: string}[]} refused
+ * @param {HTMLElement} place @param {Refused[]} refused @param {string[]} lines
  */
 export function showRefused(place, refused, lines) {
   place.hidden = !refused.length;
@@ -28,6 +30,7 @@ export function showRefused(place, refused, lines) {
   return said;
 }
 
+/** @param {Refused} refused */
 function lineInWords({ number, line, reply }) {
   const text = visibleName(readableLine(line));
   const isCut = text.length > LONGEST_SHOWN;

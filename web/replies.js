@@ -20,10 +20,19 @@ const FUNCTIONS = [
   "write lock",
 ];
 
-/** A number in octal digits, as the session language writes words. */
+/**
+ * What devices and pages are before a turn.
+ * @typedef {{diskFunction: string, wordCount: number, sector: number | null, drive: number,
+ *   busAddress: number}} Devices
+ * @typedef {ReturnType<typeof pagesOf>} Pages
+ */
+
+/** A number in octal digits, as the session language writes words.
+    @param {number} word */
 export const octal = (word, digits = 6) => word.toString(8).padStart(digits, "0");
 
-/** A count with its noun, such as `1 word` or `2 words`. */
+/** A count with its noun, such as `1 word` or `2 words`.
+    @param {number} count @param {string} noun */
 export const counted = (count, noun) => `${count} ${noun}${count === 1 ? "" : "s"}`;
 
 const REFUSALS = new Map([
@@ -37,9 +46,11 @@ const REFUSALS = new Map([
   [16, "the drive's number is above 7"],
 ]);
 
+/** @param {string} reply */
 export const isRefused = reply => reply.startsWith("refused ");
 
-/** Why the program refused a line, as a part of a sentence. */
+/** Why the program refused a line, as a part of a sentence.
+    @param {string} reply */
 export function refusalInWords(reply) {
   const [, number] = reply.split(" ");
   return REFUSALS.get(Number(number)) ?? reply;
@@ -47,6 +58,7 @@ export function refusalInWords(reply) {
 
 /** A reply that isn't what was asked for. */
 export class WrongReply extends Error {
+  /** @param {string} reply */
   constructor(reply) {
     super(isRefused(reply) ? `${refusalInWords(reply)} (${reply})`
       : `the program's reply can't be read: ${visibleName(reply.slice(0, 80))}`);
@@ -54,20 +66,23 @@ export class WrongReply extends Error {
   }
 }
 
-/** The reply to a line, which the program must have taken. */
+/** The reply to a line, which the program must have taken.
+    @param {string} reply */
 export function mustBeTaken(reply) {
   if (isRefused(reply)) throw new WrongReply(reply);
   return reply;
 }
 
-/** What a pattern finds in a reply, which must have its form. */
+/** What a pattern finds in a reply, which must have its form.
+    @param {RegExp} pattern @param {string} reply */
 function read(pattern, reply) {
   const found = pattern.exec(reply);
   if (!found) throw new WrongReply(reply);
   return found;
 }
 
-/** The fields after the first word of a reply, which must be one of `heads`. */
+/** The fields after the first word of a reply, which must be one of `heads`.
+    @param {string} reply @param {string[]} heads */
 function fieldsOf(reply, ...heads) {
   const [head, ...fields] = reply.split(" ");
   if (!heads.includes(head)) throw new WrongReply(reply);
@@ -84,27 +99,31 @@ function namedWords(fields, base = 8) {
   return words;
 }
 
-/** The name of the device or trap of a vector, or the vector. */
+/** The name of the device or trap of a vector, or the vector.
+    @param {number} vector */
 export const vectorName = vector => VECTORS.get(vector) ?? octal(vector, 3);
 
-/** The vector of a device or trap with a name, or null. */
+/** The vector of a device or trap with a name, or null.
+    @param {string} name */
 export function vectorNamed(name) {
   const wanted = name.toLowerCase();
   return [...VECTORS].find(([, it]) => it.toLowerCase() === wanted)?.[0] ?? null;
 }
 
-/** The reply of `regs`. */
+/** The reply of `regs`.
+    @param {string} reply */
 export function registersOf(reply) {
   const fields = ["R0", ...fieldsOf(reply, "R0")];
   const words = namedWords(fields);
   const ps = words.PS;
   return {
-    words, state: fields.at(-1), pc: words.PC, ps,
+    words, state: fields[fields.length - 1], pc: words.PC, ps,
     mode: MODES[ps >> 14 & 3], priority: ps >> 5 & 7,
   };
 }
 
-/** PS in words, such as `user, previous kernel, priority 4, N..C`. */
+/** PS in words, such as `user, previous kernel, priority 4, N..C`.
+    @param {number} ps */
 export function statusInWords(ps) {
   const codes = [..."NZVC"].map((name, at) => ps >> 3 - at & 1 ? name : ".").join("");
   const trace = ps >> 4 & 1 ? ", trace" : "";
@@ -112,7 +131,8 @@ export function statusInWords(ps) {
   return `${mode}, previous ${previous}, priority ${ps >> 5 & 7}${trace}, ${codes}`;
 }
 
-/** The reply of `devices`, with what the disk does. */
+/** The reply of `devices`, with what the disk does.
+    @param {string} reply */
 export function devicesOf(reply) {
   const words = namedWords(fieldsOf(reply, "devices"));
   const address = words.RKDA;
@@ -131,7 +151,8 @@ export function devicesOf(reply) {
   };
 }
 
-/** What the disk's function does, in words. */
+/** What the disk's function does, in words.
+    @param {Devices} devices */
 export function functionInWords({ diskFunction, wordCount, sector, drive, busAddress }) {
   const name = sector === null ? "a sector that isn't there" : `sector ${sector}`;
   const [core, place] = [`core ${octal(busAddress)}`, `${name} of drive ${drive}`];
@@ -146,9 +167,11 @@ export function functionInWords({ diskFunction, wordCount, sector, drive, busAdd
   }
 }
 
-/** The reply of `pages`. */
+/** The reply of `pages`.
+    @param {string} reply */
 export function pagesOf(reply) {
   const fields = fieldsOf(reply, "pages");
+  /** @param {string} name @param {number} count */
   const words = (name, count) => {
     const at = fields.indexOf(name) + 1;
     return fields.slice(at, at + count).map(it => parseInt(it, 8));
@@ -160,19 +183,22 @@ export function pagesOf(reply) {
   };
 }
 
-/** The reply of `translate`: the physical address, or null if memory management aborts the read. */
+/** The reply of `translate`: the physical address, or null if memory management aborts the read.
+    @param {string} reply */
 export function physicalOf(reply) {
   const [, address] = read(/^translate (?:([0-7]{6})|abort .+)$/, reply);
   return address === undefined ? null : parseInt(address, 8);
 }
 
-/** The address of the first word that a reply of `virtual` says can't be read; null if all can. */
+/** The address of the first word that a reply of `virtual` says can't be read; null if all can.
+    @param {string} reply */
 export function unreadOf(reply) {
   const [, address] = read(/^virtual(?:(?: [0-7]{6})+| [a-z -]+ at ([0-7]{6}))$/, reply);
   return address === undefined ? null : parseInt(address, 8);
 }
 
-/** A page in words, such as `core 020000 to 037777, read and write`. */
+/** A page in words, such as `core 020000 to 037777, read and write`.
+    @param {Pages} pages @param {"kernel" | "user"} mode @param {number} page */
 export function pageInWords(pages, mode, page) {
   const descriptor = pages.descriptors[mode][page];
   const access = { 1: "read only", 3: "read and write" }[descriptor >> 1 & 3];
@@ -182,7 +208,8 @@ export function pageInWords(pages, mode, page) {
   return `core ${octal(begin + low * 64)} to ${octal(begin + high * 64 + 63)}, ${access}`;
 }
 
-/** The lines of the reply of `trail`. */
+/** The lines of the reply of `trail`.
+    @param {string} reply */
 export function turnsOf(reply) {
   read(/^trail \d+$/m, reply);
   return reply.split("\n").slice(1).map(line => {
@@ -194,14 +221,16 @@ export function turnsOf(reply) {
   });
 }
 
-/** The interrupts of the reply of `trail`. */
+/** The interrupts of the reply of `trail`.
+    @param {string} reply */
 export function interruptsOf(reply) {
   read(/^trail \d+$/m, reply);
   const found = reply.matchAll(/^(\d+) [0-7]{6} irq ([0-7]{3})$/gm);
   return [...found].map(it => ({ turn: Number(it[1]), vector: parseInt(it[2], 8) }));
 }
 
-/** The lines of the reply of `writes`: who wrote a word, and whether there are more. */
+/** The lines of the reply of `writes`: who wrote a word, and whether there are more.
+    @param {string} reply */
 export function writesOf(reply) {
   const [head, ...lines] = reply.split("\n");
   read(/^writes \d+( or more)?$/, head);
@@ -212,23 +241,27 @@ export function writesOf(reply) {
   return { writes, hasMore: head.endsWith("or more") };
 }
 
-/** The reply of `last`, or null if the word was never written. */
+/** The reply of `last`, or null if the word was never written.
+    @param {string} reply */
 export function lastOf(reply) {
   const [turn, writer, word] = fieldsOf(reply, "last");
   return turn === "never" ? null : { turn: Number(turn), writer, word: parseInt(word, 8) };
 }
 
-/** The words of a reply of `mem`, `dsk` or `virtual`. */
+/** The words of a reply of `mem`, `dsk` or `virtual`.
+    @param {string} reply @returns {number[]} */
 export const wordsOf = reply =>
   fieldsOf(reply, "mem", "dsk", "virtual").map(it => parseInt(it, 8));
 
-/** The turn of a reply such as `first 11` or `latest none`, or null. */
+/** The turn of a reply such as `first 11` or `latest none`, or null.
+    @param {string} reply */
 export function turnOf(reply) {
   const [turn] = fieldsOf(reply, "first", "latest", "change", "when", "fades");
   return turn === "none" ? null : Number(turn);
 }
 
-/** The reply of `setup`: the version, the bytes of core, and the delays of the devices. */
+/** The reply of `setup`: the version, the bytes of core, and the delays of the devices.
+    @param {string} reply */
 export function setupOf(reply) {
   const { version, units, printer, reader, punch, disk, clock } =
     namedWords(fieldsOf(reply, "setup"), 10);
@@ -236,17 +269,20 @@ export function setupOf(reply) {
   return { version, core: units * BYTES_OF_A_UNIT, delays };
 }
 
-/** The lines of a list, without the zeros at the beginnings of its octal numbers. */
+/** The lines of a list, without the zeros at the beginnings of its octal numbers.
+    @param {string} reply */
 const plain = reply => reply.replace(/ 0+(?=\d)/g, " ");
 
-/** The words of the reply of `patches`, each by its name, such as `core 1000`; all in octal. */
+/** The words of the reply of `patches`, each by its name, such as `core 1000`; all in octal.
+    @param {string} reply @returns {Map<string, string>} */
 export function patchesOf(reply) {
   read(/^patches \d+$/m, reply);
   const found = plain(reply).matchAll(/^((?:core|disk) .+) (\d+)$/gm);
   return new Map(Array.from(found, ([, name, word]) => [name, word]));
 }
 
-/** The events of the reply of `events`, in the order in which they happen. */
+/** The events of the reply of `events`, in the order in which they happen.
+    @param {string} reply */
 export function eventsOf(reply) {
   read(/^events \d+$/m, reply);
   const found = plain(reply).matchAll(/^(\d+) (\d+) (.+)$/gm);
@@ -254,19 +290,23 @@ export function eventsOf(reply) {
     { number: Number(number), turn: Number(turn), text }));
 }
 
-/** The number of an event that was made. */
+/** The number of an event that was made.
+    @param {string} reply */
 export const eventOf = reply => Number(read(/^event (\d+)$/, reply)[1]);
 
-/** How many bytes a reply of `text` or `punched` has. */
+/** How many bytes a reply of `text` or `punched` has.
+    @param {string} reply */
 export const lengthOf = reply => Number(read(/^(?:text|punched) (\d+):/, reply)[1]);
 
-/** The bytes of a reply of `text` or `punched`. */
+/** The bytes of a reply of `text` or `punched`.
+    @param {string} reply */
 export function bytesOf(reply) {
   const [head] = read(/^(?:text|punched) \d+:/, reply);
   return bytesOfText(reply.slice(head.length));
 }
 
-/** The bytes that a text stands for: a backslash and three octal digits are one. */
+/** The bytes that a text stands for: a backslash and three octal digits are one.
+    @param {string} text */
 function bytesOfText(text) {
   const [first, ...rest] = text.split("\\");
   const codes = [...first].map(it => it.charCodeAt(0));
@@ -277,7 +317,8 @@ function bytesOfText(text) {
   return Uint8Array.from(codes);
 }
 
-/** The bytes of a reply of `text`; of a long one the lines at its end, or of one line its end. */
+/** The bytes of a reply of `text`; of a long one the lines at its end, or of one line its end.
+    @param {string} reply @param {number} most */
 export function tailOf(reply, most) {
   lengthOf(reply);
   if (reply.length <= most) return { bytes: bytesOf(reply), isCut: false };
@@ -288,11 +329,13 @@ export function tailOf(reply, most) {
   return { bytes: bytesOfText(reply.slice(from)), isCut: true };
 }
 
-/** A byte as one character; a byte that can't be seen is a dot. */
+/** A byte as one character; a byte that can't be seen is a dot.
+    @param {number} byte */
 export const shownByte = byte =>
   byte >= 0o40 && byte < 0o177 ? String.fromCharCode(byte) : "\u00b7";
 
-/** Console text for reading: lines end at LF, and a CR before or after it isn't shown. */
+/** Console text for reading: lines end at LF, and a CR before or after it isn't shown.
+    @param {number[] | Uint8Array} bytes */
 export function readableText(bytes) {
   let text = "";
   bytes.forEach((byte, at) => {
@@ -306,15 +349,18 @@ export function readableText(bytes) {
 const KEY_NAMES = new Map(
   [[0o11, "Tab"], [0o12, "LF"], [0o15, "CR"], [0o33, "ESC"], [0o40, "space"], [0o177, "DEL"]]);
 
-/** The name of a key's byte, such as `A`, `CR` or `Ctrl-C`. */
+/** The name of a key's byte, such as `A`, `CR` or `Ctrl-C`.
+    @param {number} byte @returns {string} */
 export function keyName(byte) {
-  if (KEY_NAMES.has(byte)) return KEY_NAMES.get(byte);
+  const name = KEY_NAMES.get(byte);
+  if (name !== undefined) return name;
   if (byte > 0o177) return octal(byte, 3);
   return byte < 0o40 ? `Ctrl-${String.fromCharCode(byte + 64)}` : String.fromCharCode(byte);
 }
 
 /** The byte of a key by its character, its name, such as `Enter` or `Ctrl-C`, or three octal
-    digits; null if there is none. */
+    digits; null if there is none.
+    @param {string} name */
 export function byteNamed(name) {
   const code = name.charCodeAt(0);
   if (name.length === 1) return code < 0o200 ? code : null;
@@ -326,8 +372,9 @@ export function byteNamed(name) {
   return [...KEY_NAMES].find(([, it]) => it.toLowerCase() === wanted)?.[0] ?? null;
 }
 
-/** A name from outside with what can't be seen, or turns the direction of text, written out. */
+/** A name from outside with what can't be seen, or turns the direction of text, written out.
+    @param {string} name */
 export function visibleName(name) {
   return name.replace(/[\p{Cc}\p{Cf}\p{Zl}\p{Zp}]/gu,
-    it => `\\u${it.codePointAt(0).toString(16).padStart(4, "0")}`);
+    it => `\\u${(it.codePointAt(0) ?? 0).toString(16).padStart(4, "0")}`);
 }

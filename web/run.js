@@ -1,10 +1,12 @@
 // A machine with its past: questions in parts that can be stopped, edits with undo.
 
+import { Ledger } from "./ledger.js";
 import { Machine, Stopped } from "./machine.js";
-import { PAST_LINES, Past, isEdit, linesThatTell, runsNothing, wordsOfLine } from "./past.js";
+import { isEdit, runsNothing, wordsOfLine } from "./past.js";
 import {
   askedAtOnce, byteAsked, earlyQuestion, isSearch, searchOf, turnsAsked,
 } from "./questions.js";
+import { Reached } from "./reached.js";
 import { LAST_TURN, eventOf, isRefused, mustBeTaken, octal, wordsOf } from "./replies.js";
 
 // A part is what is asked at once. It runs about so many turns: fewer if parts take long.
@@ -13,68 +15,70 @@ const [QUICK, SLOW] = [25, 80];
 // What a line takes beside its turns, as turns.
 const TURNS_OF_A_LINE = 10_000;
 const [MOST_LINES, MOST_EDITS] = [512, 4_096];
-// Checkpoints are so many turns apart at first. Twice as many if there would be too many of them.
-const [FIRST_STRIDE, MOST_CHECKPOINTS] = [10_000, 256];
 
 /** Of several questions the one with the lowest number goes first. */
 export const Priority = { EDIT: 0, CURSOR: 1, QUESTION: 2, PICTURE: 3, TEXT: 4, COMPARISON: 5 };
 
 /**
+ * What a machine is made of: the words of the program's command line, and the files that they name.
  * @typedef {{arguments: string[], files: Object<string, Uint8Array>}} Setup
- * @typedef {{line: string, back: string[] | null, event: string | undefined, before: number}} Edit
- *   an edit, the lines that take it back, the number of the event that it made, and how many edits
- *   were taken before it
  */
+
+/**
+ * Lines that are asked, the replies so far, and the search that the next line is. `tried` is how
+ * many lines had replies when the next one was asked about early turns.
+ * @typedef {{lines: string[], priority: number, token: Token | null, replies: string[],
+ *   search: Search | null, tried: number,
+ *   resolve: (replies: string[]) => void, reject: (reason: any) => void}} Job
+ * @typedef {import("./tasks.js").Token} Token
+ * @typedef {import("./questions.js").Search} Search
+ * @typedef {import("./ledger.js").Edit} Edit
+ * @typedef {import("./work.js").Work} Work
+ */
+
 export class Run {
-  /** @param {Setup} setup */
+  /** @param {Setup} setup @param {(work: Work | null) => void} onProgress */
   constructor(setup, onProgress = () => {}) {
     this.setup = setup;
     this.onProgress = onProgress;
-    /** @type {string[]} every edit that the program took, also those of undo and redo */
-    this.taken = [];
-    this.pasts = 0;   // how many edits made another past
+    this.ledger = new Ledger();
+    /** @type {Job[]} */
     this.jobs = [];
-    /** The past as the program told it last, and the lines that tell it otherwise by now. */
-    this.past = new Past();
-    this.untold = new Set(PAST_LINES);
-    /** The first turn into which an edit has put an event since then. */
-    this.lowest = LAST_TURN;
-    /** @type {Edit[][]} what the user did, each as its edits: one undo takes all of them back */
-    this.changes = [];
-    /** @type {Edit[][]} */
-    this.undone = [];
-    /** @type {{change: Edit[], place: number}[]} what is switched off; how much is before it */
-    this.off = [];
     this.turnsAtOnce = FIRST_TURNS;
     this.isAtWork = false;
-    this.start();
+    this.reached = new Reached();
+    this.machine = this.newMachine();
   }
 
-  start() {
-    this.forget();
-    const { arguments: words, files } = this.setup;
-    this.machine = new Machine({ program: "search", arguments: words, files });
+  /** The past as the program told it last. */
+  get past() {
+    return this.ledger.past;
   }
 
-  /** What the program keeps of a run, as far as the page knows: at its start, nothing. */
-  forget() {
-    Object.assign(this, { known: 0, at: 0, printed: 0, stride: FIRST_STRIDE });
+  /** A machine that has taken nothing. It adds the edits that it takes to the ledger. */
+  newMachine() {
+    const { arguments: words, files } = this.setup, { taken } = this.ledger;
+    return new Machine({ program: "search", arguments: words, files, taken });
   }
 
-  /** The replies to lines, in their order. `token.isStopped` gives them up. */
+  /** The replies to lines, in their order. `token.isStopped` gives them up.
+      @param {string[]} lines @param {Token | null} token @returns {Promise<string[]>} */
   ask(lines, priority = Priority.CURSOR, token = null) {
     if (!lines.length) return Promise.resolve([]);
     return new Promise((resolve, reject) => {
-      this.jobs.push({ lines, priority, token, replies: [], search: null, resolve, reject });
+      const job = { lines, priority, token, replies: [], search: null, tried: -1, resolve, reject };
+      this.jobs.push(job);
       this.work();
     });
   }
 
+  /** @param {string} line @param {number} [priority] @param {Token | null} [token] */
   async askOne(line, priority, token) {
     return (await this.ask([line], priority, token))[0];
   }
 
-  /** Why the program refuses a question, whatever its turn is, or null. */
+  /** Why the program refuses a question, whatever its turn is, or null.
+      @param {string} line */
   async refusalOf(line) {
     const reply = await this.askOne(earlyQuestion(line), Priority.QUESTION);
     return isRefused(reply) ? reply : null;
@@ -101,38 +105,43 @@ export class Run {
     this.onProgress(null);
   }
 
+  /** @param {Job} job */
   endIfDone(job) {
     if (job.replies.length < job.lines.length) return;
     this.remove(job);
     job.resolve(job.replies);
   }
 
-  /** Whether a job goes on though the machine is stopped: what it is at runs nothing. */
+  /** Whether a job goes on though the machine is stopped: what it is at runs nothing.
+      @param {Job} job */
   goesOn(job) {
     return runsNothing(job.lines[job.replies.length]);
   }
 
+  /** @param {Job} job */
   remove(job) {
     this.jobs = this.jobs.filter(it => it !== job);
   }
 
   // Parts
 
-  /** Asks some of the job's lines, or goes on towards the turns that the next one is about. */
+  /** Asks some of the job's lines, or goes on towards the turns that the next one is about.
+      @param {Job} job */
   async askPart(job) {
     if (this.goesOn(job)) return this.sendEdits(job);
     const line = job.lines[job.replies.length];
     const search = job.search ??= searchOf(line), byte = byteAsked(line);
     const turn = search ? this.turnBefore(search) : turnsAsked(line)[0];
-    const left = this.turnsToRun(this.at, turn) - this.turnsAtOnce;
+    const left = this.reached.turnsToRun(this.reached.at, turn) - this.turnsAtOnce;
     if (left > 0) await this.goOn(job, line, turn - left);
-    else if (byte !== null && byte >= this.printed) await this.goOnToByte(job, byte);
+    else if (byte !== null && byte >= this.reached.printed) await this.goOnToByte(job, byte);
     else if (search) await this.searchOn(job, line);
     else await this.askLines(job);
     return undefined;
   }
 
-  /** Sends the job's next edits, and lines that tell the past. They run nothing. */
+  /** Sends the job's next edits, and lines that tell the past. They run nothing.
+      @param {Job} job */
   async sendEdits(job) {
     const next = job.lines.slice(job.replies.length, job.replies.length + MOST_EDITS);
     const count = next.findIndex(it => !runsNothing(it));
@@ -140,15 +149,9 @@ export class Run {
     for (const it of await this.send(count < 0 ? next : next.slice(0, count))) job.replies.push(it);
   }
 
-  /** About how many turns the program runs from one to another, by its checkpoints. */
-  turnsToRun(at, turn) {
-    const known = Math.min(this.known, turn);
-    const checkpoint = known - known % this.stride;
-    return turn - (at <= known ? Math.max(at, checkpoint) : checkpoint);
-  }
-
   /** Runs up to a turn, on the way to that of a line. The line may be refused at any turn: then it
-      is at once. */
+      is at once.
+      @param {Job} job @param {string} line @param {number} turn */
   async goOn(job, line, turn) {
     const isTried = job.tried === job.replies.length;
     job.tried = job.replies.length;
@@ -162,47 +165,55 @@ export class Run {
     if (isRefused(reply)) this.endLine(job, reply);
   }
 
-  /** Takes the reply to the job's next line. */
+  /** Takes the reply to the job's next line.
+      @param {Job} job @param {string} reply */
   endLine(job, reply) {
     job.search = null;
     job.replies.push(reply);
   }
 
-  /** Says how far a line is: at which turn the machine is, or how many turns were searched back. */
+  /** Says how far a line is: at which turn the machine is, or how many turns were searched back.
+      @param {string} line @param {Search | null} search @param {number} turn */
   showTurns(line, search, turn) {
     const [begin, end] = turnsAsked(line);
-    const goesBack = search?.isBackwards && end <= this.known;
+    const goesBack = search?.isBackwards && end <= this.reached.known;
     const [done, all] = goesBack ? [end - search.end, end - begin] : [turn, end];
     this.onProgress({ done, all, what: "turns" });
   }
 
-  /** Runs on until the byte is printed that is asked about. */
+  /** Runs on until the byte is printed that is asked about.
+      @param {Job} job @param {number} byte */
   async goOnToByte(job, byte) {
-    const turn = Math.min(LAST_TURN, this.known + this.turnsAtOnce);
-    this.onProgress({ done: this.known, all: LAST_TURN, what: "turns" });
+    const { reached } = this, turn = Math.min(LAST_TURN, reached.known + this.turnsAtOnce);
+    this.onProgress({ done: reached.known, all: LAST_TURN, what: "turns" });
     const [reply] = await this.timed([`text ${turn} from ${byte}`], this.turnsAtOnce);
-    if (reply !== "text 0:" || turn === LAST_TURN) this.printed = byte + 1;
+    if (reply !== "text 0:" || turn === LAST_TURN) reached.printed = byte + 1;
   }
 
   /** The turn that the machine goes to before it searches on. A search backwards begins when the
-      turns before its end are known. */
+      turns before its end are known.
+      @param {Search} search */
   turnBefore(search) {
     const { end, isBackwards } = search;
-    return isBackwards && end > this.known ? end : this.partOf(search)[0];
+    return isBackwards && end > this.reached.known ? end : this.partOf(search)[0];
   }
 
   /** The turns that are searched next. A part backwards begins at a checkpoint, if it has one: the
-      program goes on from there. */
+      program goes on from there.
+      @param {Search} search @returns {[number, number]} */
   partOf({ from, end, isBackwards }) {
     if (!isBackwards) return [from, Math.min(end, from + this.turnsAtOnce)];
     const turn = end - this.turnsAtOnce;
-    const checkpoint = Math.ceil(turn / this.stride) * this.stride;
+    const checkpoint = this.reached.checkpointFrom(turn);
     return [Math.max(from, checkpoint < end ? checkpoint : turn), end];
   }
 
-  /** Searches some turns more. */
+  /** Searches some turns more.
+      @param {Job} job @param {string} line */
   async searchOn(job, line) {
-    const { search } = job, [from, to] = this.partOf(search);
+    const { search } = job;
+    if (!search) return;
+    const [from, to] = this.partOf(search);
     this.showTurns(line, search, from);
     const [reply] = await this.timed([search.line(from, to)], to - from);
     if (search.isBackwards) search.end = from;
@@ -211,19 +222,21 @@ export class Run {
     if (whole !== null) this.endLine(job, whole);
   }
 
+  /** @param {Job} job */
   async askLines(job) {
     const { lines, cost } = this.nextLines(job);
     this.onProgress({ done: job.replies.length, all: job.lines.length, what: "questions" });
     job.replies.push(...await this.timed(lines, cost));
   }
 
-  /** The job's next questions, as far as they take no longer than a part. */
+  /** The job's next questions, as far as they take no longer than a part.
+      @param {Job} job */
   nextLines({ lines, replies }) {
-    const begin = replies.length;
-    let { at } = this, cost = 0, end = begin;
+    const { reached } = this, begin = replies.length;
+    let { at } = reached, cost = 0, end = begin;
     while (end < lines.length && end - begin < MOST_LINES && !runsNothing(lines[end])) {
       const [turn] = turnsAsked(lines[end]);
-      const more = TURNS_OF_A_LINE + this.turnsToRun(at, turn);
+      const more = TURNS_OF_A_LINE + reached.turnsToRun(at, turn);
       if (end > begin && (cost + more > this.turnsAtOnce || !this.isPlain(lines[end]))) break;
       cost += more;
       at = turn;
@@ -232,13 +245,15 @@ export class Run {
     return { lines: lines.slice(begin, end), cost };
   }
 
-  /** Whether a line is asked beside others, and not in parts of its own. */
+  /** Whether a line is asked beside others, and not in parts of its own.
+      @param {string} line */
   isPlain(line) {
     const byte = byteAsked(line);
-    return byte === null ? !isSearch(line) : byte < this.printed;
+    return byte === null ? !isSearch(line) : byte < this.reached.printed;
   }
 
-  /** Sends a part. The next one is shorter if it takes long, so that others don't wait. */
+  /** Sends a part. The next one is shorter if it takes long, so that others don't wait.
+      @param {string[]} lines @param {number} cost */
   async timed(lines, cost) {
     const began = performance.now();
     const replies = await this.send(lines);
@@ -250,34 +265,23 @@ export class Run {
     return replies;
   }
 
-  /** The machine's replies, without the line feed at their ends. */
+  /** The machine's replies, without the line feed at their ends.
+      @param {string[]} lines */
   async send(lines) {
     const ended = await this.machine.ask(lines);
     const replies = ended.map(it => it.endsWith("\n") ? it.slice(0, -1) : it);
     lines.forEach((line, at) => {
       if (isRefused(replies[at])) return;
       if (isEdit(line)) this.take(line);
-      else this.learn(line, replies[at]);
+      else this.reached.learn(line, replies[at]);
     });
     return replies;
   }
 
-  /** What a question that was answered leaves known. */
-  learn(line, reply) {
-    const [begin, end] = turnsAsked(line);
-    // how far `fades` ran isn't said
-    if (end === 0 || wordsOfLine(line)[0] === "fades") return;
-    const [, printed] = /^text ([1-9]\d*):/.exec(reply) ?? [], [, , , from = 0] = wordsOfLine(line);
-    if (printed) this.printed = Math.max(this.printed, Number(from) + Number(printed));
-    // a search may have ended before its last turn
-    this.at = /^(first|change) \d|^writes 256/.test(reply) ? begin : end;
-    this.known = Math.max(this.known, this.at);
-    while (this.known >= MOST_CHECKPOINTS * this.stride) this.stride *= 2;
-  }
-
-  /** Whether a question about a turn takes no time, also after an edit of an earlier one. */
+  /** Whether a question about a turn takes no time, also after an edit of an earlier one.
+      @param {number} turn */
   isNear(turn, edited = turn) {
-    return turn - Math.min(this.known, edited) <= MOST_TURNS;
+    return turn - Math.min(this.reached.known, edited) <= MOST_TURNS;
   }
 
   // Edits
@@ -285,6 +289,7 @@ export class Run {
   /**
    * Takes up the edits of a session. Returns its lines that are refused, with their numbers and
    * replies. In the place of a question one is asked that runs nothing.
+   * @param {string[]} lines
    */
   async load(lines) {
     const replies = await this.ask(lines.map(askedAtOnce), Priority.EDIT);
@@ -293,7 +298,8 @@ export class Run {
     return found.filter(it => isRefused(it.reply));
   }
 
-  /** Takes up edits that a machine took before. */
+  /** Takes up edits that a machine took before.
+      @param {string[]} lines */
   async takeUp(lines) {
     (await this.ask(lines, Priority.EDIT)).forEach(mustBeTaken);
     await this.askPast();
@@ -301,51 +307,71 @@ export class Run {
 
   /** The past, asked as far as edits have changed it. */
   async askPast() {
-    const lines = [...this.untold];
+    const lines = [...this.ledger.untold];
     if (lines.length) {
-      const replies = (await this.ask(lines, Priority.EDIT)).map(mustBeTaken);
-      const tape = this.taken.filter(it => it.trimStart().startsWith("tape")).at(-1) ?? null;
-      this.past = this.past.told(lines, replies, tape);
-      this.untold.clear();
-      this.lowest = LAST_TURN;
+      const replies = await this.ask(lines, Priority.EDIT);
+      this.ledger.tell(lines, replies.map(mustBeTaken));
     }
     return this.past;
   }
 
-  /** An edit was taken: what is known of the turns that it may change no longer holds. */
+  /** An edit was taken: what is known of the turns that it may change no longer holds.
+      @param {string} line */
   take(line) {
-    this.pasts += 1;
-    this.taken.push(line);
-    for (const it of linesThatTell(line)) this.untold.add(it);
-    const [word, first, second] = wordsOfLine(line);
-    // an event that isn't told yet, or was moved since, may be in the lowest turn
-    const before = Math.min(this.lowest, this.past.events.get(Number(first))?.turn ?? LAST_TURN);
-    const turns = { at: [first], alter: [second, before], drop: [before] }[word] ?? [0];
-    this.known = Math.min(this.known, ...turns.map(Number));
-    if (word !== "drop") this.lowest = Math.min(this.lowest, Number(turns[0]));
-    this.printed = 0;
+    this.reached.forgetFrom(this.ledger.note(line));
   }
 
-  /** An edit of the user. One that joins is undone with the one before it. Returns the reply. */
-  async edit(line, joins = false) {
+  /**
+   * Tries an edit in the place of what was tried before. It is nothing that the user did until
+   * `commit` makes it. Returns the replies to the lines that are asked of the past with it.
+   * @param {string} line @param {string[]} asked
+   */
+  async preview(line, asked = []) {
+    const { ledger } = this;
+    if (ledger.tried && !isSameMove(ledger.tried.line, line)) await this.putBack();
+    if (ledger.tried) mustBeTaken(await this.askOne(line, Priority.EDIT));
+    else {
+      const { reply, edit } = await this.make(line);
+      mustBeTaken(reply);
+      ledger.tried = edit;
+    }
+    return this.ask(asked, Priority.EDIT);
+  }
+
+  /** Puts back what was tried. */
+  async putBack() {
+    if (!this.ledger.tried) return;
+    await this.takeBack(this.ledger.tried);
+    this.ledger.endTrial();
+  }
+
+  /**
+   * Makes an edit of the user, after what was tried is put back. One that joins is undone with the
+   * one before it. Returns the reply.
+   * @param {string} line
+   */
+  async commit(line, joins = false) {
+    await this.putBack();
     const { reply, edit } = await this.make(line);
-    if (!edit) return reply;
-    this.undone = [];
-    if (joins && this.changes.length) this.changes.at(-1).push(edit);
-    else this.changes.push([edit]);
+    if (edit) this.ledger.add(edit, joins);
     return reply;
   }
 
-  /** Makes an edit. Returns its reply, and the edit if it was taken. */
+  /**
+   * Makes an edit. Returns its reply, and the edit if it was taken.
+   * @param {string} line @returns {Promise<{reply: string, edit: Edit | null}>}
+   */
   async make(line) {
-    const before = this.taken.length;
+    const before = this.ledger.taken.length;
     const back = await this.inverse(line);
     const reply = await this.askOne(line, Priority.EDIT);
-    if (isRefused(reply)) return { reply };
+    if (isRefused(reply)) return { reply, edit: null };
     const event = wordsOfLine(line)[0] === "at" ? String(eventOf(reply)) : undefined;
     return { reply, edit: { line, back: event ? [`drop ${event}`] : back, event, before } };
   }
 
+  /** The lines that take back an edit, asked before it is made; null if there are none.
+      @param {string} line @returns {Promise<string[] | null>} */
   async inverse(line) {
     // an event that is made is dropped
     if (wordsOfLine(line)[0] === "at") return null;
@@ -358,21 +384,25 @@ export class Run {
 
   /** Takes back what the user did last. If this is stopped, the rest of it stays done. */
   async undo() {
-    const change = this.changes.at(-1);
+    await this.putBack();
+    const { changes, undone } = this.ledger, change = changes.at(-1);
     if (!change) return;
-    const undone = [];
-    this.undone.push(undone);
-    while (change.length) {
-      await this.takeBack(change.at(-1));
-      undone.unshift(change.pop());
+    /** @type {Edit[]} */
+    const taken = [];
+    undone.push(taken);
+    for (let edit = change.at(-1); edit; edit = change.at(-1)) {
+      await this.takeBack(edit);
+      change.pop();
+      taken.unshift(edit);
     }
-    this.changes.pop();
+    changes.pop();
   }
 
-  /** An edit that no line takes back needs the machine anew, with the edits before it. */
+  /** An edit that no line takes back needs the machine anew, with the edits before it.
+      @param {Edit} edit */
   async takeBack(edit) {
     if (!edit.back) {
-      this.taken.length = edit.before;
+      this.ledger.taken.length = edit.before;
       await this.startAgain();
       return;
     }
@@ -380,36 +410,26 @@ export class Run {
     for (const line of edit.back) {
       const reply = mustBeTaken(await this.askOne(line, Priority.EDIT));
       const isBack = word === "drop" && wordsOfLine(line)[0] === "at";
-      if (isBack) this.renumber(number, String(eventOf(reply)));
-    }
-  }
-
-  /** An event that comes back has a new number: edits to be undone or made again name that one. */
-  renumber(number, given) {
-    const named = it => it.replace(/^(alter|drop) (\d+)/, (all, verb, old) =>
-      old === number ? `${verb} ${given}` : all);
-    const off = this.off.map(it => it.change);
-    for (const edit of [...this.changes, ...this.undone, ...off].flat()) {
-      edit.line = named(edit.line);
-      edit.back = edit.back?.map(named) ?? null;
-      if (edit.event === number) edit.event = given;
+      if (isBack) this.ledger.renumber(number, String(eventOf(reply)));
     }
   }
 
   /** Does again what was undone last. If this is stopped, the rest of it stays undone. */
   async redo() {
-    const undone = this.undone.at(-1);
-    if (!undone) return;
+    await this.putBack();
+    const { changes, undone } = this.ledger, wanted = undone.at(-1);
+    if (!wanted) return;
+    /** @type {Edit[]} */
     const change = [];
-    this.changes.push(change);
-    while (undone.length) {
-      const { edit } = await this.make(undone[0].line);
-      const { event } = undone.shift();
+    changes.push(change);
+    while (wanted.length) {
+      const { edit } = await this.make(wanted[0].line), { event } = wanted[0];
+      wanted.shift();
       if (edit) change.push(edit);
-      if (edit?.event) this.renumber(event, edit.event);
+      if (edit?.event && event) this.ledger.renumber(event, edit.event);
     }
-    this.undone.pop();
-    if (!change.length) this.changes.pop();
+    undone.pop();
+    if (!change.length) changes.pop();
   }
 
   /** Ends the questions that the machine is at. Edits go on: they run nothing. */
@@ -419,17 +439,16 @@ export class Run {
       this.remove(job);
       job.reject(new Stopped());
     }
-    this.forget();
+    this.reached = new Reached();
     this.machine.stop();
   }
 
   /** Makes the machine and its past anew of the edits that were taken. */
   async startAgain() {
     this.end();
-    this.start();
-    const lines = this.taken;
-    this.taken = [];
-    this.untold = new Set(PAST_LINES);
+    const lines = this.ledger.restart();
+    this.reached = new Reached();
+    this.machine = this.newMachine();
     await this.takeUp(lines);
   }
 
@@ -437,4 +456,11 @@ export class Run {
     for (const job of this.jobs.splice(0)) job.reject(new Stopped());
     this.machine.close();
   }
+}
+
+/** Whether two edits put the same event into a turn: the later one takes the place of the other.
+    @param {string} one @param {string} other */
+function isSameMove(one, other) {
+  const [verb, number] = wordsOfLine(one), [again, same] = wordsOfLine(other);
+  return verb === "alter" && again === verb && same === number;
 }

@@ -8,13 +8,21 @@ import { turnsAsked } from "./questions.js";
  *   lines: string[]}} Session
  */
 
-/** The lines of a text, without their ends. The last one may lack its end. */
+/**
+ * A name of an address, and the names of each mode.
+ * @typedef {{name: string, value: number}} Symbol
+ * @typedef {{kernel: Symbol[], user: Symbol[]}} Symbols
+ */
+
+/** The lines of a text, without their ends. The last one may lack its end.
+    @param {string} text */
 export function linesOf(text) {
   const lines = text.split("\n").map(it => it.replace(/\r$/, ""));
   return lines.at(-1) === "" ? lines.slice(0, -1) : lines;
 }
 
-/** The bytes as a text with a character for each. */
+/** The bytes as a text with a character for each.
+    @param {Uint8Array} bytes */
 export function latin1(bytes) {
   let text = "";
   // not all at once: the arguments of a call are limited
@@ -24,9 +32,10 @@ export function latin1(bytes) {
   return text;
 }
 
-/** A line for reading: its bytes are UTF-8 if they can be. */
+/** A line for reading: its bytes are UTF-8 if they can be.
+    @param {string} line */
 export function readableLine(line) {
-  const bytes = Uint8Array.from(line, it => it.charCodeAt(0));
+  const bytes = Uint8Array.from([...line], it => it.charCodeAt(0));
   try {
     return new TextDecoder("utf-8", { fatal: true }).decode(bytes);
   } catch {
@@ -34,12 +43,15 @@ export function readableLine(line) {
   }
 }
 
-/** The last turn that a question of the lines is about. */
+/** The last turn that a question of the lines is about.
+    @param {string[]} lines @returns {number} */
 export const lastTurnOf = lines =>
   lines.reduce((last, line) => Math.max(last, turnsAsked(line)[1]), 0);
 
-/** The symbols among the files of a session: those of each mode. */
+/** The symbols among the files of a session: those of each mode.
+    @param {Session} session */
 export function symbolsOfSession(session) {
+  /** @type {Symbols} */
   const found = { kernel: [], user: [] };
   for (const [name, bytes] of Object.entries(session.files)) {
     if (kindOfFile(name) !== "symbols") continue;
@@ -49,14 +61,17 @@ export function symbolsOfSession(session) {
   return found;
 }
 
-/** The modes whose addresses a file of symbols names: its name has one, or it is for both. */
+/** The modes whose addresses a file of symbols names: its name has one, or it is for both.
+    @param {string} name @returns {("kernel" | "user")[]} */
 function modesOfSymbols(name) {
   if (/user/i.test(name)) return ["user"];
   return /kernel/i.test(name) ? ["kernel"] : ["kernel", "user"];
 }
 
-/** Symbols: lines `NAME OCTAL`, or what nm writes in octal or with eight digits hexadecimal. */
+/** Symbols: lines `NAME OCTAL`, or what nm writes in octal or with eight digits hexadecimal.
+    @param {string} text */
 export function symbolsOf(text) {
+  /** @type {Symbol[]} */
   const found = [];
   for (const line of linesOf(text)) {
     const own = /^\s*(\S+)\s+([0-7]{1,6})\s*$/.exec(line.replace(/#.*/, ""));
@@ -69,8 +84,10 @@ export function symbolsOf(text) {
   return found.filter(it => it.value < 0o200000).sort((a, b) => a.value - b.value);
 }
 
-/** The symbol at or before an address, such as `DISK+4`, or an empty text. */
+/** The symbol at or before an address, such as `DISK+4`, or an empty text.
+    @param {Symbol[] | undefined} symbols @param {number} address */
 export function symbolNear(symbols, address) {
+  /** @type {Symbol | null} */
   let best = null;
   for (const it of symbols ?? []) if (it.value <= address) best = it;
   if (!best || address - best.value >= 0o10000) return "";
@@ -78,9 +95,16 @@ export function symbolNear(symbols, address) {
   return offset ? `${best.name}+${offset.toString(8)}` : best.name;
 }
 
-/** What a file that was opened is, by its name: an image, symbols or a session. */
+/** The symbols of a mode: the modes 01 and 10 have none.
+    @param {Partial<Symbols>} symbols @param {string} mode */
+export function symbolsOfMode(symbols, mode) {
+  return (mode === "kernel" ? symbols.kernel : mode === "user" ? symbols.user : null) ?? [];
+}
+
+/** What a file that was opened is, by its name: an image, symbols or a session.
+    @param {string} name */
 export function kindOfFile(name) {
-  const end = name.toLowerCase().split(".").at(-1);
+  const end = name.toLowerCase().split(".").at(-1) ?? "";
   if (["disk", "rk05", "rk", "dsk", "img"].includes(end)) return "disk";
   if (["core", "bin"].includes(end)) return "core";
   if (["tape", "ptap", "pt"].includes(end)) return "tape";
@@ -88,7 +112,9 @@ export function kindOfFile(name) {
   return end === "args" ? "arguments" : "session";
 }
 
-/** The options with a file in the place of the one that the option had. */
+/** The options with a file in the place of the one that the option had.
+    @param {Session} session @param {string} option @param {string} name @param {Uint8Array} bytes
+    @returns {Session} */
 export function withFile(session, option, name, bytes) {
   const words = [...session.arguments];
   const at = words.indexOf(`--${option}`);

@@ -9,7 +9,16 @@ const CALLS = /^(JSR|EMT|TRAP|IOT|BPT)\b/, RETURNS = /^(RTS|RTI|RTT)\b/;
 // So many times a routine may take words off its stack before it returns.
 const MOST_TRIES = 64;
 
+/** @param {string} mode */
 const pointerOf = mode => mode === "user" ? "USP" : "KSP";
+
+/**
+ * The cursor's turn, the last turn that is searched, and what asks lines; the turn to which a step
+ * goes, and what is said of it.
+ * @typedef {(lines: string[]) => Promise<string[]>} Ask
+ * @typedef {{ask: Ask, cursor: number, end: number}} Turns
+ * @typedef {{turn: number | null, said: string}} Step
+ */
 
 export class Stepping {
   /** @param {import("./app.js").App} app */
@@ -17,12 +26,15 @@ export class Stepping {
     this.app = app;
   }
 
-  /** Does a step, which returns the turn to which it goes, and what is said of it. */
+  /** Does a step, which returns the turn to which it goes, and what is said of it.
+      @param {(turns: Turns) => Promise<Step>} work */
   step(work) {
     const { app } = this, token = app.token("find");
-    const ask = lines => app.run.ask(lines, Priority.QUESTION, token);
-    const { end, timeline: { cursor } } = app;
+    const { cursor } = app.view.timeline;
     return app.attempt(async () => {
+      const { run, end } = app.session;
+      /** @type {Ask} */
+      const ask = lines => run.ask(lines, Priority.QUESTION, token);
       const { turn, said } = await work({ ask, cursor, end: Math.max(end, cursor + 1) });
       if (turn !== null) app.goTo(turn);
       element("step-said").textContent = said;
@@ -37,7 +49,8 @@ export class Stepping {
     return this.step(turns => this.outFrom(turns));
   }
 
-  /** On to the next turn with this PC, or back to the last one. */
+  /** On to the next turn with this PC, or back to the last one.
+      @param {number} pc @param {string} mode @param {number} direction */
   runTo(pc, mode, direction) {
     const where = `at ${octal(pc)} ${mode}`;
     return this.step(async ({ ask, cursor, end }) => {
@@ -49,18 +62,21 @@ export class Stepping {
     });
   }
 
+  /** @param {Ask} ask @param {number} turn */
   async registers(ask, turn) {
     return registersOf((await ask([`regs ${turn}`]))[0]);
   }
 
-  /** The text of a turn's instruction, or an empty one if it was none. */
+  /** The text of a turn's instruction, or an empty one if it was none.
+      @param {Ask} ask @param {number} turn */
   async instruction(ask, turn) {
     const trail = turnsOf((await ask([`trail ${turn + 1} 1`]))[0]);
     const [found] = await this.app.panels.pastInstructions(ask, trail);
     return { isCall: found.act !== "instr" && found.act !== "idle", text: found.text };
   }
 
-  /** One turn on; from a call to where the stack pointer is above what it pushed. */
+  /** One turn on; from a call to where the stack pointer is above what it pushed.
+      @param {Turns} turns @returns {Promise<Step>} */
   async overFrom({ ask, cursor, end }) {
     const { isCall, text } = await this.instruction(ask, cursor);
     const next = { turn: cursor + 1, said: "" };
@@ -74,7 +90,8 @@ export class Stepping {
   }
 
   /** On to the first return that leaves the stack pointer above where it is now, and above all that
-      the routine itself has taken off its stack until then. */
+      the routine itself has taken off its stack until then.
+      @param {Turns} turns @returns {Promise<Step>} */
   async outFrom({ ask, cursor, end }) {
     const { mode, words } = await this.registers(ask, cursor), name = pointerOf(mode);
     let from = cursor, pointer = words[name];

@@ -1,10 +1,11 @@
 // A sweep: an event is tried in each turn of some, on a machine of its own. Turns with equal
 // outcomes get one letter and one colour.
 
-import { element, link, make, table } from "./page.js";
+import { element, field, link, make, part, table } from "./page.js";
 import { eventInWords, isEdit, wordsOfLine } from "./past.js";
 import { isRefused } from "./replies.js";
 import { Priority } from "./run.js";
+import { STORY } from "./story.js";
 
 const MOST_TURNS = 20_000;
 const TURNS_AT_ONCE = 32;
@@ -13,11 +14,13 @@ const TIME_BETWEEN = 250;
 const LETTERS = "ABCDEFGHIJKLMNOPQRSTUVWXYZ";
 export const SWEEP_COLOURS = 6;
 
-/** The turns in an order in which those that come first are far apart. */
+/** The turns in an order in which those that come first are far apart.
+    @param {number} from @param {number} to */
 export function spreadTurns(from, to) {
   const count = to - from + 1;
   let step = 1;
   while (step < count) step *= 2;
+  /** @type {number[]} */
   const turns = [];
   for (let first = true; step >= 1; step /= 2, first = false) {
     const apart = first ? step : 2 * step;
@@ -26,8 +29,10 @@ export function spreadTurns(from, to) {
   return turns;
 }
 
-/** Turns that follow one another and have the same outcome, as they are known. */
+/** Turns that follow one another and have the same outcome, as they are known.
+    @param {Map<number, number>} outcomes */
 export function runsOf(outcomes) {
+  /** @type {Stretch[]} */
   const runs = [];
   for (const [turn, outcome] of [...outcomes].sort((a, b) => a[0] - b[0])) {
     const last = runs.at(-1);
@@ -37,22 +42,52 @@ export function runsOf(outcomes) {
   return runs;
 }
 
+/** @param {number} outcome */
 export const letterOf = outcome => LETTERS[outcome] ?? `#${outcome + 1}`;
+
+/**
+ * @typedef {import("./past.js").ScriptEvent} ScriptEvent
+ * @typedef {import("./machine.js").Machine} Machine
+ * @typedef {import("./run.js").Run} Run
+ * @typedef {{from: number, to: number, outcome: number}} Stretch turns with one outcome
+ * @typedef {{place: HTMLElement, turns: HTMLElement, reply: HTMLElement}} Row
+ */
 
 export class Sweep {
   /** @param {import("./app.js").App} app */
   constructor(app) {
     this.app = app;
+    /** @type {Run | null} the machine that tries, if it does */
     this.run = null;
+    /** @type {ScriptEvent | null} the event of the sweep, as it was when that began */
+    this.event = null;
+    this.question = "";
+    /** @type {Map<number, number>} by the turn, the number of its outcome */
+    this.outcomes = new Map();
+    /** @type {string[]} by its number, each outcome */
+    this.replies = [];
+    /** @type {Map<string, number>} by the outcome, its number */
+    this.numbers = new Map();
+    /** When the outcomes were shown last. */
+    this.shown = 0;
+    /** @type {{machine: Machine | null, taken: number}} whose past it is, of how many edits */
+    this.isOf = { machine: null, taken: 0 };
+    // where the outcomes are shown: the table's rows, each by its first turn, and what is left out
+    this.body = make("tbody");
+    /** @type {Map<number, Row>} */
+    this.rows = new Map();
+    this.more = make("p");
     element("sweep-event").addEventListener("input", () => this.showChosen());
   }
 
   /** The form for a session: the event is one of its script. */
-  offer(question, around) {
+  offer() {
     this.clear();
-    const { event = "", from = "", to = "" } = around ?? {};
+    const { isStory, end } = this.app.session;
+    const question = isStory ? `dsk ${end} 0 1` : `text ${end}`;
+    const { event, from, to } = isStory ? STORY.sweep : { event: "", from: "", to: "" };
     for (const [name, value] of Object.entries({ event, from, to, question })) {
-      element(`sweep-${name}`).value = String(value);
+      field(`sweep-${name}`).value = String(value);
     }
     this.showChosen();
   }
@@ -60,19 +95,19 @@ export class Sweep {
   clear() {
     this.end();
     this.event = null;
-    this.app.timeline.sweep = null;
+    this.app.view.timeline.sweep = null;
     element("outcomes").replaceChildren();
     this.say("");
   }
 
   /** The event that the form names, if there is one. */
   chosen() {
-    const name = element("sweep-event").value.trim();
-    return /^\d+$/.test(name) ? this.app.run.past.events.get(Number(name)) : undefined;
+    const name = field("sweep-event").value.trim();
+    return /^\d+$/.test(name) ? this.app.session.run.past.events.get(Number(name)) : undefined;
   }
 
   showChosen() {
-    const event = this.chosen(), name = element("sweep-event").value.trim();
+    const event = this.chosen(), name = field("sweep-event").value.trim();
     element("sweep-chosen").textContent = event ? `${eventInWords(event)} at ${event.turn}`
       : name && "no event";
   }
@@ -81,11 +116,15 @@ export class Sweep {
   pastChanged() {
     this.showChosen();
     if (!this.event) return;
-    const { machine, taken } = this.app.run;
-    const moves = `alter ${this.event.number} `, more = taken.slice(this.taken);
-    const isMoved = machine === this.machine && more.every(it => it.startsWith(moves));
+    const { machine, ledger: { lines } } = this.app.session.run, { isOf } = this;
+    const moves = `alter ${this.event.number} `, more = lines.slice(isOf.taken);
+    const isMoved = machine === isOf.machine && more.every(it => it.startsWith(moves));
     if (!isMoved) this.clear();
-    this.taken = taken.length;
+    this.isOf = { machine: isOf.machine, taken: lines.length };
+  }
+
+  stopped() {
+    this.end();
   }
 
   end() {
@@ -93,7 +132,8 @@ export class Sweep {
     this.run = null;
   }
 
-  /** What is wrong in the form, or an empty text. */
+  /** What is wrong in the form, or an empty text.
+      @param {ScriptEvent | undefined} event @param {string[]} turns @param {string} question */
   complaint(event, turns, question) {
     const [from, to] = turns.map(Number);
     if (!event) return "No event has this number.";
@@ -110,52 +150,61 @@ export class Sweep {
     const { app } = this;
     const event = this.chosen();
     const [from, to, question] = ["from", "to", "question"]
-      .map(it => element(`sweep-${it}`).value.trim());
+      .map(it => field(`sweep-${it}`).value.trim());
     const complaint = this.complaint(event, [from, to], question);
-    if (complaint) return this.say(complaint);
+    if (!event || complaint) return this.say(complaint);
     this.end();
-    const run = app.newRun();
+    const { session } = app, run = session.newRun(), { machine, ledger: { lines } } = session.run;
     this.run = run;
-    Object.assign(this, { outcomes: new Map(), replies: [], numbers: new Map(), shown: 0 });
-    const { machine, taken } = app.run;
-    Object.assign(this, { question, event: { ...event }, machine, taken: taken.length });
+    this.question = question;
+    this.event = { ...event };
+    this.isOf = { machine, taken: lines.length };
+    this.outcomes = new Map();
+    this.numbers = new Map();
+    this.replies = [];
+    this.shown = 0;
     const turns = spreadTurns(Number(from), Number(to));
     // at once: what the outcomes take of the page doesn't move the button later
     this.showTable();
     this.show(turns.length);
-    await run.takeUp(app.run.taken);
+    await run.takeUp(lines);
     const refusal = await run.refusalOf(question);
     if (refusal) this.refuse(question, refusal);
     for (let at = 0; at < turns.length && this.run === run; at += TURNS_AT_ONCE) {
-      await this.tryTurns(run, turns.slice(at, at + TURNS_AT_ONCE), question);
+      await this.tryTurns(run, event, turns.slice(at, at + TURNS_AT_ONCE));
       this.show(turns.length);
     }
     if (this.run === run) this.end();
     return undefined;
   }
 
+  /** @param {string} question @param {string} refusal */
   refuse(question, refusal) {
     this.clear();
     this.say(`${question}: ${refusal}`);
-    this.app.timeline.draw();
+    this.app.view.timeline.draw();
   }
 
-  async tryTurns(run, turns, question) {
-    const { event, replies, numbers } = this;
+  /** @param {Run} run @param {ScriptEvent} event @param {number[]} turns */
+  async tryTurns(run, event, turns) {
+    const { question, replies, numbers } = this;
     const lines = turns.flatMap(it => [`alter ${event.number} ${it} ${event.text}`, question]);
     const found = await run.ask(lines, Priority.COMPARISON);
     turns.forEach((turn, at) => {
       const [altered, reply] = found.slice(2 * at, 2 * at + 2);
       const outcome = isRefused(altered) ? altered : reply;
-      if (!numbers.has(outcome)) numbers.set(outcome, replies.push(outcome) - 1);
-      this.outcomes.set(turn, numbers.get(outcome));
+      const number = numbers.get(outcome) ?? replies.push(outcome) - 1;
+      numbers.set(outcome, number);
+      this.outcomes.set(turn, number);
     });
   }
 
+  /** @param {string} text */
   say(text) {
     element("sweep-status").textContent = text;
   }
 
+  /** @param {number} all */
   show(all) {
     const known = this.outcomes.size, now = performance.now();
     if (known && known < all && now - this.shown < TIME_BETWEEN) return;
@@ -164,8 +213,8 @@ export class Sweep {
     const state = known === all ? "each was tried" : "tried so far; between them isn't known";
     const outcomes = `Outcomes of ${this.question}: ${this.replies.length}.`;
     this.say(`${known} of ${all} turns: ${state}. ${outcomes}`);
-    this.app.timeline.sweep = { runs, isWhole: known === all };
-    this.app.timeline.draw();
+    this.app.view.timeline.sweep = { runs, isWhole: known === all };
+    this.app.view.timeline.draw();
     this.showRows(runs.slice(0, MOST_ROWS));
     const left = runs.length - MOST_ROWS;
     this.more.textContent = left > 0 ? `and ${left} more` : "";
@@ -177,11 +226,12 @@ export class Sweep {
     this.more = make("p");
     outcomes.replaceChildren(
       table("Turns with equal outcomes", ["", "turns", "outcome"], []), this.more);
-    this.body = outcomes.querySelector("tbody");
+    this.body = part(outcomes, "tbody");
     this.rows = new Map();
   }
 
-  /** A row for each of these runs. One that stays is left in place, so a click on it counts. */
+  /** A row for each of these runs. One that stays is left in place, so a click on it counts.
+      @param {Stretch[]} runs */
   showRows(runs) {
     const { body, rows } = this, firsts = new Set(runs.map(it => it.from));
     for (const [from, { place }] of [...rows].filter(it => !firsts.has(it[0]))) {
@@ -199,17 +249,18 @@ export class Sweep {
     }
   }
 
+  /** @param {Stretch} stretch @returns {Row} */
   row({ from, outcome }) {
-    const { number, text } = this.event;
-    const colour = `outcome outcome-${outcome % SWEEP_COLOURS}`;
-    const put = () => this.app.edits.edit(`alter ${number} ${from} ${text}`);
+    const { app, event } = this, colour = `outcome outcome-${outcome % SWEEP_COLOURS}`;
+    const put = () => event && app.edits.edit(`alter ${event.number} ${from} ${event.text}`);
     const turns = link("", "Put the event into the first of these turns", put);
     const reply = make("td"), letter = make("span", { class: colour }, letterOf(outcome));
     const place = make("tr", {}, make("td", {}, letter), make("td", {}, turns), reply);
     return { place, turns, reply };
   }
 
-  /** The reply from where it begins to differ from the first one. */
+  /** The reply from where it begins to differ from the first one.
+      @param {number} outcome */
   shortReply(outcome) {
     const [reply, first] = [this.replies[outcome], this.replies[0]];
     const other = outcome ? first : this.replies[1] ?? "";

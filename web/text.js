@@ -8,37 +8,55 @@ import { Priority } from "./run.js";
 
 const MOST_TEXT = 40_000;
 
-/** The text of a reply of `text`, of a long one its end. */
+/** The text of a reply of `text`, of a long one its end.
+    @param {string} reply */
 function shownText(reply) {
   const { bytes, isCut } = tailOf(reply, MOST_TEXT);
   return { text: readableText(bytes), count: bytes.length, isCut };
 }
 
+/**
+ * The text of the old past, and the turn before which it is.
+ * @typedef {{end: number, text: string, count: number, isCut: boolean}} OldText
+ */
+
 export class ConsoleText {
   /** @param {import("./app.js").App} app */
   constructor(app) {
     this.app = app;
-    this.begin();
+    /** @type {OldText | null} */
+    this.old = null;
+    /** @type {import("./cursor.js").Shown | null} of which turn and past the text is */
+    this.shown = null;
   }
 
-  /** Another session is open. */
-  begin() {
-    this.old = null;   // the text of the old past, and before which turn
+  sessionBegins() {
+    this.forgetOld();
+  }
+
+  /** Another past is the old one. */
+  forgetOld() {
+    this.old = null;
+  }
+
+  pastChanged() {
+    this.ask();
   }
 
   /** Asks for the text, and for that of the old past if that isn't known up to this turn. */
   ask() {
-    const { app } = this, { run, old, end } = app;
+    const { app } = this, { run, old, oldIsLoaded, end } = app.session;
     const token = app.token("text");
     const priority = run.isNear(end) ? Priority.CURSOR : Priority.TEXT;
+    /** @param {import("./run.js").Run} it */
     const textOf = it => it.askOne(`text ${end}`, priority, token);
     this.mark();
     app.attempt(async () => {
       const reply = await textOf(run);
       if (!old) this.old = { end, ...shownText(reply) };
       this.show(reply);
-      if (this.old?.end === end) return;
-      await app.oldIsLoaded;
+      if (!old || this.old?.end === end) return;
+      await oldIsLoaded;
       this.old = { end, ...shownText(await textOf(old)) };
       this.show(reply);
     });
@@ -46,7 +64,7 @@ export class ConsoleText {
 
   /** Says of which turn and past the text is. */
   mark() {
-    const { run, end, outcome } = this.app;
+    const { session: { run, end }, outcome } = this.app;
     const place = element("text-turn");
     markTurn(place, this.shown, stateOf(run, end));
     if (this.shown && place.classList.contains("stale")) outcome.ask();
@@ -58,14 +76,15 @@ export class ConsoleText {
     this.mark();
   }
 
-  /** Shows a text. `moved` is the turn to which an event is carried, if it is that one's. */
+  /** Shows a text. `moved` is the turn to which an event is carried, if it is that one's.
+      @param {string} reply @param {number | null} moved */
   show(reply, moved = null) {
-    const { app, old } = this;
+    const { app, old } = this, { session } = app;
     const { text, count, isCut } = shownText(reply);
-    const isCompared = old?.end === app.end && !isCut && !old.isCut;
-    const unmarked = app.old && !isCompared ? "; what differs isn't marked" : "";
+    const isCompared = old?.end === session.end && !isCut && !old.isCut;
+    const unmarked = session.old && !isCompared ? "; what differs isn't marked" : "";
     const more = isCut ? `, its last ${count} bytes${unmarked}` : "";
-    this.shown = { ...stateOf(app.run, app.end), more };
+    this.shown = { ...stateOf(session.run, session.end), more };
     element("text").replaceChildren(...marked(text, isCompared ? old.text : text));
     this.mark();
     app.outcome.show(text, moved);

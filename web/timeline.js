@@ -1,62 +1,82 @@
 // The timeline: lanes over turns, a cursor, and marks of events that can be dragged.
 
-import { LanesDrawing, View, lanesOf } from "./lanes.js";
+import { LanesDrawing, lanesOf } from "./lanes.js";
 import { Marks } from "./marks.js";
-import { Past, differenceOf, eventsIn } from "./past.js";
-import { delayed } from "./page.js";
+import { delayed, part } from "./page.js";
 import { LAST_TURN } from "./replies.js";
+import { Scene } from "./scene.js";
 
 const [LEFT_WIDE, LEFT_NARROW, RIGHT] = [112, 74, 10];
 const FEWEST_PIXELS = 3;
 // A move by keys ends this long after the last key was let go, if Alt isn't let go before.
 const PAUSE = 500;
 
-/** How many turns an arrow key steps. */
+/** The mark of an event, or of many, at which the pointer or the focus is, or null.
+    @param {Event} event @returns {HTMLElement | null} */
+const markAt = ({ target }) => target instanceof Element ? target.closest("button.mark") : null;
+
+/** How many turns an arrow key steps.
+    @param {boolean} isShifted */
 const stepOf = isShifted => isShifted ? 64 : 1;
 
-/** What the timeline tells the page. @typedef {{
+/**
+ * What the timeline tells the page. `onKey` says whether a key did something; `turnAt` is where a
+ * click goes.
+ * @typedef {{
  *   onCursor: (turn: number) => void, onView: () => void, onDrawn: () => void,
- *   onDrag: (event: object, turn: number) => void,
- *   onDrop: (event: object, turn: number | null) => void, onOpen: (event: object) => void,
- *   onDelete: (event: object) => void, onList: (turn: number) => void,
- *   onKey: (key: string) => boolean, turnAt: (x: number, y: number) => number,
- * }} Listener `onKey` says whether a key did something; `turnAt` is where a click goes */
-export class Timeline {
-  /** @param {Listener} listener */
+ *   onDrag: (event: ScriptEvent, turn: number) => void,
+ *   onDrop: (event: ScriptEvent, turn: number | null) => Promise<void>,
+ *   onOpen: (event: ScriptEvent) => void, onDelete: (event: ScriptEvent) => void,
+ *   onList: (turn: number) => void, onKey: (key: string) => boolean,
+ *   turnAt: (x: number, y: number) => number,
+ * }} Listener
+ * @typedef {import("./past.js").ScriptEvent} ScriptEvent
+ * @typedef {import("./lanes.js").Lane} Lane
+ */
+
+/**
+ * A pointer that is down: where, and the first turn in sight then; whether it moved; the mark of
+ * many events on which it is; whether it selects turns.
+ * @typedef {{x: number, first: number, moved: boolean, cluster: HTMLElement | null,
+ *   isBox: boolean}} Pointer
+ * @typedef {{apart: number, span: number, turn: number}} Pinch of two pointers
+ */
+
+/**
+ * An event that is moved: by its mark, from a turn to the one where it is now; by keys, or by a
+ * pointer that began at a pixel.
+ * @typedef {{event: ScriptEvent, button: HTMLElement, from: number, turn: number, begin?: number,
+ *   isByKeys?: boolean, isMoved?: boolean}} Dragged
+ */
+export class Timeline extends Scene {
+  /** @param {HTMLElement} element @param {Listener} listener */
   constructor(element, listener) {
+    super();
     this.element = element;
     this.listener = listener;
-    this.canvas = element.querySelector("canvas");
-    this.slider = element.querySelector("[role=slider]");
-    this.cursorLine = element.querySelector(".cursor");
-    this.marks = new Marks(element.querySelector(".marks"), this);
-    this.carried = element.querySelector(".carried");
-    this.box = element.querySelector(".box");
-    this.drawing = new LanesDrawing(this.canvas);
-    this.view = new View(0, 1000);
-    this.whole = 1000;
-    this.cursor = 0;
+    this.slider = part(element, "[role=slider]");
+    this.cursorLine = part(element, ".cursor");
+    this.marks = new Marks(part(element, ".marks"), this);
+    this.carried = part(element, ".carried");
+    this.box = part(element, ".box");
+    const canvas = /** @type {HTMLCanvasElement} */ (part(element, "canvas"));
+    this.drawing = new LanesDrawing(canvas);
+    /** @type {Lane[]} those that are drawn */
+    this.lanes = [];
+    this.width = 0;
     /** What is told of the cursor's turn, if it is still there. */
     this.told = { turn: 0, text: "" };
-    this.picture = this.ghost = this.part = null;
-    /** The turn from which on the old past and the new one are the same, or null. */
-    this.same = null;
-    this.past = this.oldPast = new Past();
-    /** The old past's events that aren't there now. */
-    this.gone = [];
-    this.sweep = null;
-    this.wanted = 0;
-    /** Where the wanted event is to be dropped, or null. */
-    this.target = null;
-    this.symbols = {};
-    /** @type {{name: string, label: string}[]} */
-    this.words = [];
+    /** @type {Map<number, Pointer>} */
     this.pointers = new Map();
+    /** @type {Pinch | null} */
+    this.pinch = null;
     this.frame = 0;
+    /** @type {Dragged | null} */
     this.dragged = null;
     /** What is said of the event at the turn where it is carried. */
     this.outcome = "";
-    /** Where an event was put, until the machine has taken it: {number, turn}, or null. */
+    /** @type {{number: number, turn: number} | null} where an event was put, until the machine has
+        taken it */
     this.put = null;
     this.endMoveLater = delayed(PAUSE, () => this.endMoveByKeys());
     this.listen();
@@ -68,7 +88,7 @@ export class Timeline {
     element.addEventListener("wheel", event => this.onWheel(event), { passive: false });
     element.addEventListener("pointerdown", event => this.onPointerDown(event));
     element.addEventListener("pointermove", event => this.onPointerMove(event));
-    for (const name of ["pointerup", "pointercancel"]) {
+    for (const name of /** @type {const} */ (["pointerup", "pointercancel"])) {
       element.addEventListener(name, event => this.onPointerUp(event));
     }
     element.addEventListener("keydown", event => this.onKey(event));
@@ -90,7 +110,8 @@ export class Timeline {
     this.listener.onView();
   }
 
-  /** Shows these turns. */
+  /** Shows these turns.
+      @param {number} first @param {number} span */
   show(first, span) {
     const most = LAST_TURN;
     this.view.span = Math.min(most, Math.max(1, span));
@@ -99,6 +120,7 @@ export class Timeline {
     this.listener.onView();
   }
 
+  /** @param {number} factor */
   zoom(factor, x = this.view.x(this.cursor)) {
     const { view } = this;
     const inside = x >= view.left && x <= view.left + view.width;
@@ -108,7 +130,8 @@ export class Timeline {
     this.show(turn - (at - view.left) / view.width * span, span);
   }
 
-  /** Puts the cursor at a turn, and brings it into sight unless the view is to stay. */
+  /** Puts the cursor at a turn, and brings it into sight unless the view is to stay.
+      @param {number} turn */
   setCursor(turn, { isTold = true, keepsView = false } = {}) {
     this.cursor = Math.min(LAST_TURN, Math.max(0, Math.round(turn)));
     if (!keepsView) this.bringIntoSight(this.cursor);
@@ -116,6 +139,7 @@ export class Timeline {
     if (isTold) this.listener.onCursor(this.cursor);
   }
 
+  /** @param {number} turn */
   bringIntoSight(turn) {
     const { view } = this;
     if (turn < view.first || turn > view.end) this.show(turn - view.span / 2, view.span);
@@ -132,7 +156,8 @@ export class Timeline {
       "aria-valuetext", `before turn ${this.cursor}${told ? `; ${told}` : ""}`);
   }
 
-  /** Says what is drawn where the cursor is. */
+  /** Says what is drawn where the cursor is.
+      @param {string} text */
   tellCursor(text) {
     this.told = { turn: this.cursor, text };
     this.placeCursor();
@@ -178,37 +203,21 @@ export class Timeline {
     carried.style.left = `${Math.max(2, left)}px`;
   }
 
-  /** Says what comes of the event at the turn where it is carried now. */
+  /** Says what comes of the event at the turn where it is carried now.
+      @param {string} outcome */
   tellOutcome(outcome) {
     this.outcome = outcome;
     this.placeCarried();
   }
 
-  eventsInSight(script) {
-    return eventsIn(script, this.view.first, this.view.end);
-  }
-
-  /** Shows the events of a past, and those of an old one that are gone. */
-  showPasts(past, oldPast) {
-    const { gone } = differenceOf(oldPast.script, past.script);
-    Object.assign(this, { past, oldPast, gone });
-  }
-
-  /** What is drawn, by those who show it otherwise. @returns {import("./sight.js").Drawn} */
-  drawn() {
-    const { view, picture, ghost, part, same } = this;
-    return {
-      first: view.first, end: view.end, events: this.eventsInSight(this.past.script),
-      gone: this.eventsInSight(this.gone), picture, ghost, part, same,
-    };
-  }
-
   // Pointer and wheel
 
+  /** @param {MouseEvent} event */
   xOf(event) {
     return event.clientX - this.element.getBoundingClientRect().left;
   }
 
+  /** @param {WheelEvent} event */
   onWheel(event) {
     event.preventDefault();
     if (event.shiftKey || Math.abs(event.deltaX) > Math.abs(event.deltaY)) {
@@ -219,9 +228,10 @@ export class Timeline {
     }
   }
 
+  /** @param {PointerEvent} event */
   onPointerDown(event) {
     if (event.button) return;
-    const mark = event.target.closest?.("button.mark");
+    const mark = markAt(event);
     const cluster = mark?.matches(".cluster") ? mark : null, button = cluster ? null : mark;
     const isBox = event.shiftKey && !mark;
     const at = { x: this.xOf(event), first: this.view.first, moved: false, cluster, isBox };
@@ -244,6 +254,7 @@ export class Timeline {
     };
   }
 
+  /** @param {PointerEvent} event */
   onPointerMove(event) {
     const at = this.pointers.get(event.pointerId);
     if (!at) return;
@@ -262,16 +273,19 @@ export class Timeline {
   }
 
   movePinch() {
-    const [one, other] = [...this.pointers.values()];
+    const { pinch } = this, [one, other] = [...this.pointers.values()];
+    if (!pinch) return;
     const apart = Math.max(20, Math.abs(one.x - other.x));
-    const span = Math.max(1, this.pinch.span * this.pinch.apart / apart);
+    const span = Math.max(1, pinch.span * pinch.apart / apart);
     const middle = (one.x + other.x) / 2;
-    this.show(this.pinch.turn - (middle - this.view.left) / this.view.width * span, span);
+    this.show(pinch.turn - (middle - this.view.left) / this.view.width * span, span);
   }
 
-  /** Turns are being selected, from one pixel to another. */
+  /** Turns are being selected, from one pixel to another.
+      @param {number} from @param {number} to */
   showBox(from, to) {
     const { box, view } = this;
+    /** @param {number} x */
     const inside = x => Math.min(view.left + view.width, Math.max(view.left, x));
     const [left, right] = [Math.min(from, to), Math.max(from, to)].map(inside);
     box.hidden = false;
@@ -281,7 +295,8 @@ export class Timeline {
     box.dataset.end = String(view.turn(right));
   }
 
-  /** Shows the turns that were selected, unless that was given up. */
+  /** Shows the turns that were selected, unless that was given up.
+      @param {boolean} isChosen */
   endBox(isChosen) {
     const { box } = this, { first, end } = box.dataset;
     if (box.hidden) return;
@@ -289,12 +304,15 @@ export class Timeline {
     if (isChosen) this.show(Number(first), Number(end) - Number(first));
   }
 
+  /** @param {number} x */
   dragTo(x) {
     const { dragged, view } = this;
-    const by = Math.round((x - dragged.begin) / view.width * view.span);
+    if (!dragged) return;
+    const by = Math.round((x - (dragged.begin ?? x)) / view.width * view.span);
     this.moveTo(dragged.from + by);
   }
 
+  /** @param {PointerEvent} event */
   onPointerUp(event) {
     const at = this.pointers.get(event.pointerId);
     this.pointers.delete(event.pointerId);
@@ -320,18 +338,22 @@ export class Timeline {
 
   // A move of an event, by the pointer or by keys
 
+  /** @param {HTMLElement} button @param {{begin?: number, isByKeys?: boolean}} more */
   beginMove(button, more) {
-    const event = this.marks.eventOf(button), turn = this.marks.turnOf(event);
+    const event = this.marks.eventOf(button);
+    if (!event) return;
+    const turn = this.marks.turnOf(event);
     this.dragged = { event, button, from: turn, turn, ...more };
     this.outcome = "";
     button.classList.add("dragged");
     this.draw();
   }
 
+  /** @param {number} wanted */
   moveTo(wanted) {
     const { dragged } = this;
     const turn = Math.min(LAST_TURN, Math.max(0, wanted));
-    if (turn === dragged.turn) return;
+    if (!dragged || turn === dragged.turn) return;
     dragged.turn = turn;
     dragged.isMoved = true;
     this.outcome = "";
@@ -362,17 +384,19 @@ export class Timeline {
 
   // Keys
 
+  /** @param {KeyboardEvent} event */
   onKey(event) {
     if (event.key === "Escape") {
       this.box.hidden = true;
       return this.endMove(false);
     }
     if (event.altKey || event.ctrlKey || event.metaKey) return this.onMarkKey(event);
-    const button = event.target.closest?.("button.mark");
+    const button = markAt(event);
     if (button && (event.key === "Enter" || event.key === " ")) {
       event.preventDefault();
+      const opened = this.marks.eventOf(button);
       if (button.matches(".cluster")) this.marks.zoomTo(button);
-      else this.listener.onOpen(this.marks.eventOf(button));
+      else if (opened) this.listener.onOpen(opened);
       return undefined;
     }
     if (button && this.isDeleted(button, event.key)) {
@@ -384,43 +408,50 @@ export class Timeline {
     return undefined;
   }
 
-  /** Delete takes out the event of a mark; the focus goes to the timeline. */
+  /** Delete takes out the event of a mark; the focus goes to the timeline.
+      @param {HTMLElement} button @param {string} key */
   isDeleted(button, key) {
     if (!["Delete", "Backspace"].includes(key) || button.matches(".cluster")) return false;
     const event = this.marks.eventOf(button);
+    if (!event) return false;
     this.endMove(false);
     this.slider.focus({ preventScroll: true });
     this.listener.onDelete(event);
     return true;
   }
 
-  /** Alt with an arrow moves the event whose mark has the focus by a turn, with shift by 64. */
+  /** Alt with an arrow moves the event whose mark has the focus by a turn, with shift by 64.
+      @param {KeyboardEvent} event */
   onMarkKey(event) {
-    const button = event.target.closest?.("button.mark:not(.cluster)");
-    const direction = { ArrowLeft: -1, ArrowRight: 1 }[event.key];
-    if (!button || !direction || !event.altKey) return;
+    const button = markAt(event);
+    const direction = event.key === "ArrowLeft" ? -1 : event.key === "ArrowRight" ? 1 : 0;
+    if (!button || button.matches(".cluster") || !direction || !event.altKey) return;
     event.preventDefault();
     this.endMoveLater.cancel();
     if (!this.dragged) this.beginMove(button, { isByKeys: true });
-    if (!this.dragged.isByKeys) return;
-    this.moveTo(this.dragged.turn + direction * stepOf(event.shiftKey));
-    this.bringIntoSight(this.dragged.turn);
+    const { dragged } = this;
+    if (!dragged?.isByKeys) return;
+    this.moveTo(dragged.turn + direction * stepOf(event.shiftKey));
+    this.bringIntoSight(dragged.turn);
   }
 
-  /** A key that is held, or struck again soon, goes on with the same move. */
+  /** A key that is held, or struck again soon, goes on with the same move.
+      @param {KeyboardEvent} event */
   onKeyUp(event) {
     if (event.key === "Alt") this.endMoveByKeys();
     else this.endMoveLater();
   }
 
-  /** What a key does to the cursor or the turns in sight. Returns whether it does anything. */
+  /** What a key does to the cursor or the turns in sight. Returns whether it does anything.
+      @param {string} key */
   act(key, isShifted = false) {
     const step = stepOf(isShifted);
     const screen = Math.max(1, Math.round(this.view.span));
-    const cursor = {
+    /** @type {Object<string, number>} */
+    const places = {
       ArrowLeft: this.cursor - step, ArrowRight: this.cursor + step,
       PageUp: this.cursor - screen, PageDown: this.cursor + screen, Home: 0, End: this.whole,
-    }[key];
+    }, cursor = places[key];
     if (cursor !== undefined) this.setCursor(cursor);
     else if (key === "+" || key === "=") this.zoom(0.5);
     else if (key === "-") this.zoom(2);

@@ -3,6 +3,9 @@
 import { nameOfWord, namesOfSession, symbolOfWord, wordNamed } from "./names.js";
 import { element, make } from "./page.js";
 import { whyNoWord } from "./picture.js";
+import { STORY } from "./story.js";
+
+/** @typedef {import("./names.js").WatchedWord} WatchedWord */
 
 export class Watched {
   /** @param {import("./app.js").App} app */
@@ -14,22 +17,29 @@ export class Watched {
     this.called = new Map();
   }
 
-  /** Another session is open, of which these words are drawn. */
-  begin(words) {
-    this.words = words;
-    this.called = namesOfSession(this.app.session);
+  /** Another session is open. */
+  sessionBegins() {
+    const { isStory, contents } = this.app.session;
+    this.words = isStory ? STORY.words : [];
+    this.called = namesOfSession(contents);
   }
 
-  /** Draws a word, or no longer if it is drawn already. */
+  pastChanged() {
+    this.show();
+  }
+
+  /** Draws a word, or no longer if it is drawn already.
+      @param {WatchedWord} word */
   turn(word) {
     const others = this.words.filter(it => nameOfWord(it) !== nameOfWord(word));
     this.words = others.length < this.words.length ? others : [...this.words, word];
     this.show();
-    this.app.drawPicture();
-    this.app.timeline.draw();
+    this.app.pictures.draw();
+    this.app.view.timeline.draw();
   }
 
-  /** What a word is called, and its name. */
+  /** What a word is called, and its name.
+      @param {string} name */
   titleOf(name) {
     const called = this.called.get(name);
     return called ? `${called} (${name})` : name;
@@ -38,7 +48,7 @@ export class Watched {
   /** The words that are drawn, each with a button that takes it away. */
   show() {
     const names = this.words.map(nameOfWord);
-    this.app.timeline.words = names.map(name => (
+    this.app.view.timeline.words = names.map(name => (
       { name, label: this.called.get(name) ?? "" }));
     element("words").replaceChildren(...this.words.map((word, at) => make("button", {
       type: "button", title: "Draw this word no longer", onclick: () => this.turn(word),
@@ -47,30 +57,32 @@ export class Watched {
     for (const it of this.words) this.nameBySymbol(it);
   }
 
-  /** A word that the session doesn't name is called as its symbol is. */
+  /** A word that the session doesn't name is called as its symbol is.
+      @param {WatchedWord} word */
   nameBySymbol(word) {
     const { app } = this, name = nameOfWord(word);
     if (this.called.has(name)) return;
     this.called.set(name, "");
     app.attempt(async () => {
-      const { run } = app;
-      const symbol = await symbolOfWord(run, word, app.symbols, app.timeline.cursor);
-      if (run !== app.run || !symbol) return;
+      const { session, view: { timeline } } = app;
+      const symbol = await symbolOfWord(session.run, word, session.symbols, timeline.cursor);
+      if (session !== app.opened || !symbol) return;
       this.called.set(name, symbol);
       this.show();
-      app.timeline.draw();
+      timeline.draw();
     });
   }
 
-  /** Draws a word by its name, if the machine has it. */
+  /** Draws a word by its name, if the machine has it.
+      @param {string} name */
   turnNamed(name) {
     const { app } = this;
     return app.attempt(async () => {
       const word = wordNamed(name);
-      const why = word ? await whyNoWord(app.run, word)
+      const why = word ? await whyNoWord(app.session.run, word)
         : "a word is named as 2000, core 2000, disk 0 or disk 1 0 are, in octal";
       if (why) app.say(`${name} can't be drawn: ${why}.`);
-      else this.turn(word);
+      else if (word) this.turn(word);
     });
   }
 }

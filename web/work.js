@@ -13,7 +13,8 @@ export class WorkBar {
     this.timer = 0;
   }
 
-  /** What a machine is doing, or null if it waits. @param {Work | null} work */
+  /** What a machine is doing, or null if it waits.
+      @param {object} machine @param {Work | null} work */
   show(machine, work) {
     if (work) this.works.set(machine, work);
     else this.works.delete(machine);
@@ -22,7 +23,8 @@ export class WorkBar {
     else this.timer ||= setTimeout(() => this.change(), isAtWork ? UNTIL_SHOWN : UNTIL_HIDDEN);
     if (!isAtWork) return;
     const [{ done, all, what }] = this.works.values();
-    element("bar").value = all ? done / all : 0;
+    const bar = /** @type {HTMLProgressElement} */ (element("bar"));
+    bar.value = all ? done / all : 0;
     element("work-text").textContent = `${done} of ${all} ${what}`;
   }
 

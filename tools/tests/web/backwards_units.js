@@ -38,9 +38,8 @@ class BackwardsMachine extends NotingMachine {
 }
 
 class BackwardsRun extends NotingRun {
-  start() {
-    this.forget();
-    this.machine = new BackwardsMachine();
+  newMachine() {
+    return new BackwardsMachine();
   }
 
   /** The turns of each part of the searches that were asked. */
@@ -82,14 +81,14 @@ export async function test_a_search_backwards_asks_its_last_turns_first() {
 export async function test_a_search_backwards_of_turns_that_are_not_known() {
   const run = new BackwardsRun({});
   equal(await run.ask(["latest 7 30000000 at 4"]), ["latest 25000000"]);
-  equal(run.known, 30_000_000);
+  equal(run.reached.known, 30_000_000);
   areTogether(run.parts.slice(1));   // the first one is about early turns
   const [early, last] = run.parts;
   equal([early, last[1], run.most <= 8_000_000], [[7, 64], 30_000_000, true]);
   // an edit among them: the turns up to the end run again
-  await run.edit("at 5 tick");
+  await run.commit("at 5 tick");
   equal(await run.ask(["latest 24000000 26000000 at 4"]), ["latest 25000000"]);
-  equal([run.known, run.most <= 8_000_000], [26_000_000, true]);
+  equal([run.reached.known, run.most <= 8_000_000], [26_000_000, true]);
 }
 
 /** Checkpoints are further apart than a part is long. */
@@ -99,7 +98,8 @@ export async function test_a_search_backwards_between_checkpoints() {
   run.machine.runs = [];
   equal(await run.ask(["latest 900000000 1000000000 at 2"]), ["latest none"]);
   areTogether(run.parts);
-  equal([run.stride, run.parts.at(-1)[0], run.most <= 8_000_000], [5_120_000, 900_000_000, true]);
+  equal([run.reached.stride, run.parts.at(-1)[0], run.most <= 8_000_000],
+    [5_120_000, 900_000_000, true]);
   const ran = run.machine.runs.reduce((sum, it) => sum + it);
   equal(ran <= 300_000_000, true);
 }

@@ -25,9 +25,8 @@ class CountingMachine extends NotingMachine {
 }
 
 class CountingRun extends Run {
-  start() {
-    this.forget();
-    this.machine = new CountingMachine();
+  newMachine() {
+    return new CountingMachine();
   }
 }
 
@@ -51,7 +50,7 @@ export async function test_counts_of_parts_are_added() {
   equal(await run.ask(["counts 5 9000005 user 2 2", "regs 7"]),
     ["counts 9000000 900000", "regs 7"]);
   const parts = run.machine.lines.filter(it => it.startsWith("counts")).map(turnsAsked);
-  equal([parts.length > 3, parts.at(-1)[1], run.known], [true, 9_000_005, 9_000_005]);
+  equal([parts.length > 3, parts.at(-1)[1], run.reached.known], [true, 9_000_005, 9_000_005]);
   const begins = parts.map(([begin]) => begin), ends = parts.map(([, end]) => end);
   equal(begins.slice(1), ends.slice(0, -1));
   equal(Math.max(...run.machine.runs) <= 8_000_000, true);

@@ -59,21 +59,64 @@ export async function test_an_undo_keeps_the_order_of_a_turn() {
   await run.load(["at 9 key 66", "at 9 tick", "at 9 key 101"]);
   const script = async () => (await run.askPast()).script.map(it => it.text);
   const before = await script();
-  for (const line of ["alter 1 8 key 66", "drop 2"]) await run.edit(line);
+  for (const line of ["alter 1 8 key 66", "drop 2"]) await run.commit(line);
   equal(await script(), ["key 66", "key 101"]);
   await run.undo();
   await run.undo();
   equal(await script(), before);
 }
 
+/** The script of a run, told anew, and the edits that the ledger has. */
+const stateOf = async run =>
+  [(await run.askPast()).script.map(it => `${it.turn} ${it.text}`), run.ledger.lines];
+
+/** What is tried is put back by the edit that follows, and leaves nothing in the ledger. */
+export async function test_what_is_tried_is_no_edit() {
+  const run = new NotingRun({}), lines = ["at 9 key 66", "at 9 tick", "at 30 tick"];
+  await run.load(lines);
+  const before = await stateOf(run);
+  for (const turn of [12, 15, 21]) {
+    equal(await run.preview(`alter 1 ${turn} key 66`, ["regs 40"]), ["regs 40"]);
+    equal((await stateOf(run))[0].includes(`${turn} key 66`), true);
+  }
+  equal(run.ledger.changes, []);
+  await run.putBack();
+  equal(await stateOf(run), before);
+  // another event takes the place of the one that was tried
+  await run.preview("alter 1 12 key 66");
+  await run.preview("alter 2 20 tick");
+  equal((await stateOf(run))[0], ["9 key 66", "20 tick", "30 tick"]);
+  equal(await run.commit("alter 1 15 key 66"), "ok");
+  equal(await stateOf(run),
+    [["9 tick", "15 key 66", "30 tick"], [...lines, "alter 1 15 key 66"]]);
+  equal(run.ledger.changes.length, 1);
+  await run.undo();
+  equal((await stateOf(run))[0], before[0]);
+}
+
+/** An event that is tried is gone again, and its number is used up. */
+export async function test_an_event_is_tried() {
+  const run = new NotingRun({});
+  await run.load(["at 9 key 66"]);
+  await run.preview("at 5 tick");
+  equal((await stateOf(run))[0], ["5 tick", "9 key 66"]);
+  equal(await run.commit("at 7 tick"), "event 3");
+  equal(await stateOf(run),
+    [["7 tick", "9 key 66"], ["at 9 key 66", "at 5 tick", "drop 2", "at 7 tick"]]);
+  await run.undo();
+  await run.redo();
+  equal((await stateOf(run))[0], ["7 tick", "9 key 66"]);
+  equal(await run.preview("at 5 tick x").catch(it => it.reply), "refused 3 OddAddress");
+}
+
 /** What no edit has changed isn't asked again. */
 export async function test_the_past_is_asked_once() {
   const run = new NotingRun({});
   await run.load(["at 9 key 66", "regs 5"]);
-  await run.edit("at 5 tick");
+  await run.commit("at 5 tick");
   await run.askPast();
   await run.askPast();
-  await run.edit("core 0 1");
+  await run.commit("core 0 1");
   await run.askPast();
   const asked = run.machine.lines.filter(it => PAST_LINES.includes(it));
   equal(asked, ["setup", "patches", "events", "events", "setup", "patches"]);
@@ -83,7 +126,7 @@ export async function test_the_past_is_asked_once() {
 export async function test_what_is_known_before_the_past_is_told() {
   const run = new NotingRun({}), knownAfter = async line => {
     await run.ask([line]);
-    return run.known;
+    return run.reached.known;
   };
   await run.load(["at 500 key 66"]);
   await run.ask(["regs 900"]);

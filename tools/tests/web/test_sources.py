@@ -13,6 +13,9 @@ UNSAFE = re.compile(
     r"|document\.cookie|indexedDB|XMLHttpRequest|WebSocket|sendBeacon|https?://"
 )
 FUNCTION = re.compile(r"( *)(?:export )?(?:async )?(?:static )?(?:function )?(\w+)\(.*\{$")
+CLASS = re.compile(r"^(?:export )?class (\w+)(?: extends (\w+))? \{\n(.*?)^\}", re.M | re.S)
+CONSTRUCTOR = re.compile(r"^  constructor\(.*?^  \}", re.M | re.S)
+FIELD = re.compile(r"\bthis\.(\w+)(?= (?:[-+*/|&?]{0,2}|<<|>>)= | = )")
 READ = ("ink", "faint", "counter", "cpu", "disk", "interrupt", "good", "bad", "accent", "ghost")
 CONTRAST = 4.5
 
@@ -32,6 +35,19 @@ def functions_of(text: str) -> dict[str, int]:
         end = next(it for it in range(at, len(lines)) if lines[it].startswith(f"{begin[1]}}}"))
         found[line.strip()] = end - at + 1
     return found
+
+
+def fields_outside(text: str) -> dict[str, set[str]]:
+    """The fields that each class sets and its constructor, or that of its base, doesn't."""
+    begun: dict[str, set[str]] = {}
+    found: dict[str, set[str]] = {}
+    for name, base, body in CLASS.findall(text):
+        constructor = CONSTRUCTOR.search(body)
+        begun[name] = set(FIELD.findall(constructor[0])) if constructor else set()
+        found[name] = set(FIELD.findall(body)) - begun[name]
+    for name, base, _ in CLASS.findall(text):
+        found[name] -= begun.get(base, set())
+    return {name: fields for name, fields in found.items() if fields}
 
 
 def luminance(colour: str) -> float:
@@ -57,6 +73,13 @@ class Sources(unittest.TestCase):
         for path in modules():
             for name, length in functions_of(path.read_text()).items():
                 self.assertLessEqual(length, MOST_FUNCTION_LINES, f"{path.name}: {name}")
+
+    def test_fields_are_in_the_constructor(self) -> None:
+        text = "".join(it.read_text() for it in modules())
+        self.assertEqual(fields_outside(text), {})
+        self.assertNotIn("Object.assign(this", text)
+        methods = "  constructor() {\n    this.a = 1;\n  }\n  b() {\n    this.b = 2;\n  }\n"
+        self.assertEqual(fields_outside(f"class A {{\n{methods}}}"), {"A": {"b"}})
 
     def test_no_unsafe_form(self) -> None:
         for path in [*modules(), WEB / "index.html"]:

@@ -27,9 +27,8 @@ class PrintingMachine extends NotingMachine {
 }
 
 class PrintingRun extends Run {
-  start() {
-    this.forget();
-    this.machine = new PrintingMachine();
+  newMachine() {
+    return new PrintingMachine();
   }
 }
 
@@ -37,7 +36,7 @@ class PrintingRun extends Run {
 export async function test_a_part_of_a_text_says_how_much_is_printed() {
   const run = new PrintingRun({}), printedAfter = async line => {
     await run.ask([line]);
-    return run.printed;
+    return run.reached.printed;
   };
   equal([await printedAfter("text 301 from 9"), await printedAfter("text 901 from 4"),
     await printedAfter("text 201")], [0, 10, 10]);

@@ -188,8 +188,9 @@ export const SETUP = "setup version 1 units 31 start 001000 stride 10000 printer
 /** A machine that notes what it is asked, and the turns that each message runs, with checkpoints as
     the program has them. A word is written every 20,000 turns, and no PC is 2. */
 export class NotingMachine {
-  constructor() {
-    Object.assign(this, { sent: [], runs: [], at: 0, known: 0, stride: 10_000, events: 0 });
+  /** Each edit that it takes is added to `taken`. */
+  constructor(taken = []) {
+    Object.assign(this, { sent: [], runs: [], at: 0, known: 0, stride: 10_000, events: 0, taken });
     this.script = [];
   }
 
@@ -200,7 +201,10 @@ export class NotingMachine {
   async ask(lines) {
     this.sent.push(lines);
     this.runs.push(0);
-    return lines.map(it => `${this.reply(it)}\n`);
+    const replies = lines.map(it => `${this.reply(it)}\n`);
+    const taken = lines.map((line, at) => ({ line, reply: replies[at] }));
+    this.taken.push(...taken.filter(it => isEdit(it.line) && !it.reply.startsWith("refused ")));
+    return replies;
   }
 
   reply(line) {
@@ -255,9 +259,8 @@ export class NotingMachine {
 }
 
 export class NotingRun extends Run {
-  start() {
-    this.forget();
-    this.machine = new NotingMachine();
+  newMachine() {
+    return new NotingMachine(this.ledger.taken);
   }
 }
 
@@ -268,7 +271,7 @@ export async function test_an_edit_runs_nothing() {
   const refused = await run.load(["at 99999999 tick x", "at 5 tick", "regs 700000000"]);
   equal(refused, [{ number: 1, line: "at 99999999 tick x", reply: "refused 3 OddAddress" }]);
   const edits = ["at 400000000 tick", "alter 1 999999990 tick", "drop 2"];
-  for (const line of edits) await run.edit(line);
+  for (const line of edits) await run.commit(line);
   await run.undo();
   equal(run.machine.lines.filter(it => !PAST_LINES.includes(it)),
     ["at 99999999 tick x", "at 5 tick", "regs 64", ...edits, "at 400000000 tick"]);

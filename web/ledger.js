@@ -1,0 +1,114 @@
+// The one ledger of edits: those that the program took, the past that they made as the program told
+// it, and what the user did with them.
+
+import { PAST_LINES, Past, linesThatTell, wordsOfLine } from "./past.js";
+import { LAST_TURN } from "./replies.js";
+
+/**
+ * An edit that the program took, with its reply.
+ * @typedef {{line: string, reply: string}} Taken
+ */
+
+/**
+ * An edit of the user, the lines that take it back, the number of the event that it made, and how
+ * many edits were taken before it. No lines take it back if they are null.
+ * @typedef {{line: string, back: string[] | null, event: string | undefined, before: number}} Edit
+ */
+
+/**
+ * What is switched off, and how much of what the user did comes before it.
+ * @typedef {{change: Edit[], place: number}} Off
+ */
+
+/** An edit in which the number of an event is another one, if it names this one.
+    @param {string} line @param {string} number @param {string} given */
+const renumbered = (line, number, given) => line.replace(/^(alter|drop) (\d+)/,
+  (all, verb, named) => named === number ? `${verb} ${given}` : all);
+
+export class Ledger {
+  constructor() {
+    /** @type {Taken[]} every edit that the program took; a machine adds those that it takes */
+    this.taken = [];
+    /** How many edits made another past. */
+    this.pasts = 0;
+    /** The past as the program told it last, and the lines that tell it otherwise by now. */
+    this.past = new Past();
+    /** @type {Set<string>} */
+    this.untold = new Set(PAST_LINES);
+    /** The first turn into which an edit has put an event since then. */
+    this.lowest = LAST_TURN;
+    /** @type {Edit[][]} what the user did, each as its edits: one undo takes all of them back */
+    this.changes = [];
+    /** @type {Edit[][]} what was undone, the last of it first made again */
+    this.undone = [];
+    /** @type {Off[]} */
+    this.off = [];
+    /** @type {Edit | null} the edit that is tried, and not yet one of the user's */
+    this.tried = null;
+  }
+
+  /** The edits that make the past, as lines of a session. */
+  get lines() {
+    return this.taken.map(it => it.line);
+  }
+
+  /** The program took an edit. Returns the first turn that it may change.
+      @param {string} line */
+  note(line) {
+    this.pasts += 1;
+    for (const it of linesThatTell(line)) this.untold.add(it);
+    const [word, first, second] = wordsOfLine(line);
+    // an event that isn't told yet, or was moved since, may be in the lowest turn
+    const before = Math.min(this.lowest, this.past.events.get(Number(first))?.turn ?? LAST_TURN);
+    const turns = word === "at" ? [Number(first)] : word === "alter" ? [Number(second), before]
+      : word === "drop" ? [before] : [0];
+    if (word !== "drop") this.lowest = Math.min(this.lowest, turns[0]);
+    return Math.min(...turns);
+  }
+
+  /** The program told what edits have changed.
+      @param {string[]} lines @param {string[]} replies */
+  tell(lines, replies) {
+    const tape = this.lines.filter(it => it.trimStart().startsWith("tape")).at(-1) ?? null;
+    this.past = this.past.told(lines, replies, tape);
+    this.untold.clear();
+    this.lowest = LAST_TURN;
+  }
+
+  /** Begins anew for a machine that has taken nothing. Returns the edits that it is to take. */
+  restart() {
+    const { lines } = this;
+    this.taken = [];
+    this.untold = new Set(PAST_LINES);
+    return lines;
+  }
+
+  /** The user made an edit. One that joins is undone with the one before it.
+      @param {Edit} edit @param {boolean} joins */
+  add(edit, joins) {
+    this.undone = [];
+    const last = this.changes.at(-1);
+    if (joins && last) last.push(edit);
+    else this.changes.push([edit]);
+  }
+
+  /** What was tried is put back: none of its edits is left, unless one has used up the number of an
+      event. */
+  endTrial() {
+    const { tried, taken } = this;
+    this.tried = null;
+    if (!tried || taken.slice(tried.before).some(it => wordsOfLine(it.line)[0] === "at")) return;
+    taken.length = Math.min(taken.length, tried.before);
+  }
+
+  /** An event that comes back has a new number: edits to be undone or made again name that one.
+      @param {string} number @param {string} given */
+  renumber(number, given) {
+    const off = this.off.map(it => it.change);
+    for (const edit of [...this.changes, ...this.undone, ...off].flat()) {
+      edit.line = renumbered(edit.line, number, given);
+      edit.back = edit.back?.map(it => renumbered(it, number, given)) ?? null;
+      if (edit.event === number) edit.event = given;
+    }
+  }
+}

@@ -1,0 +1,155 @@
+// Where one looks: the timeline with its cursor, the place in the page's address, and what follows
+// when they move.
+
+import { Minimap } from "./minimap.js";
+import { delayed, element, field } from "./page.js";
+import { keepPlace } from "./place.js";
+import { Sight } from "./sight.js";
+import { STORY } from "./story.js";
+import { Timeline } from "./timeline.js";
+import { Tips } from "./tips.js";
+
+const FEWEST_TURNS = 16;
+// The place is put into the address once the pointer or a key has rested so long.
+const PAUSE = 300;
+
+/**
+ * @typedef {import("./place.js").Place} Place
+ */
+
+export class PageView {
+  /** @param {import("./app.js").App} app */
+  constructor(app) {
+    this.app = app;
+    this.timeline = new Timeline(element("timeline"), this.listener());
+    this.tips = new Tips(element("tip"), this.timeline, app);
+    this.minimap = new Minimap(element("minimap"), this.timeline);
+    const table = /** @type {HTMLDetailsElement} */ (element("sight"));
+    this.sight = new Sight(table, this.timeline, turn => this.goTo(turn));
+    this.keepPlaceLater = delayed(PAUSE, () => keepPlace(this.place(), false));
+  }
+
+  /** What the page does as the timeline is touched.
+      @returns {import("./timeline.js").Listener} */
+  listener() {
+    const { app } = this;
+    return {
+      onCursor: () => this.cursorWent(), onView: () => this.viewMoved(),
+      onDrag: (event, turn) => {
+        this.tips.hide();
+        app.edits.preview(event, turn);
+      },
+      onDrop: (event, turn) => app.edits.drop(event, turn),
+      onOpen: event => app.edits.openEvent(event), onDrawn: () => this.drawn(),
+      onDelete: event => app.events.drop(event), onList: turn => app.events.open(turn),
+      onKey: key => this.tips.act(key), turnAt: (x, y) => this.tips.turnAt(x, y),
+    };
+  }
+
+  // What the page tells its parts
+
+  sessionBegins() {
+    const { symbols, end } = this.app.session;
+    this.timeline.symbols = symbols;
+    this.timeline.whole = end;
+  }
+
+  pastChanged() {
+    const { timeline } = this, { run, old, base, isStory } = this.app.session;
+    timeline.picture = null;
+    this.minimap.forget();
+    timeline.showPasts(run.past, old ? base.past : run.past);
+    timeline.wanted = isStory && !run.ledger.changes.length ? STORY.sweep.event : 0;
+    timeline.draw();
+  }
+
+  /** The timeline was drawn: what shows it otherwise follows. */
+  drawn() {
+    this.sight.showLater();
+    this.minimap.draw();
+  }
+
+  // Turns
+
+  /** Shows a session from its beginning, or where its story is. */
+  showBeginning() {
+    const { timeline } = this, { isStory, end } = this.app.session;
+    timeline.ghost = null;
+    if (isStory) timeline.show(STORY.first, STORY.span);
+    else timeline.show(0, Math.max(FEWEST_TURNS, end));
+    timeline.setCursor(isStory ? STORY.cursor : 0, { isTold: false });
+  }
+
+  /** The run is shown at least up to this turn.
+      @param {number} turn */
+  reach(turn) {
+    const { session } = this.app;
+    session.end = Math.max(session.end, turn);
+    this.timeline.whole = session.end;
+  }
+
+  /** The cursor was put at another turn by the pointer or a key. */
+  cursorWent() {
+    this.showTurn();
+    this.app.tell("cursorMoved");
+    this.keepPlaceLater();
+  }
+
+  /** Other turns are in sight. */
+  viewMoved() {
+    if (!this.app.isOpen) return;
+    this.app.pictures.drawLater();
+    this.keepPlaceLater();
+  }
+
+  showTurn() {
+    field("turn").value = String(this.timeline.cursor);
+  }
+
+  // Places
+
+  /** Goes to a turn, and to an address in memory, as a place to come back from.
+      @param {number} turn @param {number | null} address */
+  goTo(turn, address = null) {
+    keepPlace(this.place(), false);
+    if (address !== null) this.showAddress(address);
+    this.timeline.setCursor(turn, { isTold: false });
+    this.showTurn();
+    keepPlace(this.place(), true);
+    this.app.tell("cursorMoved");
+  }
+
+  /** @returns {Place} */
+  place() {
+    const { cursor, view } = this.timeline, { address } = this.app.panels;
+    return { turn: cursor, first: view.first, span: view.span, core: address };
+  }
+
+  /** Goes to the place that the address names.
+      @param {Partial<Place>} place */
+  goToPlace({ turn, first, span, core }) {
+    if (core !== undefined) this.showAddress(core);
+    const keepsView = span !== undefined;
+    if (keepsView) this.timeline.show(first ?? 0, span);
+    if (turn !== undefined) this.timeline.setCursor(turn, { isTold: false, keepsView });
+    this.showTurn();
+    this.app.tell("cursorMoved");
+  }
+
+  /** @param {number} address */
+  showAddress(address) {
+    const { panels } = this.app;
+    panels.address = address & ~1;
+    field("address").value = panels.address.toString(8);
+  }
+
+  /** Work was stopped: the cursor goes back to the turn that is shown. */
+  stopped() {
+    const { app } = this, { turn } = app.panels;
+    if (turn === null || !app.isOpen) return;
+    this.timeline.setCursor(turn, { isTold: false });
+    this.showTurn();
+    app.panels.want(app.session.run, this.timeline.cursor);
+    this.keepPlaceLater();
+  }
+}
