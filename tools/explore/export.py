@@ -151,19 +151,25 @@ def export(explorer: Explorer, arguments: Arguments) -> Iterator[str]:
     command file copies an image to FILE.rk0.run and attaches the copy, so that each start finds the
     same drive. Core, registers, mapping and the registers of keyboard, printer, clock and disk are
     in it. What a device is doing, requests, tape and events aren't; the reply names what is lost.
-    With `from` it writes the turns N to M, what of them the ending of FILE says:
-    FILE.vcd with A ..: waves for GTKWave, up to 2000000 turns, each a unit of time, with registers,
-    mode, routine, interrupts, traps, the disk, and the words of core that are named.
-    FILE.callgrind with LISTING ..: for KCachegrind and callgrind_annotate, up to 20000000 turns by
-    routines, by the lines of a listing and by calls. FILE.folded: the same as stacks, for flame
-    graphs. Routines are those of `profile`; one that another jumps to or runs into stands above it.
-    A call is a JSR, interrupt or trap, and the first turn stands in those that `calls` finds. It
-    has returned once SP is above what it pushed. A JSR to one of the three words behind it, and
-    JSR PC,@(SP)+, count as jumps. Turns that begin no instruction, such as `(waits)`, are lines of
-    their own. If SP is loaded away from calls, as when stacks are switched, a line says so.
-    FILE.lcov with LISTING ..: how often each line ran, as `covered` counts it, for genhtml.
-    LISTING is LISTING [at A] [kernel|user], as for `covered`, and there may be more after `and`.
-    What takes more than some 10 seconds wants a `y`, or -y. The file is whole, or it isn't there;
-    one that was there before is overwritten by export! FILE alone."""
+    With `from` it writes the turns N to M. The ending of FILE says what of them:
+    FILE.vcd from N to M [with A ..]: waves, for GTKWave, up to 2000000 turns. One unit of time is a
+    turn. It has the registers, mode, routine, interrupts, traps, the disk, and the words of core
+    that are named.
+    FILE.callgrind from N to M [with LISTING ..]: turns by routine, by line of a listing and by
+    call, for KCachegrind and callgrind_annotate, up to 20000000 turns.
+    FILE.folded from N to M: the same by stacks, for flame graphs.
+    FILE.lcov from N to M with LISTING ..: how often each line ran, as `covered` counts it, for
+    genhtml.
+    LISTING .. is LISTING [at A] [kernel|user], as for `covered`, and further ones, each after
+    `and`.
+    Routines are those of `profile`. A call is a JSR, interrupt or trap, and has returned once SP is
+    above what it pushed. The first turn stands in the calls that `calls` finds; the reply says if
+    some are believed. A routine that another one jumps to, or runs into, stands above it, and so
+    does one after JSR PC,@(SP)+ or after a JSR to one of the three words behind it. If SP is loaded
+    away from calls, as when stacks are switched, what follows is believed, and the reply says so.
+    Turns that begin no instruction stand by themselves, such as (waits). If a routine calls itself,
+    the turns of its outermost call count, and those of calls within it don't count again.
+    What takes more than some 10 seconds wants a `y`, or -y. A file is there whole, or not at all.
+    One that was there before is overwritten by export! FILE alone."""
     write = export_state if arguments.optional("turn") else export_window
     yield from write(explorer, arguments)

@@ -2,7 +2,7 @@
 from dataclasses import dataclass
 from typing import Iterable, Iterator, Optional, Sequence
 
-from .batches import PLACE, STATE, Batch, batches_of
+from .batches import KSP, PC, PLACE, PS, STATE, USP, Batch, batches_of
 from .call_steps import turns_with
 from .commands import Explorer
 from .finder import Finder
@@ -11,7 +11,9 @@ from .machine import Machine
 from .replies import DISK_READY, DiskFunction, Mode, Registers, Turn
 from .routines import Labels
 
-WORDS = ("PC", "PS", "R0", "R1", "R2", "R3", "R4", "R5", "KSP", "USP")
+# The registers that are shown, each with its part of a reply of `regs`.
+REGISTERS = {"PC": PC, "PS": PS, "KSP": KSP, "USP": USP}
+REGISTERS.update({f"R{it}": slice(10 * it + 3, 10 * it + 9) for it in range(6)})
 TRAPS = (0o4, 0o10, 0o14, 0o20, 0o30, 0o34, 0o250)
 NOTHING = "-"
 TIMESCALE = "1 s"  # the only unit of a dump that viewers turn into no other one
@@ -53,9 +55,10 @@ class Signal:
 def signals_of(words: Sequence[Word]) -> list[Signal]:
     """What is shown. `act` and the events belong to the turn that begins at their time, all others
     are what is so before it."""
-    found = [("pdp11", it, "reg", 16) for it in WORDS]
-    found += [("pdp11", it, "string", 1) for it in ("mode", "previous_mode", "function", "state")]
+    found = [("pdp11", it, "reg", 16) for it in REGISTERS]
+    found += [("pdp11", it, "string", 1) for it in ("mode", "previous_mode")]
     found += [("pdp11", "priority", "reg", 3)]
+    found += [("pdp11", it, "string", 1) for it in ("function", "state")]
     found += [("pdp11", it, "event", 1) for it in ("interrupt", "trap")]
     found += [("pdp11", "vector", "string", 1)]
     found += [("rk11", "rk_busy", "wire", 1), ("rk11", "rk_function", "string", 1)]
@@ -73,8 +76,8 @@ def disk_states(machine: Machine, turns: range) -> Iterator[tuple[str, str]]:
     """Before each of the turns whether the disk is busy, and with which function."""
     known: dict[bytes, tuple[str, str]] = {}
     for block in machine.of_each_turn("devices", turns):
+        at = block[0].index(RKCS) + len(RKCS)  # each register has six digits
         for reply in block:
-            at = reply.index(RKCS) + len(RKCS)
             digits = reply[at : at + 6]
             if digits not in known:
                 status = int(digits, 8)
@@ -108,7 +111,7 @@ class Dump:
     def __post_init__(self) -> None:
         self.signals = signals_of(self.words)
         self.labels = Labels.of(self.explorer, self.turns)
-        self.status: dict[bytes, list[str]] = {}
+        self.status: dict[str, tuple[str, str, str]] = {}
 
     def parts(self) -> Iterator[bytes]:
         yield "".join(f"{it}\n" for it in self.heading()).encode()
@@ -145,22 +148,19 @@ class Dump:
                 values[number] = f"{word:o}"
             events = self.events(turn, batch.others.get(turn), traps.get(turn))
             now = [*self.of_registers(reply), *events, *of_disk, *values]
-            lines = [
-                signal.change(value)
-                for signal, value, before in zip(self.signals, now, last)
-                if value != before and not (signal.kind == "event" and value == "")
-            ]
+            triples = zip(self.signals, now, last)
+            lines = [it.change(value) for it, value, before in triples if value not in ("", before)]
             last[:] = now
             yield from [f"#{turn}", *lines] if lines else []
 
     def of_registers(self, reply: bytes) -> list[str]:
         """The values of what the reply of `regs` has."""
-        fields = reply.decode().split()
-        named = dict(zip(fields[::2], fields[1::2]))
-        function = self.labels[reply[PLACE]].name
-        words = [named[it] for it in WORDS]
-        mode, previous, priority = of_status(int(named["PS"], 8))
-        return [*words, mode, previous, function, reply[STATE].decode(), priority]
+        text = reply.decode("ascii")
+        status = self.status.get(text[PS])
+        if status is None:
+            status = self.status[text[PS]] = of_status(int(text[PS], 8))
+        registers = [text[it] for it in REGISTERS.values()]
+        return [*registers, *status, self.labels[reply[PLACE]].name, text[STATE]]
 
     def events(self, turn: int, other: Optional[Turn], trap: Optional[int]) -> list[str]:
         """Whether the turn is an interrupt, whether it has a trap, and through which vector. Of an
@@ -173,5 +173,6 @@ class Dump:
 
 
 def of_status(ps: int) -> tuple[str, str, str]:
+    """Mode, previous mode and priority."""
     registers = Registers({"PS": ps}, "")
     return registers.mode.value, Mode.previous(ps).value, str(registers.priority)

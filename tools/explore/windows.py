@@ -131,7 +131,7 @@ def write_lcov(export: Export) -> Iterator[str]:
 
 
 KINDS = {
-    ".vcd": Kind(2_000_000, 70_000, 50, write_dump),
+    ".vcd": Kind(2_000_000, 60_000, 45, write_dump),
     ".callgrind": Kind(20_000_000, 100_000, 0, write_callgrind),
     ".folded": Kind(20_000_000, 100_000, 0, write_folded),
     ".lcov": Kind(LAST_TURN, 10_000_000, 0, write_lcov),

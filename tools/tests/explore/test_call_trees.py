@@ -111,7 +111,8 @@ class Read:
                 read.take(now, [int(cost[1], 16), int(cost[2]), int(cost[3])], count)
                 count = -1
             elif ": " in line:
-                read.heads.update([line.split(": ", 1)])
+                name, _, text = line.partition(": ")
+                read.heads[name] = text
         return read
 
     def take(self, now: dict[str, str], cost: Sequence[int], count: int) -> None:

@@ -90,7 +90,7 @@ class Refusals(OfSystems):
             ("it.callgrind from 0 to 5 with it.lst user kernel", after),
             ("it.folded from 0 to 5 with it.lst", "nothing stands after `to M` for a .folded"),
             ("no/it.vcd from 0 to 5", "no/it.vcd can't be written: No such file or directory"),
-            ("it.vcd from 0 to 1999999", "2000000 turns take some 29 s and 100 MB; export -y .. "),
+            ("it.vcd from 0 to 1999999", "2000000 turns take some 33 s and 90 MB; export -y .. "),
             ("it.folded from 0 to 1999999", "2000000 turns take some 20 s; export -y .. does them"),
         )
         lines = "".join(f"export {it}\n" for it, _ in refused)
@@ -138,7 +138,7 @@ class AtThePrompt(AtTerminal):
 
     def test_it_is_asked_before_and_ctrl_c_leaves_no_file(self) -> None:
         self.begin("--no-journal", *LEDGER)
-        said = b"1900000 turns take some 27 s and 95 MB; begin? (y or n) "
+        said = b"1900000 turns take some 32 s and 86 MB; begin? (y or n) "
         for answer in ("n\n", "\x04"):
             self.type("export it.vcd from 0 to 1899999\n")
             self.wait_for(said)
