@@ -162,10 +162,10 @@ def export(explorer: Explorer, arguments: Arguments) -> Iterator[str]:
     genhtml.
     LISTING .. is LISTING [at A] [kernel|user], as for `covered`, and further ones, each after
     `and`.
-    Routines are those of `profile`. A call is a JSR, interrupt or trap, and has returned once SP is
-    above what it pushed. The first turn stands in the calls that `calls` finds; the reply says if
-    some are believed. A routine that another one jumps to, or runs into, stands above it, and so
-    does one after JSR PC,@(SP)+ or after a JSR to one of the three words behind it. If SP is loaded
+    Routines are those of `profile`. A call is an interrupt, a trap, or a JSR after which SP is lower
+    by 2, unless it leads to one of the three words behind it. It has returned once SP is above what
+    it pushed. The first turn stands in the calls that `calls` finds; the reply says if some are
+    believed. A routine that another one jumps to, or runs into, stands above it. If SP is loaded
     away from calls, as when stacks are switched, what follows is believed, and the reply says so.
     Turns that begin no instruction stand by themselves, such as (waits). If a routine calls itself,
     the turns of its outermost call count, and those of calls within it don't count again.

@@ -168,6 +168,36 @@ class CallTrees(OnMachine):
             self.assertEqual(list(remarks(tree)), [])
             self.assertEqual(sum(it.turns for it in tree.nodes), len(turns))
 
+    def test_traps_and_pages(self) -> None:
+        """Also with words that the disk brings, and without symbols."""
+        names = ("copy-of-a-pack", "page-somewhere-else", "tape-to-console", "read-only-page")
+        for name in (*names, "disk-over-the-program"):
+            explorer, turns = self.explorer(f"{name}.session"), range(0, 60)
+            symbols = [Symbol(f"AT{it:o}", it) for it in range(0, 0o200000, 0o1000)]
+            explorer.symbols.take(symbols, [Mode.KERNEL, Mode.USER])
+            self.assertEqual(stacks_of(CallTree.of(explorer, turns)), Brute(explorer, turns).stacks())
+            explorer.symbols.take([], [Mode.KERNEL, Mode.USER])
+            nameless = stacks_of(CallTree.of(explorer, turns))
+            self.assertEqual(sum(nameless.values()), len(turns))
+
+    def test_a_call_that_the_disk_brings(self) -> None:
+        """JSR PC,@#2000 comes over BR to itself in the turn in which it runs."""
+        words = "12706 700 12737 177777 177406 12737 1026 177410 12737 5 177404 777 2000"
+        edits = [*core(words), *core("240 207", 0o2000), "disk 0 4737"]
+        explorer, turns = self.explorer("", edits), range(0, 40)
+        explorer.symbols.take([Symbol("MAIN", 0o1000), Symbol("SUB", 0o2000)], [Mode.KERNEL])
+        found = stacks_of(CallTree.of(explorer, turns))
+        self.assertEqual(found, Brute(explorer, turns).stacks())
+        self.assertGreater(found["kernel MAIN;kernel SUB"], 1)
+
+    def test_routines_without_symbols_are_where_calls_led(self) -> None:
+        explorer, turns = self.towers(), range(0, 2_000)
+        wanted = Brute(explorer, turns).within("kernel MOVE")
+        explorer.symbols.take([], [Mode.KERNEL, Mode.USER])
+        read = Read.of(self.exported(explorer, turns))
+        self.assertEqual(read.inclusive("kernel 001164"), wanted)
+        self.assertIn("kernel (before the first routine)", read.own)
+
     def exported(self, explorer: Explorer, turns: range, more: str = "") -> str:
         path = self.folder / "it.callgrind"
         line = f"'{path}' from {turns.start} to {turns.stop - 1}{more}"
