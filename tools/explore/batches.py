@@ -1,4 +1,4 @@
-"""All turns of a window, one after the other: the registers before each, and its act."""
+"""All turns of a range, one after the other: the registers before each, and its act."""
 import re
 from dataclasses import dataclass
 from typing import Iterator

@@ -51,16 +51,17 @@ class Step:
         return self.after.pc - self.before.pc & 0o177777 not in SEQUENTIAL
 
     def pushed(self, stack: int) -> int:
-        """How many bytes a stack has grown; less than 0 if it has shrunk."""
-        return self.before.pointers[stack] - self.after.pointers[stack]
+        """How many bytes a stack has grown, modulo 200000; less than 0 if it has shrunk."""
+        grown = self.before.pointers[stack] - self.after.pointers[stack]
+        return (grown + 0o100000) % 0o200000 - 0o100000
 
     @property
     def is_asked(self) -> bool:
         """Whether the word of the instruction tells if this is a call, or if SP is loaded."""
         if self.other is not None or self.before.label.mode is None:
             return False
-        if self.is_jump:
-            return self.pushed(self.after.stack) > 0
+        if self.is_jump:  # the red sequence leaves SP 0, as it may have been
+            return self.pushed(self.after.stack) > 0 or not self.after.pointers[self.after.stack]
         kernel, user = self.pushed(0), self.pushed(1)
         return kernel < 0 or user < 0 or kernel > NEAR_BYTES or user > NEAR_BYTES
 
@@ -83,8 +84,8 @@ class Step:
 
 @dataclass
 class Known:
-    """What the registers of a window don't tell: the turns with a trap that the word of the
-    instruction doesn't say, and those in whose beginning the disk has written to core."""
+    """What the registers don't tell: the turns with a trap that the word of the instruction
+    doesn't say, and those in whose beginning the disk has written to core."""
 
     traps: set[int]
     reads: set[int]

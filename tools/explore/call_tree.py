@@ -1,4 +1,4 @@
-"""The calls of a window as a tree, by a walk over its turns: under which calls each turn was."""
+"""Calls as a tree, by a walk over a range of turns: under which calls each turn was."""
 from dataclasses import dataclass, field
 from typing import Optional
 
@@ -17,7 +17,7 @@ IDLE = "idle"
 
 class Node:
     """A routine with the calls that it was reached by: its own turns, and how often it was entered
-    in the window from its parent, by a call at the site, or, without a site, by a jump."""
+    in these turns from its parent, by a call at the site, or, without a site, by a jump."""
 
     __slots__ = ("label", "parent", "site", "level", "turns", "entries", "children")
 
@@ -55,12 +55,12 @@ class CallTree:
     nodes: list[Node] = field(default_factory=list)
     tops: list[Optional[Frame]] = field(default_factory=lambda: [None, None])
     aside: dict[tuple[int, int], Optional[Frame]] = field(default_factory=dict)
-    believed: int = 0  # of the calls that the window begins in
+    believed: int = 0  # of the calls that the first turn stands in
     loads: int = 0  # of SP that led to another stack
     is_cut: bool = False  # calls were deeper than MOST_LEVELS
 
     def __post_init__(self) -> None:
-        self.root = Node(self.labels.nowhere, None, None)
+        self.root = Node(Label(None, None, ""), None, None)
         self.since = self.turns.start
         self.others: dict[str, Label] = {}
 

@@ -1,4 +1,4 @@
-"""The turns of a window by routines, lines and calls: for callgrind's viewers, and as stacks."""
+"""A range of turns by routines, lines and calls: for callgrind's viewers, and as stacks."""
 from collections import Counter
 from dataclasses import dataclass, field
 from typing import Iterator, Optional, Sequence
@@ -28,7 +28,7 @@ EdgeKey = tuple[Label, Optional[Place], Label]
 
 @dataclass
 class Costs:
-    """What the routines of a window took. All turns of a routine are its own ones here."""
+    """What the routines took. All turns of a routine are its own ones here."""
 
     own: dict[Label, Counter[Optional[Place]]] = field(default_factory=dict)
     edges: dict[EdgeKey, Edge] = field(default_factory=dict)

@@ -1,4 +1,4 @@
-"""`export`: the machine at a turn as a command file of SIMH's pdp11, or a window of turns."""
+"""`export`: the machine at a turn as a command file of SIMH's pdp11, or a range of turns."""
 import shlex
 import struct
 from pathlib import Path
@@ -11,7 +11,7 @@ from .files import OUTPUT, write_whole
 from .machine import MOST_WORDS, Machine
 from .options import UNIT_BYTES
 from .replies import Devices, Mode, Pages, Registers, words_of
-from .windows import FORM, export_window
+from .exports import FORM, export_turns
 
 MODEL_NAMES = {Mode.KERNEL: "KI", Mode.USER: "UI"}
 DONE = 0o200
@@ -162,7 +162,7 @@ def export(explorer: Explorer, arguments: Arguments) -> Iterator[str]:
     genhtml.
     LISTING .. is LISTING [at A] [kernel|user], as for `covered`, and further ones, each after
     `and`.
-    Routines are those of `profile`. A call is an interrupt, a trap, or a JSR after which SP is lower
+    Routines are those of `profile`. A call is an interrupt, a trap, or a JSR that leaves SP lower
     by 2, unless it leads to one of the three words behind it. It has returned once SP is above what
     it pushed. The first turn stands in the calls that `calls` finds; the reply says if some are
     believed. A routine that another one jumps to, or runs into, stands above it. If SP is loaded
@@ -171,5 +171,5 @@ def export(explorer: Explorer, arguments: Arguments) -> Iterator[str]:
     the turns of its outermost call count, and those of calls within it don't count again.
     What takes more than some 10 seconds wants a `y`, or -y. A file is there whole, or not at all.
     One that was there before is overwritten by export! FILE alone."""
-    write = export_state if arguments.optional("turn") else export_window
+    write = export_state if arguments.optional("turn") else export_turns
     yield from write(explorer, arguments)

@@ -42,7 +42,9 @@ class LineCounts:
         yield "end_of_record"
 
 
-def counted_lines(explorer: Explorer, turns: range, listings: Sequence[Listing]) -> list[LineCounts]:
+def counted_lines(
+    explorer: Explorer, turns: range, listings: Sequence[Listing]
+) -> list[LineCounts]:
     """The sources. What several listings say of one file is added."""
     sources: dict[Path, LineCounts] = {}
     for listing in listings:

@@ -1,4 +1,4 @@
-"""Which routine each turn of a window is in."""
+"""Which routine each turn of a range is in."""
 from dataclasses import dataclass
 from typing import Optional
 

@@ -1,4 +1,4 @@
-"""A window as a value change dump, the file of GTKWave and other viewers of waves."""
+"""A range of turns as a value change dump, the file of GTKWave and other viewers of waves."""
 from dataclasses import dataclass
 from typing import Iterable, Iterator, Optional, Sequence
 

@@ -16,6 +16,7 @@ from explore.counting import Place
 from explore.errors import ExploreError
 from explore.profile import begin_of
 from explore.replies import INSTRUCTION, INTERRUPT, Mode
+from explore.routines import NOWHERE
 from explore.symbol_files import Symbol
 from explore.symbols import Symbols
 
@@ -141,7 +142,7 @@ def named(mode: str, name: str) -> str:
 
 
 class CallTrees(OnMachine):
-    """Windows of systems without other stacks than those of the two modes."""
+    """Turns of systems without other stacks than those of the two modes."""
 
     def towers(self, in_user_mode: bool = False) -> Explorer:
         words = [*core(IN_USER_MODE), *core(BEGIN, 0o2000)] if in_user_mode else []
@@ -151,7 +152,7 @@ class CallTrees(OnMachine):
         return explorer
 
     def systems(self) -> Iterator[tuple[Explorer, range]]:
-        """Windows that begin in no call, and within some."""
+        """Ranges that begin in no call, and within some."""
         for in_user_mode in (False, True):
             explorer = self.towers(in_user_mode)
             yield explorer, range(0, 3_000)
@@ -175,10 +176,31 @@ class CallTrees(OnMachine):
             explorer, turns = self.explorer(f"{name}.session"), range(0, 60)
             symbols = [Symbol(f"AT{it:o}", it) for it in range(0, 0o200000, 0o1000)]
             explorer.symbols.take(symbols, [Mode.KERNEL, Mode.USER])
-            self.assertEqual(stacks_of(CallTree.of(explorer, turns)), Brute(explorer, turns).stacks())
+            found = stacks_of(CallTree.of(explorer, turns))
+            self.assertEqual(found, Brute(explorer, turns).stacks())
             explorer.symbols.take([], [Mode.KERNEL, Mode.USER])
             nameless = stacks_of(CallTree.of(explorer, turns))
             self.assertEqual(sum(nameless.values()), len(turns))
+
+    def test_an_odd_address(self) -> None:
+        """JMP @#1001, whose trap leads to 2000: that turn is an instruction of no routine."""
+        edits = [*core("12706 700 137 1001"), *core("2000 340", 4), *core("240 776", 0o2000)]
+        explorer, turns = self.explorer("", edits), range(0, 9)
+        explorer.symbols.take([Symbol("IT", 0o1000), Symbol("TRAP", 0o2000)], [Mode.KERNEL])
+        found = stacks_of(CallTree.of(explorer, turns))
+        self.assertEqual(found, {"kernel IT": 2, NOWHERE: 1, f"{NOWHERE};kernel TRAP": 6})
+        read = Read.of(self.exported(explorer, turns))
+        self.assertEqual((read.total(True), read.total(False)), (8, 1))
+
+    def test_the_red_sequence(self) -> None:
+        """EMT with SP 0, by which SP is 0 again."""
+        edits = [*core("104000 777"), *core("240 2", 0o2000), *core("2000 0", 4)]
+        explorer, turns = self.explorer("", edits), range(0, 12)
+        symbols = [Symbol("MAIN", 0o1000), Symbol("TRAP", 0o2000)]
+        explorer.symbols.take(symbols, [Mode.KERNEL])
+        found = stacks_of(CallTree.of(explorer, turns))
+        self.assertEqual(found, Brute(explorer, turns).stacks())
+        self.assertGreater(found["kernel MAIN;kernel TRAP"], 1)
 
     def test_a_call_that_the_disk_brings(self) -> None:
         """JSR PC,@#2000 comes over BR to itself in the turn in which it runs."""
@@ -224,7 +246,7 @@ class CallTrees(OnMachine):
                 self.assertEqual(read.inclusive(name), brute.within(name), name)
 
     def test_calls_are_counted(self) -> None:
-        """Those that begin in the window, by who calls and who is called."""
+        """Those that begin in the turns, by who calls and who is called."""
         explorer, turns = self.towers(), range(1_777, 3_000)
         brute, read = Brute(explorer, turns), Read.of(self.exported(explorer, turns))
         wanted = Counter(

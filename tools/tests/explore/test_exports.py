@@ -1,4 +1,4 @@
-"""`export` of a window: lines of a listing for genhtml, what is refused, asked and stopped."""
+"""`export` of a range of turns: lines of a listing for genhtml; what is refused, asked, stopped."""
 import re
 import shutil
 import subprocess
@@ -17,7 +17,6 @@ LEDGER_LISTING = "examples/ledger/ledger.lst"
 BOTH = f"with {LEDGER_LISTING} and {LEDGER_LISTING} at 160000 user"
 TURNS = range(100, 3_100)
 SPAN = f"from {TURNS.start} to {TURNS.stop - 1}"
-ENDINGS = (".vcd", ".callgrind", ".folded", ".lcov")
 
 
 class Lines(OfSystems):
@@ -109,7 +108,8 @@ class Refusals(OfSystems):
         """The limit of a file's size stands in for the end of a disk."""
         limited = ["bash", "-c", 'ulimit -f 1; trap "" XFSZ; exec "$@"', "bash", *self.command()]
         more = {".lcov": BOTH, ".callgrind": BOTH}
-        lines = [f"export it{it} {SPAN} {more.get(it, '')}" for it in (".vcd", ".callgrind", ".lcov")]
+        endings = (".vcd", ".callgrind", ".lcov")
+        lines = [f"export it{it} {SPAN} {more.get(it, '')}" for it in endings]
         ended = subprocess.run(
             [*limited, "--no-journal", *LEDGER],
             input="".join(f"{it}\n" for it in lines),

@@ -1,4 +1,4 @@
-"""What `export` writes of a window of turns, by the ending of the file's name."""
+"""What `export` writes of a range of turns, by the ending of the file's name."""
 import re
 import shlex
 from dataclasses import dataclass
@@ -91,7 +91,7 @@ def write_dump(export: Export) -> Iterator[str]:
     OUTPUT.write_parts(export.path, dump.parts())
     signals = counted(len(dump.signals), "signal")
     yield f"{export.where}: {signals}, one unit of time for each turn"
-    yield f"open it: gtkwave {export.quoted}"
+    yield f"open it: gtkwave {export.quoted}; Edit, Data Format, Octal"
 
 
 def write_callgrind(export: Export) -> Iterator[str]:
@@ -160,8 +160,8 @@ def check(export: Export, kind: Kind, is_agreed: bool) -> None:
         )
 
 
-def export_window(explorer: Explorer, arguments: Arguments) -> Iterator[str]:
-    """Writes the window, and says what is in the file."""
+def export_turns(explorer: Explorer, arguments: Arguments) -> Iterator[str]:
+    """Writes the turns, and says what is in the file."""
     path = Path(arguments.text("file"))
     kind = KINDS.get(path.suffix)
     if kind is None:
