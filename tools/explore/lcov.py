@@ -5,6 +5,7 @@ from typing import Iterator, Sequence
 
 from .commands import Explorer
 from .covered import Coverage, Listing
+from .routines import in_one_word
 
 
 @dataclass
@@ -25,7 +26,7 @@ class LineCounts:
                 continue
             self.counts[number] = self.counts.get(number, 0) + count
             name = explorer.symbols.names.get((listing.mode, line.address))
-            self.names.update({number: name} if name else {})
+            self.names.update({number: in_one_word(name)} if name else {})
 
     def lines(self) -> Iterator[str]:
         """The record of a source."""

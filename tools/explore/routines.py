@@ -1,4 +1,5 @@
 """Which routine each turn of a range is in."""
+import re
 from dataclasses import dataclass
 from typing import Optional
 
@@ -7,7 +8,13 @@ from .counting import MODES, Place
 from .profile import Profile, begin_of, begins_of, counted_profile, name_of
 from .replies import MODES as MODE_OF, Mode
 
+SEPARATING = re.compile(r"[\s;,]|[^ -~]")  # what separates names in files, or isn't ASCII
 NOWHERE = "(at an odd address, or in mode 01 or 10)"
+
+
+def in_one_word(name: str) -> str:
+    """The name of a symbol as files of viewers take it."""
+    return SEPARATING.sub("_", name)
 
 
 @dataclass(frozen=True)
@@ -53,5 +60,6 @@ class Labels(dict[bytes, Label]):
         found = self.known.get((place.mode, begin))
         if found is None:
             name = name_of(self.explorer, place.mode, begin) or f"{begin:06o}"
+            name = name if begin is None else in_one_word(name)
             found = self.known[place.mode, begin] = Label(place.mode, begin, name)
         return found

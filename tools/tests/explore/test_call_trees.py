@@ -220,6 +220,13 @@ class CallTrees(OnMachine):
         self.assertEqual(read.inclusive("kernel 001164"), wanted)
         self.assertIn("kernel (before the first routine)", read.own)
 
+    def test_names_of_other_characters(self) -> None:
+        """What would end a name in a file is _ there."""
+        explorer = self.explorer("", core("12706 1000 777"))
+        explorer.symbols.take([Symbol("a;b c\nd\udcff", 0o1000)], [Mode.KERNEL])
+        self.assertEqual(stacks_of(CallTree.of(explorer, range(5))), {"kernel a_b_c_d_": 5})
+        self.assertIn("\nfn=a_b_c_d_\n", self.exported(explorer, range(5)))
+
     def exported(self, explorer: Explorer, turns: range, more: str = "") -> str:
         path = self.folder / "it.callgrind"
         line = f"'{path}' from {turns.start} to {turns.stop - 1}{more}"
