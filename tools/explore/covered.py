@@ -13,6 +13,7 @@ from .in_words import counted, span
 from .kinds import content
 from .listing import VIRTUAL
 from .load import check_even
+from .machine import Machine
 from .replies import Mode
 from .symbol_files import SOURCE
 
@@ -45,12 +46,38 @@ class ListedLine:
 
 
 @dataclass(frozen=True)
+class Listing:
+    """A listing, and the mode that its addresses are of."""
+
+    path: Path
+    mode: Mode
+    lines: Sequence[ListedLine]
+
+    @classmethod
+    def of(cls, path: Path, base: int, mode: Mode) -> "Listing":
+        check_even(base)
+        return cls(path, mode, listed_lines(path, base))
+
+    def even_addresses(self) -> set[int]:
+        """Where an instruction may begin."""
+        found = (it.address for it in self.lines)
+        return {it for it in found if it is not None and not it % 2}
+
+
+@dataclass(frozen=True)
 class Coverage:
-    """The lines of a listing with how often the instruction of each ran in a mode."""
+    """The lines of a listing with how often the instruction of each ran in its mode."""
 
     lines: Sequence[ListedLine]
     mode: Mode
     counts: dict[Place, int]
+
+    @classmethod
+    def of(cls, machine: Machine, turns: range, listing: Listing) -> "Coverage":
+        """The counts of these turns. They are exact."""
+        mode = listing.mode
+        counts = counts_at(machine, turns, mode, listing.even_addresses())
+        return cls(listing.lines, mode, counts)
 
     def count(self, line: ListedLine) -> Optional[int]:
         """How often the instruction of this line ran; None if it has none. What no instruction is
@@ -106,13 +133,11 @@ def covered(explorer: Explorer, arguments: Arguments) -> Iterator[str]:
         raise ExploreError("the current turn is turn 0: covered LISTING to M names the last turn")
     turns = turns_between(arguments.decimal("first"), last)
     base, mode = arguments.octal("address"), Mode(arguments.optional("mode") or "kernel")
-    check_even(base)
     out = Path(arguments.text("out")) if arguments.optional("out") is not None else None
     if out is not None:
         OUTPUT.target(out)
-    lines = listed_lines(Path(arguments.text("file")), base)
-    addresses = {it.address for it in lines if it.address is not None and not it.address % 2}
-    coverage = Coverage(lines, mode, counts_at(explorer.machine, turns, mode, addresses))
+    listing = Listing.of(Path(arguments.text("file")), base, mode)
+    coverage = Coverage.of(explorer.machine, turns, listing)
     if out is not None:
         write_whole(out, "".join(f"{it}\n" for it in coverage.marked()))
     else:

@@ -1,4 +1,4 @@
-"""The machine at a turn as a command file of SIMH's pdp11: `export`."""
+"""`export`: the machine at a turn as a command file of SIMH's pdp11, or a range of turns."""
 import shlex
 import struct
 from pathlib import Path
@@ -11,6 +11,7 @@ from .files import OUTPUT, write_whole
 from .machine import MOST_WORDS, Machine
 from .options import UNIT_BYTES
 from .replies import Devices, Mode, Pages, Registers, words_of
+from .exports import FORM, export_turns
 
 MODEL_NAMES = {Mode.KERNEL: "KI", Mode.USER: "UI"}
 DONE = 0o200
@@ -105,14 +106,8 @@ def attach_lines(drive: int, image: Path) -> Iterator[str]:
     yield f"echo drive {drive} is a copy, new at each start: {copy}"
 
 
-@command("export FILE at N", r"<file:file> at <turn:decimal>", "the state before turn N, for SIMH")
-def export(explorer: Explorer, arguments: Arguments) -> Iterator[str]:
-    """Writes the machine before turn N as a command file of SIMH's PDP-11, `pdp11 FILE`, and each
-    drive as an image beside it, FILE.rk0 and so on (FILE without its ending). The command file
-    copies an image to FILE.rk0.run and attaches the copy, so that each start finds the same drive.
-    Core, registers, mapping and the registers of keyboard, printer, clock and disk are in it. What
-    a device is doing, requests, tape and events aren't; the reply names what is lost at this turn.
-    A file that was there before is overwritten by export! FILE alone."""
+def export_state(explorer: Explorer, arguments: Arguments) -> Iterator[str]:
+    """Writes the command file and the images of drives, and says what is lost."""
     machine, turn = explorer.machine, arguments.decimal("turn")
     path = Path(arguments.text("file"))
     OUTPUT.target(path)
@@ -143,3 +138,38 @@ def export(explorer: Explorer, arguments: Arguments) -> Iterator[str]:
     yield f"written: {names}; run it: {how}, then: step, go or examine"
     yield f"each run attaches a copy: {', '.join(f'{name}.run' for _, name, _ in images)}"
     yield from lost
+
+@command(
+    f"export FILE at N  or  {FORM}",
+    r"(-(?P<yes>y) )?<file:file>"
+    r" (at <turn:decimal>|from <first:decimal> to <last:decimal>( with (?P<rest>.+))?)",
+    "the state before turn N, for SIMH; the turns N to M, for viewers",
+)
+def export(explorer: Explorer, arguments: Arguments) -> Iterator[str]:
+    """With `at` it writes the machine before turn N as a command file of SIMH's PDP-11, `pdp11
+    FILE`, and each drive as an image beside it, FILE.rk0 and so on (FILE without its ending). The
+    command file copies an image to FILE.rk0.run and attaches the copy, so that each start finds the
+    same drive. Core, registers, mapping and the registers of keyboard, printer, clock and disk are
+    in it. What a device is doing, requests, tape and events aren't; the reply names what is lost.
+    With `from` it writes the turns N to M. The ending of FILE says what of them:
+    FILE.vcd from N to M [with A ..]: waves, for GTKWave, up to 2000000 turns. One unit of time is a
+    turn. It has the registers, mode, routine, interrupts, traps, the disk, and the words of core
+    that are named.
+    FILE.callgrind from N to M [with LISTING ..]: turns by routine, by line of a listing and by
+    call, for KCachegrind and callgrind_annotate, up to 20000000 turns.
+    FILE.folded from N to M: the same by stacks, for flame graphs.
+    FILE.lcov from N to M with LISTING ..: how often each line ran, as `covered` counts it, for
+    genhtml.
+    LISTING .. is LISTING [at A] [kernel|user], as for `covered`, and further ones, each after
+    `and`.
+    Routines are those of `profile`. A call is an interrupt, a trap, or a JSR that leaves SP lower
+    by 2, unless it leads to one of the three words behind it. It has returned once SP is above what
+    it pushed. The first turn stands in the calls that `calls` finds; the reply says if some are
+    believed. A routine that another one jumps to, or runs into, stands above it. If SP is loaded
+    away from calls, as when stacks are switched, what follows is believed, and the reply says so.
+    Turns that begin no instruction stand by themselves, such as (waits). If a routine calls itself,
+    the turns of its outermost call count, and those of calls within it don't count again.
+    What takes more than some 10 seconds wants a `y`, or -y. A file is there whole, or not at all.
+    One that was there before is overwritten by export! FILE alone."""
+    write = export_state if arguments.optional("turn") else export_turns
+    yield from write(explorer, arguments)

@@ -6,8 +6,9 @@ import tempfile
 import time
 from contextlib import suppress
 from dataclasses import dataclass, field
+from io import FileIO
 from pathlib import Path
-from typing import Optional
+from typing import Iterable, Optional
 
 from .errors import ExploreError
 
@@ -38,12 +39,12 @@ def usual_mode() -> int:
     return 0o666 & ~mask
 
 
-def replaced(target: Path, found: Optional[os.stat_result], data: bytes) -> Stamp:
+def replaced(target: Path, found: Optional[os.stat_result], parts: Iterable[bytes]) -> Stamp:
     """Writes the file beside its place, and then puts it there. Owner and mode stay."""
     handle, beside = tempfile.mkstemp(prefix=".explore-", dir=target.parent)
     try:
         with open(handle, "wb") as file:
-            file.write(data)
+            file.writelines(parts)
             file.flush()
             if found is not None:
                 with suppress(OSError):
@@ -57,6 +58,11 @@ def replaced(target: Path, found: Optional[os.stat_result], data: bytes) -> Stam
             os.unlink(beside)
         raise
     return stamp
+
+
+def write_to(device: FileIO, data: bytes) -> None:
+    while data:
+        data = data[device.write(data) :]
 
 
 @dataclass
@@ -90,14 +96,18 @@ class Output:
 
     def write(self, path: Path, data: bytes) -> None:
         """Writes a file whole, or leaves what was there. Devices and pipes are written to."""
+        self.write_parts(path, [data])
+
+    def write_parts(self, path: Path, parts: Iterable[bytes]) -> None:
+        """The same of a file that comes in parts, of which none is kept."""
         target, found = self.target(path)
         try:
             if found is None or stat.S_ISREG(found.st_mode):
-                self.left[target] = replaced(target, found, data)
-            else:
-                with open(target, "wb", buffering=0) as device:
-                    while data:
-                        data = data[device.write(data) :]
+                self.left[target] = replaced(target, found, parts)
+                return
+            with open(target, "wb", buffering=0) as device:
+                for part in parts:
+                    write_to(device, part)
         except OSError as error:
             raise ExploreError(f"{path} can't be written: {error.strerror}") from error
 

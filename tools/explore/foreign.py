@@ -23,6 +23,8 @@ BOOT = "`console from 0` sits down at power-up; examples/boot-rk0.session has a 
 LINES = "`do FILE` does the lines of FILE, `define NAME LINE` makes a word of your own"
 ATTACH = "a disk is the option --disk FILE of explore; `import FILE` takes over commands of SIMH"
 
+VIEWERS = "`export FILE.vcd from N to M` writes turns for GTKWave, `help export` has other viewers"
+
 # Each sentence has lines to type, in `such quotes`. A command of explore comes before a word here.
 FOREIGN = {
     **dict.fromkeys(("b", "br", "tbreak"), BREAK),
@@ -45,6 +47,7 @@ FOREIGN = {
     "history": "`see N C` shows the C turns before turn N; nothing has to be switched on for it",
     **dict.fromkeys(("gprof", "perf"), "`profile N M` shows in which routines the turns were"),
     "gcov": "`covered FILE` shows a listing with how often each line ran",
+    **dict.fromkeys(("callgrind", "lcov", "vcd", "gtkwave", "flamegraph"), VIEWERS),
     **dict.fromkeys(("r", "go", "start"), RUN),
     **dict.fromkeys(("checkpoint", "restart", "restore"), KEPT),
     **dict.fromkeys(("boot", "reset"), BOOT),

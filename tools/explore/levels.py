@@ -127,6 +127,11 @@ def call_in(machine: Machine, number: int) -> Optional[Call]:
     return Call(number, *of_caller, after.pc, after.mode, slot, place, following)
 
 
+def is_load(word: Optional[int]) -> bool:
+    """Whether this is the word of MOV to SP or MTPI to SP."""
+    return word is not None and (word & 0o170077 == 0o010006 or word == 0o006606)
+
+
 @dataclass
 class Stacks:
     """Finds the calls on the stacks of a machine. `left` is how many turns it may still look
@@ -249,8 +254,7 @@ class Stacks:
     def _loads_pointer(self, turn: int) -> bool:
         """Whether the turn is MOV to SP or MTPI to SP, as when stacks are switched."""
         word = Done.of(self.machine, turn, self.machine.registers(turn)).word
-        is_load = word is not None and (word & 0o170077 == 0o010006 or word == 0o006606)
-        return is_load and self.call(turn) is None
+        return is_load(word) and self.call(turn) is None
 
 
 def left_in(machine: Machine, call: Call, turns: range) -> Optional[int]:

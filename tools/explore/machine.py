@@ -3,7 +3,7 @@ import os
 from contextlib import contextmanager
 from dataclasses import dataclass, field, replace
 from pathlib import Path
-from typing import Iterator, Optional, Sequence
+from typing import Iterator, Optional, Sequence, TypeVar
 
 from sessions import first_word
 
@@ -24,16 +24,24 @@ MOST_TURNS_OF_A_TRAIL = 64
 MOST_WORDS = 256
 # How many lines are sent before their replies are looked at: those with long replies, and others.
 SENT_AHEAD, SHORT_SENT_AHEAD = 16, 1000
-BLOCK_BYTES, WORD_BYTES = 50_000, 16
+BLOCK_BYTES, WORD_BYTES, TURNS_AT_ONCE = 50_000, 16, 400
 OF_EVENTS = ("at", "alter", "drop")  # the edits that change the events alone
+Item = TypeVar("Item")
 
 
 class Refused(ExploreError):
     """A question or an edit of explore's own was refused."""
 
 
-def in_parts(lines: Sequence[str], size: int) -> Iterator[Sequence[str]]:
-    return (lines[at : at + size] for at in range(0, len(lines), size))
+def in_parts(items: Sequence[Item], size: int) -> Iterator[Sequence[Item]]:
+    return (items[at : at + size] for at in range(0, len(items), size))
+
+
+def check_block(line: str, block: bytes) -> None:
+    """An error if one of the replies to lines such as this one is a refusal."""
+    refusal = block.find(b"refused ")
+    if refusal >= 0:
+        raise Refused(f"{line}: {block[refusal:].splitlines()[0].decode('ascii')}")
 
 
 @dataclass(frozen=True)
@@ -203,12 +211,19 @@ class Machine:
         with self._started_again():
             for part in in_parts(lines, max(1, BLOCK_BYTES // reply_bytes)):
                 block = self.program.block(part)
-                refusal = block.find(b"refused ")
-                if refusal >= 0:
-                    reply = block[refusal:].splitlines()[0].decode("ascii")
-                    raise Refused(f"{part[0]}: {reply}")
+                check_block(part[0], block)
                 self.asked.note(part)
                 yield block
+
+    def of_each_turn(self, word: str, turns: range) -> Iterator[list[bytes]]:
+        """The replies to a line, such as `regs 5`, for each of these turns, some at a time. None
+        may be refused."""
+        with self._started_again():
+            for part in in_parts(turns, TURNS_AT_ONCE):
+                block = self.program.block_of([f"{word} {it}".encode() for it in part])
+                check_block(word, block)
+                self.asked.note([f"{word} {part[0]}", f"{word} {part[-1]}"])
+                yield block.splitlines()
 
     @contextmanager
     def _started_again(self) -> Iterator[None]:

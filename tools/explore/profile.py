@@ -186,14 +186,23 @@ def begins_of(explorer: Explorer, profile: Profile) -> dict[Mode, list[int]]:
     return begins
 
 
+def begin_of(begins: dict[Mode, list[int]], place: Place) -> Optional[int]:
+    """Where the routine of a place begins, or None if it lies before all of its mode."""
+    of_mode = begins[place.mode]
+    at = bisect.bisect_right(of_mode, place.address) - 1
+    return of_mode[at] if at >= 0 and place.address - of_mode[at] < FARTHEST else None
+
+
+def name_of(explorer: Explorer, mode: Mode, begin: Optional[int]) -> str:
+    """What a routine is called: by its symbol, or an empty text."""
+    return NOT_NAMED if begin is None else explorer.symbols.near(mode, begin)
+
+
 def routines_of(profile: Profile, begins: dict[Mode, list[int]]) -> list[Routine]:
     """The routines that ran, the longest first."""
     counts: Counter[tuple[Mode, Optional[int]]] = Counter()
     for place, count in profile.counts.items():
-        of_mode = begins[place.mode]
-        at = bisect.bisect_right(of_mode, place.address) - 1
-        is_near = at >= 0 and place.address - of_mode[at] < FARTHEST
-        counts[place.mode, of_mode[at] if is_near else None] += count
+        counts[place.mode, begin_of(begins, place)] += count
     found = [Routine(mode, begin, count) for (mode, begin), count in counts.items()]
     return sorted(found, key=lambda it: (-it.count, it.mode.value, it.begin or 0))
 
@@ -251,7 +260,7 @@ def row(
         entered_often if is_known else "-",
         mode.value,
         "------" if begin is None else f"{begin:06o}",
-        NOT_NAMED if begin is None else explorer.symbols.near(mode, begin),
+        name_of(explorer, mode, begin),
     ).rstrip()
 
 

@@ -116,7 +116,10 @@ class Program(Child):
 
     def block(self, lines: Sequence[str]) -> bytes:
         """The replies to these lines as they come, unread. Each has one line."""
-        sent = [encoded(it) for it in lines]
+        return self.block_of([encoded(it) for it in lines])
+
+    def block_of(self, sent: Sequence[bytes]) -> bytes:
+        """The replies to lines that can be sent as they are. Each has one line."""
         data = bytearray()
         ends = 0
 
@@ -124,12 +127,12 @@ class Program(Child):
             nonlocal ends
             data.extend(part)
             ends += part.count(b"\n")
-            return ends >= len(lines)
+            return ends >= len(sent)
 
         self.exchange(sent, take)
         found, beginning = bytes(data), sessions.BEGINNINGS[sessions.first_word(sent[0])] + b" "
         fitting = found.startswith(beginning) + found.count(b"\n" + beginning)
-        if not (fitting == ends == len(lines) and found.endswith(b"\n")):
+        if not (fitting == ends == len(sent) and found.endswith(b"\n")):
             Replies(sent).take(found)  # which tells what doesn't fit, if it is no refusal
         return found
 

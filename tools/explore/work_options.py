@@ -44,14 +44,18 @@ class WorkOptions:
 
     def check(self, explorer: Explorer, command: str, count: int, what: str) -> None:
         """So much is begun only if the user says so."""
-        if count <= MOST_UNASKED or self.has("-y") or self.has("--jobs"):
-            return
-        said = f"{count} {what} are more than {MOST_UNASKED}"
-        if not explorer.is_terminal:
-            raise ExploreError(f"{said}; {command} -y .. does them")
-        try:
-            answer = typed_line(f"{said}; begin? (y or n) ")
-        except EOFError:
-            answer = ""
-        if answer.strip() not in ("y", "yes"):
-            raise ExploreError("not begun")
+        if count > MOST_UNASKED and not self.has("-y") and not self.has("--jobs"):
+            ask_to_begin(explorer, command, f"{count} {what} are more than {MOST_UNASKED}")
+
+
+def ask_to_begin(explorer: Explorer, command: str, said: str) -> None:
+    """Asks at a terminal whether work is to begin, of which this is said. Without a terminal, and
+    without a yes, it is an error."""
+    if not explorer.is_terminal:
+        raise ExploreError(f"{said}; {command} -y .. does them")
+    try:
+        answer = typed_line(f"{said}; begin? (y or n) ")
+    except EOFError:
+        answer = ""
+    if answer.strip() not in ("y", "yes"):
+        raise ExploreError("not begun")

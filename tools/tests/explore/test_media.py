@@ -308,7 +308,7 @@ class Words(Media):
             ("type a\\", "nothing follows the \\ at the end"),
             ("save a b", f"the form is: save FILE{rule}"),
             ("load ''", "a FILE has no name"),
-            ("export a b at 5", f"the form is: export FILE at N{rule}"),
+            ("export a b at 5", f"export [-y] FILE from N to M [with ..]{rule}"),
             ("type a b", f"the form is: type TEXT [from TURN] [every N]{rule}"),
             ("until text a b to 3", rule),
         ):
