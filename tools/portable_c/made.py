@@ -39,24 +39,26 @@ def lacks_wasm2c() -> str:
     return "" if version == WASM2C else f"wasm2c is {version}, and {WASM2C} is needed"
 
 
-def without(text: str, line: str) -> str:
-    """The text without the one line that it must have."""
+def replaced(text: str, line: str, by: str = "") -> str:
+    """The text with another text in the place of the one line that it must have."""
     if text.count(f"{line}\n") != 1:
         raise MakingError(f"wasm2c wrote no line {line}")
-    return text.replace(f"{line}\n", "", 1)
+    return text.replace(f"{line}\n", by, 1)
 
 
 def c_of(name: str, module: Path) -> str:
-    """The program in C: the runtime, what wasm2c writes of the module, unchanged, and the host.
-    Raises MakingError if wasm2c lacks, or is another version."""
+    """The program in C: the runtime, what wasm2c writes of the module, and the host. Of that only
+    the line is changed which has each load made, also if nothing uses its value: an optimizing
+    compiler takes many times as long with it. Raises MakingError if wasm2c lacks, or is another
+    version."""
     why = lacks_wasm2c()
     if why:
         raise MakingError(why)
     with tempfile.TemporaryDirectory() as room:
         to = Path(room) / f"{name}.c"
         run(["wasm2c", "-n", name, module, "-o", to], Path(room))
-        header = without(to.with_suffix(".h").read_text(), '#include "wasm-rt.h"')
-        body = without(to.read_text(), f'#include "{name}.h"')
+        header = replaced(to.with_suffix(".h").read_text(), '#include "wasm-rt.h"')
+        body = replaced(to.read_text(), f'#include "{name}.h"')
     parts = [
         HEAD.format(name=name, version=WASM2C),
         "#define _GNU_SOURCE\n",
@@ -65,7 +67,7 @@ def c_of(name: str, module: Path) -> str:
         header,
         f"#define PROGRAM {name}\n",
         (HERE / "host.h").read_text(),
-        body,
+        replaced(body, "#define wasm_asm __asm__", "#define wasm_asm(X)\n"),
     ]
     return "\n".join(parts)
 

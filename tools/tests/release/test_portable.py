@@ -96,6 +96,8 @@ class OnArm64(Tree):
             self.assertRefuses("this system is linux-aarch64")
 
     def test_an_archive_has_none_that_is_older(self) -> None:
+        known = self.run_in("tools/release", "--verify")
+        self.assertEqual(known.returncode, 0, self.said)
         ended = self.run_in("tools/portable", "--verify")
         self.assertEqual(ended.returncode, 1)
         self.assertIn(f"{ARM64} is older than the sources\n", ended.stdout)
