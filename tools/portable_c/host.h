@@ -134,6 +134,8 @@ void Z_hostZ_rattle_set_errno(Host *host, u32 number) {
 
 int main(int count, char **words) {
     static Host host;
+    const char *slash = count > 0 ? strrchr(words[0], '/') : NULL;
+    if (count > 0) program_name = slash ? slash + 1 : words[0];
     argument_count = count;
     arguments = words;
     OF_MODULE(_init_module)();

@@ -47,20 +47,23 @@ static inline uint32_t wasm_rt_register_func_type(uint32_t params, uint32_t resu
     return 0;
 }
 
-static void fail(const char *why) {
-    fprintf(stderr, "%s\n", why);
-    abort();
-}
+static const char *program_name = "";
 
+static void say(const char *why) { fprintf(stderr, "%s: %s\n", program_name, why); }
+
+/* No program comes to a trap unless what made it is wrong. */
 static inline void wasm_rt_trap(wasm_rt_trap_t trap) {
     (void)trap;
-    fail("the module came to a trap");
+    say("the module came to a trap");
+    abort();
 }
 
 static void wasm_rt_allocate_memory(wasm_rt_memory_t *memory, uint32_t pages, uint32_t most) {
     void *data = mmap(NULL, RESERVED_BYTES, PROT_NONE, MAP_PRIVATE | MAP_ANON, -1, 0);
-    if (data == MAP_FAILED || mprotect(data, (size_t)pages * PAGE, PROT_READ | PROT_WRITE) != 0)
-        fail("the system gives the program no memory");
+    if (data == MAP_FAILED || mprotect(data, (size_t)pages * PAGE, PROT_READ | PROT_WRITE) != 0) {
+        say("refused 1 NoMemory");
+        exit(4);
+    }
     *memory = (wasm_rt_memory_t){ data, pages, most < 65535u ? most : 65535u, pages * PAGE };
 }
 

@@ -144,6 +144,8 @@ class InC(Tree):
         ended = self.run_in("./pdp11", "an argument", given="lines\n")
         self.assertEqual((ended.stdout, ended.stderr), ("lines\nan argument", ""))
         self.assertEqual(ended.returncode, 2, "ENOENT, or which call went wrong")
+        ended = self.run_in("sh", "-c", "ulimit -v 4000000; exec ./pdp11")
+        self.assertEqual((ended.returncode, self.said), (4, "pdp11: refused 1 NoMemory\n"))
 
     def test_a_file_that_is_no_module(self) -> None:
         self.write("module.wasm", "no module")
