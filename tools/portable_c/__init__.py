@@ -1,1 +1,1 @@
-"""The programs in C that any 64-bit system compiles, and of that the files for Linux on ARM64."""
+"""The programs in C, and compiled of that for Linux on ARM64."""

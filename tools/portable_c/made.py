@@ -16,8 +16,9 @@ HEAD = """\
  *
  *     cc -O2 -w -o {name} {name}.c -lm
  *
- * It takes gcc or clang, and Linux or macOS on a 64-bit processor. No proof covers what makes the
- * module, wasm2c, the parts of this file that are named below, or the compiler. */
+ * It takes gcc or clang on a 64-bit processor, and Linux. It asks for nothing that macOS lacks, and
+ * was not tried there. No proof covers what makes the module, wasm2c, what stands before its text
+ * and between its parts, or the compiler. */
 """
 # On Debian: gcc-aarch64-linux-gnu, and musl-dev of the architecture arm64.
 ARM64, MUSL = "aarch64", Path("/usr/lib/aarch64-linux-musl")
