@@ -22,6 +22,7 @@ class Installed(Tree):
     def install(self) -> None:
         ended = self.run_in("tools/release", "--install", str(self.prefix))
         self.assertEqual((ended.stdout, ended.returncode), (f"{self.bin}/nezdrab\n", 0), self.said)
+        self.assertTrue(ended.stderr.endswith(" passed, 0 failed\n"), ended.stderr)
 
     def test_commands_under_names_of_their_own(self) -> None:
         self.install()
