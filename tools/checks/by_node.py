@@ -29,32 +29,32 @@ def program_of(name: str) -> str:
     return str(ROOT / "tools" / "by-node" / name)
 
 
-def of_sessions(name: str, folders: list[str], ending: str) -> Found:
+def of_sessions(program: str, folders: list[str], ending: str) -> Found:
     for session in (one for it in folders for one in sessions.sessions_of(it, ending)):
-        got = sessions.run(program_of(name), session, session.lines)
+        got = sessions.run(program, session, session.lines)
         is_right = got == session.expected
         yield None if is_right else f"{session.name}: {sessions.difference(got, session.expected)}"
 
 
-def of_pdp11(folders: list[str]) -> Found:
-    yield from of_sessions("pdp11", folders, ".session")
-    for name, is_well in streams.runs(program_of("pdp11"), STEP_OF_PARTS):
+def of_pdp11(program: str, folders: list[str]) -> Found:
+    yield from of_sessions(program, folders, ".session")
+    for name, is_well in streams.runs(program, STEP_OF_PARTS):
         yield None if is_well else f"{name}: another end"
 
 
-def of_search(folders: list[str]) -> Found:
-    yield from of_sessions("search", folders, ".search")
+def of_search(program: str, folders: list[str]) -> Found:
+    yield from of_sessions(program, folders, ".search")
 
 
-def of_disassemble(folders: list[str]) -> Found:
+def of_disassemble(program: str, folders: list[str]) -> Found:
     crate = ROOT / "crates" / "disassemble"
     with open(crate / "stdin", "rb") as given:
-        ran = subprocess.run([program_of("disassemble")], stdin=given, capture_output=True)
+        ran = subprocess.run([program], stdin=given, capture_output=True)
     is_right = (ran.returncode, ran.stdout) == (0, (crate / "stdout").read_bytes())
     yield None if is_right else f"disassemble: status {ran.returncode}, or other lines than stdout"
 
 
-CHECKS: dict[str, Callable[[list[str]], Found]] = {
+CHECKS: dict[str, Callable[[str, list[str]], Found]] = {
     "pdp11": of_pdp11,
     "search": of_search,
     "disassemble": of_disassemble,
@@ -68,7 +68,7 @@ def check_programs(folders: list[str]) -> int:
             print(f"release/{name}.wasm is older than the sources", flush=True)
             skipped += 1
             continue
-        found = list(check(folders))
+        found = list(check(program_of(name), folders))
         wrong = [it for it in found if it is not None]
         print("".join(f"{name} by node: {it}\n" for it in wrong), end="", flush=True)
         passed, failed = passed + len(found) - len(wrong), failed + len(wrong)

@@ -68,15 +68,15 @@ class Parser(argparse.ArgumentParser):
 
 
 def release() -> str:
-    """The newest release that CHANGELOG.md names, by its day."""
-    path = Path(__file__).resolve().parents[2] / "CHANGELOG.md"
+    """The newest release, by its day, which the file VERSION has."""
+    path = Path(__file__).resolve().parents[2] / "VERSION"
     try:
-        found = re.search(r"^## (\S+)$", path.read_text(encoding="utf-8"), re.M)
+        found = path.read_text(encoding="ascii").strip()
     except (OSError, ValueError) as error:
         raise ExploreError(f"{path} can't be read: {error}") from error
-    if found is None:
+    if not found:
         raise ExploreError(f"{path} names no release")
-    return found[1]
+    return found
 
 
 class ShowVersion(argparse.Action):

@@ -246,7 +246,8 @@ class CheckNode(Tree):
     def test_a_session_with_another_reply(self) -> None:
         for name, reply in ("right", "refused 7 TurnTooLarge"), ("wrong", "refused 8 BadCount"):
             self.write(f"sessions/{name}.transcript", f"regs 1000000001\n{reply}\n")
-        right, wrong = by_node.of_sessions("pdp11", [str(self.tree / "sessions")], ".session")
+        folders = [str(self.tree / "sessions")]
+        right, wrong = by_node.of_sessions(by_node.program_of("pdp11"), folders, ".session")
         self.assertIsNone(right)
         self.assertIn("sessions/wrong: line 1 of the output is ", wrong or "")
 

@@ -30,8 +30,8 @@ class Checked(Tree):
         return line
 
     def test_all_is_right(self) -> None:
-        self.assertEqual(self.counted("--verify"), "12 passed, 0 failed")
-        self.assertEqual(self.counted("--check"), "14 passed, 0 failed")
+        self.assertEqual(self.counted("--verify"), "13 passed, 0 failed")
+        self.assertEqual(self.counted("--check"), "15 passed, 0 failed")
 
     def test_a_changed_byte_is_seen(self) -> None:
         for name, verified, checked in [
@@ -45,7 +45,7 @@ class Checked(Tree):
         ]:
             with self.subTest(name):
                 self.change_a_byte(name)
-                for how, facts, wrong in ("--verify", 12, verified), ("--check", 14, checked):
+                for how, facts, wrong in ("--verify", 13, verified), ("--check", 15, checked):
                     said = f"{facts - wrong} passed, {wrong} failed"
                     self.assertEqual(self.counted(how), said)
                 self.change_a_byte(name)
@@ -53,15 +53,15 @@ class Checked(Tree):
     def test_another_kit(self) -> None:
         """The same bytes are right by any kit. Other bytes are neither right nor wrong."""
         self.write("../kit/rt", RT.replace(KIT, "another line"), 0o755)
-        self.assertEqual(self.counted("--check"), "14 passed, 0 failed")
+        self.assertEqual(self.counted("--check"), "15 passed, 0 failed")
         self.change_a_byte(BUILT)
-        self.assertEqual(self.counted("--check"), "13 passed, 0 failed")
+        self.assertEqual(self.counted("--check"), "14 passed, 0 failed")
         said = f"pdp11: the release files are by {KIT}, and another line builds other bytes"
         self.assertEqual(self.said.splitlines()[:-1], [said, "1 skipped"])
         self.change_a_byte(RELEASE)  # a file that its sum isn't of
-        self.assertEqual(self.counted("--check"), "13 passed, 1 failed")
+        self.assertEqual(self.counted("--check"), "14 passed, 1 failed")
         (self.tree / BUILT).unlink()
-        self.assertEqual(self.counted("--check"), "12 passed, 2 failed")
+        self.assertEqual(self.counted("--check"), "13 passed, 2 failed")
 
     @BY_GIT
     def test_files_by_another_kit(self) -> None:
@@ -74,15 +74,15 @@ class Checked(Tree):
             self.assertIn("another line", wrong or "")
             self.write("README.md", "Made with `another line`.\n")
             self.assertIsNone(docs.failure_of_kit(docs.read_document(docs.README)))
-        self.assertEqual(self.counted("--check"), "14 passed, 0 failed")
+        self.assertEqual(self.counted("--check"), "15 passed, 0 failed")
         self.commit()
         self.assertIsNotNone(self.archive("packed"), self.said)
         self.write("../kit/rt", RT, 0o755)
-        self.assertEqual(self.counted("--check"), "14 passed, 0 failed")
+        self.assertEqual(self.counted("--check"), "15 passed, 0 failed")
 
     def test_a_file_of_no_program(self) -> None:
         self.write("release/more", "")
-        self.assertEqual(self.counted("--verify"), "12 passed, 1 failed")
+        self.assertEqual(self.counted("--verify"), "13 passed, 1 failed")
 
     def test_a_file_that_is_missing(self) -> None:
         (self.tree / RELEASE).unlink()
@@ -94,7 +94,7 @@ class Checked(Tree):
         made = self.run_in("tools/release", "--make", kit=True)
         self.assertEqual(made.returncode, 1, self.said)
         self.assertIn("older than a source", made.stderr)
-        self.assertEqual(self.counted("--check"), "14 passed, 0 failed")
+        self.assertEqual(self.counted("--check"), "15 passed, 0 failed")
 
     def commit(self) -> None:
         self.write(".gitignore", "out/\n")
@@ -107,6 +107,12 @@ class Checked(Tree):
         ended = self.run_in("tools/release", "--archive", str(self.folder / folder))
         return Path(ended.stdout.strip()) if ended.returncode == 0 else None
 
+    def unpacked(self, archive: Path) -> Path:
+        folder = self.folder / "unpacked"
+        folder.mkdir()
+        subprocess.run(["tar", "-xzf", archive, "-C", folder], check=True)
+        return folder / archive.name[: -len(".tar.gz")]
+
     @BY_GIT
     def test_an_archive_is_the_same_each_time(self) -> None:
         self.commit()
@@ -118,9 +124,7 @@ class Checked(Tree):
         assert second is not None, self.said
         self.assertEqual(first.name, second.name)
         self.assertEqual(first.read_bytes(), second.read_bytes())
-        self.tree = self.folder / "unpacked" / first.name[: -len(".tar.gz")]
-        self.tree.parent.mkdir()
-        subprocess.run(["tar", "-xzf", first, "-C", self.tree.parent], check=True)
+        self.tree = self.unpacked(first)
         self.assertRuns()
 
     @BY_GIT
@@ -133,15 +137,34 @@ class Checked(Tree):
         self.assertIsNone(self.archive("second"))
         self.assertIn("release --make", self.said)
 
-    def test_no_archive_without_git(self) -> None:
+    @BY_GIT
+    def test_an_archive_without_git_is_the_same(self) -> None:
+        self.commit()
+        by_git = self.archive("first")
+        assert by_git is not None, self.said
+        version = (self.tree / "VERSION").read_text().strip()
+        self.assertEqual(by_git.name, f"nezdrab-{version}.tar.gz")
         self.path = path_without(self.folder, "rt", "git")
-        self.assertIsNone(self.archive("first"))
-        self.assertEqual(self.said, "release: an archive is made by git, which isn't on PATH\n")
+        self.assertIsNone(self.archive("second"))
+        said = "release: an archive of a clone is made by git, which isn't on PATH\n"
+        self.assertEqual(self.said, said)
+        self.tree = self.unpacked(by_git)
+        self.write("tools/__pycache__/python_needed.pyc", "")
+        self.write("crates/pdp11/out/pdp11", "")
+        without = self.archive("third")
+        assert without is not None, self.said
+        self.assertIn("this is no clone, so the archive has all files that are here", self.said)
+        self.assertEqual((without.name, without.read_bytes()), (by_git.name, by_git.read_bytes()))
+
+    def test_a_version_that_is_not_the_newest_release(self) -> None:
+        self.write("VERSION", "2031-02-03\n")
+        self.assertEqual(self.counted("--verify"), "12 passed, 1 failed")
+        self.assertIn("VERSION isn't the newest release of CHANGELOG.md", self.said)
 
     @BY_GIT
     def test_an_archive_has_no_module_that_is_older(self) -> None:
         self.module("a module")
-        self.assertEqual(self.counted("--verify"), "14 passed, 0 failed")
+        self.assertEqual(self.counted("--verify"), "15 passed, 0 failed")
         self.commit()
         self.assertIsNotNone(self.archive("first"), self.said)
         for number, name in enumerate(("release/pdp11.wasm", "tools/webassembly/heap.ll")):

@@ -49,7 +49,7 @@ class Lacking(Tree):
     @unittest.skipUnless(SHELLS, "neither dash nor busybox is installed")
     def test_another_shell(self) -> None:
         for shell in SHELLS:
-            for script in "pdp11", "search", ".ci/run":
+            for script in "pdp11", "search", "disassemble", ".ci/run":
                 ended = self.run_in(*shell, script)
                 self.assertEqual((ended.returncode, ended.stdout), (6, ""), self.said)
                 self.assertRegex(ended.stderr, "^[^\n]*run it with bash[^\n]*\n$")

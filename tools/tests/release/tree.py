@@ -12,12 +12,14 @@ ROOT = Path(__file__).resolve().parents[3]
 SECONDS = 60
 TOOLS = [
     *("pdp11", "tools/start", "tools/program", "tools/build", "tools/sources-sum"),
+    *("VERSION", "CHANGELOG.md", "disassemble", "tools/portable"),
     *("tools/release", ".ci/run", "tools/web", "tools/bundle.py", "tools/sessions.py"),
     "tools/hardware.py",
     *("search", "explore", "tools/start-explore", "tools/python_needed.py", "tools/refuse-each"),
     *(str(it.relative_to(ROOT)) for it in sorted(ROOT.glob("tools/explore/*.py"))),
     *(str(it.relative_to(ROOT)) for it in sorted(ROOT.glob("tools/webassembly/*.*"))),
     *(str(it.relative_to(ROOT)) for it in sorted(ROOT.glob("tools/by-node/*"))),
+    *(str(it.relative_to(ROOT)) for it in sorted(ROOT.glob("tools/portable_c/*.*"))),
 ]
 STORED_HELP = "rows/program/help.expected"
 RELEASE = "release/pdp11-linux-x86_64"
