@@ -198,6 +198,13 @@ class Sought:
         return f"trap {octal(self.trap or 0)}"
 
 
+def found_by(line: str, sought: Sought) -> Question[Optional[int]]:
+    """The question of a line that goes on with what is looked for."""
+    return Question(
+        lambda number: [f"{line} {sought.words(number)}"], lambda it: turn_or_none(it[0])
+    )
+
+
 def first(
     *,
     pc: Optional[Address] = None,
@@ -214,7 +221,7 @@ def first(
     the search goes on to the end of the run, which may take many seconds."""
     sought = Sought(pc, mode, vector, trap, where)
     turns = f"{decimal(since)} {decimal(until)}"
-    return Question(lambda it: [f"first {turns} {sought.words(it)}"], lambda it: turn_or_none(it[0]))
+    return found_by(f"first {turns}", sought)
 
 
 def latest(
@@ -230,9 +237,7 @@ def latest(
     """As `first`, the last turn of the range. The search goes back from `until`."""
     sought = Sought(pc, mode, vector, trap, where)
     turns = f"{decimal(since)} {decimal(until)}"
-    return Question(
-        lambda it: [f"latest {turns} {sought.words(it)}"], lambda it: turn_or_none(it[0])
-    )
+    return found_by(f"latest {turns}", sought)
 
 
 def counts(

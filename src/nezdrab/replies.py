@@ -22,7 +22,7 @@ class Unreadable(ExploreError):
 
 
 def readable(reply: str) -> str:
-    """A reply of `translate` or `virtual` with numbers. Unreadable if it says why there are none."""
+    """A reply of `translate` or `virtual` that has numbers. Unreadable if it says why not."""
     word, _, rest = reply.partition(" ")
     if rest[:1].isdigit():
         return reply
