@@ -4,7 +4,7 @@ import signal
 import threading
 from contextlib import contextmanager
 from types import FrameType
-from typing import Callable, Iterator, Optional
+from typing import Iterator, Optional
 
 from nezdrab import Machine, NezdrabError, ProgramEnded, TimedOut
 
@@ -52,9 +52,8 @@ class Stopping(Case):
 
     def interrupted(self, machine: Machine, line: str) -> None:
         """Ctrl-C comes while a line waits for its reply."""
-        ask: Callable[[str], str] = machine.edit if line.startswith("at") else machine.ask
         with self.assertRaises(KeyboardInterrupt), ctrl_c():
-            ask(line)
+            machine.edit(line) if line.startswith("at") else machine.ask(line)
 
     def test_ctrl_c(self) -> None:
         machine = self.stuck("trail 7")
