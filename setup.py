@@ -1,5 +1,6 @@
-"""Adds the programs to the package, as release/ has them. On Linux with x86-64 the wheel is one of
-that system, and has them; elsewhere it has none, and the package finds nezdrab-search on PATH."""
+"""Adds the programs to the package, as release/ has them. Where they run, on Linux on x86-64 with
+glibc 2.34 or later, the wheel is one of that system, and has them; elsewhere it has none, and the
+package finds nezdrab-search on PATH."""
 import hashlib
 import platform
 import shutil
@@ -8,12 +9,27 @@ from pathlib import Path
 
 from setuptools import Distribution, setup
 from setuptools.command.build_py import build_py
-from wheel.bdist_wheel import bdist_wheel
+
+try:
+    from setuptools.command.bdist_wheel import bdist_wheel
+except ImportError:  # setuptools before 70.1
+    from wheel.bdist_wheel import bdist_wheel
 
 ROOT = Path(__file__).resolve().parent
 NAMES = ("search", "disassemble")
-NATIVE = sys.platform == "linux" and platform.machine() == "x86_64"
-TAG = "manylinux_2_34_x86_64"  # the release files need glibc 2.34 or later
+LEAST_GLIBC = (2, 34)
+TAG = "manylinux_2_34_x86_64"
+
+
+def runs_programs() -> bool:
+    """Whether the release files run on this system."""
+    name, version = platform.libc_ver()
+    numbers = tuple(int(it) for it in version.split(".") if it.isdigit())
+    is_system = sys.platform == "linux" and platform.machine() == "x86_64"
+    return is_system and name == "glibc" and numbers >= LEAST_GLIBC
+
+
+NATIVE = runs_programs()
 
 
 def release_file(name: str) -> Path:
@@ -34,6 +50,7 @@ class WithPrograms(Distribution):
 
 class BuildWithPrograms(build_py):
     def run(self) -> None:
+        shutil.rmtree(Path(self.build_lib) / "nezdrab", ignore_errors=True)  # of an earlier build
         super().run()
         folder = Path(self.build_lib) / "nezdrab" / "programs"
         for name in NAMES if NATIVE else ():
