@@ -32,10 +32,14 @@ def asks(
     def ask(machine: Machine, /, *words: Asked.args, **named: Asked.kwargs) -> Answer:
         return machine.ask(of(*words, **named))
 
+    # what `help` shows: the method's own arguments, and its answer in place of a question
     signature = inspect.signature(of)
     itself = inspect.Parameter("self", inspect.Parameter.POSITIONAL_ONLY)
-    parameters = [itself, *signature.parameters.values()]
-    setattr(ask, "__signature__", signature.replace(parameters=parameters))
+    shown = signature.replace(
+        parameters=[itself, *signature.parameters.values()],
+        return_annotation=signature.return_annotation[len("Question[") : -1],
+    )
+    setattr(ask, "__signature__", shown)
     return ask
 
 

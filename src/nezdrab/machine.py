@@ -22,7 +22,7 @@ from .explore.past import Event
 from .explore.programs import found_program
 from .explore.replies import LastWrite, Mode
 from .explore.session_file import made_edits
-from .explore.symbols import ADDRESS, Symbols
+from .explore.symbols import ADDRESS, OCTAL, Symbols
 from .questions import Address, ModeName, Question, decimal, octal
 from .replies import Found, Transfer
 from .words import Core, Drive
@@ -143,6 +143,9 @@ class Machine:
             return operator.index(address)
         if re.fullmatch(ADDRESS, address) is None:
             raise ExploreError(f"{address!r} is no address: a symbol or an octal number, +n or -n")
+        name = re.split("[+-]", address)[0]
+        if not OCTAL.fullmatch(name) and not self.symbols.named(name, mode):
+            raise ExploreError(f"there is no symbol {name!r}; Machine.read_symbols takes a file's")
         return self.symbols.number(address, mode)
 
     # Edits

@@ -82,7 +82,8 @@ class Programs(Case):
         tested = doctest.DocTestParser().get_doctest("\n".join(blocks), {}, "it", None, None)
         runner = doctest.DocTestRunner(verbose=False)
         with mock.patch("nezdrab.machine.found_program", lambda name: program()):
-            failed, tried = runner.run(tested, out=wrong.write)
+            failed, tried = runner.run(tested, out=wrong.write, clear_globs=False)
+        tested.globs["m"].close()
         self.assertEqual((failed, tried > 5), (0, True), wrong.getvalue())
 
     def test_notebook(self) -> None:
