@@ -13,6 +13,7 @@ from typing import Union, overload
 from . import questions
 from .arguments import Key, Option, StrPath, asks, event_text, options_in_words
 from .explore.errors import ExploreError
+from .explore.in_words import counted
 from .explore.language import explanation, is_edit
 from .explore.machine import LAST_TURN, SHORT_SENT_AHEAD, Machine as Engine, Refused, Start
 from .explore.machine import is_refused
@@ -105,6 +106,10 @@ class Machine:
             machine.close()
             raise
         return machine
+
+    def __repr__(self) -> str:
+        options = " ".join(self._engine.start.options)
+        return f"<Machine {options}: {counted(len(self._engine.journal), 'edit')}>"
 
     def __enter__(self) -> Machine:
         return self

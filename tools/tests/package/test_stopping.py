@@ -4,11 +4,12 @@ import signal
 import threading
 from contextlib import contextmanager
 from types import FrameType
-from typing import Iterator, Optional
+from typing import Iterator, Optional, Sequence
+from unittest import mock
 
 from nezdrab import Machine, NezdrabError, ProgramEnded, TimedOut
 
-from .common import Case
+from .common import SECONDS, Case
 
 LOOP = [0o5200, 0o776]  # INC R0; BR .-2
 SOON = 0.3  # seconds; what is stopped waits for ever
@@ -28,7 +29,7 @@ def ctrl_c() -> Iterator[None]:
 class Stopping(Case):
     def stuck(self, word: str) -> Machine:
         """A machine with edits, whose program never replies to lines that begin with the word."""
-        machine = self.machine(program=self.stuck_program(word))
+        machine = self.machine(program=self.stuck_program(word), seconds=SECONDS)
         machine.core[0o1000] = LOOP
         self.assertEqual(machine.at(9, "tick"), 1)
         return machine
@@ -46,6 +47,10 @@ class Stopping(Case):
             machine.trail(7, 3)
         with self.assertRaises(TimedOut):
             machine.ask_all(["regs 5", "trail 7 3", "regs 6"])
+        with self.assertRaises(TimedOut):
+            list(machine.sweep(1, [2], "trail 7 3"))
+        with machine.fork() as other, self.assertRaises(TimedOut):
+            other.trail(7, 3)
         self.check(machine)
         machine.seconds = None
         self.assertEqual(len(machine.trail(8, 3)), 3)
@@ -66,6 +71,19 @@ class Stopping(Case):
         self.interrupted(machine, "at 7 tick")
         self.check(machine)
         self.assertEqual(machine.at(8, "tick"), 2)
+
+    def test_ctrl_c_after_the_reply(self) -> None:
+        """The program has made the edit, and the machine hasn't taken it in: it isn't made."""
+        machine = self.stuck("trail 7")
+        engine = machine._engine
+
+        def late(lines: Sequence[str], ahead: int) -> Iterator[str]:
+            engine.program.replies(lines)
+            raise KeyboardInterrupt
+
+        with mock.patch.object(engine, "ask_all", late), self.assertRaises(KeyboardInterrupt):
+            machine.at(3, "tick")
+        self.check(machine)
 
     def test_an_error_of_a_signal(self) -> None:
         """As tools that limit the time of tests raise one."""
