@@ -24,6 +24,8 @@ if TYPE_CHECKING:
     from .questions import Question as Question
     from .replies import Found as Found, Transfer as Transfer, Unreadable as Unreadable
 
+    __version__: str
+
 # Where each name comes from. Only what is used is read: explore, which is part of the package,
 # starts without all of this.
 PLACES = {
@@ -71,6 +73,8 @@ __all__ = [
 if not TYPE_CHECKING:
 
     def __getattr__(name):
+        if name == "__version__":  # the release, by its day
+            return importlib.import_module(".explore.options", __name__).release()
         if name not in PLACES:
             raise AttributeError(f"module {__name__!r} has no attribute {name!r}")
         module = importlib.import_module(f".{PLACES[name]}", __name__)

@@ -70,7 +70,8 @@ class Programs(Case):
 
     def test_version(self) -> None:
         """That of the package is that of the newest release."""
-        version = ".".join(str(int(it)) for it in options.release().split("-"))
+        version = ".".join(str(int(it)) for it in nezdrab.__version__.split("-"))
+        self.assertEqual(nezdrab.__version__, options.release())
         self.assertIn(f'\nversion = "{version}"\n', (ROOT / "pyproject.toml").read_text())
 
     def test_document(self) -> None:

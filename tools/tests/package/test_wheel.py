@@ -9,6 +9,8 @@ import tarfile
 import zipfile
 from pathlib import Path
 
+import nezdrab
+
 from .common import EXAMPLES, ROOT, Case
 
 NAMES = ("pyproject.toml", "setup.py", "MANIFEST.in", "README.md", "CHANGELOG.md")
@@ -29,7 +31,7 @@ for name in names:
     if not name.startswith("web"):
         importlib.import_module(f"nezdrab.explore.{name}")
 with Machine.of_session(sys.argv[1]) as machine:
-    print(len(names) > 50, nezdrab.__file__, machine.last(40, 0o2000))
+    print(len(names) > 50, nezdrab.__file__, machine.last(40, 0o2000), nezdrab.__version__)
 """
 
 
@@ -98,7 +100,7 @@ class Wheel(Case):
         said = self.run_in(room, python, "-c", USING, "my.session")
         self.assertIn(str(away), said)
         self.assertTrue(said.startswith("True "), said)
-        self.assertIn("LastWrite(turn=19, writer='cpu', word=71)", said)
+        self.assertIn(f"LastWrite(turn=19, writer='cpu', word=71) {nezdrab.__version__}", said)
         explore = str(away / "bin" / "nezdrab")
         self.assertIn("release 20", self.run_in(room, explore, "--version"))
         shown = self.run_in(room, explore, "my.session", given="last 40 2000\nsee 20 1\n")
