@@ -9,7 +9,7 @@ from pathlib import Path
 from unittest import mock
 
 import nezdrab
-from nezdrab import Machine, NezdrabError
+from nezdrab import Machine, NezdrabError, questions, sessions
 from nezdrab.explore import options, programs
 
 from .common import EXAMPLES, ROOT, Case, program
@@ -67,6 +67,13 @@ class Programs(Case):
         for name, method in vars(Machine).items():
             if callable(method) and not name.startswith("_"):
                 self.assertTrue(method.__doc__, name)
+
+    def test_each_line_that_asks_has_a_question(self) -> None:
+        for line in [*sessions.LANGUAGE, *sessions.SEARCHES]:
+            name = line.form.split()[0]
+            if line.kind != sessions.EDIT:
+                self.assertTrue(callable(getattr(questions, name, None)), line.form)
+                self.assertTrue(callable(getattr(Machine, name, None)), line.form)
 
     def test_version(self) -> None:
         """That of the package is that of the newest release."""
