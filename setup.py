@@ -1,7 +1,8 @@
 """Adds the programs to the package, as release/ has them. Where they run, on Linux on x86-64 with
-glibc 2.34 or later, the wheel is one of that system, and has them; elsewhere it has none, and the
-package finds nezdrab-search on PATH."""
+glibc 2.34 or later, the wheel is one of that system. Elsewhere, or with NEZDRAB_WHEEL=any in the
+environment, it is one of any system, whose programs are the WebAssembly modules, run by node."""
 import hashlib
+import os
 import platform
 import shutil
 import sys
@@ -17,6 +18,11 @@ except ImportError:  # setuptools before 70.1
 
 ROOT = Path(__file__).resolve().parent
 NAMES = ("search", "disassemble")
+# What node takes to run the modules, as a clone has it.
+BY_NODE = (
+    *(f"tools/by-node/{it}" for it in (*NAMES, "start", "host.mjs")),
+    *("web/host.js", "web/heap.js", "web/package.json"),
+)
 LEAST_GLIBC = (2, 34)
 TAG = "manylinux_2_34_x86_64"
 
@@ -29,16 +35,34 @@ def runs_programs() -> bool:
     return is_system and name == "glibc" and numbers >= LEAST_GLIBC
 
 
-NATIVE = runs_programs()
+NATIVE = runs_programs() and os.environ.get("NEZDRAB_WHEEL") != "any"
 
 
-def release_file(name: str) -> Path:
-    """The release file of a program. An error if it isn't the one that was made."""
-    path = ROOT / "release" / f"{name}-linux-x86_64"
+def checked(path: Path, sums: Path, line: str) -> Path:
+    """A file of release/. An error if it isn't the one that was made, by its sum in another."""
     total = hashlib.sha256(path.read_bytes()).hexdigest()
-    if f"{total}  {path.name}" not in (ROOT / "release" / "SHA256SUMS").read_text().splitlines():
-        raise SystemExit(f"{path} isn't the file that was made, by its sum in release/SHA256SUMS")
+    if line.format(total) not in sums.read_text().splitlines():
+        raise SystemExit(f"{path} isn't the file that was made, by its sum in {sums}")
     return path
+
+
+def native_files() -> "dict[str, Path]":
+    """The programs, by their paths in the package's folder of programs."""
+    release = ROOT / "release"
+    files = {it: release / f"{it}-linux-x86_64" for it in NAMES}
+    sums = release / "SHA256SUMS"
+    return {name: checked(it, sums, f"{{}}  {it.name}") for name, it in files.items()}
+
+
+def files_for_node() -> "dict[str, Path]":
+    """The modules and what runs them, in the same way."""
+    found = {it: ROOT / it for it in BY_NODE}
+    for name in NAMES:
+        module = ROOT / "release" / f"{name}.wasm"
+        found[f"release/{module.name}"] = checked(
+            module, module.with_name(f"{module.name}.sources"), "module {}"
+        )
+    return found
 
 
 class WithPrograms(Distribution):
@@ -53,10 +77,10 @@ class BuildWithPrograms(build_py):
         shutil.rmtree(Path(self.build_lib) / "nezdrab", ignore_errors=True)  # of an earlier build
         super().run()
         folder = Path(self.build_lib) / "nezdrab" / "programs"
-        for name in NAMES if NATIVE else ():
-            folder.mkdir(parents=True, exist_ok=True)
-            shutil.copy(release_file(name), folder / name)
-            (folder / name).chmod(0o755)
+        for name, path in (native_files() if NATIVE else files_for_node()).items():
+            (folder / name).parent.mkdir(parents=True, exist_ok=True)
+            shutil.copy(path, folder / name)
+            (folder / name).chmod(0o755 if NATIVE or not path.suffix else 0o644)
 
 
 class WheelOfSystem(bdist_wheel):

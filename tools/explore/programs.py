@@ -13,23 +13,29 @@ BESIDE = HERE.parents[1] / "programs"  # as a wheel has them
 
 def clone() -> Optional[Path]:
     """The clone that this file is in, or None in a package that was installed."""
-    return next((it for it in HERE.parents[2:4] if (it / "tools" / "program").is_file()), None)
+    above = list(HERE.parents)[2:4]
+    return next((it for it in above if (it / "tools" / "program").is_file()), None)
 
 
 def found_program(name: str) -> str:
     """The path of the program of this name: the one beside the package; in a clone the one that its
-    sources give, which is built first if it must be; or `nezdrab-NAME` on PATH. An error if there
-    is none."""
-    beside, root, path = BESIDE / name, clone(), shutil.which(f"nezdrab-{name}")
-    if os.access(beside, os.X_OK):
-        return str(beside)
+    sources give, which is built first if it must be; `nezdrab-NAME` on PATH; or the one beside the
+    package that node runs. An error if there is none."""
+    root, path = clone(), shutil.which(f"nezdrab-{name}")
+    if os.access(BESIDE / name, os.X_OK):
+        return str(BESIDE / name)
     if root is not None:
         return program_of_clone(root, name)
-    if path is None:
+    if path is not None:
+        return os.path.abspath(path)
+    by_node = BESIDE / "tools" / "by-node" / name
+    if not os.access(by_node, os.X_OK):
         raise ExploreError(
             f"there is no program {name}: {BESIDE} hasn't got it, and no nezdrab-{name} is on PATH"
         )
-    return os.path.abspath(path)
+    if shutil.which("node") is None:
+        raise ExploreError(f"the program {name} is run by node, 16 or later, which isn't on PATH")
+    return str(by_node)
 
 
 def program_of_clone(root: Path, name: str) -> str:

@@ -53,6 +53,21 @@ class Programs(Case):
                 with Machine() as machine:
                     self.assertEqual(machine.regs(0).pc, 0o1000)
 
+    def test_by_node(self) -> None:
+        """What node runs is beside the package, and node on PATH."""
+        beside, by_path = self.folder / "programs", self.folder / "path"
+        search, node = beside / "tools" / "by-node" / "search", by_path / "node"
+        for path in search, node:
+            path.parent.mkdir(parents=True)
+            path.write_text("#!/bin/sh\n")
+        search.chmod(0o755)
+        away = mock.patch.object(programs, "HERE", Path("/usr/lib/nezdrab/explore/programs.py"))
+        with away, self.beside(beside), mock.patch.dict(os.environ, PATH=str(by_path)):
+            with self.assertRaisesRegex(NezdrabError, "is run by node, 16 or later"):
+                programs.found_program("search")
+            node.chmod(0o755)
+            self.assertEqual(programs.found_program("search"), str(search))
+
     def test_own_command(self) -> None:
         self.assertEqual(programs.own_command(), "./explore")
 

@@ -14,7 +14,8 @@ import nezdrab
 from .common import EXAMPLES, ROOT, Case
 
 NAMES = ("pyproject.toml", "setup.py", "MANIFEST.in", "README.md", "CHANGELOG.md")
-TAG = "py3-none-manylinux_2_34_x86_64"
+FOLDERS = ("src", "release", "tools/by-node", "web")
+INSTALL = ("-m", "pip", "install", "--quiet", "--no-index", "--no-deps")
 MAKING = """\
 import sys
 from setuptools import build_meta
@@ -45,67 +46,73 @@ def lacks() -> str:
 
 
 class Wheel(Case):
+    """Wheels of the sources that an sdist has."""
+
     def setUp(self) -> None:
         super().setUp()
         if lacks():
             self.skipTest(lacks())
+        sources = self.folder / "sources"
+        for name in FOLDERS:
+            shutil.copytree(ROOT / name, sources / name)
+        for name in NAMES:
+            shutil.copy(ROOT / name, sources / name)
+        with tarfile.open(self.made(sources, "sdist")) as archive:
+            archive.extractall(self.folder / "unpacked")
+        (self.sources,) = (self.folder / "unpacked").iterdir()
+        self.away, self.room = self.folder / "away", self.folder / "room"
+        self.room.mkdir()
+        shutil.copy(EXAMPLES / "who-wrote-this-word.session", self.room / "my.session")
 
-    def run_in(self, folder: Path, *command: str, given: str = "") -> str:
+    def run_in(self, folder: Path, *command: str, given: str = "", **more: str) -> str:
         """What a command writes, with an environment that knows nothing of the clone."""
-        environment = {"PATH": os.defpath, "HOME": str(self.folder), "LANG": "C.UTF-8"}
+        environment = {"PATH": os.defpath, "HOME": str(self.folder), "LANG": "C.UTF-8", **more}
         ran = subprocess.run(
             command, cwd=folder, env=environment, input=given, capture_output=True, text=True
         )
         self.assertEqual(ran.returncode, 0, ran.stdout + ran.stderr)
         return ran.stdout
 
-    def made(self, sources: Path, kind: str) -> Path:
+    def made(self, sources: Path, kind: str, **more: str) -> Path:
         out = self.folder / kind
         out.mkdir()
-        name = self.run_in(sources, sys.executable, "-c", MAKING, str(out), kind).split()[-1]
-        return out / name
+        making = [sys.executable, "-c", MAKING, str(out), kind]
+        return out / self.run_in(sources, *making, **more).split()[-1]
 
-    def test_wheel(self) -> None:
-        """Of the sources that an sdist has."""
-        sources = self.folder / "sources"
-        shutil.copytree(ROOT / "src", sources / "src")
-        shutil.copytree(ROOT / "release", sources / "release")
-        for name in NAMES:
-            shutil.copy(ROOT / name, sources / name)
-        with tarfile.open(self.made(sources, "sdist")) as archive:
-            archive.extractall(self.folder / "unpacked")
-        (unpacked,) = (self.folder / "unpacked").iterdir()
-        wheel = self.made(unpacked, "wheel")
-        self.assertTrue(wheel.name.endswith(f"{TAG}.whl"), wheel.name)
+    def check_package(self, said: str) -> None:
+        self.assertTrue(said.startswith(f"True {self.away}"), said)
+        self.assertIn(f"LastWrite(turn=19, writer='cpu', word=71) {nezdrab.__version__}", said)
+
+    def test_wheel_of_the_system(self) -> None:
+        wheel = self.made(self.sources, "wheel")
+        self.assertTrue(wheel.name.endswith("-py3-none-manylinux_2_34_x86_64.whl"), wheel.name)
         with zipfile.ZipFile(wheel) as archive:
             names = set(archive.namelist())
-        kept = {f"nezdrab/{it.relative_to(ROOT / 'src/nezdrab')}" for it in self.modules()}
-        self.assertEqual(kept - names, set())
-        self.check_installed(wheel)
-
-    def modules(self) -> "list[Path]":
         package = ROOT / "src" / "nezdrab"
-        programs = [package / "programs" / it for it in ("search", "disassemble")]
-        sources = [*package.glob("*.py"), *package.glob("explore/*.py")]
-        return [*sources, package / "py.typed", *programs]
-
-    def check_installed(self, wheel: Path) -> None:
-        away, room = self.folder / "away", self.folder / "room"
-        room.mkdir()
-        shutil.copy(EXAMPLES / "who-wrote-this-word.session", room / "my.session")
-        self.run_in(room, sys.executable, "-m", "venv", str(away))
-        install = ["-m", "pip", "install", "--quiet", "--no-index", "--no-deps", str(wheel)]
-        python = str(away / "bin" / "python")
-        self.run_in(room, python, *install)
-        said = self.run_in(room, python, "-c", USING, "my.session")
-        self.assertIn(str(away), said)
-        self.assertTrue(said.startswith("True "), said)
-        self.assertIn(f"LastWrite(turn=19, writer='cpu', word=71) {nezdrab.__version__}", said)
-        explore = str(away / "bin" / "nezdrab")
-        self.assertIn("release 20", self.run_in(room, explore, "--version"))
-        shown = self.run_in(room, explore, "my.session", given="last 40 2000\nsee 20 1\n")
+        files = [*package.glob("*.py"), *package.glob("explore/*.py"), package / "py.typed"]
+        files += [package / "programs" / it for it in ("search", "disassemble")]
+        self.assertEqual({str(it.relative_to(ROOT / "src")) for it in files} - names, set())
+        self.run_in(self.room, sys.executable, "-m", "venv", str(self.away))
+        python, explore = (str(self.away / "bin" / it) for it in ("python", "nezdrab"))
+        self.run_in(self.room, python, *INSTALL, str(wheel))
+        self.check_package(self.run_in(self.room, python, "-c", USING, "my.session"))
+        self.assertIn("release 20", self.run_in(self.room, explore, "--version"))
+        shown = self.run_in(self.room, explore, "my.session", given="last 40 2000\nsee 20 1\n")
         self.assertIn("last 19 cpu 000107", shown)
         self.assertIn("ADD #7,@#2000", shown)
-        ran = subprocess.run([explore, "web"], capture_output=True, text=True, cwd=room)
+        ran = subprocess.run([explore, "web"], capture_output=True, text=True, cwd=self.room)
         self.assertEqual((ran.returncode, ran.stdout), (1, ""))
         self.assertIn("the page is made of a clone", ran.stderr)
+
+    def test_wheel_for_any_system(self) -> None:
+        """Its programs are run by node."""
+        wheel = self.made(self.sources, "wheel", NEZDRAB_WHEEL="any")
+        self.assertTrue(wheel.name.endswith("-py3-none-any.whl"), wheel.name)
+        into = [*INSTALL, "--target", str(self.away), str(wheel)]
+        self.run_in(self.room, sys.executable, *into)
+        using = [sys.executable, "-c", USING, "my.session"]
+        node = shutil.which("node")
+        if node is None:
+            self.skipTest("no node")
+        path = f"{os.defpath}:{os.path.dirname(node)}"
+        self.check_package(self.run_in(self.room, *using, PYTHONPATH=str(self.away), PATH=path))
