@@ -261,11 +261,10 @@ class Machine:
     def ask(self, question: Question[Answer]) -> Answer:
         ...
 
-    def ask(self, question: Union[str, Question[Answer]]) -> Union[str, Answer]:
+    def ask(self, question: Union[str, Question[Any]]) -> Any:
         """The answer to a question, or the reply to a line of the language that asks."""
-        if isinstance(question, str):
-            return self.ask(questions.line(question))
-        return question.read(list(self._replies(question.lines(self._number))))
+        asked = questions.question_of(question)
+        return asked.read(list(self._replies(asked.lines(self._number))))
 
     @overload
     def ask_all(self, asked: Iterable[str]) -> list[str]:
@@ -278,7 +277,7 @@ class Machine:
     def ask_all(self, asked: Iterable[Any]) -> list[Any]:
         """The answers to questions, whose lines are sent ahead: for many this is some five times as
         quick as one by one. The first that is refused raises Refused."""
-        them = [questions.line(it) if isinstance(it, str) else it for it in asked]
+        them = [questions.question_of(it) for it in asked]
         lines = [it.lines(self._number) for it in them]
         replies = self._replies([line for part in lines for line in part])
         return [it.read([next(replies) for _ in part]) for it, part in zip(them, lines)]
@@ -420,7 +419,7 @@ class Machine:
         such as "tick", or the one with this number, moved. The past stays as it is."""
         from .sweeping import Sweep  # which few need
 
-        asked = questions.line(question) if isinstance(question, str) else question
+        asked = questions.question_of(question)
         yield from Sweep.of(self._engine, event, asked.lines(self._number)).answers(
             [operator.index(it) for it in turns], asked.read, processes
         )

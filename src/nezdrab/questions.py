@@ -16,7 +16,7 @@ from __future__ import annotations
 import operator
 from array import array
 from dataclasses import dataclass
-from typing import Callable, Generic, Optional, Sequence, SupportsIndex, TypeVar, Union
+from typing import Any, Callable, Generic, Optional, Sequence, SupportsIndex, TypeVar, Union
 
 from . import sessions
 from .explore.errors import ExploreError
@@ -90,6 +90,15 @@ def line(text: str) -> Question[str]:
     if not sessions.has_reply(text.encode(errors="surrogateescape")):
         raise ExploreError(f"{text!r} is no line that gets a reply")
     return one(text, str)
+
+
+def question_of(asked: object) -> Question[Any]:
+    """A question, or that of a line. A TypeError if it is neither."""
+    if isinstance(asked, str):
+        return line(asked)
+    if not isinstance(asked, Question):
+        raise TypeError(f"{asked!r} is no question and no line")
+    return asked
 
 
 def regs(turn: SupportsIndex) -> Question[Registers]:

@@ -171,6 +171,8 @@ class Refusals(Case):
             (lambda: machine.ask("core 0 0"), NezdrabError, "no question"),
             (lambda: machine.ask_all(["at 5 tick"]), NezdrabError, "no question"),
             (lambda: machine.ask("# regs 5"), NezdrabError, "no line that gets a reply"),
+            (lambda: machine.ask_all([5]), TypeError, "5 is no question"),  # type: ignore
+            (lambda: machine.ask(None), TypeError, "None is no question"),  # type: ignore
             (lambda: machine.edit("regs 5"), NezdrabError, "no edit"),
             (lambda: list(machine.sweep(9, [1], "regs 5")), NezdrabError, "no event"),
             (lambda: machine.read_symbols(self.folder / "none"), NezdrabError, "No such file"),
