@@ -1,6 +1,8 @@
-"""Which Python the tools need. They ask before they read any other module. Any Python 3 can read
-this one."""
+"""Which Python the tools need, and where their package is: src/nezdrab. They ask before they read any
+other module. Any Python 3 can read this one."""
 import sys
+
+SOURCES = __file__.rpartition("/")[0] + "/../src"
 
 
 def lack() -> str:
@@ -16,9 +18,12 @@ def lack() -> str:
 
 
 def check() -> None:
-    """Ends with a sentence if this Python is older, or lacks modules."""
+    """Ends with a sentence if this Python is older, or lacks modules. Otherwise the package can be
+    imported from here on."""
     if lack():
         sys.exit("This needs Debian's python3, 3.9 or later: %s." % lack())
+    if SOURCES not in sys.path:
+        sys.path.insert(1, SOURCES)
 
 
 if __name__ == "__main__":

@@ -23,6 +23,7 @@ Each block of a document is fenced, and its info string says what it is:
                   keys, written as in explore's `type`, each once the one before had an effect. The
                   next column is what is shown then, with further lines below it, in this order.
   terminal-on     further lines, at the terminal of the block before it.
+  python          tools/test_package.py runs it.
   text, sh, rust  nothing is replayed.
 
 `session after PATH` and `session beside after PATH` begin with a stored session, as far as it goes
@@ -46,8 +47,8 @@ from pseudo_terminal import NotShown, PseudoTerminal
 
 ROOT = os.path.normpath(os.path.join(os.path.dirname(os.path.abspath(__file__)), "..", ".."))
 README, DOCS, DEFINITIONS = "README.md", "docs", "crates/DEFINITIONS.md"
-WIDEST_PROSE, WIDEST_CELL, MOST_LINES = 100, 120, 2743
-NOT_REPLAYED = {"text", "sh", "rust"}
+WIDEST_PROSE, WIDEST_CELL, MOST_LINES = 100, 120, 2768
+NOT_REPLAYED = {"python", "text", "sh", "rust"}
 SESSION, SEARCH, COMMANDS, OUTPUT, TYPED = "session", "search", "commands", "output", "typed"
 EXPLORE, PROMPT = "explore", "explore> "
 TERMINAL, TERMINAL_ON = "terminal", "terminal-on"

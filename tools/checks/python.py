@@ -1,6 +1,6 @@
-"""check-python: the Python of tools/ by mypy, with its strict settings, and by ruff, each as Python
-3.9 has the language. It counts the files in which each finds nothing. mypy reads the modules, ruff
-the tools too. What isn't installed is skipped.
+"""check-python: the Python of tools/ and of the package in src/ by mypy, with its strict settings,
+and by ruff, each as Python 3.9 has the language. It counts the files in which each finds nothing.
+mypy reads the modules, ruff the tools too. What isn't installed is skipped.
 
 The last line is 'N passed, M failed'. The status is 77 if neither is installed."""
 import argparse
@@ -13,6 +13,8 @@ import sys
 from pathlib import Path
 
 FOLDER = Path(__file__).resolve().parents[1]
+SOURCES = FOLDER.parent / "src"
+PACKAGE = SOURCES / "nezdrab"  # whose folder explore is that of tools/
 MYPY = ["mypy", "--strict", "--python-version", "3.9", "--cache-dir", os.devnull]
 # Errors of syntax, names without a use or a meaning, and List for list.
 RUFF = ["ruff", "check", "--isolated", "--no-cache", "--target-version", "py39"]
@@ -26,7 +28,8 @@ class CheckerFailed(Exception):
 
 
 def modules() -> list[str]:
-    return sorted(str(it.relative_to(FOLDER)) for it in FOLDER.rglob("*.py"))
+    package = (os.path.relpath(it, FOLDER) for it in PACKAGE.glob("*.py"))
+    return sorted([*(str(it.relative_to(FOLDER)) for it in FOLDER.rglob("*.py")), *package])
 
 
 def tools() -> list[str]:
@@ -57,7 +60,7 @@ def wrong_by_ruff(files: list[str]) -> set[str]:
 
 
 def run(command: list[str]) -> "subprocess.CompletedProcess[str]":
-    environment = {**os.environ, "MYPYPATH": "."}
+    environment = {**os.environ, "MYPYPATH": f".:{SOURCES}"}
     return subprocess.run(command, cwd=FOLDER, env=environment, capture_output=True, text=True)
 
 

@@ -4,7 +4,7 @@ the program kept, which may be many turns before. So a search asks upwards, or b
 from dataclasses import dataclass
 from typing import Iterable, Optional
 
-import sessions
+from nezdrab import sessions
 
 from .language import is_decimal
 

@@ -1,7 +1,7 @@
 """Stops of one's own: `break`, `watch`, `catch`, `breakpoints`, `delete`, `continue`."""
 from typing import Iterator, Optional
 
-import sessions
+from nezdrab import sessions
 
 from .breakpoints import Breakpoint, Reached
 from .commands import Arguments, Explorer, command

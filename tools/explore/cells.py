@@ -3,7 +3,7 @@ physical address, a byte of a register of the processor, a condition code, the r
 byte of a drive."""
 from typing import NamedTuple, Sequence
 
-from hardware import DRIVE_WORDS
+from nezdrab.hardware import DRIVE_WORDS
 
 MASK, IO_PAGE = 0o177777, 0o760000
 REGISTERS, CODES, DRIVES = 1 << 20, (1 << 20) + 16, 1 << 21

@@ -2,7 +2,7 @@
 import os
 from typing import Iterable
 
-import sessions
+from nezdrab import sessions
 
 from .commands import COMMANDS, ENDS, Command, Explorer
 from .language import FORMS, LISTS, SEARCHES

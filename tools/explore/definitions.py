@@ -2,7 +2,7 @@
 import re
 from dataclasses import dataclass, field
 
-import sessions
+from nezdrab import sessions
 
 from .errors import ExploreError
 from .quotes import WORD, quote_fault

@@ -2,7 +2,7 @@
 from dataclasses import dataclass
 from typing import Iterable, Iterator, Mapping, Optional, Sequence
 
-from hardware import SECTOR_WORDS
+from nezdrab.hardware import SECTOR_WORDS
 
 from .commands import Explorer, check_drive
 from .finder import parts_of

@@ -1,7 +1,7 @@
 """Lines that are shown at each new current turn: `display`, `undisplay`."""
 from typing import Iterator
 
-import sessions
+from nezdrab import sessions
 
 from .commands import COMMANDS, Arguments, Explorer, command
 from .definitions import PLACE, TURN

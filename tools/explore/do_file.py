@@ -2,7 +2,7 @@
 from pathlib import Path
 from typing import Iterator
 
-import sessions
+from nezdrab import sessions
 
 from .commands import Arguments, Explorer, command
 from .errors import ExploreError, LineRefused

@@ -4,7 +4,7 @@ from collections import Counter
 from dataclasses import dataclass, field
 from typing import Iterator, Mapping, Optional, Sequence
 
-from hardware import INTERRUPTS
+from nezdrab.hardware import INTERRUPTS
 
 from .in_words import counted
 from .picture import Byte, Column, Picture, Transfer, WordHistory

@@ -3,7 +3,7 @@ import itertools
 from dataclasses import dataclass, field
 from typing import Iterable, Iterator, Optional, Sequence
 
-from hardware import DRIVE_WORDS
+from nezdrab.hardware import DRIVE_WORDS
 
 from .commands import Arguments, Explorer, command
 from .errors import ExploreError

@@ -4,7 +4,7 @@ import struct
 from pathlib import Path
 from typing import Iterator
 
-from hardware import DRIVE_WORDS
+from nezdrab.hardware import DRIVE_WORDS
 
 from .commands import Arguments, Explorer, command
 from .files import OUTPUT, write_whole

@@ -2,7 +2,7 @@
 from dataclasses import dataclass
 from typing import Optional, Sequence
 
-from sessions import words_of
+from nezdrab.sessions import words_of
 
 from .errors import ExploreError
 from .interrupts import INTERRUPTS

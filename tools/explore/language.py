@@ -3,8 +3,8 @@ import re
 from dataclasses import dataclass
 from typing import Optional
 
-import sessions
-from sessions import words_of
+from nezdrab import sessions
+from nezdrab.sessions import words_of
 
 from .past import LINE_DEVICES
 from .program import CONTROL

@@ -5,7 +5,7 @@ from dataclasses import dataclass, field, replace
 from pathlib import Path
 from typing import Iterator, Optional, Sequence, TypeVar
 
-from sessions import first_word
+from nezdrab.sessions import first_word
 
 from .asked import Asked
 from .children import ProgramEnded
@@ -15,9 +15,9 @@ from .journal import Journal
 from .language import is_edit
 from .options import faults_of, options_of_words
 from .past import Event, Setup, without_zeros
-from .program import Program
+from .program import Program, TimedOut
 from .replies import SPACES, Devices, LastWrite, Mode, Pages, Registers, Turn
-from .replies import text_of, turns_of, words_of
+from .replies import listed, text_of, turns_of, words_of
 
 LAST_TURN = 1_000_000_000
 MOST_TURNS_OF_A_TRAIL = 64
@@ -30,7 +30,17 @@ Item = TypeVar("Item")
 
 
 class Refused(ExploreError):
-    """A question or an edit of explore's own was refused."""
+    """A line that is no line of the user's was refused: `number` and `name` are those of the reply,
+    and `sentence` says why, if that is known."""
+
+    def __init__(self, line: str, reply: str, sentence: str = ""):
+        super().__init__(line, reply, sentence)
+        self.line, self.reply, self.sentence = line, reply, sentence
+        _, number, self.name = reply.split()
+        self.number = int(number)
+
+    def __str__(self) -> str:
+        return ": ".join(filter(None, (self.line, self.reply, self.sentence)))
 
 
 def in_parts(items: Sequence[Item], size: int) -> Iterator[Sequence[Item]]:
@@ -41,7 +51,7 @@ def check_block(line: str, block: bytes) -> None:
     """An error if one of the replies to lines such as this one is a refusal."""
     refusal = block.find(b"refused ")
     if refusal >= 0:
-        raise Refused(f"{line}: {block[refusal:].splitlines()[0].decode('ascii')}")
+        raise Refused(line, block[refusal:].splitlines()[0].decode("ascii"))
 
 
 @dataclass(frozen=True)
@@ -87,6 +97,7 @@ class Machine:
     is_closed: bool = False
     file: Optional[Journal] = None
     asked: Asked = field(default_factory=Asked)
+    seconds: Optional[float] = None  # that the replies to lines sent together may take
 
     def __post_init__(self) -> None:
         self._setup: Optional[Setup] = None
@@ -200,7 +211,7 @@ class Machine:
         """The replies to lines, one by one. Edits among them aren't kept."""
         with self._started_again():
             for part in in_parts(lines, ahead):
-                replies = self.program.replies(part)
+                replies = self.limited().replies(part)
                 self.asked.note(it for it, reply in zip(part, replies) if not is_refused(reply))
                 yield from replies
 
@@ -210,7 +221,7 @@ class Machine:
         refused."""
         with self._started_again():
             for part in in_parts(lines, max(1, BLOCK_BYTES // reply_bytes)):
-                block = self.program.block(part)
+                block = self.limited().block(part)
                 check_block(part[0], block)
                 self.asked.note(part)
                 yield block
@@ -220,21 +231,30 @@ class Machine:
         may be refused."""
         with self._started_again():
             for part in in_parts(turns, TURNS_AT_ONCE):
-                block = self.program.block_of([f"{word} {it}".encode() for it in part])
+                block = self.limited().block_of([f"{word} {it}".encode() for it in part])
                 check_block(word, block)
                 self.asked.note([f"{word} {part[0]}", f"{word} {part[-1]}"])
                 yield block.splitlines()
 
+    def limited(self) -> Program:
+        """The program, with the time that its replies may take from here on."""
+        program = self.begin()
+        program.seconds = self.seconds
+        return program
+
     @contextmanager
     def _started_again(self) -> Iterator[None]:
-        """If the program ends, or Ctrl-C stops it, the next use starts it again, with all edits."""
+        """If the program ends, or Ctrl-C or anything else stops what waits for its replies, the
+        next use starts it again, with all edits."""
         try:
             yield
         except ProgramEnded as error:
             self.restart()
             raise ProgramEnded(f"{error}; the next line starts it again, with all edits") from error
-        except KeyboardInterrupt:
-            self.restart()
+        except BaseException as error:
+            is_in_step = isinstance(error, (ExploreError, GeneratorExit))
+            if isinstance(error, TimedOut) or not is_in_step:
+                self.restart()
             raise
 
     def read(self, line: str) -> str:
@@ -245,7 +265,7 @@ class Machine:
         """The replies to questions, none of which may be refused."""
         for line, reply in zip(lines, self.ask_all(lines, ahead)):
             if is_refused(reply):
-                raise Refused(f"{line}: {reply}")
+                raise Refused(line, reply)
             yield reply
 
     # The past. What the program tells of it is kept until an edit changes it.
@@ -344,8 +364,7 @@ class Machine:
     def writes(self, turns: range, address: int) -> tuple[list[str], range]:
         """A line for each of the first writes to a core word in these turns, and the turns that are
         left."""
-        head, *lines = self.read(f"writes {turns.start} {turns.stop} {address:o}").splitlines()
-        is_all = len(head.split()) == 2
+        lines, is_all = listed(self.read(f"writes {turns.start} {turns.stop} {address:o}"))
         left = range(turns.stop if is_all else LastWrite.of_line(lines[-1]).turn + 1, turns.stop)
         self.asked.reach(left.start)
         return lines, left
@@ -361,7 +380,8 @@ class Machine:
         """How many bytes were printed before the turn."""
         return int(self.read(f"text {turn}").partition(":")[0].split()[1])
 
-    def trail_lines(self, first: int, count: int) -> list[str]:
+    @staticmethod
+    def trail_lines(first: int, count: int) -> list[str]:
         """The questions that list these turns."""
         ends = range(first, first + count, MOST_TURNS_OF_A_TRAIL)
         parts = [(at, min(MOST_TURNS_OF_A_TRAIL, first + count - at)) for at in ends]

@@ -1,13 +1,10 @@
 """The options of explore, and how it begins and ends."""
 import argparse
 import os
-import subprocess
 import sys
 from dataclasses import replace
 from pathlib import Path
 from typing import Iterator, Optional
-
-import sessions
 
 from . import matters, sweep
 from .commands import Explorer, Step
@@ -17,17 +14,17 @@ from .in_words import counted
 from .interrupts import INTERRUPTS
 from .journal import OF_SESSION, Contents, Journal, in_use, newest, state_folder
 from .journal import there_already, told
-from .language import explanation
 from .load import warnings_of
-from .machine import Machine, Start, existing_program, in_parts, is_refused
+from .machine import Machine, Start, existing_program, is_refused
 from .options import Options, Parser, ShowVersion, add_options, check_options, check_session
 from .options import option_lines, options_of, words_of_options
 from .output import Unwritable, complain, fault_in_words, flush
 from .output import leave_streams, prepare_streams, put
+from .programs import clone, found_program
 from .prompt import Prompt, read_at_terminal, read_lines
+from .session_file import made_edits
 
-LINES_AT_ONCE, LONGEST_SHOWN = 10_000, 200
-ROOT = Path(__file__).resolve().parents[2]
+LONGEST_SHOWN = 200
 DESCRIPTION = """\
 A prompt over the session language of Nezdrab's PDP-11 (docs/LANGUAGE.md). Its lines go through,
 and beside them there are commands to see instructions, to find the turn in which something happens,
@@ -92,15 +89,6 @@ def arguments(words: list[str]) -> argparse.Namespace:
     return new_parser().parse_args(words)
 
 
-def found_program(name: str) -> str:
-    """The program of this name that the sources give: it is built first if it must be."""
-    command = [str(ROOT / "tools" / "program"), name]
-    found = subprocess.run(command, stdin=subprocess.DEVNULL, stdout=subprocess.PIPE)
-    if found.returncode:
-        raise ExploreError(f"there is no program {name}")
-    return os.fsdecode(found.stdout.removesuffix(b"\n"))
-
-
 def disassembler_of(given: Optional[str]) -> Disassembler:
     """Without the program explore goes on, and shows words."""
     try:
@@ -110,36 +98,11 @@ def disassembler_of(given: Optional[str]) -> Disassembler:
         return Disassembler(None)
 
 
-def session_lines(path: Path) -> list[tuple[int, str]]:
-    """The lines of a session that get a reply, with their numbers. Its questions have no effect,
-    and are left out."""
-    try:
-        lines = sessions.lines_of(path.read_bytes())
-    except OSError as error:
-        raise ExploreError(f"{path}: {error.strerror}") from error
-    table = [*sessions.LANGUAGE, *sessions.SEARCHES]
-    asked = {sessions.command_of(it) for it in table if it.kind != sessions.EDIT}
-    bare = ((number, sessions.without_end(it)) for number, it in enumerate(lines, 1))
-    return [
-        (number, line.decode(errors="surrogateescape"))
-        for number, line in bare
-        if sessions.has_reply(line) and sessions.first_word(line) not in asked
-    ]
-
-
 def read_session(machine: Machine, path: Path) -> None:
-    """Makes the edits of a session."""
-    version = 1  # as the lines before have it: it isn't asked between lines that are sent ahead
-    lines = session_lines(path)
-    parts = in_parts([line for _, line in lines], LINES_AT_ONCE)
-    replies = (reply for part in parts for reply in machine.edit_all(part))
-    for (number, line), reply in zip(lines, replies):
-        if is_refused(reply):
-            why = explanation(line, reply, version)
-            shown = line if len(line) <= LONGEST_SHOWN else f"{line[:LONGEST_SHOWN]}.."
-            complain(f"{path}:{number}: {shown}: {reply} {why}".rstrip())
-        elif sessions.first_word(line) == "version":
-            version = 2
+    """Makes the edits of a session, and says which of them are refused."""
+    for it in made_edits(machine, path):
+        shown = it.line if len(it.line) <= LONGEST_SHOWN else f"{it.line[:LONGEST_SHOWN]}.."
+        complain(f"{path}:{it.number}: {shown}: {it.reply} {it.why}".rstrip())
 
 
 def resumed(found: argparse.Namespace) -> Path:
@@ -263,6 +226,8 @@ def status() -> int:
     """Does what the arguments say, and returns the exit status."""
     try:
         if sys.argv[1:2] == ["web"]:
+            if clone() is None:
+                raise ExploreError("web: the page is made of a clone, and this is a package alone")
             from .web import show_page  # what a prompt doesn't need, and takes a while to read
 
             with INTERRUPTS.allowed():

@@ -4,8 +4,8 @@ from dataclasses import dataclass, field
 from pathlib import Path
 from typing import Iterable, Iterator, Optional, Sequence
 
-import sessions
-from sessions import words_of
+from nezdrab import sessions
+from nezdrab.sessions import words_of
 
 from .asked import NAMES
 from .commands import Arguments, Explorer, command

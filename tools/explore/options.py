@@ -9,11 +9,12 @@ from dataclasses import dataclass
 from pathlib import Path
 from typing import Any, Iterable, Iterator, NoReturn, Optional
 
-from hardware import DRIVE_WORDS
+from nezdrab.hardware import DRIVE_WORDS
 
 from .errors import ExploreError
 from .in_words import counted
 from .output import put
+from .programs import clone
 from .visible import visible
 
 UNIT_BYTES, MOST_UNITS = 0o20000, 31  # of core
@@ -68,8 +69,15 @@ class Parser(argparse.ArgumentParser):
 
 
 def release() -> str:
-    """The newest release, by its day, which the file VERSION has."""
-    path = Path(__file__).resolve().parents[2] / "VERSION"
+    """The newest release, by its day, which the file VERSION has; of a package that was installed
+    the one that it was made of."""
+    root = clone()
+    if root is None:
+        from importlib import metadata  # which takes a while to read
+
+        year, *rest = metadata.version("nezdrab").split(".")
+        return "-".join([year, *(it.zfill(2) for it in rest)])
+    path = root / "VERSION"
     try:
         found = path.read_text(encoding="ascii").strip()
     except (OSError, ValueError) as error:

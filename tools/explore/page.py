@@ -4,8 +4,8 @@ import re
 from pathlib import Path
 from typing import Iterator, Sequence
 
-import sessions
-from hardware import DELAYS, INTERRUPTS
+from nezdrab import sessions
+from nezdrab.hardware import DELAYS, INTERRUPTS
 
 from . import styles
 from .commands import Arguments, Explorer, command, turns_between

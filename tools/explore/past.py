@@ -2,7 +2,7 @@
 from dataclasses import dataclass
 from typing import NamedTuple, Sequence
 
-from hardware import DELAYS
+from nezdrab.hardware import DELAYS
 
 LINE_DEVICES = frozenset(DELAYS)
 MOST_EVENTS = 65_536  # of a script

@@ -2,7 +2,7 @@
 import re
 from typing import Iterator
 
-from sessions import words_of
+from nezdrab.sessions import words_of
 
 from .assembler import LABEL, LABEL_OR_NAME, Assembled, assembled, is_mnemonic
 from .commands import Explorer

@@ -2,11 +2,12 @@
 import os
 import re
 import select
+import time
 from dataclasses import dataclass, field
 from pathlib import Path
 from typing import Callable, Optional, Sequence
 
-import sessions
+from nezdrab import sessions
 
 from .children import Child, ProgramEnded
 from .errors import ExploreError
@@ -17,6 +18,10 @@ PIPE_BYTES, LONGEST_SHOWN = 65_536, 60
 
 class OutOfStep(ProgramEnded):
     """The replies aren't those to the lines that were sent."""
+
+
+class TimedOut(ExploreError):
+    """The replies didn't come in time."""
 
 
 def bytes_of(line: str) -> bytes:
@@ -94,7 +99,10 @@ def check_reply(line: bytes, reply: bytes) -> None:
 
 class Program(Child):
     """A running program. Lines are sent as fast as it reads them, while its replies are read: so
-    neither waits for the other, however much there is of both."""
+    neither waits for the other, however much there is of both. If there are `seconds`, the replies
+    to lines that are sent together must have come by then."""
+
+    seconds: Optional[float] = None
 
     def __init__(self, command: Sequence[str], folder: Optional[Path] = None):
         super().__init__(command, folder)
@@ -141,15 +149,24 @@ class Program(Child):
         if self.replies_come.poll(0):
             raise unasked(self._read())
         left = memoryview(b"".join(it + b"\n" for it in lines))
+        end = None if self.seconds is None else time.monotonic() + self.seconds
         is_whole = False
         while not is_whole:
             left = left[self._sent(left) :]
-            if not left or self.replies_come.poll(0):
+            if self._has_come(bool(left), end):
                 is_whole = take(self._read())
-            else:
-                self.either.poll()
         if left:
             raise OutOfStep("the program has replied before it was asked")
+
+    def _has_come(self, is_left: bool, end: Optional[float]) -> bool:
+        """Waits until the program has written something, or if lines are left until it takes more,
+        and tells whether it has written. Without an end a read of what it writes waits as well."""
+        if not is_left and end is None or self.replies_come.poll(0):
+            return True
+        wait = None if end is None else 1000 * max(0.0, end - time.monotonic())
+        if not (self.either if is_left else self.replies_come).poll(wait):
+            raise TimedOut(f"the program hasn't replied within {self.seconds:g} s")
+        return not is_left
 
     def _sent(self, data: memoryview) -> int:
         """How much of it the program's pipe takes now."""

@@ -6,7 +6,7 @@ import sys
 from pathlib import Path
 from typing import Iterable, Iterator, Optional, Sequence
 
-import sessions
+from nezdrab import sessions
 
 # these add commands
 from . import compare, console, edits, export, listing, page, screen, script, search  # noqa: F401

@@ -4,7 +4,7 @@ from dataclasses import dataclass
 from enum import Enum
 from typing import Optional
 
-from hardware import INTERRUPTS, SECTORS, SURFACES
+from nezdrab.hardware import INTERRUPTS, SECTORS, SURFACES
 
 
 class Mode(Enum):
@@ -43,6 +43,46 @@ class Registers:
     def of(cls, reply: str) -> "Registers":
         fields = reply.split()
         return cls(named_words(fields[:-1]), fields[-1])
+
+    def __getitem__(self, name: str) -> int:
+        return self.words[name]
+
+    @property
+    def r0(self) -> int:
+        return self.words["R0"]
+
+    @property
+    def r1(self) -> int:
+        return self.words["R1"]
+
+    @property
+    def r2(self) -> int:
+        return self.words["R2"]
+
+    @property
+    def r3(self) -> int:
+        return self.words["R3"]
+
+    @property
+    def r4(self) -> int:
+        return self.words["R4"]
+
+    @property
+    def r5(self) -> int:
+        return self.words["R5"]
+
+    @property
+    def ksp(self) -> int:
+        return self.words["KSP"]
+
+    @property
+    def usp(self) -> int:
+        return self.words["USP"]
+
+    @property
+    def sp(self) -> int:
+        """R6 of the mode; each mode without one of its own has that of the kernel."""
+        return self.usp if self.mode is Mode.USER else self.ksp
 
     @property
     def pc(self) -> int:
@@ -99,6 +139,9 @@ class Devices:
     @classmethod
     def of(cls, reply: str) -> "Devices":
         return cls(named_words(reply.split()[1:]))
+
+    def __getitem__(self, name: str) -> int:
+        return self.words[name]
 
     @property
     def key_waits(self) -> bool:
@@ -209,6 +252,13 @@ class Turn:
     def interrupt(self) -> str:
         vector = self.vector or 0
         return f"interrupt {vector:03o} {INTERRUPTS.get(vector, '')}".rstrip()
+
+
+def listed(reply: str) -> tuple[list[str], bool]:
+    """The lines of a reply that lists what was found, without its first line, and whether they are
+    all: after 256 it says `or more`."""
+    head, *lines = reply.splitlines()
+    return lines, len(head.split()) == 2
 
 
 def words_of(reply: str) -> list[int]:

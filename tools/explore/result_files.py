@@ -9,6 +9,7 @@ from .errors import ExploreError
 from .files import OUTPUT, is_locked_here, write_whole
 from .in_words import counted
 from .machine import Machine
+from .programs import own_command
 from .script import session_lines
 
 
@@ -74,7 +75,7 @@ def job_lines(machine: Machine, work: str, parts: Sequence[str], path: Path) -> 
     session = path.with_name(f"{path.name}.session").resolve()
     write_whole(session, "".join(f"{it}\n" for it in session_lines(machine)))
     ending = shlex.quote(str(session))
-    lines = [f"./explore --{work} {shlex.quote(it)} {ending}\n" for it in parts]
+    lines = [f"{own_command()} --{work} {shlex.quote(it)} {ending}\n" for it in parts]
     write_whole(path, "".join(lines))
     results = shlex.quote(f"{path}.out")
     read = "reads" if len(lines) == 1 else "read"

@@ -5,8 +5,8 @@ from itertools import islice
 from pathlib import Path
 from typing import Iterator, Sequence
 
-from hardware import DELAYS
-from sessions import words_of
+from nezdrab.hardware import DELAYS
+from nezdrab.sessions import words_of
 
 from .commands import Arguments, Explorer, command, turns_between
 from .errors import ExploreError

@@ -6,8 +6,8 @@ from dataclasses import dataclass, field
 from pathlib import Path
 from typing import Container, Iterator, Optional, Sequence
 
-import sessions
-from sessions import words_of
+from nezdrab import sessions
+from nezdrab.sessions import words_of
 
 from .asked import turns_of_question
 from .commands import Arguments, Explorer, check_turn, command

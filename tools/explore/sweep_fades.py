@@ -2,7 +2,7 @@
 import re
 from typing import Optional
 
-import sessions
+from nezdrab import sessions
 
 from .asked import turns_of_question
 from .errors import ExploreError

@@ -4,8 +4,8 @@ import re
 from dataclasses import dataclass, field
 from typing import Iterable, Optional, Sequence
 
-import sessions
-from sessions import BEFORE_ADDRESS, words_of
+from nezdrab import sessions
+from nezdrab.sessions import BEFORE_ADDRESS, words_of
 
 from .errors import ExploreError
 from .language import FADING, FORMS, form_of

@@ -2,7 +2,7 @@
 from dataclasses import dataclass
 from typing import Iterable, Iterator
 
-import sessions
+from nezdrab import sessions
 
 from .commands import COMMANDS
 from .language import SUMMARIES, form_of

@@ -3,7 +3,7 @@ import bisect
 from dataclasses import dataclass
 from typing import Iterable, Iterator, Optional
 
-from hardware import CYLINDERS, DRIVE_WORDS, SECTORS, SECTOR_WORDS
+from nezdrab.hardware import CYLINDERS, DRIVE_WORDS, SECTORS, SECTOR_WORDS
 
 from .cells import drive_cell
 from .disk_words import DEVICES_BYTES

@@ -17,6 +17,7 @@ TOOLS = [
     "tools/hardware.py",
     *("search", "explore", "tools/start-explore", "tools/python_needed.py", "tools/refuse-each"),
     *(str(it.relative_to(ROOT)) for it in sorted(ROOT.glob("tools/explore/*.py"))),
+    *(str(it.relative_to(ROOT)) for it in sorted(ROOT.glob("src/nezdrab/*.py"))),
     *(str(it.relative_to(ROOT)) for it in sorted(ROOT.glob("tools/webassembly/*.*"))),
     *(str(it.relative_to(ROOT)) for it in sorted(ROOT.glob("tools/by-node/*"))),
     *(str(it.relative_to(ROOT)) for it in sorted(ROOT.glob("tools/portable_c/*.*"))),

@@ -1,0 +1,51 @@
+"""Where the programs are that the sources of a clone give, or that a package was made with."""
+import os
+import shutil
+import subprocess
+from pathlib import Path
+from typing import Optional
+
+from .errors import ExploreError
+
+HERE = Path(__file__).resolve()
+BESIDE = HERE.parents[1] / "programs"  # as a wheel has them
+
+
+def clone() -> Optional[Path]:
+    """The clone that this file is in, or None in a package that was installed."""
+    above = list(HERE.parents)[2:4]
+    return next((it for it in above if (it / "tools" / "program").is_file()), None)
+
+
+def found_program(name: str) -> str:
+    """The path of the program of this name: the one beside the package; in a clone the one that its
+    sources give, which is built first if it must be; `nezdrab-NAME` on PATH; or the one beside the
+    package that node runs. An error if there is none."""
+    root, path = clone(), shutil.which(f"nezdrab-{name}")
+    if os.access(BESIDE / name, os.X_OK):
+        return str(BESIDE / name)
+    if root is not None:
+        return program_of_clone(root, name)
+    if path is not None:
+        return os.path.abspath(path)
+    by_node = BESIDE / "tools" / "by-node" / name
+    if not os.access(by_node, os.X_OK):
+        raise ExploreError(
+            f"there is no program {name}: {BESIDE} hasn't got it, and no nezdrab-{name} is on PATH"
+        )
+    if shutil.which("node") is None:
+        raise ExploreError(f"the program {name} is run by node, 16 or later, which isn't on PATH")
+    return str(by_node)
+
+
+def program_of_clone(root: Path, name: str) -> str:
+    command = [str(root / "tools" / "program"), name]
+    found = subprocess.run(command, stdin=subprocess.DEVNULL, stdout=subprocess.PIPE)
+    if found.returncode:
+        raise ExploreError(f"there is no program {name}")
+    return os.fsdecode(found.stdout.removesuffix(b"\n"))
+
+
+def own_command() -> str:
+    """How explore is started."""
+    return "nezdrab" if clone() is None else "./explore"

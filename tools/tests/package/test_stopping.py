@@ -1,0 +1,126 @@
+"""Questions that are stopped, programs that end: the machine goes on with all its edits."""
+import os
+import signal
+import threading
+from contextlib import contextmanager
+from types import FrameType
+from typing import Iterator, Optional, Sequence
+from unittest import mock
+
+from nezdrab import Machine, NezdrabError, ProgramEnded, TimedOut
+
+from .common import SECONDS, Case
+
+LOOP = [0o5200, 0o776]  # INC R0; BR .-2
+SOON = 0.3  # seconds; what is stopped waits for ever
+
+
+@contextmanager
+def ctrl_c() -> Iterator[None]:
+    """A part in which Ctrl-C comes."""
+    timer = threading.Timer(SOON, os.kill, (os.getpid(), signal.SIGINT))
+    timer.start()
+    try:
+        yield
+    finally:
+        timer.join()
+
+
+class Stopping(Case):
+    def stuck(self, word: str) -> Machine:
+        """A machine with edits, whose program never replies to lines that begin with the word."""
+        machine = self.machine(program=self.stuck_program(word), seconds=SECONDS)
+        machine.core[0o1000] = LOOP
+        self.assertEqual(machine.at(9, "tick"), 1)
+        return machine
+
+    def check(self, machine: Machine) -> None:
+        """The machine goes on."""
+        self.assertEqual(machine.regs(20).r0, 10)
+        self.assertEqual([it.line() for it in machine.events()], ["at 9 tick"])
+        self.assertEqual(len(machine.patches()), 2)
+
+    def test_too_long(self) -> None:
+        machine = self.stuck("trail 7")
+        machine.seconds = SOON
+        with self.assertRaisesRegex(TimedOut, "within 0.3 s"):
+            machine.trail(7, 3)
+        with self.assertRaises(TimedOut):
+            machine.ask_all(["regs 5", "trail 7 3", "regs 6"])
+        with self.assertRaises(TimedOut):
+            list(machine.sweep(1, [2], "trail 7 3"))
+        with machine.fork() as other, self.assertRaises(TimedOut):
+            other.trail(7, 3)
+        self.check(machine)
+        machine.seconds = None
+        self.assertEqual(len(machine.trail(8, 3)), 3)
+
+    def interrupted(self, machine: Machine, line: str) -> None:
+        """Ctrl-C comes while a line waits for its reply."""
+        with self.assertRaises(KeyboardInterrupt), ctrl_c():
+            machine.edit(line) if line.startswith("at") else machine.ask(line)
+
+    def test_ctrl_c(self) -> None:
+        machine = self.stuck("trail 7")
+        self.interrupted(machine, "trail 7 3")
+        self.check(machine)
+
+    def test_ctrl_c_in_an_edit(self) -> None:
+        """The edit isn't made, and uses no number up."""
+        machine = self.stuck("at 7")
+        self.interrupted(machine, "at 7 tick")
+        self.check(machine)
+        self.assertEqual(machine.at(8, "tick"), 2)
+
+    def test_ctrl_c_after_the_reply(self) -> None:
+        """The program has made the edit, and the machine hasn't taken it in: it isn't made."""
+        machine = self.stuck("trail 7")
+        engine = machine._engine
+
+        def late(lines: Sequence[str], ahead: int) -> Iterator[str]:
+            engine.program.replies(lines)
+            raise KeyboardInterrupt
+
+        with mock.patch.object(engine, "ask_all", late), self.assertRaises(KeyboardInterrupt):
+            machine.at(3, "tick")
+        self.check(machine)
+
+    def test_an_error_of_a_signal(self) -> None:
+        """As tools that limit the time of tests raise one."""
+
+        def over(number: int, frame: Optional[FrameType]) -> None:
+            raise ZeroDivisionError
+
+        machine, before = self.stuck("trail 7"), signal.signal(signal.SIGALRM, over)
+        self.addCleanup(signal.signal, signal.SIGALRM, before)
+        signal.setitimer(signal.ITIMER_REAL, SOON)
+        with self.assertRaises(ZeroDivisionError):
+            machine.trail(7, 3)
+        self.check(machine)
+
+    def test_ctrl_c_in_a_sweep(self) -> None:
+        machine = self.stuck("trail 7")
+        with self.assertRaises(KeyboardInterrupt), ctrl_c():
+            list(machine.sweep(1, range(10), "trail 7 3", processes=2))
+        self.check(machine)
+
+    def test_a_program_that_ends(self) -> None:
+        machine = self.machine()
+        machine.core[0o1000] = LOOP
+        machine.at(9, "tick")
+        machine._engine.program.process.kill()
+        with self.assertRaisesRegex(ProgramEnded, "status -9; the next line starts it again"):
+            machine.regs(5)
+        self.check(machine)
+
+    def test_a_program_that_is_none(self) -> None:
+        for program in "/bin/true", "/bin/echo":
+            with self.assertRaisesRegex(ProgramEnded, "the program"):
+                Machine(program=program)
+
+    def test_closed(self) -> None:
+        with self.machine() as machine:
+            self.assertEqual(machine.regs(0).pc, 0o1000)
+        with self.assertRaisesRegex(NezdrabError, "was closed"):
+            machine.regs(0)
+        machine.close()

@@ -1,0 +1,118 @@
+"""The package as it is installed: a wheel with the programs, and the sources that make it, without
+a network and outside the clone."""
+import os
+import platform
+import shutil
+import subprocess
+import sys
+import tarfile
+import zipfile
+from pathlib import Path
+
+import nezdrab
+
+from .common import EXAMPLES, ROOT, Case
+
+NAMES = ("pyproject.toml", "setup.py", "MANIFEST.in", "README.md", "CHANGELOG.md")
+FOLDERS = ("src", "release", "tools/by-node", "web")
+INSTALL = ("-m", "pip", "install", "--quiet", "--no-index", "--no-deps")
+MAKING = """\
+import sys
+from setuptools import build_meta
+print(build_meta.build_sdist(sys.argv[1]) if sys.argv[2] == "sdist" else
+      build_meta.build_wheel(sys.argv[1]))
+"""
+USING = """\
+import importlib, pkgutil, sys
+import nezdrab, nezdrab.explore
+from nezdrab import Machine
+# what makes the page is in a clone alone
+names = [it.name for it in pkgutil.iter_modules(nezdrab.explore.__path__)]
+for name in names:
+    if not name.startswith("web"):
+        importlib.import_module(f"nezdrab.explore.{name}")
+with Machine.of_session(sys.argv[1]) as machine:
+    print(len(names) > 50, nezdrab.__file__, machine.last(40, 0o2000), nezdrab.__version__)
+"""
+
+
+def lacks() -> str:
+    """What is lacking for a wheel of this system."""
+    if sys.platform != "linux" or platform.machine() != "x86_64":
+        return "a wheel with programs is one for Linux on x86-64"
+    parts = "import setuptools.build_meta, wheel.bdist_wheel, venv, ensurepip, pip"
+    ran = subprocess.run([sys.executable, "-c", parts], capture_output=True, text=True)
+    return ran.stderr.strip().splitlines()[-1] if ran.returncode else ""
+
+
+class Wheel(Case):
+    """Wheels of the sources that an sdist has."""
+
+    def setUp(self) -> None:
+        super().setUp()
+        if lacks():
+            self.skipTest(lacks())
+        sources = self.folder / "sources"
+        for name in FOLDERS:
+            shutil.copytree(ROOT / name, sources / name)
+        for name in NAMES:
+            shutil.copy(ROOT / name, sources / name)
+        with tarfile.open(self.made(sources, "sdist")) as archive:
+            archive.extractall(self.folder / "unpacked")
+        (self.sources,) = (self.folder / "unpacked").iterdir()
+        self.away, self.room = self.folder / "away", self.folder / "room"
+        self.room.mkdir()
+        shutil.copy(EXAMPLES / "who-wrote-this-word.session", self.room / "my.session")
+
+    def run_in(self, folder: Path, *command: str, given: str = "", **more: str) -> str:
+        """What a command writes, with an environment that knows nothing of the clone."""
+        environment = {"PATH": os.defpath, "HOME": str(self.folder), "LANG": "C.UTF-8", **more}
+        ran = subprocess.run(
+            command, cwd=folder, env=environment, input=given, capture_output=True, text=True
+        )
+        self.assertEqual(ran.returncode, 0, ran.stdout + ran.stderr)
+        return ran.stdout
+
+    def made(self, sources: Path, kind: str, **more: str) -> Path:
+        out = self.folder / kind
+        out.mkdir()
+        making = [sys.executable, "-c", MAKING, str(out), kind]
+        return out / self.run_in(sources, *making, **more).split()[-1]
+
+    def check_package(self, said: str) -> None:
+        self.assertTrue(said.startswith(f"True {self.away}"), said)
+        self.assertIn(f"LastWrite(turn=19, writer='cpu', word=71) {nezdrab.__version__}", said)
+
+    def test_wheel_of_the_system(self) -> None:
+        wheel = self.made(self.sources, "wheel")
+        self.assertTrue(wheel.name.endswith("-py3-none-manylinux_2_34_x86_64.whl"), wheel.name)
+        with zipfile.ZipFile(wheel) as archive:
+            names = set(archive.namelist())
+        package = ROOT / "src" / "nezdrab"
+        files = [*package.glob("*.py"), *package.glob("explore/*.py"), package / "py.typed"]
+        files += [package / "programs" / it for it in ("search", "disassemble")]
+        self.assertEqual({str(it.relative_to(ROOT / "src")) for it in files} - names, set())
+        self.run_in(self.room, sys.executable, "-m", "venv", str(self.away))
+        python, explore = (str(self.away / "bin" / it) for it in ("python", "nezdrab"))
+        self.run_in(self.room, python, *INSTALL, str(wheel))
+        self.check_package(self.run_in(self.room, python, "-c", USING, "my.session"))
+        self.assertIn("release 20", self.run_in(self.room, explore, "--version"))
+        shown = self.run_in(self.room, explore, "my.session", given="last 40 2000\nsee 20 1\n")
+        self.assertIn("last 19 cpu 000107", shown)
+        self.assertIn("ADD #7,@#2000", shown)
+        ran = subprocess.run([explore, "web"], capture_output=True, text=True, cwd=self.room)
+        self.assertEqual((ran.returncode, ran.stdout), (1, ""))
+        self.assertIn("the page is made of a clone", ran.stderr)
+
+    def test_wheel_for_any_system(self) -> None:
+        """Its programs are run by node."""
+        wheel = self.made(self.sources, "wheel", NEZDRAB_WHEEL="any")
+        self.assertTrue(wheel.name.endswith("-py3-none-any.whl"), wheel.name)
+        into = [*INSTALL, "--target", str(self.away), str(wheel)]
+        self.run_in(self.room, sys.executable, *into)
+        using = [sys.executable, "-c", USING, "my.session"]
+        node = shutil.which("node")
+        if node is None:
+            self.skipTest("no node")
+        path = f"{os.defpath}:{os.path.dirname(node)}"
+        self.check_package(self.run_in(self.room, *using, PYTHONPATH=str(self.away), PATH=path))
