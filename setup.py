@@ -17,7 +17,7 @@ except ImportError:  # setuptools before 70.1
     from wheel.bdist_wheel import bdist_wheel
 
 ROOT = Path(__file__).resolve().parent
-NAMES = ("search", "disassemble")
+NAMES = ("pdp11", "search", "disassemble")
 # What node takes to run the modules, as a clone has it.
 BY_NODE = (
     *(f"tools/by-node/{it}" for it in (*NAMES, "start", "host.mjs")),

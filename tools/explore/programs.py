@@ -2,8 +2,9 @@
 import os
 import shutil
 import subprocess
+import sys
 from pathlib import Path
-from typing import Optional
+from typing import NoReturn, Optional
 
 from .errors import ExploreError
 
@@ -48,4 +49,25 @@ def program_of_clone(root: Path, name: str) -> str:
 
 def own_command() -> str:
     """How explore is started."""
-    return "nezdrab" if clone() is None else "./explore"
+    return "nezdrab-explore" if clone() is None else "./explore"
+
+
+def become(program: str, command: str) -> NoReturn:
+    """Runs the program of this name in the place of this process, under the name of the command."""
+    try:
+        os.execv(found_program(program), [command, *sys.argv[1:]])
+    except (ExploreError, OSError) as error:
+        print(f"{command}: {error}", file=sys.stderr)
+        sys.exit(1)
+
+
+def nezdrab() -> NoReturn:
+    become("pdp11", "nezdrab")
+
+
+def nezdrab_search() -> NoReturn:
+    become("search", "nezdrab-search")
+
+
+def nezdrab_disassemble() -> NoReturn:
+    become("disassemble", "nezdrab-disassemble")

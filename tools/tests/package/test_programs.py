@@ -44,7 +44,7 @@ class Programs(Case):
         named = self.folder / "nezdrab-search"
         with mock.patch.object(programs, "HERE", Path("/usr/lib/nezdrab/explore/programs.py")):
             self.assertIsNone(programs.clone())
-            self.assertEqual(programs.own_command(), "nezdrab")
+            self.assertEqual(programs.own_command(), "nezdrab-explore")
             with mock.patch.dict(os.environ, PATH=str(self.folder)):
                 with self.assertRaisesRegex(NezdrabError, "no nezdrab-search is on PATH"):
                     Machine()

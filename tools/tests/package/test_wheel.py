@@ -90,16 +90,19 @@ class Wheel(Case):
             names = set(archive.namelist())
         package = ROOT / "src" / "nezdrab"
         files = [*package.glob("*.py"), *package.glob("explore/*.py"), package / "py.typed"]
-        files += [package / "programs" / it for it in ("search", "disassemble")]
+        files += [package / "programs" / it for it in ("pdp11", "search", "disassemble")]
         self.assertEqual({str(it.relative_to(ROOT / "src")) for it in files} - names, set())
         self.run_in(self.room, sys.executable, "-m", "venv", str(self.away))
-        python, explore = (str(self.away / "bin" / it) for it in ("python", "nezdrab"))
+        python, explore = (str(self.away / "bin" / it) for it in ("python", "nezdrab-explore"))
         self.run_in(self.room, python, *INSTALL, str(wheel))
         self.check_package(self.run_in(self.room, python, "-c", USING, "my.session"))
         self.assertIn("release 20", self.run_in(self.room, explore, "--version"))
         shown = self.run_in(self.room, explore, "my.session", given="last 40 2000\nsee 20 1\n")
         self.assertIn("last 19 cpu 000107", shown)
         self.assertIn("ADD #7,@#2000", shown)
+        for command in ("nezdrab", "nezdrab-search"):
+            shown = self.run_in(self.room, str(self.away / "bin" / command), given="regs 0\n")
+            self.assertIn("PC 001000", shown)
         ran = subprocess.run([explore, "web"], capture_output=True, text=True, cwd=self.room)
         self.assertEqual((ran.returncode, ran.stdout), (1, ""))
         self.assertIn("the page is made of a clone", ran.stderr)
