@@ -39,6 +39,7 @@ of a file beside it with the ending .args hold, one word a line. An option that 
 the place of the one with its name there. Paths in them are those of the session's folder.
 Lines from a pipe are read too: ./explore --echo SESSION < my.lines
 ./explore web [SESSION] opens the machine as a page in the browser: ./explore web --help
+./explore dap is what an editor starts to debug in the recorded run: ./explore dap --help
 
 At a terminal each edit is written at once to a journal, a session in ~/.local/state/nezdrab (or in
 the folder nezdrab of XDG_STATE_HOME), so that a closed terminal or a power cut loses none (but of
@@ -127,8 +128,8 @@ def session_lines(path: Path) -> list[tuple[int, str]]:
     ]
 
 
-def read_session(machine: Machine, path: Path) -> None:
-    """Makes the edits of a session."""
+def refused_lines(machine: Machine, path: Path) -> Iterator[str]:
+    """Makes the edits of a session, and tells of each that is refused."""
     version = 1  # as the lines before have it: it isn't asked between lines that are sent ahead
     lines = session_lines(path)
     parts = in_parts([line for _, line in lines], LINES_AT_ONCE)
@@ -137,9 +138,15 @@ def read_session(machine: Machine, path: Path) -> None:
         if is_refused(reply):
             why = explanation(line, reply, version)
             shown = line if len(line) <= LONGEST_SHOWN else f"{line[:LONGEST_SHOWN]}.."
-            complain(f"{path}:{number}: {shown}: {reply} {why}".rstrip())
+            yield f"{path}:{number}: {shown}: {reply} {why}".rstrip()
         elif sessions.first_word(line) == "version":
             version = 2
+
+
+def read_session(machine: Machine, path: Path) -> None:
+    """Makes the edits of a session, and complains of each that is refused."""
+    for refused in refused_lines(machine, path):
+        complain(refused)
 
 
 def resumed(found: argparse.Namespace) -> Path:
@@ -267,6 +274,10 @@ def status() -> int:
 
             with INTERRUPTS.allowed():
                 show_page(sys.argv[2:])
+        elif sys.argv[1:2] == ["dap"]:
+            from .dap.server import serve  # the same
+
+            return serve(sys.argv[2:])
         else:
             explore(arguments(sys.argv[1:]))
         return 0
