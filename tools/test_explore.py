@@ -4,7 +4,7 @@ by the tests in tools/tests/explore.
 
 Each script NAME.explore there is run as lines of a pipe, with the words in NAME.args, in a folder
 that has the examples as examples/, and must write NAME.expected. What isn't installed (SIMH's
-pdp11, chromium, parallel) is skipped, and each test that was skipped is named. The last line is
+pdp11, chromium, parallel, python3-pydevd) is skipped, and each such test is named. The last line is
 'N passed, M failed'."""
 import argparse
 import sys

@@ -6,7 +6,7 @@ from .errors import ExploreError
 from .in_words import span
 from .levels import CHECKED_TURNS, MOST_WORDS_OF_A_STACK, Call, Level, Stacks, call_in, left_in
 from .levels import pointer
-from .machine import LAST_TURN
+from .machine import LAST_TURN, Machine
 from .stepping import shown
 
 HEADING = f"{'turn':>10}  {'mode':<6}  {'PC':<6}  {'call':<24}  to"
@@ -115,20 +115,26 @@ def over(explorer: Explorer, arguments: Arguments) -> Iterator[str]:
         yield from after_return(explorer, call, turns)
 
 
+def ended_levels(machine: Machine, turn: int) -> Iterator[Level]:
+    """The levels that ended in the turn before this one, the innermost first."""
+    before, now = machine.registers(turn - 1), machine.registers(turn)
+    if now.words[pointer(before.mode)] > before.words[pointer(before.mode)]:
+        for level in Stacks(machine).levels(turn - 1):
+            if now.words[pointer(level.call.inside)] <= level.call.slot:
+                return
+            yield level
+
+
 @command("reverse-over", r"", "steps back over a call: to the call, from where it has returned")
 def reverse_over(explorer: Explorer, arguments: Arguments) -> Iterator[str]:
     """Shows what `back` shows. But if the turn before the current one returned from a routine, it
     goes back to the turn of the call. Of the levels of `calls` it takes the outermost that ended in
     that turn."""
-    machine, turn = explorer.machine, explorer.turn
+    turn = explorer.turn
     if turn == 0:
         raise ExploreError("the current turn is turn 0")
-    before, now = machine.registers(turn - 1), machine.registers(turn)
     target = turn - 1
-    if now.words[pointer(before.mode)] > before.words[pointer(before.mode)]:
-        for level in Stacks(machine).levels(turn - 1):
-            if now.words[pointer(level.call.inside)] <= level.call.slot:
-                break
-            yield from doubt_lines(level)
-            target = level.call.turn
+    for level in ended_levels(explorer.machine, turn):
+        yield from doubt_lines(level)
+        target = level.call.turn
     yield from shown(explorer, target)

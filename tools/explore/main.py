@@ -22,9 +22,8 @@ from .output import Unwritable, complain, fault_in_words, flush
 from .output import leave_streams, prepare_streams, put
 from .programs import clone, found_program
 from .prompt import Prompt, read_at_terminal, read_lines
-from .session_file import made_edits
+from .session_file import refused_lines
 
-LONGEST_SHOWN = 200
 DESCRIPTION = """\
 A prompt over the session language of Nezdrab's PDP-11 (docs/LANGUAGE.md). Its lines go through,
 and beside them there are commands to see instructions, to find the turn in which something happens,
@@ -36,6 +35,7 @@ of a file beside it with the ending .args hold, one word a line. An option that 
 the place of the one with its name there. Paths in them are those of the session's folder.
 Lines from a pipe are read too: ./explore --echo SESSION < my.lines
 ./explore web [SESSION] opens the machine as a page in the browser: ./explore web --help
+./explore dap is what an editor starts to debug in the recorded run: ./explore dap --help
 
 At a terminal each edit is written at once to a journal, a session in ~/.local/state/nezdrab (or in
 the folder nezdrab of XDG_STATE_HOME), so that a closed terminal or a power cut loses none (but of
@@ -99,10 +99,9 @@ def disassembler_of(given: Optional[str]) -> Disassembler:
 
 
 def read_session(machine: Machine, path: Path) -> None:
-    """Makes the edits of a session, and says which of them are refused."""
-    for it in made_edits(machine, path):
-        shown = it.line if len(it.line) <= LONGEST_SHOWN else f"{it.line[:LONGEST_SHOWN]}.."
-        complain(f"{path}:{it.number}: {shown}: {it.reply} {it.why}".rstrip())
+    """Makes the edits of a session, and complains of each that is refused."""
+    for refused in refused_lines(machine, path):
+        complain(refused)
 
 
 def resumed(found: argparse.Namespace) -> Path:
@@ -232,6 +231,10 @@ def status() -> int:
 
             with INTERRUPTS.allowed():
                 show_page(sys.argv[2:])
+        elif sys.argv[1:2] == ["dap"]:
+            from .dap.server import serve  # the same
+
+            return serve(sys.argv[2:])
         else:
             explore(arguments(sys.argv[1:]))
         return 0

@@ -9,7 +9,7 @@ from .errors import ExploreError
 from .language import explanation
 from .machine import Machine, in_parts, is_refused
 
-LINES_AT_ONCE = 10_000
+LINES_AT_ONCE, LONGEST_SHOWN = 10_000, 200
 
 
 @dataclass(frozen=True)
@@ -50,3 +50,10 @@ def made_edits(machine: Machine, path: Path) -> Iterator[RefusedLine]:
             yield RefusedLine(number, line, reply, explanation(line, reply, version))
         elif sessions.first_word(line) == "version":
             version = 2
+
+
+def refused_lines(machine: Machine, path: Path) -> Iterator[str]:
+    """Makes the edits of a session, and tells of each that is refused."""
+    for it in made_edits(machine, path):
+        shown = it.line if len(it.line) <= LONGEST_SHOWN else f"{it.line[:LONGEST_SHOWN]}.."
+        yield f"{path}:{it.number}: {shown}: {it.reply} {it.why}".rstrip()

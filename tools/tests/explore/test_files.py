@@ -129,10 +129,11 @@ class Files(Case):
             ((), "events\n"),
             (("--help",), ""),
             (("web", "--help"), ""),
+            (("dap", "--help"), ""),
         ):
             with open("/dev/full", "w") as full:
                 ended = subprocess.run(
-                    self.command(*words) if words != ("web", "--help") else [EXPLORE, *words],
+                    [EXPLORE, *words] if words[-1:] == ("--help",) else self.command(*words),
                     input=lines,
                     cwd=self.folder,
                     env=self.environment(),
