@@ -23,6 +23,7 @@ from .errors import ExploreError
 from .machine import SHORT_SENT_AHEAD, Machine
 from .operands import Flow
 from .replies import INSTRUCTION, MODES, SPACES, Devices, words_of
+from .transfers import functions
 from .turn_cycles import Row, Space, traps
 from .turn_flow import IDLE, Flows
 
@@ -124,14 +125,6 @@ def befores(machine: Machine, turns: Sequence[int]) -> Iterator[Before]:
     return map(Before.of, turns, replies)
 
 
-def disk_reads(machine: Machine, turns: range) -> Optional[set[int]]:
-    """The turns in whose beginning the disk reads; None if they aren't told."""
-    head, *lines = machine.ask(f"transfers {turns.start} {turns.stop}").splitlines()
-    if len(head.split()) != 2 or int(head.split()[1]) != len(lines):
-        return None
-    return {int(it.split()[0]) for it in lines if it.split()[2] == "read"}
-
-
 @dataclass
 class Unnoticed:
     """Finds the turns that don't notice a key, in a run without it. Several may ask at once."""
@@ -146,9 +139,9 @@ class Unnoticed:
 
     def of(self, machine: Machine, turns: range) -> frozenset[int]:
         """Those of these turns. The machine has the past without the key."""
-        reads = disk_reads(machine, turns)
-        if not turns or reads is None:
+        if not turns:
             return frozenset()
+        reads = {it.turn for it in functions(machine, turns) if it.name == "read"}
         apart = reads | traps(machine, turns).keys()
         acts = {it.turn: it.act for it in machine.turns(turns.start, len(turns))}
         asked = [it for it in turns if acts[it] in (INSTRUCTION, IDLE) and it not in apart]
