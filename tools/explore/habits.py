@@ -138,8 +138,10 @@ def deposited(asker: Asker, rest: str) -> str:
 
 def delete(asker: Asker, rest: str) -> str:
     """`delete breakpoints 1` of gdb."""
-    number = rest.split()[-1] if rest else ""
-    return f"`delete {number}`" if number.isdigit() else "`delete` takes away all breakpoints"
+    found = re.fullmatch("br?[a-z]*( [0-9]{1,9})?", rest)
+    if found is None:
+        return ""
+    return f"`delete{found[1]}`" if found[1] else "`delete` takes away all breakpoints"
 
 
 def deposited_or_gone(asker: Asker, rest: str) -> str:
@@ -213,8 +215,8 @@ def with_format(asker: Asker, word: str, rest: str) -> str:
     if is_value or not (asker.register(rest) or "0x" in rest.lower()):
         return examined(asker, rest) if is_value else ""
     address = asker.address(rest)
-    (line,) = re.findall("`dump [^`]*`", sentence(word, address))[:1] or [""]
-    return line.replace("dump ", f"dump {asker.space.value} ") if address else ""
+    found = re.match("`dump ([^`]*`)", sentence(word, address))
+    return f"`dump {asker.space.value} {found[1]}" if address and found else ""
 
 
 def names_register(explorer: Explorer, rest: str) -> bool:

@@ -9,7 +9,7 @@ from .machine import LAST_TURN, Machine, is_refused
 from .past import Event
 from .unnoticed import Unnoticed
 
-FIRST_BLOCK, LARGEST_BLOCK = 8, 128  # moves that are tried in one task
+FIRST_BLOCK, LARGEST_BLOCK = 16, 256  # moves that are tried in one task
 LOOKED_AT_ONCE = 1_024  # moves whose turns are looked at together
 
 
@@ -151,22 +151,27 @@ class Trial:
         back."""
         if not task.runs:
             return None
-        found = self.near(twin, task) if self.moves.is_near else self.first(twin, task)
+        if not self.moves.is_near:
+            return self.first(twin, task)
+        found = self.near(twin, task)
         list(twin.ask_all(list(self.back(task.event))))
         return found
 
-    def replies(self, twin: Machine, task: Task, shifts: Sequence[int]) -> Iterator[Change]:
-        """The reply after each of these moves."""
+    def replies(
+        self, twin: Machine, task: Task, shifts: Sequence[int], after: Sequence[str] = ()
+    ) -> Iterator[Change]:
+        """The reply after each of these moves. The lines `after` are sent with them."""
         question, event = self.moves.question, task.event
         turns = [self.moves.turn(task, it) for it in shifts]
         edits = [f"alter {event.number} {turn} {event.text}" for turn in turns]
-        lines = [line for edit in edits for line in (edit, question)]
+        lines = [*(line for edit in edits for line in (edit, question)), *after]
         replies = list(twin.ask_all(lines, len(lines)))
         for line, reply in zip(lines, replies):
             if is_refused(reply):
                 why = explanation(line, reply, self.version)
                 raise ExploreError(f"{line}: {reply}: {why}")
-        return map(Change, shifts, (in_one_line(it) for it in replies[1::2]))
+        replied = replies[1 : 2 * len(shifts) : 2]
+        return map(Change, shifts, map(in_one_line, replied))
 
     def first(self, twin: Machine, task: Task) -> Optional[Change]:
         """Tries all moves of a task, but of those that make the same run the nearest alone. In the
@@ -174,7 +179,8 @@ class Trial:
         shifts = list(self.nearest_of_each_run(twin, task))
         if task.way is Way.EARLIER:
             shifts.reverse()
-        found = [it for it in self.replies(twin, task, shifts) if it.reply != self.moves.reply]
+        replies = self.replies(twin, task, shifts, list(self.back(task.event)))
+        found = [it for it in replies if it.reply != self.moves.reply]
         return min(found, key=lambda it: it.shift) if found else None
 
     def nearest_of_each_run(self, twin: Machine, task: Task) -> Iterator[int]:

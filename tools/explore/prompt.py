@@ -269,9 +269,10 @@ class Prompt(Interpreter):
     def lead_on(self, word: str, rest: str) -> None:
         """An error that names a line, if this one has the form of gdb or SIMH, and none here."""
         name = word.rstrip("!")
-        has_form = is_own(word, rest) and COMMANDS[name].pattern.fullmatch(rest.strip(BLANKS))
-        has_form = has_form and not names_register(self.explorer, rest)
-        led = "" if has_form or is_of_language(word) else led_on(self.explorer, word, rest)
+        form = COMMANDS[name].pattern if is_own(word, rest) else None
+        has_form = form is not None and form.fullmatch(rest.strip(BLANKS)) is not None
+        is_ours = has_form and not names_register(self.explorer, rest) or is_of_language(word)
+        led = "" if is_ours else led_on(self.explorer, word, rest)
         if led:
             raise ExploreError(led)
 

@@ -43,6 +43,7 @@ FIRST_LINES = (
     ("next", "over"),
     ("d 1", "delete 1"),
     ("delete breakpoints", "delete"),
+    ("delete breakpoints 1", "delete 1"),
     ("e 1000", "dump 1000 1"),
     ("E 1000-1020", "dump 1000 9"),
     ("ex -m 1000-1020", "list 1000 9"),

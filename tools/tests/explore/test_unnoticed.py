@@ -109,9 +109,9 @@ class Fewer(OnMachine):
         found = []
         for at, nothing in enumerate((False, True)):
 
-            def counted(trial, twin, task, shifts, at=at):  # type: ignore[no-untyped-def]
+            def counted(trial, twin, task, shifts, after=(), at=at):  # type: ignore[no-untyped-def]
                 counts[at] += len(shifts)
-                return replies(trial, twin, task, shifts)
+                return replies(trial, twin, task, shifts, after)
 
             with mock.patch.object(Trial, "replies", counted):
                 if nothing:
@@ -121,4 +121,4 @@ class Fewer(OnMachine):
                     found.append(self.results(explorer, "12 15 29 within 250: dsk 138071 0 1"))
         few, every = found
         self.assertEqual(few.tried, every.tried)
-        self.assertLess(4 * counts[0], counts[1])
+        self.assertLess(3 * counts[0], counts[1])
