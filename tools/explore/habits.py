@@ -1,7 +1,7 @@
 """Lines of gdb and SIMH with their arguments: the line to type here, with these arguments. A word
 alone is answered by `foreign`. A line of explore that has its form stays what it is."""
 import re
-from typing import Callable, Optional
+from typing import Callable, Optional, Sequence
 
 from .commands import Explorer
 from .errors import ExploreError
@@ -165,20 +165,29 @@ def past(asker: Asker, rest: str) -> str:
 
 
 def shown(asker: Asker, rest: str) -> str:
-    """`show X` of SIMH, `info X` of gdb."""
-    if not rest:
-        return ""
-    for begin, line in SHOWN:
-        if rest.lower().startswith(begin):
+    """`show X` of SIMH."""
+    return topic(asker, rest.lower(), OF_SIMH)
+
+
+def told(asker: Asker, rest: str) -> str:
+    """`info X` of gdb, `sh X` of SIMH."""
+    return topic(asker, rest.lower(), OF_SIMH + OF_GDB) or (PARTS if rest else "")
+
+
+def topic(asker: Asker, rest: str, topics: Sequence[tuple[str, str]]) -> str:
+    for begin, line in topics:
+        if rest.startswith(begin):
             return f"`{line.format(turn=asker.turn)}`"
-    return past(asker, rest) if rest.lower().startswith("h") else PARTS
+    return past(asker, rest) if rest.startswith("hist") else ""
 
 
-SHOWN = (
+OF_SIMH = (
     *(("dev", "devices {turn}"), ("tt", "devices {turn}"), ("rk", "devices {turn}")),
-    *(("cpu", "setup"), ("cl", "setup"), ("br", "breakpoints"), ("b", "breakpoints")),
-    *(("w", "breakpoints"), ("reg", "show"), ("r", "show"), ("all-r", "show"), ("f", "calls")),
-    *(("s", "calls"), ("d", "display"), ("mem", "pages {turn}")),
+    *(("cpu", "setup"), ("cl", "setup"), ("br", "breakpoints"), ("mem", "pages {turn}")),
+)
+OF_GDB = (
+    *(("b", "breakpoints"), ("w", "breakpoints"), ("r", "show"), ("all-r", "show")),
+    *(("f", "calls"), ("s", "calls"), ("d", "display")),
 )
 
 
@@ -200,7 +209,7 @@ HABITS: dict[str, Callable[[Asker, str], str]] = {
     **dict.fromkeys(("dep", "deposit"), deposited),
     **{"d": deposited_or_gone, "delete": delete, "set": set_up},
     "history": lambda asker, rest: past(asker, rest) if rest else "",
-    **dict.fromkeys(("show", "sh", "info", "i"), shown),
+    **{"show": shown, "sh": told, "info": told, "i": told},
     **{"exp": of_text("expect"), "send": of_text("type"), "next": said(OVER), "where": said(CALLS)},
     "watch": watch,
 }
