@@ -22,7 +22,6 @@ KEPT = "no state has to be kept: `show N` shows any turn, and `save FILE` saves 
 BOOT = "`console from 0` sits down at power-up; examples/boot-rk0.session has a bootstrap"
 LINES = "`do FILE` does the lines of FILE, `define NAME LINE` makes a word of your own"
 ATTACH = "a disk is the option --disk FILE of explore; `import FILE` takes over commands of SIMH"
-
 VIEWERS = "`export FILE.vcd from N to M` writes turns for GTKWave, `help export` has other viewers"
 CALLER = f"{CALLS}; `reverse-finish` goes back to the call of the current routine"
 CONDITIONS = "`break A if R0 > 5` sets a breakpoint that holds under a condition"

@@ -97,7 +97,8 @@ class Bank(AtTerminal):
         event = int(missing[1])
         self.assertEqual(event, LOST)
         follow = self.said(f"follow {event} to {END}", b"disk none")
-        found = re.search(r"turn (\d+): core 002000 is overwritten, with nothing of it: (.*)", follow)
+        overwritten = r"turn (\d+): core 002000 is overwritten, with nothing of it: (.*)"
+        found = re.search(overwritten, follow)
         assert found is not None, follow
         self.assertEqual(found[2].strip(), "kernel 001052 MOV R1,@#2000")
         matters = self.said(f"matters {event} within 9: {BALANCE}", b"1 event\r\n")

@@ -172,4 +172,5 @@ class FirstLines(OnMachine):
             try:
                 self.assertTrue(list(made.lines(line)), line)
             except ExploreError as error:
-                self.assertNotRegex(str(error), "form is|forms are|refused|there is no (l|c|s)", line)
+                wrong = "form is|forms are|refused|there is no (l|c|s)"
+                self.assertNotRegex(str(error), wrong, line)
