@@ -22,8 +22,12 @@ KEPT = "no state has to be kept: `show N` shows any turn, and `save FILE` saves 
 BOOT = "`console from 0` sits down at power-up; examples/boot-rk0.session has a bootstrap"
 LINES = "`do FILE` does the lines of FILE, `define NAME LINE` makes a word of your own"
 ATTACH = "a disk is the option --disk FILE of explore; `import FILE` takes over commands of SIMH"
-
 VIEWERS = "`export FILE.vcd from N to M` writes turns for GTKWave, `help export` has other viewers"
+CALLER = f"{CALLS}; `reverse-finish` goes back to the call of the current routine"
+CONDITIONS = "`break A if R0 > 5` sets a breakpoint that holds under a condition"
+GONE = "`breakpoints` lists breakpoints, `delete N` takes one away, `delete` all"
+EXPECT = "`expect TEXT` goes on to where TEXT has been printed"
+EVALUATE = "`list A 1` shows the word at A as an instruction"
 
 # Each sentence has lines to type, in `such quotes`. A command of explore comes before a word here.
 FOREIGN = {
@@ -48,10 +52,17 @@ FOREIGN = {
     **dict.fromkeys(("gprof", "perf"), "`profile N M` shows in which routines the turns were"),
     "gcov": "`covered FILE` shows a listing with how often each line ran",
     **dict.fromkeys(("callgrind", "lcov", "vcd", "gtkwave", "flamegraph"), VIEWERS),
-    **dict.fromkeys(("r", "go", "start"), RUN),
-    **dict.fromkeys(("checkpoint", "restart", "restore"), KEPT),
+    **dict.fromkeys(("r", "g", "go", "ru", "j", "jump", "start", "advance", "u"), RUN),
+    **dict.fromkeys(("f", "frame", "up", "down"), CALLER),
+    **dict.fromkeys(("cond", "condition", "ignore"), CONDITIONS),
+    **dict.fromkeys(("nobr", "nobreak", "clear", "enable", "disable"), GONE),
+    **dict.fromkeys(("layout", "tui"), "`display list` shows the instructions at PC at each step"),
+    **dict.fromkeys(("ev", "eval", "evaluate"), EVALUATE),
+    "exp": EXPECT,
+    "sh": REGISTERS,
+    **dict.fromkeys(("checkpoint", "restart", "restore", "rest"), KEPT),
     **dict.fromkeys(("boot", "reset"), BOOT),
-    **dict.fromkeys(("attach", "att"), ATTACH),
+    **dict.fromkeys(("attach", "att", "detach", "det"), ATTACH),
     **dict.fromkeys(("source", "alias", "macro"), LINES),
     "logging": "`log FILE` writes what is typed and shown to FILE too",
     "send": "`type TEXT` strikes keys from the current turn on, or behind the last event",

@@ -7,16 +7,16 @@ from .errors import ExploreError
 from .replies import Mode
 from .symbols import ADDRESS
 
-MAPPED_WORDS = ("last", "writes", "next", "changes", "first", "watch")
+MAPPED_WORDS = ("last", "writes", "next", "changes", "first", "watch", "why")
 MAPPED_HELP = (
-    "In `last N A`, `writes N M A`, `next A`, `changes A`, `first core A = W` and `watch A`, A may "
-    "be `kernel A` or `user A`, an address as a program of that mode has it. It stands for the "
-    "address of core that a read before turn N comes to; the last four take the turn of `from` for "
-    "N, or the current turn. In other turns it may be another one."
+    "In `last N A`, `writes N M A`, `next A`, `changes A`, `first core A = W`, `watch A` and "
+    "`why A`, A may be `kernel A` or `user A`, an address as a program of that mode has it. It "
+    "stands for the address of core that a read before turn N comes to; without N it is the turn "
+    "of `from`, in `why` that of `at`, or the current turn. In other turns it may be another one."
 )
 VIRTUAL_LINE = re.compile(
     r"(?P<before>(last[ \t]+(?P<last>[0-9]{1,10})|writes[ \t]+(?P<writes>[0-9]{1,10})"
-    r"[ \t]+[0-9]{1,10}|next|changes|watch|first[ \t]+core)[ \t]+)"
+    r"[ \t]+[0-9]{1,10}|next|changes|watch|(?P<why>why)|first[ \t]+core)[ \t]+)"
     r"(?P<mode>kernel|user)[ \t]+(?!(from|to)[ \t])"
     rf"(?P<address>{ADDRESS})(?P<after>(?![^\s=]).*)"
 )
@@ -25,7 +25,8 @@ LARGEST = 0o177777
 
 def turn_of(explorer: Explorer, found: "re.Match[str]") -> int:
     """The turn before which the address is translated."""
-    begin = re.search(r"[ \t]from[ \t]+([0-9]{1,10})(?![^ \t])", found["after"])
+    word = "at" if found["why"] else "from"
+    begin = re.search(rf"[ \t]{word}[ \t]+([0-9]{{1,10}})(?![^ \t])", found["after"])
     named = found["last"] or found["writes"] or (begin[1] if begin else None)
     turn = explorer.turn if named is None else int(named)
     check_turn(turn)

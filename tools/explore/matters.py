@@ -284,9 +284,10 @@ def matters_command(explorer: Explorer, arguments: Arguments) -> Iterator[str]:
     that the smallest moves matter of come first. Numbers E name the events to try; without them all
     are tried. A moved event comes last in its new turn. The past stays as it is.
     `same (to C)` is exact: each of these moves was tried, but for those that can't matter before
-    the turn of QUESTION. With `near C` moves of 1, 2, 4, 8 turns and so on are tried until one
-    changes the reply, and then halves. That takes far fewer runs, and may miss a nearer move, or
-    the only one.
+    the turn of QUESTION, and those of a key from a turn in which the program doesn't notice it to
+    the next one: both make the same run. With `near C` moves of 1, 2, 4, 8 turns and so on are
+    tried until one changes the reply, and then halves. That takes far fewer runs, and may miss a
+    nearer move, or the only one.
     -j N, -o FILE, -y, --jobs FILE and --gather FILE .. are those of `sweep`."""
     words = arguments.text("words")
     wrong = quote_fault(words)

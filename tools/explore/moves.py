@@ -1,14 +1,16 @@
 """An event that is dropped, or moved by some turns: the work of `matters`."""
 from dataclasses import dataclass, field
 from enum import Enum
-from typing import Iterable, Iterator, Optional
+from typing import Iterable, Iterator, Optional, Sequence
 
 from .errors import ExploreError
 from .language import explanation
 from .machine import LAST_TURN, Machine, is_refused
 from .past import Event
+from .unnoticed import Unnoticed
 
-FIRST_BLOCK, LARGEST_BLOCK = 8, 64  # moves that are tried in one task
+FIRST_BLOCK, LARGEST_BLOCK = 16, 256  # moves that are tried in one task
+LOOKED_AT_ONCE = 1_024  # moves whose turns are looked at together
 
 
 class Way(Enum):
@@ -138,6 +140,8 @@ class Trial:
 
     def __init__(self, machine: Machine, moves: Moves):
         self.moves, self.version = moves, machine.setup.version
+        self.unnoticed = Unnoticed(machine)
+        self.looked_at: dict[tuple[Event, Way, int], frozenset[int]] = {}
         self.of_turns: dict[int, list[Event]] = {}
         for event in machine.script:
             self.of_turns.setdefault(event.turn, []).append(event)
@@ -147,28 +151,74 @@ class Trial:
         back."""
         if not task.runs:
             return None
-        found = self.near(twin, task) if self.moves.is_near else self.first(twin, task)
+        if not self.moves.is_near:
+            return self.first(twin, task)
+        found = self.near(twin, task)
         list(twin.ask_all(list(self.back(task.event))))
         return found
 
-    def replies(self, twin: Machine, task: Task, shifts: range) -> Iterator[Change]:
-        """The reply after each of these moves."""
+    def replies(
+        self, twin: Machine, task: Task, shifts: Sequence[int], after: Sequence[str] = ()
+    ) -> Iterator[Change]:
+        """The reply after each of these moves. The lines `after` are sent with them."""
         question, event = self.moves.question, task.event
         turns = [self.moves.turn(task, it) for it in shifts]
         edits = [f"alter {event.number} {turn} {event.text}" for turn in turns]
-        lines = [line for edit in edits for line in (edit, question)]
+        lines = [*(line for edit in edits for line in (edit, question)), *after]
         replies = list(twin.ask_all(lines, len(lines)))
         for line, reply in zip(lines, replies):
             if is_refused(reply):
                 why = explanation(line, reply, self.version)
                 raise ExploreError(f"{line}: {reply}: {why}")
-        return map(Change, shifts, (in_one_line(it) for it in replies[1::2]))
+        replied = replies[1 : 2 * len(shifts) : 2]
+        return map(Change, shifts, map(in_one_line, replied))
 
     def first(self, twin: Machine, task: Task) -> Optional[Change]:
-        """Tries all moves of a task. In the order of their turns each costs least."""
-        shifts = task.runs[::-1] if task.way is Way.EARLIER else task.runs
-        found = [it for it in self.replies(twin, task, shifts) if it.reply != self.moves.reply]
+        """Tries all moves of a task, but of those that make the same run the nearest alone. In the
+        order of their turns each costs least."""
+        shifts = list(self.nearest_of_each_run(twin, task))
+        if task.way is Way.EARLIER:
+            shifts.reverse()
+        replies = self.replies(twin, task, shifts, list(self.back(task.event)))
+        found = [it for it in replies if it.reply != self.moves.reply]
         return min(found, key=lambda it: it.shift) if found else None
+
+    def nearest_of_each_run(self, twin: Machine, task: Task) -> Iterator[int]:
+        """The moves of a task but for those that make the same run as the one before: both put a
+        key in turns that follow one another, of which the first doesn't notice it, and the second
+        has no event of its own and comes before the end."""
+        unnoticed = self.not_noticing(twin, task)
+        for shift in task.runs:
+            turns = {self.moves.turn(task, it) for it in (shift - 1, shift)}
+            second = max(turns)
+            is_same_run = (
+                shift != task.runs.start
+                and min(turns) in unnoticed
+                and second not in self.of_turns
+                and second < self.moves.end
+            )
+            if not is_same_run:
+                yield shift
+
+    def not_noticing(self, twin: Machine, task: Task) -> frozenset[int]:
+        """The turns of the task's moves that don't notice the key of its event, and maybe others:
+        none if it is no key."""
+        if task.way is Way.DROPPED or not task.event.text.startswith("key "):
+            return frozenset()
+        first, last = ((it - 1) // LOOKED_AT_ONCE for it in (task.runs[0], task.runs[-1]))
+        return frozenset().union(*(self.look(twin, task, it) for it in range(first, last + 1)))
+
+    def look(self, twin: Machine, task: Task, part: int) -> frozenset[int]:
+        """The same of one part of the moves of the task's event in its way."""
+        key = task.event, task.way, part
+        if key not in self.looked_at:
+            runs = self.moves.runs(task.event, task.way)
+            part_of_them = range(part * LOOKED_AT_ONCE + 1, (part + 1) * LOOKED_AT_ONCE + 1)
+            shifts = common(runs, part_of_them)
+            ends = sorted(self.moves.turn(task, it) for it in (shifts[0], shifts[-1]))
+            list(twin.ask_all([f"alter {task.event.number} {LAST_TURN} {task.event.text}"]))
+            self.looked_at[key] = self.unnoticed.of(twin, range(ends[0], ends[1] + 1))
+        return self.looked_at[key]
 
     def near(self, twin: Machine, task: Task) -> Optional[Change]:
         """Tries moves that double until one changes the reply, and then those halfway to it."""

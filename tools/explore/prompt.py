@@ -23,6 +23,7 @@ from .errors import ExploreError, LineRefused
 from .fades import MOST_TURNS
 from .files import OUTPUT
 from .foreign import sentence
+from .habits import led_on, names_register
 from .in_words import counted
 from .interrupts import INTERRUPTS, typed_line
 from .journal import state_folder
@@ -254,6 +255,7 @@ class Prompt(Interpreter):
             return
         if word.rstrip("!") in ENDS:
             raise Ended(is_dropped=word[-1] == "!")
+        self.lead_on(word, rest)
         if word in HELP:
             yield from self.help_lines(rest)
         elif is_own(word, rest) or self.is_instruction(word, rest):
@@ -263,6 +265,16 @@ class Prompt(Interpreter):
             raise ExploreError(sentence(word, rest))
         else:
             yield from self.pass_on(line)
+
+    def lead_on(self, word: str, rest: str) -> None:
+        """An error that names a line, if this one has the form of gdb or SIMH, and none here."""
+        name = word.rstrip("!")
+        form = COMMANDS[name].pattern if is_own(word, rest) else None
+        has_form = form is not None and form.fullmatch(rest.strip(BLANKS)) is not None
+        is_ours = has_form and not names_register(self.explorer, rest) or is_of_language(word)
+        led = "" if is_ours else led_on(self.explorer, word, rest)
+        if led:
+            raise ExploreError(led)
 
     def is_instruction(self, word: str, rest: str) -> bool:
         return word == "core" and is_instruction(rest, self.explorer.symbols)

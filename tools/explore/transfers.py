@@ -1,7 +1,7 @@
 """Which words the disk moves, and in which turn."""
 import bisect
 from dataclasses import dataclass
-from typing import Iterable, Iterator, Optional
+from typing import Iterable, Iterator, NamedTuple, Optional
 
 from nezdrab.hardware import CYLINDERS, DRIVE_WORDS, SECTORS, SECTOR_WORDS
 
@@ -10,7 +10,7 @@ from .disk_words import DEVICES_BYTES
 from .machine import Machine
 from .replies import Devices, DiskFunction
 
-UNIT_BYTES, LOCKED, LOOKED_AT_ONCE = 0o20000, 0o40, 256
+UNIT_BYTES, LOCKED = 0o20000, 0o40
 
 
 @dataclass(frozen=True)
@@ -88,6 +88,27 @@ def devices_at(machine: Machine, turns: Iterable[int]) -> Iterator[Devices]:
         yield from (Devices.of(it) for it in block.decode("ascii").splitlines())
 
 
+class Function(NamedTuple):
+    """A function of the disk that was done in this turn."""
+
+    turn: int
+    began_before: bool  # the turns that were asked about
+    name: str
+
+
+def functions(machine: Machine, turns: range) -> Iterator[Function]:
+    """What was done in these turns, by the line `transfers`, which ends after 256 lines."""
+    while turns:
+        head, *lines = machine.read(f"transfers {turns.start} {turns.stop}").splitlines()
+        turn = turns.stop
+        for line in lines:
+            ended, begun, name = line.split()[:3]
+            turn = int(ended)
+            yield Function(turn, begun == "before", name)
+        is_all = len(head.split()) == 2
+        turns = range(turns.stop if is_all else turn + 1, turns.stop)
+
+
 class Disk:
     """The functions of the disk, as a walk over the turns meets them."""
 
@@ -101,36 +122,18 @@ class Disk:
 
     def under_way(self, turn: int) -> None:
         """Looks for the end of a function that is under way before the turn."""
-        devices = self.machine.devices(turn)
-        self.is_busy = not devices.disk_is_ready
+        self.is_busy = not self.machine.devices(turn).disk_is_ready
         if self.is_busy:
-            self.due = self.end_of(turn, devices)
+            self.due = self.end_of(turn)
 
-    def end_of(self, turn: int, devices: Devices) -> Optional[int]:
-        """The turn in which the function completes, or None if it doesn't in the turns."""
+    def end_of(self, turn: int) -> Optional[int]:
+        """The turn in which the function completes that is under way before this turn, or None if
+        it doesn't in the turns."""
         event, due = self.event_from(turn), turn + self.delay
         last = self.turns.stop if event is None else min(event + 1, self.turns.stop)
         last = min(last, due) if self.delay else last
-        is_alone = last == due and (event is None or event >= due)
-        if is_alone and is_other(devices, self.machine.devices(last)):
-            return self.halved(turn, last, devices)
-        for at in range(turn + 1, last + 1, LOOKED_AT_ONCE):
-            part = range(at, min(last + 1, at + LOOKED_AT_ONCE))
-            for now, found in zip(part, devices_at(self.machine, part)):
-                if is_other(devices, found):
-                    return now - 1
-        return None
-
-    def halved(self, turn: int, last: int, devices: Devices) -> int:
-        """The turn in which the function completes that isn't under way before turn `last` any
-        more. One that began meanwhile would be under way then."""
-        while last - turn > 1:
-            middle = (turn + last) // 2
-            if is_other(devices, self.machine.devices(middle)):
-                last = middle
-            else:
-                turn = middle
-        return turn
+        found = functions(self.machine, range(turn, last))
+        return next((it.turn for it in found if it.began_before), None)
 
     def event_from(self, turn: int) -> Optional[int]:
         """The first turn from this one on in which an event completes what the disk does."""
@@ -156,28 +159,9 @@ class Disk:
         return Transfer.of(turn, self.machine.devices(turn), self.units)
 
 
-def is_other(before: Devices, now: Devices) -> bool:
-    """Whether the function that was under way has completed."""
-    names = ("RKDA", "RKBA", "RKWC")
-    is_same = all(before.words[it] == now.words[it] for it in names)
-    return now.disk_is_ready or not is_same or before.function != now.function
-
-
 def written_in(machine: Machine, turns: range) -> list[Transfer]:
-    """The writes of the disk that complete in these turns. The looks for them lie no further apart
-    than a function takes, or at its events."""
-    delay, disk = machine.setup.delays["disk"], Disk(machine, range(0, 0))
-    looks = {it for it in disk.events if it in turns}
-    if delay:
-        looks.update(range(max(0, turns.start - delay + 1), turns.stop, delay), [turns.stop - 1])
-    ordered, found = sorted(looks), dict[int, Transfer]()
-    for turn, devices in zip(ordered, devices_at(machine, ordered)):
-        is_write = not devices.disk_is_ready and devices.function == DiskFunction.WRITE
-        if not is_write or any(turn <= it for it in found):
-            continue
-        disk.turns = range(turn, turns.stop)
-        end = disk.end_of(turn, devices)
-        moved = None if end is None else Transfer.of(end, devices, disk.units)
-        if moved is not None and end in turns:
-            found[moved.turn] = moved
-    return [found[it] for it in sorted(found)]
+    """The writes of the disk that complete in these turns."""
+    ends = [it.turn for it in functions(machine, turns) if it.name == "write"]
+    units = machine.setup.units
+    found = (Transfer.of(*it, units) for it in zip(ends, devices_at(machine, ends)))
+    return [it for it in found if it is not None]

@@ -18,6 +18,7 @@ class Mapped(OfSystems):
             at = chance.choice((0, 0o1520, 0o2000, 0o20000, 0o20002, 0o27776))
             line = chance.choice(("last {} {}", "writes {} 238100 {}", "next {1} from {0}"))
             line = chance.choice((line, "first core {1} = 0 from {0} to 238000"))
+            line = chance.choice((line, "why {1} at {0} steps 9"))
             (place,) = machine.places([(turn, Mode(mode), at)])
             typed = f"{line.format(turn, f'{mode} {at:o}')}\n"
             if place is None:
@@ -48,12 +49,22 @@ class Mapped(OfSystems):
             ("last 9999999999 user 0", "last: turn 9999999999 is above 1000000000"),
             ("last 300 user", "refused 10 BadLine"),
             ("next user 0 from", "next: the form is: "),
+            ("why user 60000 at 300", "why: user 060000 is no address of core before turn 300: "),
+            ("why user 0 from 5", "why: the form is: "),
             ("next kernel from 5", "next: there is no symbol 'kernel'"),
         )
         written = self.explore("".join(f"{line}\n" for line, _ in refused), "--echo", *LEDGER)
         parts = re.split("^explore> .*\n", written, flags=re.M)[1:]
         for part, (line, said) in zip(parts, refused):
             self.assertIn(said, part, line)
+
+    def test_why_takes_the_turn_of_at(self) -> None:
+        """A deposit of clerk A, whose page is at 30000, and then of clerk B."""
+        lines = "why user 20000 at 127851 steps 1\nshow 127421\nwhy user 20000 steps 1\n"
+        written = self.explore(lines, *LEDGER).splitlines()
+        begin = written.index("user 020000 is 030000 before turn 127851")
+        self.assertEqual(written[begin + 1], "core 030000 before turn 127851: 000132")
+        self.assertIn("core 040000 before turn 127421: 000136", written)
 
     def test_symbols_are_those_of_the_mode(self) -> None:
         lines = "symbols examples/ledger/user.sym user\nlast 300 {0} CLERK+2\nnext {0} CLERK\n"

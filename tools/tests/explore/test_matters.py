@@ -229,12 +229,11 @@ class AtATerminal(AtTerminal):
 
     def test_ctrl_c_shows_what_is_known(self) -> None:
         self.begin(f"examples/{LEDGER}")
-        line = "matters -j 1 -o kept 14 15: dsk 138071 0 1\n"
-        self.type(line)
+        self.type("matters -j 1 -o kept 12 13 within 8000: dsk 138071 0 1\n")
         self.wait_for(b" moves, ")
         self.interrupt()
         stopped = self.wait_for(b" moves are tried; the same line goes on from kept\r\n")
-        self.assertRegex(stopped, r"2 events\r\nstopped: [0-9]+ of 4098$")
+        self.assertRegex(stopped, r"2 events\r\nstopped: [0-9]+ of 32002$")
         self.assertRegex(stopped, r"same \(to [0-9]+\)|not tried|by [0-9]+")
         self.seen = b"explore> "
         self.type("matters -o kept -j 2 14 15 : dsk 138071 0 1\n")
