@@ -225,6 +225,15 @@ class Machine:
                 self.asked.note([f"{word} {part[0]}", f"{word} {part[-1]}"])
                 yield block.splitlines()
 
+    def ascending(self, lines: Sequence[bytes], reply_bytes: int) -> Iterator[bytes]:
+        """As `blocks`, of plain questions about turns that ascend."""
+        with self._started_again():
+            for part in in_parts(lines, max(1, BLOCK_BYTES // reply_bytes)):
+                block = self.program.block_of(part)
+                check_block(part[0].decode(), block)
+                self.asked.note([part[0].decode(), part[-1].decode()])
+                yield block
+
     @contextmanager
     def _started_again(self) -> Iterator[None]:
         """If the program ends, or Ctrl-C stops it, the next use starts it again, with all edits."""
@@ -344,9 +353,19 @@ class Machine:
     def writes(self, turns: range, address: int) -> tuple[list[str], range]:
         """A line for each of the first writes to a core word in these turns, and the turns that are
         left."""
-        head, *lines = self.read(f"writes {turns.start} {turns.stop} {address:o}").splitlines()
+        return self.listed(f"writes {turns.start} {turns.stop} {address:o}", turns)
+
+    def transfers(self, turns: range) -> tuple[list[str], range]:
+        """A line for each of the first functions of the disk that were done in these turns, and the
+        turns that are left."""
+        return self.listed(f"transfers {turns.start} {turns.stop}", turns)
+
+    def listed(self, line: str, turns: range) -> tuple[list[str], range]:
+        """The lines that a search of these turns lists, which begin with a turn each, and the turns
+        that are left."""
+        head, *lines = self.read(line).splitlines()
         is_all = len(head.split()) == 2
-        left = range(turns.stop if is_all else LastWrite.of_line(lines[-1]).turn + 1, turns.stop)
+        left = range(turns.stop if is_all else int(lines[-1].split()[0]) + 1, turns.stop)
         self.asked.reach(left.start)
         return lines, left
 

@@ -1,16 +1,53 @@
-"""Which words the disk moves, and in which turn."""
-import bisect
+"""Which functions of the disk were done, by the line `transfers`, and which words they moved."""
 from dataclasses import dataclass
-from typing import Iterable, Iterator, Optional
+from typing import Iterator, Optional
 
-from hardware import CYLINDERS, DRIVE_WORDS, SECTORS, SECTOR_WORDS
+from hardware import SECTOR_WORDS
 
 from .cells import drive_cell
-from .disk_words import DEVICES_BYTES
 from .machine import Machine
 from .replies import Devices, DiskFunction
 
-UNIT_BYTES, LOCKED, LOOKED_AT_ONCE = 0o20000, 0o40, 256
+UNIT_BYTES = 0o20000
+MOVING = (DiskFunction.READ, DiskFunction.WRITE)
+FUNCTIONS = {it.title.replace(" ", "-"): it for it in DiskFunction}
+
+
+@dataclass(frozen=True)
+class Completion:
+    """A function of the disk that was done in the beginning of a turn. `begun` is the turn whose
+    act began it, or None if that was before the turns that were asked about. It moved or compared
+    `count` words, from this word of the drive and this address of core on."""
+
+    turn: int
+    begun: Optional[int]
+    function: DiskFunction
+    drive: int
+    word: int
+    core: int
+    count: int
+    errors: int
+
+    @classmethod
+    def of(cls, line: str) -> "Completion":
+        turn, begun, function, drive, word, core, count, errors = line.split()
+        return cls(
+            int(turn),
+            None if begun == "before" else int(begun),
+            FUNCTIONS[function],
+            int(drive),
+            int(word, 8),
+            int(core, 8),
+            int(count),
+            int(errors, 8),
+        )
+
+
+def completions(machine: Machine, turns: range) -> Iterator[Completion]:
+    """The functions that were done in these turns, in their order."""
+    while turns:
+        lines, turns = machine.transfers(turns)
+        yield from map(Completion.of, lines)
 
 
 @dataclass(frozen=True)
@@ -25,18 +62,6 @@ class Transfer:
     count: int
     stays: bool
 
-    @classmethod
-    def of(cls, turn: int, devices: Devices, units: int) -> "Optional[Transfer]":
-        """What the function moves that is under way before this turn and completes in it."""
-        if devices.function not in (DiskFunction.READ, DiskFunction.WRITE):
-            return None
-        is_read, first = devices.function == DiskFunction.READ, devices.sector * SECTOR_WORDS
-        count = 0 if is_refused(devices) else min(devices.word_count, DRIVE_WORDS - first)
-        core, stays = devices.bus_address, devices.stays
-        room = max(0, (units * UNIT_BYTES - core) // 2)
-        count = count if stays and room else min(count, room)
-        return cls(turn, is_read, devices.drive, first, core, count, stays)
-
     @property
     def on_drive(self) -> range:
         """The words of the drive that it reads or writes. A write fills the last sector."""
@@ -46,8 +71,7 @@ class Transfer:
     @property
     def in_core(self) -> range:
         """The addresses of the words of core."""
-        count = min(1, self.count) if self.stays else self.count
-        return range(self.core, self.core + 2 * count, 2)
+        return words_of_core(self.core, self.count, self.stays)
 
     def drive_word(self, address: int) -> int:
         """The word of the drive that a read leaves in this word of core."""
@@ -74,110 +98,58 @@ class Transfer:
                 yield target + half, None if source is None else source + half
 
 
-def is_refused(devices: Devices) -> bool:
-    """Whether the function fails by one of the tests that come first, and moves no word."""
-    address, status = devices.words["RKDA"], devices.words["RKDS"]
-    is_locked = devices.function == DiskFunction.WRITE and bool(status & LOCKED)
-    is_outside = address >> 5 & 0o377 >= CYLINDERS or address & 0o17 >= SECTORS
-    return not status or is_outside or is_locked
+def words_of_core(first: int, count: int, stays: bool) -> range:
+    """The addresses of so many words of core from the first on, or of the first one alone."""
+    return range(first, first + 2 * (min(1, count) if stays else count), 2)
 
 
-def devices_at(machine: Machine, turns: Iterable[int]) -> Iterator[Devices]:
-    """The devices before each of these turns."""
-    for block in machine.blocks([f"devices {it}" for it in turns], DEVICES_BYTES):
-        yield from (Devices.of(it) for it in block.decode("ascii").splitlines())
+def with_stays(
+    machine: Machine, found: list[Completion]
+) -> Iterator[tuple[Completion, bool]]:
+    """These functions, which ascend, and whether the bus address of each stayed as it was."""
+    for it, reply in zip(found, machine.read_all([f"devices {it.turn}" for it in found])):
+        yield it, Devices.of(reply).stays
+
+
+def transfers_in(machine: Machine, turns: range) -> list[Transfer]:
+    """The reads and writes that were done in these turns."""
+    return moved_by(machine, [it for it in completions(machine, turns) if it.function in MOVING])
+
+
+def moved_by(machine: Machine, moving: list[Completion]) -> list[Transfer]:
+    return [
+        Transfer(
+            it.turn,
+            it.function == DiskFunction.READ,
+            it.drive,
+            it.word,
+            it.core,
+            it.count,
+            stays,
+        )
+        for it, stays in with_stays(machine, moving)
+    ]
 
 
 class Disk:
     """The functions of the disk, as a walk over the turns meets them."""
 
-    def __init__(self, machine: Machine, turns: range):
-        self.machine, self.turns = machine, turns
-        self.delay, self.units = machine.setup.delays["disk"], machine.setup.units
-        self.events = sorted(machine.turns_of("disk"))
-        self.due: Optional[int] = None
-        self.is_busy = False
-        self.under_way(turns.start)
+    def __init__(self, machine: Machine):
+        self.machine = machine
+        self.ends: frozenset[int] = frozenset()
+        self.moved: dict[int, Transfer] = {}
 
-    def under_way(self, turn: int) -> None:
-        """Looks for the end of a function that is under way before the turn."""
-        devices = self.machine.devices(turn)
-        self.is_busy = not devices.disk_is_ready
-        if self.is_busy:
-            self.due = self.end_of(turn, devices)
-
-    def end_of(self, turn: int, devices: Devices) -> Optional[int]:
-        """The turn in which the function completes, or None if it doesn't in the turns."""
-        event, due = self.event_from(turn), turn + self.delay
-        last = self.turns.stop if event is None else min(event + 1, self.turns.stop)
-        last = min(last, due) if self.delay else last
-        is_alone = last == due and (event is None or event >= due)
-        if is_alone and is_other(devices, self.machine.devices(last)):
-            return self.halved(turn, last, devices)
-        for at in range(turn + 1, last + 1, LOOKED_AT_ONCE):
-            part = range(at, min(last + 1, at + LOOKED_AT_ONCE))
-            for now, found in zip(part, devices_at(self.machine, part)):
-                if is_other(devices, found):
-                    return now - 1
-        return None
-
-    def halved(self, turn: int, last: int, devices: Devices) -> int:
-        """The turn in which the function completes that isn't under way before turn `last` any
-        more. One that began meanwhile would be under way then."""
-        while last - turn > 1:
-            middle = (turn + last) // 2
-            if is_other(devices, self.machine.devices(middle)):
-                last = middle
-            else:
-                turn = middle
-        return turn
-
-    def event_from(self, turn: int) -> Optional[int]:
-        """The first turn from this one on in which an event completes what the disk does."""
-        at = bisect.bisect_left(self.events, turn)
-        return self.events[at] if at < len(self.events) else None
-
-    def written(self, turn: int) -> None:
-        """An instruction of this turn wrote to RKCS: it may have begun a function."""
-        if self.is_busy or self.machine.devices(turn + 1).disk_is_ready:
-            return
-        event = self.event_from(turn + 1)
-        ends = [it for it in (event, turn + self.delay if self.delay else None) if it is not None]
-        self.is_busy, self.due = True, min(ends, default=None)
-
-    def reset(self) -> None:
-        self.is_busy, self.due = False, None
+    def prepare(self, turns: range) -> None:
+        """Asks for what is done in these turns."""
+        found = list(completions(self.machine, turns))
+        self.ends = frozenset(it.turn for it in found)
+        moving = [it for it in found if it.function in MOVING]
+        self.moved = {it.turn: it for it in moved_by(self.machine, moving)}
 
     def completed(self, turn: int) -> Optional[Transfer]:
         """What completes in the beginning of this turn, and moves words."""
-        if self.due != turn:
-            return None
-        self.reset()
-        return Transfer.of(turn, self.machine.devices(turn), self.units)
+        return self.moved.get(turn)
 
-
-def is_other(before: Devices, now: Devices) -> bool:
-    """Whether the function that was under way has completed."""
-    names = ("RKDA", "RKBA", "RKWC")
-    is_same = all(before.words[it] == now.words[it] for it in names)
-    return now.disk_is_ready or not is_same or before.function != now.function
-
-
-def written_in(machine: Machine, turns: range) -> list[Transfer]:
-    """The writes of the disk that complete in these turns. The looks for them lie no further apart
-    than a function takes, or at its events."""
-    delay, disk = machine.setup.delays["disk"], Disk(machine, range(0, 0))
-    looks = {it for it in disk.events if it in turns}
-    if delay:
-        looks.update(range(max(0, turns.start - delay + 1), turns.stop, delay), [turns.stop - 1])
-    ordered, found = sorted(looks), dict[int, Transfer]()
-    for turn, devices in zip(ordered, devices_at(machine, ordered)):
-        is_write = not devices.disk_is_ready and devices.function == DiskFunction.WRITE
-        if not is_write or any(turn <= it for it in found):
-            continue
-        disk.turns = range(turn, turns.stop)
-        end = disk.end_of(turn, devices)
-        moved = None if end is None else Transfer.of(end, devices, disk.units)
-        if moved is not None and end in turns:
-            found[moved.turn] = moved
-    return [found[it] for it in sorted(found)]
+    def is_busy(self, turn: int) -> bool:
+        """Whether a function is under way in the act of this turn."""
+        return turn not in self.ends and not self.machine.devices(turn).disk_is_ready
