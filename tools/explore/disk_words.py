@@ -10,7 +10,7 @@ from .in_words import counted
 from .listing import turns_in_words
 from .machine import Machine
 from .replies import Devices, DiskFunction
-from .transfers import completions
+from .transfers import functions_done
 
 DEVICES_BYTES = 180
 FIRST_STEPS_BACK, MOST_STEPS_BACK = 16, 65_536
@@ -91,7 +91,7 @@ def begin_of(machine: Machine, turn: int) -> Optional[int]:
     delay = machine.setup.delays["disk"]
     back = delay or FIRST_STEPS_BACK
     while True:
-        *_, done = completions(machine, range(max(0, turn - back), turn + 1))
+        *_, done = functions_done(machine, range(max(0, turn - back), turn + 1))
         if done.begun is not None or delay or back > min(turn, MOST_STEPS_BACK):
             return done.begun
         back *= 2

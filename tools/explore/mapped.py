@@ -7,16 +7,17 @@ from .errors import ExploreError
 from .replies import Mode
 from .symbols import ADDRESS
 
-MAPPED_WORDS = ("last", "writes", "next", "changes", "first", "watch")
+MAPPED_WORDS = ("last", "writes", "next", "changes", "first", "watch", "reads", "rwatch")
 MAPPED_HELP = (
-    "In `last N A`, `writes N M A`, `next A`, `changes A`, `first core A = W` and `watch A`, A may "
-    "be `kernel A` or `user A`, an address as a program of that mode has it. It stands for the "
-    "address of core that a read before turn N comes to; the last four take the turn of `from` for "
-    "N, or the current turn. In other turns it may be another one."
+    "In `last N A`, `writes N M A`, `next A`, `changes A`, `reads A`, `first core A = W`, "
+    "`watch A` and `rwatch A`, A may be `kernel A` or `user A`, an address as a program of that "
+    "mode has it. It stands for the address of core that a read before turn N comes to; all but "
+    "the first two take the turn of `from` for N, or the current turn. In other turns it may be "
+    "another one."
 )
 VIRTUAL_LINE = re.compile(
     r"(?P<before>(last[ \t]+(?P<last>[0-9]{1,10})|writes[ \t]+(?P<writes>[0-9]{1,10})"
-    r"[ \t]+[0-9]{1,10}|next|changes|watch|first[ \t]+core)[ \t]+)"
+    r"[ \t]+[0-9]{1,10}|next|changes|watch|reads|rwatch|first[ \t]+core)[ \t]+)"
     r"(?P<mode>kernel|user)[ \t]+(?!(from|to)[ \t])"
     rf"(?P<address>{ADDRESS})(?P<after>(?![^\s=]).*)"
 )

@@ -1,6 +1,6 @@
 """Which functions of the disk were done, by the line `transfers`, and which words they moved."""
 from dataclasses import dataclass
-from typing import Iterator, Optional
+from typing import Iterator, Optional, Sequence
 
 from hardware import SECTOR_WORDS
 
@@ -14,7 +14,7 @@ FUNCTIONS = {it.title.replace(" ", "-"): it for it in DiskFunction}
 
 
 @dataclass(frozen=True)
-class Completion:
+class DoneFunction:
     """A function of the disk that was done in the beginning of a turn. `begun` is the turn whose
     act began it, or None if that was before the turns that were asked about. It moved or compared
     `count` words, from this word of the drive and this address of core on."""
@@ -29,7 +29,7 @@ class Completion:
     errors: int
 
     @classmethod
-    def of(cls, line: str) -> "Completion":
+    def of(cls, line: str) -> "DoneFunction":
         turn, begun, function, drive, word, core, count, errors = line.split()
         return cls(
             int(turn),
@@ -43,11 +43,11 @@ class Completion:
         )
 
 
-def completions(machine: Machine, turns: range) -> Iterator[Completion]:
+def functions_done(machine: Machine, turns: range) -> Iterator[DoneFunction]:
     """The functions that were done in these turns, in their order."""
     while turns:
         lines, turns = machine.transfers(turns)
-        yield from map(Completion.of, lines)
+        yield from map(DoneFunction.of, lines)
 
 
 @dataclass(frozen=True)
@@ -104,8 +104,8 @@ def words_of_core(first: int, count: int, stays: bool) -> range:
 
 
 def with_stays(
-    machine: Machine, found: list[Completion]
-) -> Iterator[tuple[Completion, bool]]:
+    machine: Machine, found: Sequence[DoneFunction]
+) -> Iterator[tuple[DoneFunction, bool]]:
     """These functions, which ascend, and whether the bus address of each stayed as it was."""
     for it, reply in zip(found, machine.read_all([f"devices {it.turn}" for it in found])):
         yield it, Devices.of(reply).stays
@@ -113,10 +113,11 @@ def with_stays(
 
 def transfers_in(machine: Machine, turns: range) -> list[Transfer]:
     """The reads and writes that were done in these turns."""
-    return moved_by(machine, [it for it in completions(machine, turns) if it.function in MOVING])
+    done = functions_done(machine, turns)
+    return moved_by(machine, [it for it in done if it.function in MOVING])
 
 
-def moved_by(machine: Machine, moving: list[Completion]) -> list[Transfer]:
+def moved_by(machine: Machine, moving: Sequence[DoneFunction]) -> list[Transfer]:
     return [
         Transfer(
             it.turn,
@@ -141,7 +142,7 @@ class Disk:
 
     def prepare(self, turns: range) -> None:
         """Asks for what is done in these turns."""
-        found = list(completions(self.machine, turns))
+        found = list(functions_done(self.machine, turns))
         self.ends = frozenset(it.turn for it in found)
         moving = [it for it in found if it.function in MOVING]
         self.moved = {it.turn: it for it in moved_by(self.machine, moving)}

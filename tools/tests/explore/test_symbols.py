@@ -276,7 +276,7 @@ class Named(Media):
         self.put("bare", program(text=words(1)))
         said = "symbols: bare is an a.out without symbols\n"
         self.assertEqual(self.explore("symbols bare\n"), said)
-        self.assertEqual(written[6], "51 symbols of a MACRO-11 listing, 133 lines skipped")
+        self.assertEqual(written[6], "52 symbols of a MACRO-11 listing, 132 lines skipped")
 
     def test_a_refused_file_leaves_those_there_were(self) -> None:
         self.put("list", b"START 1000\n")
