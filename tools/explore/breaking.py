@@ -9,11 +9,14 @@ from .calls import turns_ahead
 from .errors import ExploreError
 from .in_words import span
 from .listing import seen
+from .reading import Reads
 from .replies import Mode, turns_of
 from .search import word_of
 
 MOST_PARTS = 4  # of a CONDITION
-NONE_SET = "no breakpoint is set: break X, watch A, catch vector V or catch trap V sets one"
+NONE_SET = (
+    "no breakpoint is set: break X, watch A, rwatch A, catch vector V or catch trap V sets one"
+)
 
 
 def set_lines(point: Breakpoint) -> Iterator[str]:
@@ -75,6 +78,16 @@ def watch(explorer: Explorer, arguments: Arguments) -> Iterator[str]:
     yield from set_lines(point)
 
 
+@command("rwatch A", r"<address:address>", "a breakpoint: a read of a core word")
+def rwatch(explorer: Explorer, arguments: Arguments) -> Iterator[str]:
+    """Sets a breakpoint at each turn that reads the core word at A, an address of core, as `reads`
+    lists them: the processor or the disk. Explore looks for them turn by turn, some 50000 to 200000
+    turns a second; `continue to M` ends the search at turn M, and Ctrl-C ends it anywhere."""
+    address, machine = arguments.octal("address"), explorer.machine
+    text = f"rwatch {address:o}"
+    yield from set_lines(explorer.breakpoints.add(machine, text, "", address, is_read=True))
+
+
 @command(
     "catch vector V  or  catch trap V",
     r"(?P<kind>vector|trap) <vector:octal>",
@@ -118,8 +131,11 @@ def check_set(explorer: Explorer) -> None:
 
 
 def reached_line(explorer: Explorer, point: Breakpoint, turn: int) -> str:
-    """The breakpoint, and for a write who wrote what."""
+    """The breakpoint, and for a write or a read who wrote or read what."""
     (line,) = set_lines(point)
+    if point.is_read and point.address is not None:
+        found = Reads(explorer.machine, point.address).of(range(turn, turn + 1))
+        return line + "".join(f": {it.reader} {it.word:06o}" for it in found)
     write = None if point.address is None else explorer.machine.last(turn + 1, point.address)
     return line if write is None else f"{line}: {write.writer} {write.word:06o}"
 

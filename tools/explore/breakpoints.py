@@ -6,24 +6,28 @@ from .errors import ExploreError
 from .finder import growing_parts
 from .language import explanation
 from .machine import Machine, is_refused
+from .reading import Read, Reads
 from .replies import LastWrite
 
 
 @dataclass(frozen=True)
 class Breakpoint:
     """What a turn does at a breakpoint: what is sought, in the words of the lines `first` and
-    `latest`, or a write of the core word at this address."""
+    `latest`, or a write or a read of the core word at this address."""
 
     number: int
     text: str
     sought: str
     address: Optional[int] = None
+    is_read: bool = False
 
     def first(self, machine: Machine, turns: range) -> Optional[int]:
         """The first of the turns at which it holds. `last`, which tells first whether there is a
         write, runs no known turn again."""
         if self.address is None:
             return machine.found("first", turns, self.sought)
+        if self.is_read:
+            return turn_of(Reads(machine, self.address).first(turns))
         if self.last(machine, turns) is None:
             return None
         lines, _ = machine.writes(turns, self.address)
@@ -32,8 +36,14 @@ class Breakpoint:
     def last(self, machine: Machine, turns: range) -> Optional[int]:
         if self.address is None:
             return machine.found("latest", turns, self.sought)
+        if self.is_read:
+            return turn_of(Reads(machine, self.address).last(turns))
         write = machine.last(turns.stop, self.address)
         return write.turn if write is not None and write.turn in turns else None
+
+
+def turn_of(read: Optional[Read]) -> Optional[int]:
+    return None if read is None else read.turn
 
 
 @dataclass(frozen=True)
@@ -51,7 +61,14 @@ class Breakpoints:
     points: list[Breakpoint] = field(default_factory=list)
     count: int = 0
 
-    def add(self, machine: Machine, text: str, sought: str, address: Optional[int]) -> Breakpoint:
+    def add(
+        self,
+        machine: Machine,
+        text: str,
+        sought: str,
+        address: Optional[int],
+        is_read: bool = False,
+    ) -> Breakpoint:
         """A new one, if the program takes the line that looks for it."""
         line = f"first 0 0 {sought}" if address is None else f"writes 0 0 {address:o}"
         reply = machine.ask(line)
@@ -59,7 +76,7 @@ class Breakpoints:
             why = explanation(line, reply, machine.setup.version)
             raise ExploreError(f"{reply}{f': {why}' if why else ''}")
         self.count += 1
-        self.points.append(Breakpoint(self.count, text, sought, address))
+        self.points.append(Breakpoint(self.count, text, sought, address, is_read))
         return self.points[-1]
 
     def delete(self, number: int) -> Breakpoint:
@@ -73,15 +90,18 @@ class Breakpoints:
         self, machine: Machine, turns: range, is_backwards: bool = False
     ) -> Optional[Reached]:
         """Where the first of these turns is at which one holds, or backwards the last one. The
-        turns are asked in parts. In a part each breakpoint is looked for up to what was found."""
+        turns are asked in parts. In a part each breakpoint is looked for up to what was found,
+        those of reads last: they take longest."""
+        points = sorted(self.points, key=lambda it: it.is_read)
         for part in growing_parts(turns, is_backwards):
             found: list[tuple[int, Breakpoint]] = []
-            for point in self.points:
+            for point in points:
                 turn = (point.last if is_backwards else point.first)(machine, part)
                 if turn is not None:
                     found.append((turn, point))
                     part = range(turn, part.stop) if is_backwards else range(part.start, turn + 1)
             if found:
                 turn = found[-1][0]
-                return Reached(turn, [it for at, it in found if at == turn])
+                points = [it for at, it in found if at == turn]
+                return Reached(turn, sorted(points, key=lambda it: it.number))
         return None

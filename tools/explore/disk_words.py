@@ -10,6 +10,7 @@ from .in_words import counted
 from .listing import turns_in_words
 from .machine import Machine
 from .replies import Devices, DiskFunction
+from .transfers import functions_done
 
 DEVICES_BYTES = 180
 FIRST_STEPS_BACK, MOST_STEPS_BACK = 16, 65_536
@@ -85,21 +86,15 @@ def begin_in_words(begin: Optional[int], by: Mapping[int, str]) -> str:
 
 
 def begin_of(machine: Machine, turn: int) -> Optional[int]:
-    """The turn that began the function that completes in this turn: the disk is ready before it,
-    and not from then on. It is no further back than the disk's delay; without a delay it is looked
-    for in parts that double."""
-    steps = machine.setup.delays["disk"] or FIRST_STEPS_BACK
-    end = turn + 1
-    while end > 0 and turn - end < MOST_STEPS_BACK:
-        looks = range(max(0, end - steps - 1), end)
-        blocks = machine.blocks([f"devices {it}" for it in looks], DEVICES_BYTES)
-        replies = b"".join(blocks).decode("ascii").splitlines()
-        ready = (at for at, it in zip(looks[::-1], replies[::-1]) if Devices.of(it).disk_is_ready)
-        found = next(ready, None)
-        if found is not None or machine.setup.delays["disk"]:
-            return found
-        end, steps = looks.start, 2 * steps
-    return None
+    """The turn that began the function that completes in this turn. It is no further back than the
+    disk's delay; without a delay it is looked for in parts that double."""
+    delay = machine.setup.delays["disk"]
+    back = delay or FIRST_STEPS_BACK
+    while True:
+        *_, done = functions_done(machine, range(max(0, turn - back), turn + 1))
+        if done.begun is not None or delay or back > min(turn, MOST_STEPS_BACK):
+            return done.begun
+        back *= 2
 
 
 def last_change(word: DiskWord, turn: int) -> Optional[int]:

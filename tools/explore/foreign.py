@@ -14,7 +14,7 @@ OVER = "`over` steps over a call, `step` into it"
 OVER_BACK = "`reverse-over` steps back over a call, `back` into it"
 OUT = "`finish` goes on to where the current routine has returned"
 CALLS = "`calls` lists the calls, interrupts and traps that the current turn stands in"
-READS = "no line finds reads; `watch A` sets a breakpoint at writes, `next A` finds the next one"
+READS = "`rwatch A` sets a breakpoint at reads, `watch A` at writes; `reads A` lists the reads"
 REGISTERS = "`show` has the registers, `pages N` the mapping, `devices N` the devices"
 DEPOSIT = "`core A W` sets the word at A from power-up on: it changes the past"
 RUN = "each turn is there already: `show N`, `text N`; `until PC A` finds the turn that comes to A"
@@ -40,7 +40,7 @@ FOREIGN = {
     **dict.fromkeys(("rn", "rni", "reverse-next", "reverse-nexti"), OVER_BACK),
     "fin": OUT,
     **dict.fromkeys(("bt", "backtrace"), CALLS),
-    **dict.fromkeys(("rwatch", "awatch"), READS),
+    "awatch": READS,
     **dict.fromkeys(("i", "info"), f"{REGISTERS}; `breakpoints` lists breakpoints"),
     **dict.fromkeys(("p", "print"), f"`dump A 1` shows the word at A; {REGISTERS}"),
     **dict.fromkeys(("x", "e", "ex", "exam", "examine"), f"{DUMPED}; {REGISTERS}"),

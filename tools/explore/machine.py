@@ -242,6 +242,15 @@ class Machine:
         program.seconds = self.seconds
         return program
 
+    def ascending(self, lines: Sequence[bytes], reply_bytes: int) -> Iterator[bytes]:
+        """As `blocks`, of plain questions about turns that ascend."""
+        with self._started_again():
+            for part in in_parts(lines, max(1, BLOCK_BYTES // reply_bytes)):
+                block = self.program.block_of(part)
+                check_block(part[0].decode(), block)
+                self.asked.note([part[0].decode(), part[-1].decode()])
+                yield block
+
     @contextmanager
     def _started_again(self) -> Iterator[None]:
         """If the program ends, or Ctrl-C or anything else stops what waits for its replies, the
@@ -364,8 +373,18 @@ class Machine:
     def writes(self, turns: range, address: int) -> tuple[list[str], range]:
         """A line for each of the first writes to a core word in these turns, and the turns that are
         left."""
-        lines, is_all = listed(self.read(f"writes {turns.start} {turns.stop} {address:o}"))
-        left = range(turns.stop if is_all else LastWrite.of_line(lines[-1]).turn + 1, turns.stop)
+        return self.listed(f"writes {turns.start} {turns.stop} {address:o}", turns)
+
+    def transfers(self, turns: range) -> tuple[list[str], range]:
+        """A line for each of the first functions of the disk that were done in these turns, and the
+        turns that are left."""
+        return self.listed(f"transfers {turns.start} {turns.stop}", turns)
+
+    def listed(self, line: str, turns: range) -> tuple[list[str], range]:
+        """The lines that a search of these turns lists, which begin with a turn each, and the turns
+        that are left."""
+        lines, is_all = listed(self.read(line))
+        left = range(turns.stop if is_all else int(lines[-1].split()[0]) + 1, turns.stop)
         self.asked.reach(left.start)
         return lines, left
 

@@ -7,16 +7,17 @@ from .errors import ExploreError
 from .replies import Mode
 from .symbols import ADDRESS
 
-MAPPED_WORDS = ("last", "writes", "next", "changes", "first", "watch", "why")
+MAPPED_WORDS = ("last", "writes", "next", "changes", "first", "watch", "why", "reads", "rwatch")
 MAPPED_HELP = (
-    "In `last N A`, `writes N M A`, `next A`, `changes A`, `first core A = W`, `watch A` and "
-    "`why A`, A may be `kernel A` or `user A`, an address as a program of that mode has it. It "
-    "stands for the address of core that a read before turn N comes to; without N it is the turn "
-    "of `from`, in `why` that of `at`, or the current turn. In other turns it may be another one."
+    "In `last N A`, `writes N M A`, `next A`, `changes A`, `reads A`, `first core A = W`, "
+    "`watch A`, `rwatch A` and `why A`, A may be `kernel A` or `user A`, an address as a program "
+    "of that mode has it. It stands for the address of core that a read before turn N comes to; "
+    "without N it is the turn of `from`, in `why` that of `at`, or the current turn. In other "
+    "turns it may be another one."
 )
 VIRTUAL_LINE = re.compile(
     r"(?P<before>(last[ \t]+(?P<last>[0-9]{1,10})|writes[ \t]+(?P<writes>[0-9]{1,10})"
-    r"[ \t]+[0-9]{1,10}|next|changes|watch|(?P<why>why)|first[ \t]+core)[ \t]+)"
+    r"[ \t]+[0-9]{1,10}|next|changes|watch|reads|rwatch|(?P<why>why)|first[ \t]+core)[ \t]+)"
     r"(?P<mode>kernel|user)[ \t]+(?!(from|to)[ \t])"
     rf"(?P<address>{ADDRESS})(?P<after>(?![^\s=]).*)"
 )

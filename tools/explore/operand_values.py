@@ -3,12 +3,14 @@ is there after its turn. The rules are those of docs/MACHINE.md, sections 3 to 5
 from dataclasses import dataclass, field, replace
 from typing import Callable, Iterator, Optional, Sequence
 
+from .addressing import PC, SP, addressing_of
 from .levels import pointer
 from .listing import IO_PAGE, NOT_WHOLE, UNIT_BYTES, VIRTUAL
 from .machine import Machine
+from .operands import STACK_LIMIT
 from .replies import SPACES, Devices, DiskFunction, Mode, Registers
 
-STACK_LIMIT, SP, PC, STATUS = 0o340, 6, 7, 0o777776
+STATUS = 0o777776
 PAGES = range(8)
 NAMES_IN_THE_IO_PAGE = {
     **{0o772300 + 2 * it: f"KPDR{it}" for it in PAGES},
@@ -179,15 +181,15 @@ class Walk:
 
     def address(self, specifier: int, is_byte: bool = False) -> int:
         """The address of an operand in memory. Registers change, and pointers are read."""
-        how, number = specifier >> 3, specifier & 7
-        step = 1 if is_byte and number < SP and how in (2, 4) else 2
-        if how in (4, 5):
-            self.shrink(number, step)
-        index = self.index_word() if how in (6, 7) else 0
-        address = (self.get(number) + index) % VIRTUAL
-        if how in (2, 3):
-            self.change(number, step)
-        return self.pointer(address) if how in (3, 5, 7) else address
+        way = addressing_of(specifier, is_byte)
+        assert way is not None
+        if way.shrinks:
+            self.shrink(way.register, way.shrinks)
+        index = self.index_word() if way.has_index else 0
+        address = (self.get(way.register) + index) % VIRTUAL
+        if way.grows:
+            self.change(way.register, way.grows)
+        return self.pointer(address) if way.is_deferred else address
 
     def take(self, operand: Operand) -> None:
         self.found.append(operand)

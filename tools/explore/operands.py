@@ -4,17 +4,18 @@ from dataclasses import dataclass, field
 from enum import Enum
 from typing import NamedTuple, Optional
 
-from .cells import ALL_CODES, IO_PAGE, KEPT, KSP, MASK, NOTHING, OF_THE_DISK, OUTPUTS, PC
-from .cells import PS, REST, RKCS, USP, Cells, register_cells, word_cells
+from .addressing import PC, SP, addressing_of
+from .cells import ALL_CODES, IO_PAGE, KEPT, KSP, MASK, NOTHING, OF_THE_DISK, OUTPUTS
+from .cells import PC as POINT_CELL
+from .cells import PS, REST, USP, Cells, register_cells, word_cells
 from .machine import Machine
 from .replies import Turn
 from .transfers import Disk, Transfer
 from .turn_cycles import KERNEL, Row, Space
 
 STACK_LIMIT = 0o340
-PC_REGISTER, SP_REGISTER = 7, 6
 WHOLE_PS = ((REST, *ALL_CODES), (REST,))  # the low and the high byte of PS
-POINT: Cells = (PC,)
+POINT: Cells = (POINT_CELL,)
 
 
 class How(Enum):
@@ -39,6 +40,34 @@ class Move(NamedTuple):
     instant: int
 
 
+class Access(Enum):
+    """What a cycle on the bus does. A timeout is a cycle that nothing answers."""
+
+    READ = "read"
+    WRITE = "write"
+    READ_TIMEOUT = "read timeout"
+    WRITE_TIMEOUT = "write timeout"
+
+
+class Cycle(NamedTuple):
+    """A cycle of the processor on the bus, of the word or the byte at a physical address."""
+
+    access: Access
+    place: int
+    is_byte: bool = False
+
+    @property
+    def word(self) -> int:
+        """The address of the word."""
+        return self.place & ~1
+
+    def is_read_of(self, address: int) -> bool:
+        return self.access == Access.READ and self.word == address
+
+    def is_write_of(self, address: int) -> bool:
+        return self.access == Access.WRITE and self.word == address
+
+
 IDLE_TURN = Turn(0, 0, "idle", None)
 
 
@@ -51,6 +80,7 @@ class Flow:
     mode: int = 0
     transfer: Optional[Transfer] = None
     moves: list[Move] = field(default_factory=list)
+    cycles: list[Cycle] = field(default_factory=list)
     place: Optional[int] = None  # of the instruction
     word: int = 0
     vector: Optional[int] = None
@@ -68,6 +98,10 @@ class Stopped(Exception):
     """A reference that can't be made: the instruction goes no further."""
 
 
+class BelowTheLimit(Stopped):
+    """The kernel's stack would go below its limit: the red sequence follows."""
+
+
 def pointer_of(mode: int) -> int:
     return KSP if mode == KERNEL else USP
 
@@ -75,15 +109,16 @@ def pointer_of(mode: int) -> int:
 class Operands:
     """What a turn does with its operands. A mode is the two bits of PS."""
 
-    def __init__(self, machine: Machine, turns: range):
+    def __init__(self, machine: Machine):
         self.machine = machine
-        self.space, self.disk = Space(machine), Disk(machine, turns)
+        self.space, self.disk = Space(machine), Disk(machine)
         self.registers: list[int] = []
         self.after = Row((), 0, 0)
         self.vector: Optional[int] = None  # of the trap that the turn has, until it comes
         self.pc = self.mode = self.previous = self.instant = self.unknown = 0
-        self.has_begun_disk = False
+        self.turn = 0
         self.moves: list[Move] = []
+        self.cycles: list[Cycle] = []
 
     # Moves
 
@@ -93,18 +128,18 @@ class Operands:
         self.moves.append(Move(cell, values, addresses, how, self.instant))
 
     def number(self, register: int) -> int:
-        return pointer_of(self.mode) if register == SP_REGISTER else register
+        return pointer_of(self.mode) if register == SP else register
 
     def value(self, register: int) -> int:
-        return self.pc if register == PC_REGISTER else self.registers[self.number(register)]
+        return self.pc if register == PC else self.registers[self.number(register)]
 
     def cells_of(self, register: int) -> Cells:
         """What an address in this register is made of."""
-        return NOTHING if register == PC_REGISTER else register_cells(self.number(register))
+        return NOTHING if register == PC else register_cells(self.number(register))
 
     def step(self, register: int, by: int) -> None:
         """A register grows or shrinks."""
-        if register == PC_REGISTER:
+        if register == PC:
             self.pc = self.pc + by & MASK
         else:
             self.step_number(self.number(register), by)
@@ -116,9 +151,15 @@ class Operands:
         self.move(low, (low,), NOTHING, How.STEP)
         self.move(high, (low, high), NOTHING, How.STEP)
 
-    def shrink(self, number: int, by: int) -> None:
+    def shrink(self, register: int, by: int) -> None:
+        if register == PC:
+            self.step(PC, -by)
+        else:
+            self.shrink_number(self.number(register), by)
+
+    def shrink_number(self, number: int, by: int) -> None:
         if number == KSP and (self.registers[KSP] - by & MASK) < STACK_LIMIT:
-            raise Stopped
+            raise BelowTheLimit
         self.step_number(number, -by)
 
     def set_register(
@@ -134,37 +175,40 @@ class Operands:
     def reach(
         self, mode: int, address: int, is_byte: bool = False, is_write: bool = False
     ) -> int:
-        """The physical address of a reference. In a turn that traps a write is the last one: if all
-        reads before it could be made it is the one that can't."""
+        """The physical address of a reference, whose cycle is made. In a turn that traps a write is
+        the last one: if all reads before it could be made it is the one that can't."""
         place = None if address & 1 and not is_byte else self.space.place(mode, address)
         if place is None:
             raise Stopped
-        if self.vector is not None and (is_write or not self.space.answers(mode, address, place)):
-            raise Stopped
+        if self.vector is not None:
+            answers = self.space.answers(mode, address, place)
+            if not answers:
+                timeout = Access.WRITE_TIMEOUT if is_write else Access.READ_TIMEOUT
+                self.cycle(timeout, place, is_byte)
+            if is_write or not answers:
+                raise Stopped
+        self.cycle(Access.WRITE if is_write else Access.READ, place, is_byte)
         return place
 
+    def cycle(self, access: Access, place: int, is_byte: bool = False) -> None:
+        self.cycles.append(Cycle(access, place, is_byte))
+
     def find(self, spec: int, is_byte: bool) -> Operand:
-        mode, register = spec >> 3, spec & 7
-        if mode == 0:
-            return Operand(register, 0, NOTHING)
-        if mode == 1:
-            return Operand(None, self.value(register), self.cells_of(register))
-        step = 1 if is_byte and register < SP_REGISTER and not mode & 1 else 2
-        if mode < 4:
-            address, cells = self.value(register), self.cells_of(register)
-            self.step(register, step)
-        elif mode < 6:
-            if register == PC_REGISTER:
-                self.step(register, -step)
-            else:
-                self.shrink(self.number(register), step)
-            address, cells = self.value(register), self.cells_of(register)
-        else:
+        way = addressing_of(spec, is_byte)
+        if way is None:
+            return Operand(spec, 0, NOTHING)
+        if way.shrinks:
+            self.shrink(way.register, way.shrinks)
+        index, cells = 0, NOTHING
+        if way.has_index:
             place = self.reach(self.mode, self.pc)
             self.pc = self.pc + 2 & MASK
-            address = self.value(register) + self.space.word(place) & MASK
-            cells = self.cells_of(register) + word_cells(place)
-        if not mode & 1 or mode == 1:
+            index, cells = self.space.word(place), word_cells(place)
+        address = self.value(way.register) + index & MASK
+        cells = self.cells_of(way.register) + cells
+        if way.grows:
+            self.step(way.register, way.grows)
+        if not way.is_deferred:
             return Operand(None, address, cells)
         place = self.reach(self.mode, address)
         return Operand(None, self.space.word(place), cells + word_cells(place))
@@ -176,7 +220,7 @@ class Operands:
         if operand.register is None:
             space = self.mode if mode is None else mode
             return self.cells_at(self.reach(space, operand.address, is_byte), is_byte)
-        if operand.register == PC_REGISTER:
+        if operand.register == PC:
             return POINT, POINT
         low, high = register_cells(self.number(operand.register))
         return (low,), NOTHING if is_byte else (high,)
@@ -203,7 +247,7 @@ class Operands:
             space = self.mode if mode is None else mode
             place = self.reach(space, operand.address, is_byte, is_write=True)
             return self.store(place, is_byte, values, addresses + operand.cells, how)
-        if operand.register == PC_REGISTER:
+        if operand.register == PC:
             return True
         number = self.number(operand.register)
         low, high = register_cells(number)
@@ -229,12 +273,10 @@ class Operands:
 
     def is_kept(self, place: int) -> bool:
         """Whether a register on the bus keeps what is written to this byte of it."""
-        if place == RKCS:
-            self.has_begun_disk = True
         register = place & ~1
         if register in OUTPUTS:
             return place == register
-        return register in KEPT and not (register in OF_THE_DISK and self.disk.is_busy)
+        return register in KEPT and not (register in OF_THE_DISK and self.disk.is_busy(self.turn))
 
     def store_ps(
         self, place: int, is_byte: bool, values: tuple[Cells, Cells], addresses: Cells, how: How
@@ -257,7 +299,7 @@ class Operands:
         """Pushes a word. If it is from before the push, it isn't made of the pointer that has
         shrunk."""
         number = pointer_of(mode)
-        self.shrink(number, 2)
+        self.shrink_number(number, 2)
         place = self.reach(mode, self.registers[number], is_write=True)
         self.instant += not is_from_before
         return self.store(place, False, values, register_cells(number) + addresses, how)

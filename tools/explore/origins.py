@@ -15,7 +15,7 @@ from .interrupts import INTERRUPTS
 from .labels import ADDRESS_OF_A_TRANSFER, events_with_data
 from .machine import Machine
 from .operands import Flow
-from .transfers import Transfer, written_in as written_by_disk
+from .transfers import Transfer, transfers_in
 from .turn_flow import Flows
 
 BLOCK, WINDOW_DELAYS, WINDOW_TURNS = 64, 32, 1000
@@ -193,16 +193,17 @@ class Origins:
         """The writes of the disk that complete in this window of turns, the last first."""
         if number not in self.windows:
             turns = range(number * self.window, min((number + 1) * self.window, self.end))
-            self.windows[number] = written_by_disk(self.machine, turns)[::-1]
+            found = transfers_in(self.machine, turns)[::-1]
+            self.windows[number] = [it for it in found if not it.is_read]
         return self.windows[number]
 
     def transfer(self, turn: int) -> Transfer:
         """The transfer that completes in this turn."""
         if turn not in self.moved_in:
-            found = Transfer.of(turn, self.machine.devices(turn), self.machine.setup.units)
-            if found is None:
+            found = transfers_in(self.machine, range(turn, turn + 1))
+            if not found:
                 raise ExploreError(f"turn {turn}: the rules don't explain what the disk moves")
-            self.moved_in[turn] = found
+            (self.moved_in[turn],) = found
         return self.moved_in[turn]
 
     # The way back

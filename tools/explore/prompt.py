@@ -11,7 +11,7 @@ from nezdrab import sessions
 # these add commands
 from . import compare, console, edits, export, listing, page, screen, script, search  # noqa: F401
 from . import breaking, calls, changes, covered, difference, dump, follow  # noqa: F401
-from . import lost, matters, profile, seeing, stepping, sweep, why  # noqa: F401
+from . import accesses, lost, matters, profile, reads, seeing, stepping, sweep, why  # noqa: F401
 from . import images, load, simh  # noqa: F401
 from . import defining, display, do_file, expecting, log  # noqa: F401
 from .at_work import AtWork

@@ -102,6 +102,9 @@ SOURCE = re.compile(
 )
 COMMENT = re.compile(r"\s*([0-9]{1,5}\s*)?(;.*)?")
 LABEL = re.compile(rf"(?P<name>{NAME_OF_DEC})::?\s*")
+# A line that is labels alone may lack the address: it is the one after the words of the last line
+# with an address, or, if that has no words, the address of the next line that has one.
+LABELS_ALONE = re.compile(rf"\f?\s*{LINE_NUMBER}(?P<source>{NAME_OF_DEC}::?(\s.*)?)")
 IN_SOURCE = re.compile(
     rf"\f?\s*{LINE_NUMBER}([0-7]{{6}}['GC]?\s+)?(?P<name>{NAME_OF_DEC})\s*==?:?\s*"
     r"(?P<value>[0-7]{1,6})\s*(;.*)?"
@@ -133,6 +136,17 @@ def of_columns(line: str) -> list[Symbol]:
     return [Symbol(it, address) for it in labels_of(found["source"] or "")] if found else []
 
 
+def labels_alone(line: str) -> list[str]:
+    found = LABELS_ALONE.fullmatch(line)
+    return list(labels_of(found["source"])) if found else []
+
+
+def end_of(source: "re.Match[str]") -> Optional[int]:
+    """The address after the words and bytes of a line, or None if it has none."""
+    found = re.findall("[0-7]+", source["words"])
+    return int(source["address"], 8) + sum(len(it) // 3 for it in found) if found else None
+
+
 def of_table(line: str) -> list[Symbol]:
     """The symbols of a line of the table at the end of a listing, except registers and those that
     are defined elsewhere."""
@@ -156,15 +170,24 @@ def of_listing(lines: Sequence[str]) -> SymbolFile:
     left columns have them all."""
     labels: dict[str, Symbol] = {}
     table: dict[str, Symbol] = {}
+    waiting: list[str] = []
+    at: Optional[int] = None
     in_table, skipped = False, 0
     for line in lines:
         if COMMENT.fullmatch(line):
             continue
         in_table = bool(TABLE.fullmatch(line)) or in_table and not END_OF_TABLE.match(line)
         found = of_table(line) if in_table else of_columns(line)
+        source = None if in_table else SOURCE.fullmatch(line)
+        waiting += [] if in_table or source or found else labels_alone(line)
+        if source or at is not None:
+            address = int(source["address"], 8) if source else at or 0
+            found += [Symbol(it, address) for it in waiting]
+            waiting = []
+        at = end_of(source) if source else at
         into = table if in_table else labels
         into.update((it.name, it) for it in found)
-        skipped += not found
+        skipped += not found and not waiting
     places = {name.upper() for name, it in labels.items() if not it.is_constant}
     named = [
         replace(it, is_constant=it.is_constant and it.name.upper() not in places)

@@ -28,19 +28,20 @@ TOPICS = {
     ),
     ASKING: Topic(
         "what a turn did, what the machine was",
-        ("show", "see", "calls", "screen", "events", "compare", "follow", "lost", "profile"),
+        ("show", "see", "accesses", "calls", "screen", "events", "compare", "follow", "lost")
+        + ("profile",),
         "Lines of the session language ask too: regs, mem, dsk, text, last, trail, devices, pages. "
         "See help session.",
     ),
     "data": Topic(
         "words and instructions",
-        ("dump", "list", "diff", "changes"),
+        ("dump", "list", "diff", "changes", "reads"),
         "Lines for it are mem, dsk, last, writes, find, translate and others: see help session and "
         "help searches.",
     ),
     "causes": Topic(
         "what a value is made of, what became of an event, which events matter",
-        ("why", "follow", "lost", "changes", "matters"),
+        ("why", "follow", "lost", "changes", "reads", "accesses", "matters"),
     ),
     "edits": Topic(
         "other programs, keys and events, and back",
@@ -51,7 +52,8 @@ TOPICS = {
     "keys": Topic("sit at the console, type", ("console", "type", "expect", "screen")),
     "breakpoints": Topic(
         "stops of your own",
-        ("break", "watch", "catch", "breakpoints", "delete", "continue", "reverse-continue"),
+        ("break", "watch", "rwatch", "catch", "breakpoints", "delete", "continue")
+        + ("reverse-continue",),
     ),
     "scripts": Topic(
         "files of lines, words of your own",

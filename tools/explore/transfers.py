@@ -1,16 +1,53 @@
-"""Which words the disk moves, and in which turn."""
-import bisect
+"""Which functions of the disk were done, by the line `transfers`, and which words they moved."""
 from dataclasses import dataclass
-from typing import Iterable, Iterator, NamedTuple, Optional
+from typing import Iterator, Optional, Sequence
 
-from nezdrab.hardware import CYLINDERS, DRIVE_WORDS, SECTORS, SECTOR_WORDS
+from nezdrab.hardware import SECTOR_WORDS
 
 from .cells import drive_cell
-from .disk_words import DEVICES_BYTES
 from .machine import Machine
 from .replies import Devices, DiskFunction
 
-UNIT_BYTES, LOCKED = 0o20000, 0o40
+UNIT_BYTES = 0o20000
+MOVING = (DiskFunction.READ, DiskFunction.WRITE)
+FUNCTIONS = {it.title.replace(" ", "-"): it for it in DiskFunction}
+
+
+@dataclass(frozen=True)
+class DoneFunction:
+    """A function of the disk that was done in the beginning of a turn. `begun` is the turn whose
+    act began it, or None if that was before the turns that were asked about. It moved or compared
+    `count` words, from this word of the drive and this address of core on."""
+
+    turn: int
+    begun: Optional[int]
+    function: DiskFunction
+    drive: int
+    word: int
+    core: int
+    count: int
+    errors: int
+
+    @classmethod
+    def of(cls, line: str) -> "DoneFunction":
+        turn, begun, function, drive, word, core, count, errors = line.split()
+        return cls(
+            int(turn),
+            None if begun == "before" else int(begun),
+            FUNCTIONS[function],
+            int(drive),
+            int(word, 8),
+            int(core, 8),
+            int(count),
+            int(errors, 8),
+        )
+
+
+def functions_done(machine: Machine, turns: range) -> Iterator[DoneFunction]:
+    """The functions that were done in these turns, in their order."""
+    while turns:
+        lines, turns = machine.transfers(turns)
+        yield from map(DoneFunction.of, lines)
 
 
 @dataclass(frozen=True)
@@ -25,18 +62,6 @@ class Transfer:
     count: int
     stays: bool
 
-    @classmethod
-    def of(cls, turn: int, devices: Devices, units: int) -> "Optional[Transfer]":
-        """What the function moves that is under way before this turn and completes in it."""
-        if devices.function not in (DiskFunction.READ, DiskFunction.WRITE):
-            return None
-        is_read, first = devices.function == DiskFunction.READ, devices.sector * SECTOR_WORDS
-        count = 0 if is_refused(devices) else min(devices.word_count, DRIVE_WORDS - first)
-        core, stays = devices.bus_address, devices.stays
-        room = max(0, (units * UNIT_BYTES - core) // 2)
-        count = count if stays and room else min(count, room)
-        return cls(turn, is_read, devices.drive, first, core, count, stays)
-
     @property
     def on_drive(self) -> range:
         """The words of the drive that it reads or writes. A write fills the last sector."""
@@ -46,8 +71,7 @@ class Transfer:
     @property
     def in_core(self) -> range:
         """The addresses of the words of core."""
-        count = min(1, self.count) if self.stays else self.count
-        return range(self.core, self.core + 2 * count, 2)
+        return words_of_core(self.core, self.count, self.stays)
 
     def drive_word(self, address: int) -> int:
         """The word of the drive that a read leaves in this word of core."""
@@ -74,94 +98,59 @@ class Transfer:
                 yield target + half, None if source is None else source + half
 
 
-def is_refused(devices: Devices) -> bool:
-    """Whether the function fails by one of the tests that come first, and moves no word."""
-    address, status = devices.words["RKDA"], devices.words["RKDS"]
-    is_locked = devices.function == DiskFunction.WRITE and bool(status & LOCKED)
-    is_outside = address >> 5 & 0o377 >= CYLINDERS or address & 0o17 >= SECTORS
-    return not status or is_outside or is_locked
+def words_of_core(first: int, count: int, stays: bool) -> range:
+    """The addresses of so many words of core from the first on, or of the first one alone."""
+    return range(first, first + 2 * (min(1, count) if stays else count), 2)
 
 
-def devices_at(machine: Machine, turns: Iterable[int]) -> Iterator[Devices]:
-    """The devices before each of these turns."""
-    for block in machine.blocks([f"devices {it}" for it in turns], DEVICES_BYTES):
-        yield from (Devices.of(it) for it in block.decode("ascii").splitlines())
+def with_stays(
+    machine: Machine, found: Sequence[DoneFunction]
+) -> Iterator[tuple[DoneFunction, bool]]:
+    """These functions, which ascend, and whether the bus address of each stayed as it was."""
+    for it, reply in zip(found, machine.read_all([f"devices {it.turn}" for it in found])):
+        yield it, Devices.of(reply).stays
 
 
-class Function(NamedTuple):
-    """A function of the disk that was done in this turn."""
-
-    turn: int
-    began_before: bool  # the turns that were asked about
-    name: str
+def transfers_in(machine: Machine, turns: range) -> list[Transfer]:
+    """The reads and writes that were done in these turns."""
+    done = functions_done(machine, turns)
+    return moved_by(machine, [it for it in done if it.function in MOVING])
 
 
-def functions(machine: Machine, turns: range) -> Iterator[Function]:
-    """What was done in these turns, by the line `transfers`, which ends after 256 lines."""
-    while turns:
-        head, *lines = machine.read(f"transfers {turns.start} {turns.stop}").splitlines()
-        turn = turns.stop
-        for line in lines:
-            ended, begun, name = line.split()[:3]
-            turn = int(ended)
-            yield Function(turn, begun == "before", name)
-        is_all = len(head.split()) == 2
-        turns = range(turns.stop if is_all else turn + 1, turns.stop)
+def moved_by(machine: Machine, moving: Sequence[DoneFunction]) -> list[Transfer]:
+    return [
+        Transfer(
+            it.turn,
+            it.function == DiskFunction.READ,
+            it.drive,
+            it.word,
+            it.core,
+            it.count,
+            stays,
+        )
+        for it, stays in with_stays(machine, moving)
+    ]
 
 
 class Disk:
     """The functions of the disk, as a walk over the turns meets them."""
 
-    def __init__(self, machine: Machine, turns: range):
-        self.machine, self.turns = machine, turns
-        self.delay, self.units = machine.setup.delays["disk"], machine.setup.units
-        self.events = sorted(machine.turns_of("disk"))
-        self.due: Optional[int] = None
-        self.is_busy = False
-        self.under_way(turns.start)
+    def __init__(self, machine: Machine):
+        self.machine = machine
+        self.ends: frozenset[int] = frozenset()
+        self.moved: dict[int, Transfer] = {}
 
-    def under_way(self, turn: int) -> None:
-        """Looks for the end of a function that is under way before the turn."""
-        self.is_busy = not self.machine.devices(turn).disk_is_ready
-        if self.is_busy:
-            self.due = self.end_of(turn)
-
-    def end_of(self, turn: int) -> Optional[int]:
-        """The turn in which the function completes that is under way before this turn, or None if
-        it doesn't in the turns."""
-        event, due = self.event_from(turn), turn + self.delay
-        last = self.turns.stop if event is None else min(event + 1, self.turns.stop)
-        last = min(last, due) if self.delay else last
-        found = functions(self.machine, range(turn, last))
-        return next((it.turn for it in found if it.began_before), None)
-
-    def event_from(self, turn: int) -> Optional[int]:
-        """The first turn from this one on in which an event completes what the disk does."""
-        at = bisect.bisect_left(self.events, turn)
-        return self.events[at] if at < len(self.events) else None
-
-    def written(self, turn: int) -> None:
-        """An instruction of this turn wrote to RKCS: it may have begun a function."""
-        if self.is_busy or self.machine.devices(turn + 1).disk_is_ready:
-            return
-        event = self.event_from(turn + 1)
-        ends = [it for it in (event, turn + self.delay if self.delay else None) if it is not None]
-        self.is_busy, self.due = True, min(ends, default=None)
-
-    def reset(self) -> None:
-        self.is_busy, self.due = False, None
+    def prepare(self, turns: range) -> None:
+        """Asks for what is done in these turns."""
+        found = list(functions_done(self.machine, turns))
+        self.ends = frozenset(it.turn for it in found)
+        moving = [it for it in found if it.function in MOVING]
+        self.moved = {it.turn: it for it in moved_by(self.machine, moving)}
 
     def completed(self, turn: int) -> Optional[Transfer]:
         """What completes in the beginning of this turn, and moves words."""
-        if self.due != turn:
-            return None
-        self.reset()
-        return Transfer.of(turn, self.machine.devices(turn), self.units)
+        return self.moved.get(turn)
 
-
-def written_in(machine: Machine, turns: range) -> list[Transfer]:
-    """The writes of the disk that complete in these turns."""
-    ends = [it.turn for it in functions(machine, turns) if it.name == "write"]
-    units = machine.setup.units
-    found = (Transfer.of(*it, units) for it in zip(ends, devices_at(machine, ends)))
-    return [it for it in found if it is not None]
+    def is_busy(self, turn: int) -> bool:
+        """Whether a function is under way in the act of this turn."""
+        return turn not in self.ends and not self.machine.devices(turn).disk_is_ready

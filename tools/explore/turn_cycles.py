@@ -26,6 +26,10 @@ MODE_OF_MAPPING = {0o7723: KERNEL, 0o7776: USER}  # by the upper digits of the r
 BLOCKS_OF_A_PAGE, BLOCKS_OF_A_SPACE = 0o200, 0o2000
 
 
+class NotFollowed(ExploreError):
+    """A turn does what these rules don't tell."""
+
+
 class Row(NamedTuple):
     """The registers before a turn: R0 to R5, KSP and USP, and PC and PS."""
 
@@ -44,7 +48,7 @@ class Seen(NamedTuple):
 
 
 def rows(machine: Machine, turns: range) -> Iterator[Row]:
-    for block in machine.blocks([f"regs {it}" for it in turns], REGS_BYTES):
+    for block in machine.ascending([b"regs %d" % it for it in turns], REGS_BYTES):
         for found in REGS.finditer(block):
             words = tuple(int(it, 8) for it in found.groups())
             yield Row(words[:PC_AT], words[PC_AT], words[PS_AT])
@@ -145,7 +149,7 @@ class Space:
             self.known[address] = self.machine.disk_word(self.turn, moved.drive, word)
             return
         if address >= self.top:
-            raise ExploreError(
+            raise NotFollowed(
                 f"turn {self.turn} takes its code or a pointer from a register at {address:06o}:"
                 " that isn't followed"
             )

@@ -2,17 +2,17 @@
 the order of docs/MACHINE.md, What happens in order."""
 from typing import Iterator, Optional, Sequence
 
+from .addressing import PC, SP
 from .cells import ALL_CODES, C, KSP, MASK, N, NAMES, NOTHING, OF_THE_DISK, REST, Cells
 from .cells import register_cells, word_cells
 from .crew import Progress
-from .errors import ExploreError
 from .machine import Machine
 from .made_of import EXTENDED, KEPT, MOVED, XOR, Row, made_of, plan_of
-from .operands import PC_REGISTER, POINT, SP_REGISTER, WHOLE_PS, Flow, How, Operand, Operands
-from .operands import Stopped, pointer_of
+from .operands import POINT, STACK_LIMIT, WHOLE_PS, Access
+from .operands import BelowTheLimit, Flow, How, Operand, Operands, Stopped, pointer_of
 from .replies import INSTRUCTION
 from .transfers import Transfer
-from .turn_cycles import KERNEL, RESERVED, TURNS_AT_ONCE, USER, Seen, seen_turns
+from .turn_cycles import KERNEL, RESERVED, TURNS_AT_ONCE, USER, NotFollowed, Seen, seen_turns
 
 IDLE, TRACE, STACK = "idle", 0o14, 0o4
 VECTORS = {"trace": TRACE, "stack": STACK}
@@ -34,16 +34,32 @@ def flows_with_bar(machine: Machine, turns: range) -> Iterator[Flow]:
                 progress.step(TURNS_OF_A_STEP)
 
 
+def each_flow(machine: Machine, turns: range) -> Iterator[tuple["Flows", Flow, str]]:
+    """The flow of each of these turns, with what makes it, which is at its turn. One that isn't
+    followed is there as far as it is, and why it isn't."""
+    while turns:
+        flows = Flows(machine, turns)
+        try:
+            for flow in flows:
+                yield flows, flow, ""
+            return
+        except NotFollowed as error:
+            yield flows, flows.flowing, str(error)
+            turns = range(flows.flowing.turn + 1, turns.stop)
+
+
 class Flows(Operands):
     """Makes the flows of these turns, one after the other."""
 
     def __init__(self, machine: Machine, turns: range):
-        super().__init__(machine, turns)
+        super().__init__(machine)
         self.turns, self.flowing = turns, Flow()
 
     def __iter__(self) -> Iterator[Flow]:
         for at in range(self.turns.start, self.turns.stop, TURNS_AT_ONCE):
-            found = seen_turns(self.machine, self.turns[at - self.turns.start :][:TURNS_AT_ONCE])
+            part = self.turns[at - self.turns.start :][:TURNS_AT_ONCE]
+            self.disk.prepare(part)
+            found = seen_turns(self.machine, part)
             self.space.prepare(found)
             for seen in found:
                 transfer = self.disk.completed(seen.act.turn)
@@ -54,15 +70,15 @@ class Flows(Operands):
         self.registers, self.after = list(seen.before.words), seen.after
         self.pc, self.vector = seen.before.pc, seen.vector
         self.mode, self.previous = seen.before.ps >> 14, seen.before.ps >> 12 & 3
-        self.moves, self.instant, self.unknown, self.has_begun_disk = [], 0, 0, False
-        flow = self.flowing = Flow(seen.act.turn, seen.act, self.mode, transfer, self.moves)
+        self.moves, self.cycles, self.turn = [], [], seen.act.turn
+        self.instant = self.unknown = 0
+        seen_of = seen.act.turn, seen.act, self.mode, transfer
+        flow = self.flowing = Flow(*seen_of, self.moves, self.cycles)
         if seen.act.act == INSTRUCTION:
             self.instruction()
         elif seen.act.act != IDLE:
             vector = seen.act.vector
             self.sequence(VECTORS[seen.act.act] if vector is None else vector)
-        if self.has_begun_disk:
-            self.disk.written(flow.turn)
         self.check()
         return flow
 
@@ -72,7 +88,7 @@ class Flows(Operands):
         for number, word in enumerate(self.registers):
             if word != after[number] and not self.unknown >> number & 1:
                 name = NAMES[number]
-                raise ExploreError(f"turn {self.flowing.turn}: the rules don't explain {name}")
+                raise NotFollowed(f"turn {self.flowing.turn}: the rules don't explain {name}")
 
     def instruction(self) -> None:
         try:
@@ -82,27 +98,56 @@ class Flows(Operands):
             if self.vector == RESERVED:
                 raise Stopped
             self.carry_out(word)
+        except BelowTheLimit:
+            self.flowing.vector, self.vector = self.vector, None
+            self.red()
         except Stopped:
             if self.vector is None:
-                raise ExploreError(f"turn {self.flowing.turn}: the rules don't explain it")
+                raise NotFollowed(f"turn {self.flowing.turn}: the rules don't explain it")
             self.sequence(self.vector)
+
+    # Words
+
+    def word_of(self, flow: Flow, number: int) -> Optional[int]:
+        """The word of core that this cycle of the turn reads or leaves; None if it is written again
+        in the turn, which shows the last word alone."""
+        it = flow.cycles[number]
+        before = [other.is_write_of(it.word) for other in flow.cycles[: number + 1]]
+        after = any(other.is_write_of(it.word) for other in flow.cycles[number + 1 :])
+        if not any(before):
+            return self.space.word(it.word)
+        return None if after else self.machine.word(flow.turn + 1, it.word)
 
     # Sequences
 
     def sequence(self, vector: int) -> None:
         self.flowing.vector, self.vector = vector, None
-        place = self.space.place(KERNEL, vector + 2)
-        if place is None or place >= self.space.top:
+        if self.vector_word(vector) is None:
+            self.red()
+            return
+        place = self.vector_word(vector + 2)
+        if place is None:
             self.red()
             return
         mode = self.space.word(place) >> 14
         if self.goes_red(mode):
-            self.first_push(mode)
+            self.failing_pushes(mode)
             self.red()
             return
         self.push(WHOLE_PS, mode, How.SAVED)
         self.push((POINT, POINT), mode, How.SAVED)
         self.load_ps(place)
+
+    def vector_word(self, address: int) -> Optional[int]:
+        """The place of a word of a vector, which is read, or None if it can't be."""
+        place = self.space.place(KERNEL, address)
+        if place is None:
+            return None
+        if not self.space.answers(KERNEL, address, place):
+            self.cycle(Access.READ_TIMEOUT, place)
+            return None
+        self.cycle(Access.READ, place)
+        return place
 
     def goes_red(self, mode: int) -> bool:
         """Whether the sequence to this mode became the red one, by the pointers after it; if KSP is
@@ -113,13 +158,22 @@ class Flows(Operands):
             return True
         return self.after.words[KSP] == 0 and self.is_stamped(self.space.place(KERNEL, 2))
 
-    def first_push(self, mode: int) -> None:
-        """What the sequence pushed before it became the red one."""
+    def failing_pushes(self, mode: int) -> None:
+        """What the sequence pushed before it became the red one: the old PS, or nothing."""
         pointer = pointer_of(mode)
-        address = self.registers[pointer] - 2 & MASK
-        place = None if address & 1 else self.space.place(mode, address)
-        has_second = mode != KERNEL and self.after.words[pointer] == address - 2 & MASK
-        if place is not None and (has_second or self.is_stamped(place)):
+        first = self.registers[pointer] - 2 & MASK
+        has_second = mode != KERNEL and self.after.words[pointer] == first - 2 & MASK
+        for address in (first, first - 2 & MASK):
+            is_below = mode == KERNEL and address < STACK_LIMIT
+            place = None if address & 1 or is_below else self.space.place(mode, address)
+            if place is None:
+                return
+            if not self.space.answers(mode, address, place):
+                self.cycle(Access.WRITE_TIMEOUT, place)
+                return
+            if address != first or not (has_second or self.is_stamped(place)):
+                return
+            self.cycle(Access.WRITE, place)
             self.store(place, False, WHOLE_PS, NOTHING, How.SAVED)
 
     def is_stamped(self, place: Optional[int]) -> bool:
@@ -142,13 +196,26 @@ class Flows(Operands):
         self.registers = [*self.registers[:KSP], *self.after.words[KSP:]]
         for cell in register_cells(KSP):
             self.move(cell, NOTHING)
+        if self.vector_word(BOTTOM) is None:
+            return
+        place = self.vector_word(BOTTOM + 2)
+        if place is not None and self.saves_below() and self.after.words[KSP] == 0:
+            self.load_ps(place)
+
+    def saves_below(self) -> bool:
+        """What the red sequence saves; tells whether both words of it were written."""
         for address, values in ((2, WHOLE_PS), (0, (POINT, POINT))):
             place = self.space.place(KERNEL, address)
-            if place is not None and self.is_stamped(place):
-                self.store(place, False, values, NOTHING, How.SAVED)
-        place = self.space.place(KERNEL, BOTTOM + 2)
-        if place is not None and self.after.words[KSP] == 0:
-            self.load_ps(place)
+            if place is None:
+                return False
+            if not self.space.answers(KERNEL, address, place):
+                self.cycle(Access.WRITE_TIMEOUT, place)
+                return False
+            if place < self.space.top and not self.is_stamped(place):
+                return False
+            self.cycle(Access.WRITE, place)
+            self.store(place, False, values, NOTHING, How.SAVED)
+        return True
 
     # Instructions
 
@@ -207,7 +274,7 @@ class Flows(Operands):
         if kind == 4:
             self.exclusive_or(register, operand)
         elif kind == 7:
-            if register != PC_REGISTER:
+            if register != PC:
                 self.step(register, -1)
         else:
             name, row = EXTENDED[kind]
@@ -223,7 +290,7 @@ class Flows(Operands):
         self.instant += 1
         made = made_of(row.low, inputs)
         for it in pair:
-            if it != PC_REGISTER:
+            if it != PC:
                 self.set_register(self.number(it), made, made, at.cells, How.VALUE)
         self.codes(row, inputs, at.cells)
 
@@ -264,7 +331,7 @@ class Flows(Operands):
 
     def jsr(self, register: int, destination: int) -> None:
         self.find_jump(destination)
-        if register == PC_REGISTER:
+        if register == PC:
             self.push((POINT, POINT), self.mode, How.SAVED)
             return
         low, high = register_cells(self.number(register))
@@ -294,7 +361,6 @@ class Flows(Operands):
 
     def reset(self) -> None:
         self.space.reset()
-        self.disk.reset()
         self.instant += 1
         for register in OF_THE_DISK:
             for cell in word_cells(register):
@@ -302,7 +368,7 @@ class Flows(Operands):
 
     def mfpi(self, operand: int) -> None:
         at = Operand(None, 0, NOTHING)
-        if operand == SP_REGISTER:
+        if operand == SP:
             low, high = register_cells(pointer_of(self.previous))
             values: tuple[Cells, Cells] = ((low,), (high,))
         else:
@@ -313,7 +379,7 @@ class Flows(Operands):
 
     def mtpi(self, operand: int) -> None:
         values, addresses = self.pop()
-        if operand == SP_REGISTER:
+        if operand == SP:
             self.instant += 1
             number = pointer_of(self.previous)
             self.set_register(number, *values, addresses, How.COPY)

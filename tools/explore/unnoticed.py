@@ -22,8 +22,8 @@ from typing import Iterator, NamedTuple, Optional, Sequence
 from .errors import ExploreError
 from .machine import SHORT_SENT_AHEAD, Machine
 from .operands import Flow
-from .replies import INSTRUCTION, MODES, SPACES, Devices, words_of
-from .transfers import functions
+from .replies import INSTRUCTION, MODES, SPACES, Devices, DiskFunction, words_of
+from .transfers import functions_done
 from .turn_cycles import Row, Space, traps
 from .turn_flow import IDLE, Flows
 
@@ -141,7 +141,8 @@ class Unnoticed:
         """Those of these turns. The machine has the past without the key."""
         if not turns:
             return frozenset()
-        reads = {it.turn for it in functions(machine, turns) if it.name == "read"}
+        done = functions_done(machine, turns)
+        reads = {it.turn for it in done if it.function == DiskFunction.READ}
         apart = reads | traps(machine, turns).keys()
         acts = {it.turn: it.act for it in machine.turns(turns.start, len(turns))}
         asked = [it for it in turns if acts[it] in (INSTRUCTION, IDLE) and it not in apart]

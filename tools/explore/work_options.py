@@ -3,6 +3,7 @@ import re
 from pathlib import Path
 from typing import Optional, Sequence
 
+from .at_work import AtWork
 from .commands import Explorer
 from .crew import processors
 from .errors import ExploreError
@@ -54,7 +55,8 @@ def ask_to_begin(explorer: Explorer, command: str, said: str) -> None:
     if not explorer.is_terminal:
         raise ExploreError(f"{said}; {command} -y .. does them")
     try:
-        answer = typed_line(f"{said}; begin? (y or n) ")
+        with AtWork.hidden():
+            answer = typed_line(f"{said}; begin? (y or n) ")
     except EOFError:
         answer = ""
     if answer.strip() not in ("y", "yes"):

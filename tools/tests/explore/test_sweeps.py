@@ -5,7 +5,10 @@ import threading
 import time
 from pathlib import Path
 from typing import cast
+from unittest import mock
 
+from explore import work_options
+from explore.at_work import AtWork
 from explore.crew import each_of
 from explore.errors import ExploreError
 from explore.machine import Machine
@@ -143,6 +146,18 @@ class Sweeps(AtTerminal):
         written, error = child.communicate(timeout=SECONDS)
         self.assertEqual(error, "")
         self.assertIn("of 1000000001 turns are done; the same line goes on from kept", written)
+
+    def test_no_sign_of_work_stands_in_the_question(self) -> None:
+        hidden: list[bool] = []
+
+        def typed(prompt: str) -> str:
+            hidden.append(AtWork.is_hidden)
+            return "y"
+
+        explorer = mock.Mock(is_terminal=True)
+        with mock.patch.object(work_options, "typed_line", typed):
+            work_options.WorkOptions("", ("-y",)).check(explorer, "sweep", 200_000, "turns")
+        self.assertEqual((hidden, AtWork.is_hidden), ([True], False))
 
     def test_many_turns_want_a_word(self) -> None:
         said = "100001 turns are more than 100000"

@@ -159,6 +159,14 @@ class Formats(Media):
         places = {"START": 0, "FIRST": 4, "SECOND": 4, "MSG": 0o12}
         self.assertEqual(self.values(symbol_file(text)), places)
 
+    def test_a_label_on_a_line_without_an_address(self) -> None:
+        lines = ["0 Z:", "1 001000 000240 A: NOP", "2 B: C:", "; a comment", "3\tD:: ; of the loop"]
+        lines += ["4 002000 000240 041 E: NOP", "F:", "6 NONE OF IT", "7 003000 G: .BLKW 5", "H:"]
+        found = symbol_file("\n".join([*lines, "9 003012 000240 NOP"]))
+        places = {"Z": 0o1000, "A": 0o1000, "B": 0o1002, "C": 0o1002, "D": 0o1002, "E": 0o2000}
+        places.update({"F": 0o2003, "G": 0o3000, "H": 0o3012})
+        self.assertEqual((self.values(found), found.skipped), (places, 1))
+
     def test_a_listing_with_other_digits(self) -> None:
         other = "\N{ARABIC-INDIC DIGIT THREE}"
         for line in (f"{other} 001000 000240 B: NOP", f"{other} C = 5"):
@@ -170,10 +178,11 @@ class Formats(Media):
         found = self.values(symbol_file((stored / "ledger.lst").read_text()))
         for line in (stored / "kernel.sym").read_text().splitlines():
             name, value = line.split()
-            if name in ("QUEUE", "LAST"):  # an address that the listing assigns
+            if name == "QUEUE":  # an address that the listing assigns
                 continue
             self.assertEqual(found.pop(name), int(value, 8), name)
-        self.assertEqual(found, {"CLERK": 0o20000, "TELLER": 0o20044, "DIGIT": 0o20076})
+        more = {"CLERK": 0o20000, "TELLER": 0o20044, "DIGIT": 0o20076, "LAST": 0o1624}
+        self.assertEqual(found, more)
 
     def test_a_map_of_rt11(self) -> None:
         found = symbol_file(MAP_OF_RT11)
@@ -267,7 +276,7 @@ class Named(Media):
         self.put("bare", program(text=words(1)))
         said = "symbols: bare is an a.out without symbols\n"
         self.assertEqual(self.explore("symbols bare\n"), said)
-        self.assertEqual(written[6], "51 symbols of a MACRO-11 listing, 133 lines skipped")
+        self.assertEqual(written[6], "52 symbols of a MACRO-11 listing, 132 lines skipped")
 
     def test_a_refused_file_leaves_those_there_were(self) -> None:
         self.put("list", b"START 1000\n")
