@@ -15,7 +15,7 @@ from .arguments import Key, Option, StrPath, asks, event_text, options_in_words
 from .explore.errors import ExploreError
 from .explore.in_words import counted
 from .explore.language import explanation, is_edit
-from .explore.machine import LAST_TURN, SHORT_SENT_AHEAD, Machine as Engine, Refused, Start
+from .explore.machine import SHORT_SENT_AHEAD, Machine as Engine, Refused, Start
 from .explore.machine import is_refused
 from .explore.options import Options, check_session, faults_of, options_of_session
 from .explore.options import words_of_options

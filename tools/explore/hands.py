@@ -7,7 +7,7 @@ from dataclasses import dataclass
 from pathlib import Path
 from typing import Iterator, Sequence
 
-from .children import Child, ProgramEnded
+from .children import Child
 from .errors import ExploreError
 from .machine import Machine
 from .reading import Read, Reads

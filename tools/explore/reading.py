@@ -3,7 +3,7 @@ registers before a turn tell where its references go, if the words of its instru
 from typing import Iterator, NamedTuple, Optional, Sequence
 
 from .cells import MASK
-from .checking import IDLE, KEY, KEY_BYTES, MAPS, READ_IT, TRAPPED, Checker, Code, Mapping
+from .checking import KEY, KEY_BYTES, MAPS, READ_IT, TRAPPED, Checker, Code, Mapping
 from .machine import SHORT_SENT_AHEAD, Machine
 from .passing import Passing
 from .replies import INSTRUCTION, MODES, DiskFunction

@@ -120,7 +120,9 @@ class Points:
         point = self.added(f"watch {address[1]}", DATA)
         if sought:
             text = f"{point.text} if {condition}"
-            self.replace(ConditionalWrite(point.number, text, "", point.address, sought))
+            self.replace(
+                ConditionalWrite(point.number, text, "", point.address, condition=sought)
+            )
         return {"id": point.number}
 
     def of_vector(self, name: str, condition: str = "") -> Object:
@@ -130,7 +132,9 @@ class Points:
         point = self.added(f"catch {name}", VECTORS)
         if sought:
             text = f"{point.text} if {condition}"
-            self.replace(ConditionalTurn(point.number, text, point.sought, None, sought))
+            self.replace(
+                ConditionalTurn(point.number, text, point.sought, condition=sought)
+            )
         return {"id": point.number}
 
     # What a stop says

@@ -1,6 +1,5 @@
 """Searches ask upwards: how often a command asks about an earlier turn than just before."""
 from pathlib import Path
-from typing import Sequence
 from unittest import mock
 
 from explore.commands import COMMANDS, Explorer
