@@ -2,7 +2,7 @@
 import random
 import re
 import struct
-from typing import Iterator, Optional
+from typing import Iterator
 
 from explore.disassembly import Disassembler
 from explore.commands import Explorer
@@ -10,7 +10,7 @@ from explore.listing import SeenTurn, seen
 from explore.machine import Machine, Start
 from explore.operand_values import STATUS, Memory, Operand, Walk
 from explore.operand_values import operands_of, texts_of, walked, way_of
-from explore.replies import INSTRUCTION, LastWrite, Mode, turns_of, words_of
+from explore.replies import INSTRUCTION, Mode
 
 from .common import BUILT
 from .systems import SYSTEMS, OfSystems

@@ -10,7 +10,7 @@ from explore.counting import AREA_BYTES, Place, areas_with_turns, windows_of
 from explore.disassembly import Disassembler
 from explore.levels import call_in
 from explore.machine import Machine, Start
-from explore.profile import Profile, Share, begins_of, counted_profile, routines_of
+from explore.profile import Profile, Share, begins_of, counted_profile
 from explore.profile import sampled_profile, sampled_turns
 from explore.replies import INSTRUCTION, Mode, Registers
 from explore.symbol_files import Symbol
