@@ -1,6 +1,6 @@
 """Packs a page of web/ into one file that opens from a disk: the page with its style, its modules
 as one script, and in elements of their own, which a browser doesn't run, the text of the worker,
-the WebAssembly modules and a session. A content security policy allows what is packed to run, and
+the WebAssembly modules, a session and examples. A content security policy allows what is packed to run, and
 nothing elsewhere to be reached.
 
 A module imports by lines `import { a, b } from "./name.js";`, and exports functions, classes and
@@ -38,6 +38,14 @@ class Session(NamedTuple):
     arguments: Sequence[str]
     lines: Sequence[str]
     files: Mapping[str, bytes]
+
+
+class Example(NamedTuple):
+    """A session that can be opened in the page: its name in a link, and what the page calls it."""
+
+    key: str
+    title: str
+    session: Session
 
 
 EMPTY = Session("", (), (), {})
@@ -108,15 +116,22 @@ def element(kind: str, name: str, text: str) -> str:
     return f'<script type="{kind}" id="{name}">{text}</script>\n'
 
 
-def session_element(session: Session) -> str:
+def as_json(session: Session) -> dict[str, object]:
     files = {name: packed_bytes(held) for name, held in session.files.items()}
-    held = {
+    return {
         "name": session.name,
         "arguments": list(session.arguments),
         "lines": list(session.lines),
         "files": files,
     }
-    return element("application/json", "session", json.dumps(held).replace("<", "\\u003c"))
+
+
+def json_element(name: str, held: object) -> str:
+    return element("application/json", name, json.dumps(held).replace("<", "\\u003c"))
+
+
+def example_as_json(example: Example) -> dict[str, object]:
+    return {"key": example.key, "title": example.title, **as_json(example.session)}
 
 
 def policy(script: str, styles: Sequence[str]) -> str:
@@ -135,8 +150,14 @@ def source_of(text: str) -> str:
     return f"'sha256-{base64.b64encode(digest).decode('ascii')}'"
 
 
-def page(path: Path, programs: Mapping[str, bytes], session: Session = EMPTY) -> str:
-    """The page at `path` with the WebAssembly modules of these programs, and the session."""
+def page(
+    path: Path,
+    programs: Mapping[str, bytes],
+    session: Session = EMPTY,
+    examples: Sequence[Example] = (),
+) -> str:
+    """The page at `path` with the WebAssembly modules of these programs, the session, and further
+    ones that can be opened in it."""
     text, folder = text_of(path), path.parent
     entry = SCRIPT.findall(text)
     if len(entry) != 1 or text.count(HEAD) != 1 or re.search(r"\sstyle=", text):
@@ -149,7 +170,8 @@ def page(path: Path, programs: Mapping[str, bytes], session: Session = EMPTY) ->
     inside = element("text/plain", WORKER, script_of(folder, WORKER))
     for name in sorted(programs):
         inside += element("text/plain", f"{name}.wasm", packed_bytes(programs[name]))
-    inside += session_element(session)
+    inside += json_element("session", as_json(session))
+    inside += json_element("examples", [example_as_json(it) for it in examples])
     allowed = policy(script, list(styles.values()))
     head = f'<meta http-equiv="Content-Security-Policy" content="{allowed}">\n'
     text = text.replace(HEAD, HEAD + head)

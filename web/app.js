@@ -5,12 +5,16 @@ import { Console } from "./console.js";
 import { CursorPanels } from "./cursor.js";
 import { Edits } from "./edits.js";
 import { EventList } from "./events.js";
+import { Examples } from "./examples.js";
 import { Finder } from "./find.js";
 import { Happened } from "./happened.js";
+import { Inspect } from "./inspect.js";
+import { Linking } from "./linking.js";
 import { Opening } from "./opening.js";
 import { Outcome } from "./outcome.js";
 import { NamedPasts } from "./pasts.js";
 import { Pictures } from "./pictures.js";
+import { Reasons } from "./reasons.js";
 import { Stepping } from "./stepping.js";
 import { Sweep } from "./sweep.js";
 import { Tasks } from "./tasks.js";
@@ -52,10 +56,15 @@ export class App {
     this.happened = new Happened(this);
     this.finder = new Finder(this);
     this.stepping = new Stepping(this);
+    this.inspect = new Inspect(this);
+    this.reasons = new Reasons(this);
+    this.examples = new Examples(this);
+    this.linking = new Linking(this);
     /** @type {Part[]} in the order in which they are told: what is asked first is shown first */
     this.parts = [
       this.view, this.outcome, this.watched, this.edits, this.events, this.sweep, this.console,
-      this.pictures, this.text, this.panels, this.happened, this.pasts,
+      this.pictures, this.text, this.panels, this.inspect, this.reasons, this.happened,
+      this.pasts, this.linking,
     ];
   }
 

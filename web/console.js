@@ -1,11 +1,12 @@
 // The console: once it is begun, the machine runs on from the cursor's turn while the pane has the
 // focus. It shows what is printed, and each key that is struck is an event.
 
-import { choice, element } from "./page.js";
+import { choice, element, field } from "./page.js";
 import {
   LAST_TURN, bytesOf, counted, devicesOf, lengthOf, readableText, registersOf, tailOf,
 } from "./replies.js";
 import { Priority } from "./run.js";
+import { Screen } from "./screen.js";
 
 // About what a PDP-11/40 does in a second.
 const TURNS_A_SECOND = 350_000;
@@ -39,6 +40,8 @@ export class Console {
     this.pane = element("terminal");
     this.status = element("terminal-status");
     this.speed = choice("speed");
+    this.isScreen = field("terminal-screen");
+    this.isScreen.addEventListener("change", () => this.showText());
     /** @type {number[]} bytes that were struck and wait */
     this.keys = [];
     /** @type {Running | null} what tells one time of running from the next, if it runs */
@@ -56,6 +59,7 @@ export class Console {
       this.begin();
     });
     this.pane.addEventListener("blur", () => this.end());
+    this.pane.addEventListener("paste", event => this.paste(event));
     this.pane.addEventListener("keydown", event => this.strike(event));
   }
 
@@ -184,8 +188,24 @@ export class Console {
     const cut = this.printed > this.bytes.length ? `, the last ${this.bytes.length} bytes` : "";
     this.status.textContent = `before turn ${turn}, ${state}${cut}`;
     this.keepPast();
-    if (!isNew) return;
-    this.pane.textContent = readableText(this.bytes);
-    this.pane.scrollTop = this.pane.scrollHeight;
+    if (isNew) this.showText();
+  }
+
+  /** The text as lines, or as it stands on the screen of a terminal. */
+  showText() {
+    const { pane, bytes, isScreen: { checked } } = this;
+    pane.textContent = checked ? new Screen().print(bytes).text : readableText(bytes);
+    pane.classList.toggle("screen", checked);
+    pane.scrollTop = checked ? 0 : pane.scrollHeight;
+  }
+
+  /** Pasted text is struck key by key.
+      @param {ClipboardEvent} event */
+  paste(event) {
+    if (!this.running) return;
+    event.preventDefault();
+    const text = event.clipboardData?.getData("text/plain").replace(/\r?\n/g, "\r") ?? "";
+    this.keys.push(...[...text.slice(0, MOST_BYTES)].map(it => it.charCodeAt(0))
+      .filter(it => it < 0o200));
   }
 }

@@ -47,14 +47,18 @@ export function sumOf(parts) {
 
 const sums = new WeakMap();
 
-/** @param {Session} session */
-function keyOfEdits(session) {
+/** A sum of all that a session has.
+    @param {Session} session @returns {string} */
+export function sumOfSession(session) {
   const { files, ...texts } = session;
   if (!sums.has(session)) {
     sums.set(session, sumOf([JSON.stringify(texts), ...Object.entries(files).flat()]));
   }
-  return `nezdrab edits ${sums.get(session)}`;
+  return sums.get(session);
 }
+
+/** @param {Session} session */
+const keyOfEdits = session => `nezdrab edits ${sumOfSession(session)}`;
 
 const keyOfPage = () => `nezdrab session ${location.pathname} ${sumOf([packedText()])}`;
 

@@ -2,10 +2,9 @@
 
 import { App } from "./app.js";
 import { takeDrops } from "./files.js";
-import { firstSession, forgetSession } from "./kept.js";
+import { forgetSession } from "./kept.js";
 import { keepLook } from "./look.js";
 import { choice, element, field } from "./page.js";
-import { placeOf } from "./place.js";
 import { LAST_TURN } from "./replies.js";
 
 /** @param {string} id @param {() => void} act */
@@ -85,12 +84,12 @@ function begin() {
   bindEdits(app);
   keepLook(choice("look"), () => app.view.timeline.draw());
   for (const name of ["popstate", "hashchange"]) {
-    addEventListener(name, () => app.view.goToPlace(placeOf(location.hash)));
+    addEventListener(name, () => app.linking.follow(location.hash));
   }
   addEventListener("beforeunload", event => app.edits.areUnsaved() && event.preventDefault());
   app.attempt(async () => {
     try {
-      await app.opening.open(await firstSession(), placeOf(location.hash));
+      await app.linking.openFirst(location.hash);
     } catch (error) {
       forgetSession();
       throw error;

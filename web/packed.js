@@ -1,5 +1,6 @@
-// What the page's one file holds besides its code: the modules, the text of the worker, and a
-// session. `tools/web --pack` puts each into an element of its own, which the browser doesn't run.
+// What the page's one file holds besides its code: the modules, the text of the worker, a session
+// and examples. `tools/web --pack` puts each into an element of its own, which the browser doesn't
+// run.
 
 /** @typedef {import("./session.js").Session} Session */
 
@@ -71,8 +72,10 @@ export async function textOfSession({ files, ...session }) {
 }
 
 /** @param {string} text @returns {Promise<Session>} */
-export async function sessionOfText(text) {
-  const { files, ...session } = JSON.parse(text);
+export const sessionOfText = text => withFiles(JSON.parse(text));
+
+/** @param {any} held @returns {Promise<Session>} */
+async function withFiles({ files, ...session }) {
   const found = Object.entries(files).map(async ([name, it]) => [name, await inflated(it)]);
   return { ...session, files: Object.fromEntries(await Promise.all(found)) };
 }
@@ -81,6 +84,17 @@ export async function sessionOfText(text) {
 export const packedText = () => textOf("session");
 
 export const packedSession = () => sessionOfText(packedText());
+
+/**
+ * An example: what it is called in a link, and in the menu.
+ * @typedef {{key: string, title: string, open: () => Promise<Session>}} Example
+ */
+
+/** The examples in the file, in order.
+    @returns {Example[]} */
+export const packedExamples = () =>
+  JSON.parse(textOf("examples") || "[]").map((/** @type {any} */ { key, title, ...session }) => (
+    { key, title, open: () => withFiles(session) }));
 
 /** The text of this page's file with another session in it.
     @param {Session} session */

@@ -1,17 +1,25 @@
-// Pasts that the user gave names, and the one with which the past as it is now is compared.
+// Pasts that the user gave names: with one of them the past as it is now is compared, and each can
+// be gone to.
 
 import { Comparison } from "./comparison.js";
 import { Differences } from "./differences.js";
 import { sameFrom } from "./fades.js";
 import { Stopped } from "./machine.js";
-import { choice, element, make } from "./page.js";
+import { button, choice, element, make } from "./page.js";
+import { Past } from "./past.js";
 import { visibleName } from "./replies.js";
+import { storePasts, storedPasts } from "./stored.js";
 
 const LONGEST_NAME = 40;
+// The past that was left for another one, if it had no name.
+const LEFT = "what you left";
 
 /**
- * A past with its name; `lines` are the edits that make it.
- * @typedef {{name: string, lines: string[], past: import("./past.js").Past}} NamedPast
+ * A past with its name; `lines` are the edits that make it. The past of one that was stored isn't
+ * loaded at first. `changes` are what the user did, and `end` is the turn up to which it was shown.
+ * @typedef {{name: string, lines: string[], past: Past, isLoaded?: boolean, changes?: Changes,
+ *   end?: number}} NamedPast
+ * @typedef {import("./stored.js").Changes} Changes
  */
 
 export class NamedPasts {
@@ -23,10 +31,14 @@ export class NamedPasts {
     this.differences = new Differences(element("difference"), turn => app.goTo(turn));
     /** @type {NamedPast[]} the first is the session as it was opened */
     this.kept = [];
+    element("past-go").addEventListener("click", () => this.go());
+    element("past-forget").addEventListener("click", () => this.forget());
   }
 
   sessionBegins() {
-    this.kept = [this.app.session.begun];
+    const { begun, contents } = this.app.session;
+    const stored = storedPasts(contents).map(it => ({ ...it, past: new Past(), isLoaded: false }));
+    this.kept = [begun, ...stored];
     this.show(0);
   }
 
@@ -44,21 +56,89 @@ export class NamedPasts {
     const { app } = this, short = visibleName(name).slice(0, LONGEST_NAME);
     if (!short) return app.say("Give the past a name first.");
     return app.edits.inTurn(async () => {
-      const { run } = app.session, past = await run.askPast();
-      const found = { name: short, lines: run.ledger.lines, past };
-      const at = this.kept.findIndex((it, place) => place > 0 && it.name === short);
-      if (at < 0) this.kept.push(found);
-      else this.kept[at] = found;
-      const isCompared = at > 0 && at === this.choice.selectedIndex;
-      this.show(this.choice.selectedIndex);
+      const { found, isCompared } = await this.keepAs(short);
       app.say(`Kept as ${short}: choose it to compare another past with it.`);
       if (isCompared) await this.compareWith(found);
     });
   }
 
+  /** @param {string} name */
+  async keepAs(name) {
+    const { app } = this, { run } = app.session, { changes, end } = app.edits.kept();
+    /** @type {NamedPast} */
+    const found = { name, lines: run.ledger.lines, past: await run.askPast(), changes, end };
+    const at = this.kept.findIndex((it, place) => place > 0 && it.name === name);
+    if (at < 0) this.kept.push(found);
+    else this.kept[at] = found;
+    const isCompared = at > 0 && at === this.choice.selectedIndex;
+    this.store();
+    this.show(this.choice.selectedIndex);
+    return { found, isCompared };
+  }
+
+  store() {
+    storePasts(this.app.session.contents, this.kept.slice(1));
+  }
+
+  get chosen() {
+    return this.kept[this.choice.selectedIndex];
+  }
+
   choose() {
-    const past = this.kept[this.choice.selectedIndex];
-    return this.app.edits.inTurn(() => this.compareWith(past));
+    const { app, chosen } = this;
+    return app.edits.inTurn(async () => {
+      await this.load(chosen);
+      await this.compareWith(chosen);
+    });
+  }
+
+  /** Loads a past that was stored.
+      @param {NamedPast} named */
+  async load(named) {
+    if (named.isLoaded !== false) return;
+    const run = this.app.session.newRun();
+    try {
+      await run.takeUp(named.lines);
+      named.past = await run.askPast();
+      named.isLoaded = true;
+    } finally {
+      run.end();
+    }
+  }
+
+  /** Makes the chosen past the present one. That which is left gets a name, if it has none. */
+  go() {
+    const { app, chosen } = this, { name, changes = [], end = 0 } = chosen;
+    return app.attempt(async () => {
+      await app.edits.last;
+      const said = await this.keepLeft();
+      const edits = { changes: structuredClone(changes), off: [], end, saved: null };
+      await app.opening.open(app.session.contents, app.view.place(), edits);
+      app.say(`This is the past ${name} now.${said}`);
+    });
+  }
+
+  /** Keeps what is left, unless a past with a name is the same. Returns what is said of it. */
+  async keepLeft() {
+    /** @param {Changes} changes */
+    const linesOf = changes => JSON.stringify(changes.map(it => it.map(({ line }) => line)));
+    const { changes, off = [] } = this.app.edits.kept(), lines = linesOf(changes);
+    const has = this.kept.some(it => linesOf(it.changes ?? []) === lines);
+    if (has && !off.length) return "";
+    await this.keepAs(LEFT);
+    return ` The one before is kept as ${LEFT}.`;
+  }
+
+  /** Forgets the chosen past, which is no longer compared with. */
+  forget() {
+    const { app, chosen } = this;
+    return app.edits.inTurn(async () => {
+      this.kept = this.kept.filter(it => it !== chosen);
+      this.store();
+      this.show(0);
+      await this.compareWith(this.kept[0]);
+      app.say(`Forgotten: ${chosen.name}.`);
+    });
   }
 
   /** Shows the names; `chosen` is the place of the past that is compared with.
@@ -66,6 +146,7 @@ export class NamedPasts {
   show(chosen) {
     this.choice.replaceChildren(...this.kept.map(it => make("option", {}, it.name)));
     this.choice.selectedIndex = chosen;
+    button("past-forget").disabled = chosen === 0;
     element("legend-old").textContent = this.inWords();
   }
 

@@ -3,6 +3,7 @@
 
 import { Minimap } from "./minimap.js";
 import { delayed, element, field } from "./page.js";
+import { Path } from "./path.js";
 import { keepPlace } from "./place.js";
 import { Sight } from "./sight.js";
 import { STORY } from "./story.js";
@@ -24,6 +25,7 @@ export class PageView {
     this.timeline = new Timeline(element("timeline"), this.listener());
     this.tips = new Tips(element("tip"), this.timeline, app);
     this.minimap = new Minimap(element("minimap"), this.timeline);
+    this.path = new Path(this.timeline);
     const table = /** @type {HTMLDetailsElement} */ (element("sight"));
     this.sight = new Sight(table, this.timeline, turn => this.goTo(turn));
     this.keepPlaceLater = delayed(PAUSE, () => keepPlace(this.place(), false));
@@ -67,6 +69,7 @@ export class PageView {
   drawn() {
     this.sight.showLater();
     this.minimap.draw();
+    this.path.draw();
   }
 
   // Turns

@@ -2,20 +2,19 @@
 import argparse
 import webbrowser
 from pathlib import Path
-from typing import Optional
 
 import bundle
 from webassembly import files as modules
 
 from .errors import ExploreError
 from .files import OUTPUT, write_whole
-from .options import FILES, Options, Parser, add_options, check_options, check_session, options_of
+from .options import Parser, add_options, check_options, check_session, options_of
 from .output import complain, put
+from .web_examples import examples_for_page
+from .web_session import held, session_for_page
 
 PAGE = modules.ROOT / "web" / "index.html"
 PROGRAMS = ("search", "disassemble")
-# Symbols of the two modes, if they lie beside the session.
-SYMBOLS = ("kernel.sym", "user.sym")
 SESSION_ELEMENT = b'<script type="application/json" id="session">'
 DESCRIPTION = """\
 Writes the machine as a page, one HTML file with all in it, and opens it in the browser. The page
@@ -23,50 +22,11 @@ begins with SESSION and its images; kernel.sym and user.sym beside SESSION are i
 SESSION's name with the ending .html in this folder, if it isn't given."""
 
 
-def held(path: Path) -> bytes:
-    try:
-        return path.read_bytes()
-    except OSError as error:
-        raise ExploreError(f"{path}: {error.strerror}") from error
-
-
-def packed_files(options: Options) -> tuple[list[str], dict[str, bytes]]:
-    """The options with their files' names alone, and the files by these names."""
-    words: list[str] = []
-    found: dict[str, bytes] = {}
-    for option, value in options.items():
-        name = value
-        if option in FILES:
-            inside = held(Path(value))
-            name = Path(value).name
-            # two files of one name lie in different folders
-            while found.get(name, inside) != inside:
-                name = f"{option}-{name}"
-            found[name] = inside
-        words += [f"--{option}", name]
-    return words, found
-
-
-def session_for_page(session: Optional[Path], options: Options) -> bundle.Session:
-    """The session and all that its options name; an empty one without a session."""
-    words, found = packed_files(options)
-    if session is None:
-        return bundle.Session("", words, (), found)
-    for name in SYMBOLS:
-        beside = session.parent / name
-        if beside.is_file():
-            found.setdefault(name, held(beside))
-    lines = held(session).decode("latin-1").split("\n")
-    if lines[-1] == "":
-        lines.pop()
-    return bundle.Session(session.name, words, [it.removesuffix("\r") for it in lines], found)
-
-
 def page_of(session: bundle.Session, programs: Path) -> str:
     """The text of the page's one file; `programs` has the WebAssembly modules."""
     try:
         found = {it: (programs / f"{it}.wasm").read_bytes() for it in PROGRAMS}
-        return bundle.page(PAGE, found, session)
+        return bundle.page(PAGE, found, session, examples_for_page())
     except OSError as error:
         raise ExploreError(f"{error.filename}: {error.strerror}; tools/web --make") from error
     except bundle.PackingError as error:

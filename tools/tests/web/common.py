@@ -157,3 +157,22 @@ class PageCase(unittest.TestCase):
             "[...document.querySelectorAll('#edits li')].map(it => it.textContent)"
         )
         return list(found)
+
+
+class OpenCase(PageCase):
+    """A test whose page stays open for the next one of its class, unless it made edits."""
+
+    turn_at_first: int
+    is_open = False
+
+    def setUp(self) -> None:
+        if not type(self).is_open or self.edits():
+            super().setUp()
+            type(self).is_open = True
+        self.fill("#turn", str(self.turn_at_first))
+        self.browser.key("Enter")
+        self.wait_still()
+
+    @classmethod
+    def tearDownClass(cls) -> None:
+        cls.is_open = False

@@ -1,0 +1,114 @@
+"""The examples in the page, each beside the program, and a disk of the user that is booted."""
+import base64
+import json
+import struct
+from pathlib import Path
+
+from .common import ROOT, PageCase, packed_page, replies_of
+
+EXAMPLES = ROOT / "examples"
+ASKED = ("regs 999", "text 1000", "mem 1000 1000 20")
+
+
+def bytes_of_tape(tape: bytes) -> dict[int, int]:
+    """What the blocks of a tape of the absolute loader put into core."""
+    found: dict[int, int] = {}
+    at = tape.index(b"\1\0")
+    while True:
+        _, count, address = struct.unpack_from("<3H", tape, at)
+        if count == 6:
+            return found
+        found.update(enumerate(tape[at + 6 : at + count], address))
+        at = tape.index(b"\1\0", at + count + 1)
+
+
+def bytes_of_aout(held: bytes) -> dict[int, int]:
+    """The text and the data of an a.out, from address 0 on."""
+    _, text, data = struct.unpack_from("<3H", held)
+    return dict(enumerate(held[16 : 16 + text + data]))
+
+
+class Examples(PageCase):
+    def setUp(self) -> None:
+        super().setUp()
+        if packed_page().startswith("http"):
+            self.skipTest("the page isn't packed")
+
+    def open_example(self, key: str) -> None:
+        self.browser.value("document.querySelector('#reply').textContent = ''")
+        self.browser.click("#examples-menu summary")
+        self.browser.click(f"[data-example='{key}']")
+        self.wait_text("#reply", "Opened: ")
+        self.wait_still()
+
+    def is_as(self, lines: list[str], *words: str) -> None:
+        """The page replies as the program does after these lines."""
+        replies = replies_of([*lines, *ASKED], *words)[-len(ASKED) :]
+        for line, reply in zip(ASKED, replies):
+            self.assertEqual(self.type_line(line), f"{line}: {reply}")
+
+    def test_sessions_are_opened(self) -> None:
+        for key, name, last in (
+            ("keys", "moved-keys", "text 300000"),
+            ("reader", "tape-to-console", "text 1000"),
+            ("boot", "boot-rk0", "text 1000"),
+        ):
+            self.open_example(key)
+            lines = (EXAMPLES / f"{name}.session").read_text().splitlines()
+            disk = EXAMPLES / f"{name}.disk"
+            words = ["--start", "2000", "--disk", str(disk)] if disk.exists() else []
+            self.is_as(lines[: lines.index(last) + 1], *words)
+            self.assertFalse(self.browser.value("document.querySelector('#own').hidden"))
+        self.browser.reload()
+        self.assertEqual(self.browser.text("#session-name"), "boot-rk0.session")
+        self.open_example("ledger")
+        self.wait_text("#balance", "137")
+        self.assertTrue(self.browser.value("document.querySelector('#own').hidden"))
+
+    def test_programs_are_what_their_files_hold(self) -> None:
+        for key, placed, start, after in (
+            ("tape", bytes_of_tape((EXAMPLES / "media/hello.lda").read_bytes()), "1000", "TEXT"),
+            ("aout", bytes_of_aout((EXAMPLES / "media/hello.aout").read_bytes()), "0", "text"),
+        ):
+            words = {at: placed[at] | placed.get(at + 1, 0) << 8 for at in placed if not at % 2}
+            self.open_example(key)
+            self.is_as([f"core {at:o} {word:o}" for at, word in words.items()], "--start", start)
+            self.fill("#turn", "1000")
+            self.browser.key("Enter")
+            self.wait_text("#instructions", after)
+
+    def drop(self, selector: str, path: Path) -> None:
+        held = base64.b64encode(path.read_bytes()).decode()
+        self.browser.value(
+            "(() => { const data = new DataTransfer();"
+            f"const bytes = Uint8Array.from(atob({json.dumps(held)}), it => it.charCodeAt(0));"
+            f"data.items.add(new File([bytes], {json.dumps(path.name)}));"
+            "const event = new DragEvent('drop',"
+            "{dataTransfer: data, bubbles: true, cancelable: true});"
+            f"document.querySelector('{selector}').dispatchEvent(event); }})()"
+        )
+
+    def test_a_disk_of_ones_own_is_booted(self) -> None:
+        """By the chooser, and by a drop; an image that is none is told, and nothing is opened."""
+        lines = (EXAMPLES / "boot-rk0.session").read_text().splitlines()
+        disk = EXAMPLES / "moved-keys.disk"
+        self.browser.give_files("#boot-file", [str(disk)])
+        self.wait_text("#reply", "Booted: moved-keys.disk")
+        self.wait_text("#text", "COUNTS THE KEYS OF A LINE")
+        self.wait_still()
+        self.is_as(lines, "--start", "2000", "--disk", str(disk))
+        self.browser.click("#examples-menu summary")
+        self.drop("#boot", EXAMPLES / "boot-rk0.disk")
+        self.wait_text("#reply", "Booted: boot-rk0.disk")
+        self.wait_text("#text", "BOOTED FROM RK0")
+        odd = self.folder() / "odd.disk"
+        odd.write_bytes(b"abc")
+        self.browser.give_files("#boot-file", [str(odd)])
+        self.assertIn("odd number", self.wait_text("#reply", "BadImage"))
+        self.assertEqual(self.browser.text("#session-name"), "boot-rk0.disk")
+        self.browser.give_files("#boot-file", [str(EXAMPLES / "first-run.session")])
+        self.wait_text("#reply", "is no image of a disk")
+
+    def test_the_page_is_small(self) -> None:
+        packed = Path(packed_page().removeprefix("file://"))
+        self.assertLess(packed.stat().st_size, 1_200_000)
