@@ -1,7 +1,8 @@
 """check-docs PDP11 SEARCH DISASSEMBLER: replays the sessions that README.md and docs/ show on these
 built programs, and compares. It also checks the links and widths of these documents and of
-crates/DEFINITIONS.md, how many lines docs/ has, and that README.md names the kit of release/KIT. It
-prints what is wrong. The last line is 'N passed, M failed'.
+crates/DEFINITIONS.md, how many lines docs/ has, that README.md names the kit of release/KIT, and
+that the checklists of docs/CHANGING.md name each file that their examples are in
+(checks/checklists.py). It prints what is wrong. The last line is 'N passed, M failed'.
 
 Each block of a document is fenced, and its info string says what it is:
 
@@ -42,12 +43,13 @@ from collections import Counter
 from typing import Iterable, Iterator, NamedTuple, Optional, Sequence
 
 import sessions
+from checks.checklists import CHANGING, failures_of_checklists
 from explore.script import typed_bytes
 from pseudo_terminal import NotShown, PseudoTerminal
 
 ROOT = os.path.normpath(os.path.join(os.path.dirname(os.path.abspath(__file__)), "..", ".."))
 README, DOCS, DEFINITIONS = "README.md", "docs", "crates/DEFINITIONS.md"
-WIDEST_PROSE, WIDEST_CELL, MOST_LINES = 100, 120, 2827
+WIDEST_PROSE, WIDEST_CELL, MOST_LINES = 100, 120, 2736
 NOT_REPLAYED = {"python", "text", "sh", "rust"}
 SESSION, SEARCH, COMMANDS, OUTPUT, TYPED = "session", "search", "commands", "output", "typed"
 EXPLORE, PROMPT = "explore", "explore> "
@@ -381,6 +383,9 @@ def all_failures(programs: Programs, found: list[Document]) -> Iterator[Optional
         yield from at_least_one(failures_of_widths(document))
     yield from at_least_one(failures_of_size(found))
     yield failure_of_kit(found[0])
+    for document in found:
+        if document.name == CHANGING:
+            yield from failures_of_checklists(document.lines)
 
 
 def at_least_one(failures: Iterable[str]) -> list[Optional[str]]:
