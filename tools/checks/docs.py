@@ -44,7 +44,7 @@ from typing import Iterable, Iterator, NamedTuple, Optional, Sequence
 
 import sessions
 from checks.checklists import CHANGING, failures_of_checklists
-from explore.script import typed_bytes
+from nezdrab.explore.script import typed_bytes
 from pseudo_terminal import NotShown, PseudoTerminal
 
 ROOT = os.path.normpath(os.path.join(os.path.dirname(os.path.abspath(__file__)), "..", ".."))

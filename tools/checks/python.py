@@ -14,7 +14,7 @@ from pathlib import Path
 
 FOLDER = Path(__file__).resolve().parents[1]
 SOURCES = FOLDER.parent / "src"
-PACKAGE = SOURCES / "nezdrab"  # whose folder explore is that of tools/
+PACKAGE = SOURCES / "nezdrab"
 MYPY = ["mypy", "--strict", "--python-version", "3.9", "--cache-dir", os.devnull]
 # Errors of syntax, names without a use or a meaning, and List for list.
 RUFF = ["ruff", "check", "--isolated", "--no-cache", "--target-version", "py39"]
@@ -28,7 +28,7 @@ class CheckerFailed(Exception):
 
 
 def modules() -> list[str]:
-    package = (os.path.relpath(it, FOLDER) for it in PACKAGE.glob("*.py"))
+    package = (os.path.relpath(it, FOLDER) for it in PACKAGE.rglob("*.py"))
     return sorted([*(str(it.relative_to(FOLDER)) for it in FOLDER.rglob("*.py")), *package])
 
 

@@ -15,7 +15,7 @@ import sys
 from dataclasses import dataclass, field
 from pathlib import Path
 
-from explore.errors import ExploreError
+from nezdrab.explore.errors import ExploreError
 
 from . import completion, pages
 from .tables import ROOT, programs

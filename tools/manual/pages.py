@@ -4,9 +4,9 @@ import textwrap
 from typing import Iterable, Iterator, Sequence
 
 import sessions
-from explore.commands import COMMANDS
-from explore.options import release
-from explore.prompt import NUMBERS, OWN_HELP
+from nezdrab.explore.commands import COMMANDS
+from nezdrab.explore.options import release
+from nezdrab.explore.prompt import NUMBERS, OWN_HELP
 
 from .tables import Option, Program
 

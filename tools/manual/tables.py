@@ -7,7 +7,7 @@ import re
 from dataclasses import dataclass
 from pathlib import Path
 
-from explore.main import DESCRIPTION, new_parser
+from nezdrab.explore.main import DESCRIPTION, new_parser
 
 ROOT = Path(__file__).resolve().parents[2]
 OPTION = re.compile(r"  (?:(-\w), |    )(--\w+)(?: <(\w+)>)? +(\S.*)")

@@ -2,11 +2,11 @@
 from pathlib import Path
 from typing import Sequence
 
-from explore import prompt  # noqa: F401, it adds the commands
-from explore.commands import Explorer
-from explore.disassembly import Disassembler
-from explore.machine import Machine, Start
-from explore.main import read_session
+from nezdrab.explore import prompt  # noqa: F401, it adds the commands
+from nezdrab.explore.commands import Explorer
+from nezdrab.explore.disassembly import Disassembler
+from nezdrab.explore.machine import Machine, Start
+from nezdrab.explore.main import read_session
 
 from .common import BUILT, ROOT, Case
 

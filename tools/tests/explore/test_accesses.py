@@ -3,11 +3,11 @@ sessions, and what the disk does and what can't be reached by programs of a few 
 from pathlib import Path
 
 import sessions
-from explore.cells import IO_PAGE
-from explore.commands import COMMANDS
-from explore.errors import ExploreError
-from explore.machine import MOST_WORDS, Machine, Start
-from explore.turn_flow import each_flow
+from nezdrab.explore.cells import IO_PAGE
+from nezdrab.explore.commands import COMMANDS
+from nezdrab.explore.errors import ExploreError
+from nezdrab.explore.machine import MOST_WORDS, Machine, Start
+from nezdrab.explore.turn_flow import each_flow
 
 from .common import BUILT, ROOT
 from .machines import OnMachine

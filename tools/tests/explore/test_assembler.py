@@ -5,11 +5,11 @@ import subprocess
 import unittest
 from typing import Sequence
 
-from explore.assembler import Assembled, assembled
-from explore.errors import ExploreError
-from explore.replies import Mode
-from explore.symbol_files import Symbol, symbol_file
-from explore.symbols import Symbols
+from nezdrab.explore.assembler import Assembled, assembled
+from nezdrab.explore.errors import ExploreError
+from nezdrab.explore.replies import Mode
+from nezdrab.explore.symbol_files import Symbol, symbol_file
+from nezdrab.explore.symbols import Symbols
 
 from . import opcodes
 from .common import BUILT, SECONDS, Case

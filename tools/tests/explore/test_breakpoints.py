@@ -2,9 +2,9 @@
 import random
 from typing import Optional
 
-from explore.commands import COMMANDS, Explorer
-from explore.machine import SHORT_SENT_AHEAD
-from explore.replies import Registers
+from nezdrab.explore.commands import COMMANDS, Explorer
+from nezdrab.explore.machine import SHORT_SENT_AHEAD
+from nezdrab.explore.replies import Registers
 
 from .machines import OnMachine
 from .terminal import AtTerminal

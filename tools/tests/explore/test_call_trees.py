@@ -8,17 +8,17 @@ from dataclasses import dataclass, field
 from typing import Iterator, Sequence
 from unittest import mock
 
-from explore import call_tree
-from explore.call_tree import CallTree
-from explore.callgrind import remarks, stacks_of
-from explore.commands import COMMANDS, Explorer
-from explore.counting import Place
-from explore.errors import ExploreError
-from explore.profile import begin_of
-from explore.replies import INSTRUCTION, INTERRUPT, Mode
-from explore.routines import NOWHERE
-from explore.symbol_files import Symbol
-from explore.symbols import Symbols
+from nezdrab.explore import call_tree
+from nezdrab.explore.call_tree import CallTree
+from nezdrab.explore.callgrind import remarks, stacks_of
+from nezdrab.explore.commands import COMMANDS, Explorer
+from nezdrab.explore.counting import Place
+from nezdrab.explore.errors import ExploreError
+from nezdrab.explore.profile import begin_of
+from nezdrab.explore.replies import INSTRUCTION, INTERRUPT, Mode
+from nezdrab.explore.routines import NOWHERE
+from nezdrab.explore.symbol_files import Symbol
+from nezdrab.explore.symbols import Symbols
 
 from .common import ROOT, SECONDS
 from .machines import LEDGER, OnMachine

@@ -4,12 +4,12 @@ import random
 from dataclasses import dataclass
 from typing import Iterator, Optional, Sequence
 
-from explore.commands import COMMANDS, Explorer
-from explore.errors import ExploreError
-from explore.levels import LOADED, NOT_CHECKED, Stacks, pointer
-from explore.listing import seen
-from explore.machine import SHORT_SENT_AHEAD
-from explore.replies import Mode, Registers
+from nezdrab.explore.commands import COMMANDS, Explorer
+from nezdrab.explore.errors import ExploreError
+from nezdrab.explore.levels import LOADED, NOT_CHECKED, Stacks, pointer
+from nezdrab.explore.listing import seen
+from nezdrab.explore.machine import SHORT_SENT_AHEAD
+from nezdrab.explore.replies import Mode, Registers
 
 from .machines import LEDGER, OnMachine
 

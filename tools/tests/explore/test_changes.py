@@ -2,7 +2,7 @@
 import random
 import re
 
-from explore.machine import Machine
+from nezdrab.explore.machine import Machine
 
 from .systems import KEYS, LEDGER, OfSystems
 

@@ -10,7 +10,7 @@ import time
 from contextlib import suppress
 from unittest import mock
 
-from explore import pace
+from nezdrab.explore import pace
 
 from .common import BUILT, SECONDS
 from .installed import BY_PS

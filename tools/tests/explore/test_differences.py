@@ -2,8 +2,8 @@
 import random
 from unittest import mock
 
-from explore.export import core_words, drive_image
-from explore.machine import Refused
+from nezdrab.explore.export import core_words, drive_image
+from nezdrab.explore.machine import Refused
 
 from .systems import LEDGER, SYSTEMS, TOP, OfSystems
 

@@ -2,12 +2,12 @@
 import random
 from typing import Iterator, Optional
 
-from explore.commands import COMMANDS, Explorer
-from explore.dap.running import ahead
-from explore.finder import TURNS_AT_FIRST
-from explore.levels import Stacks
-from explore.machine import SHORT_SENT_AHEAD
-from explore.replies import Registers, Turn
+from nezdrab.explore.commands import COMMANDS, Explorer
+from nezdrab.explore.dap.running import ahead
+from nezdrab.explore.finder import TURNS_AT_FIRST
+from nezdrab.explore.levels import Stacks
+from nezdrab.explore.machine import SHORT_SENT_AHEAD
+from nezdrab.explore.replies import Registers, Turn
 
 from .common import ROOT
 from .editor import Editor, Object

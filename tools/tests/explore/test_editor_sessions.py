@@ -10,8 +10,8 @@ import time
 import unittest
 from typing import Any
 
-from explore.dap.adapter import WHILE_RUNNING
-from explore.dap.table import REQUESTS
+from nezdrab.explore.dap.adapter import WHILE_RUNNING
+from nezdrab.explore.dap.table import REQUESTS
 
 from .common import ROOT, SECONDS
 from .editor import SCHEMA, Editor, Object, WithEditors

@@ -2,9 +2,9 @@
 import base64
 import random
 
-from explore.commands import COMMANDS, Explorer
-from explore.levels import Stacks
-from explore.replies import Mode
+from nezdrab.explore.commands import COMMANDS, Explorer
+from nezdrab.explore.levels import Stacks
+from nezdrab.explore.replies import Mode
 
 from .common import ROOT
 from .editor import Editor, Object, WithEditors

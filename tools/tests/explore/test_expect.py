@@ -3,13 +3,13 @@ import random
 import re
 from typing import Optional
 
-from explore import prompt  # noqa: F401, it adds the commands
-from explore.commands import COMMANDS, Explorer
-from explore.disassembly import Disassembler
-from explore.errors import ExploreError
-from explore.finder import Finder
-from explore.machine import LAST_TURN, Machine
-from explore.replies import text_of
+from nezdrab.explore import prompt  # noqa: F401, it adds the commands
+from nezdrab.explore.commands import COMMANDS, Explorer
+from nezdrab.explore.disassembly import Disassembler
+from nezdrab.explore.errors import ExploreError
+from nezdrab.explore.finder import Finder
+from nezdrab.explore.machine import LAST_TURN, Machine
+from nezdrab.explore.replies import text_of
 
 from .systems import KEYS, LEDGER, OfSystems
 

@@ -3,14 +3,14 @@ it must stay, as long as the turns are the same ones."""
 import random
 from unittest import mock
 
-from explore.cells import ALL_CODES, CODES, NAMES, drive_cell, register_cells, word_cells
-from explore.commands import COMMANDS, Explorer
-from explore.errors import ExploreError
-from explore.follow import Followed
-from explore.labels import Labels
-from explore.machine import Machine
-from explore.made_of import TWO_OPERANDS, Row, plan_of
-from explore.turn_flow import Flows
+from nezdrab.explore.cells import ALL_CODES, CODES, NAMES, drive_cell, register_cells, word_cells
+from nezdrab.explore.commands import COMMANDS, Explorer
+from nezdrab.explore.errors import ExploreError
+from nezdrab.explore.follow import Followed
+from nezdrab.explore.labels import Labels
+from nezdrab.explore.machine import Machine
+from nezdrab.explore.made_of import TWO_OPERANDS, Row, plan_of
+from nezdrab.explore.turn_flow import Flows
 
 from .machines import LEDGER, OnMachine
 from .terminal import AtTerminal

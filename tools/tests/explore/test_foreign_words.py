@@ -1,11 +1,11 @@
 """Words of other debuggers: each leads on to lines that can be typed."""
 import re
 
-from explore import prompt  # which adds the commands
-from explore.commands import COMMANDS
-from explore.errors import ExploreError
-from explore.foreign import FOREIGN, sentence
-from explore.language import FORMS, LISTS, SEARCHES
+from nezdrab.explore import prompt  # which adds the commands
+from nezdrab.explore.commands import COMMANDS
+from nezdrab.explore.errors import ExploreError
+from nezdrab.explore.foreign import FOREIGN, sentence
+from nezdrab.explore.language import FORMS, LISTS, SEARCHES
 
 from .common import Case
 from .machines import OnMachine

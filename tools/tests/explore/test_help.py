@@ -5,10 +5,10 @@ import termios
 import time
 from typing import Optional
 
-from explore import pager, prompt  # noqa: F401, which adds the commands
-from explore.commands import COMMANDS
-from explore.language import FORMS, LISTS, SEARCHES
-from explore.topics import ASKING, LINES, NAMED, SHOWING, TOPICS, commands_of
+from nezdrab.explore import pager, prompt  # noqa: F401, which adds the commands
+from nezdrab.explore.commands import COMMANDS
+from nezdrab.explore.language import FORMS, LISTS, SEARCHES
+from nezdrab.explore.topics import ASKING, LINES, NAMED, SHOWING, TOPICS, commands_of
 
 from .common import SECONDS, Case
 from .terminal import AtTerminal

@@ -3,8 +3,8 @@ import sys
 import threading
 from pathlib import Path
 
-from explore.errors import ExploreError
-from explore.machine import Machine, Start
+from nezdrab.explore.errors import ExploreError
+from nezdrab.explore.machine import Machine, Start
 
 from .common import BUILT, SECONDS, Case
 from .terminal import AtTerminal

@@ -1,7 +1,7 @@
 """The file of `log`."""
 import os
 
-from explore import output
+from nezdrab.explore import output
 
 from .common import Case
 from .terminal import AtTerminal

@@ -5,11 +5,11 @@ from dataclasses import dataclass, field
 from typing import Callable
 from unittest import mock
 
-from explore.cells import ALL_CODES, CODES, NAMES, register_cells, word_cells
-from explore.machine import Machine
-from explore.made_of import EXTENDED, ONE_OPERAND, TWO_OPERANDS, Row, plan_of
-from explore.operands import Flow
-from explore.turn_flow import Flows
+from nezdrab.explore.cells import ALL_CODES, CODES, NAMES, register_cells, word_cells
+from nezdrab.explore.machine import Machine
+from nezdrab.explore.made_of import EXTENDED, ONE_OPERAND, TWO_OPERANDS, Row, plan_of
+from nezdrab.explore.operands import Flow
+from nezdrab.explore.turn_flow import Flows
 
 from .machines import OnMachine
 

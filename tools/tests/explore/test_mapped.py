@@ -2,7 +2,7 @@
 import random
 import re
 
-from explore.replies import Mode
+from nezdrab.explore.replies import Mode
 
 from .systems import LEDGER, OfSystems
 

@@ -4,11 +4,11 @@ import re
 import subprocess
 from typing import Optional, Sequence
 
-from explore.commands import Explorer
-from explore.machine import LAST_TURN
-from explore.matters import Matters, Results, tried
-from explore.moves import Change, Tried, Way
-from explore.past import Event
+from nezdrab.explore.commands import Explorer
+from nezdrab.explore.machine import LAST_TURN
+from nezdrab.explore.matters import Matters, Results, tried
+from nezdrab.explore.moves import Change, Tried, Way
+from nezdrab.explore.past import Event
 
 from .common import ROOT, SECONDS
 from .machines import LEDGER, OnMachine

@@ -3,11 +3,11 @@ import subprocess
 import sys
 from unittest import mock
 
-from explore.compare import parts_of_texts
-from explore.disassembly import Disassemble, Disassembler
-from explore.errors import ExploreError
-from explore.machine import LAST_TURN
-from explore.search import not_found
+from nezdrab.explore.compare import parts_of_texts
+from nezdrab.explore.disassembly import Disassemble, Disassembler
+from nezdrab.explore.errors import ExploreError
+from nezdrab.explore.machine import LAST_TURN
+from nezdrab.explore.search import not_found
 
 from .common import BUILT, SECONDS, Case
 

@@ -3,9 +3,9 @@ import html
 import re
 from unittest import mock
 
-from explore.machine import LAST_TURN
-from explore.page import FORM
-from explore.picture import guessed_last
+from nezdrab.explore.machine import LAST_TURN
+from nezdrab.explore.page import FORM
+from nezdrab.explore.picture import guessed_last
 
 from .common import ROOT, Case
 

@@ -4,16 +4,16 @@ import re
 from collections import Counter
 from unittest import mock
 
-from explore import profile
-from explore.commands import Explorer
-from explore.counting import AREA_BYTES, Place, areas_with_turns, windows_of
-from explore.disassembly import Disassembler
-from explore.levels import call_in
-from explore.machine import Machine, Start
-from explore.profile import Profile, Share, begins_of, counted_profile
-from explore.profile import sampled_profile, sampled_turns
-from explore.replies import INSTRUCTION, Mode, Registers
-from explore.symbol_files import Symbol
+from nezdrab.explore import profile
+from nezdrab.explore.commands import Explorer
+from nezdrab.explore.counting import AREA_BYTES, Place, areas_with_turns, windows_of
+from nezdrab.explore.disassembly import Disassembler
+from nezdrab.explore.levels import call_in
+from nezdrab.explore.machine import Machine, Start
+from nezdrab.explore.profile import Profile, Share, begins_of, counted_profile
+from nezdrab.explore.profile import sampled_profile, sampled_turns
+from nezdrab.explore.replies import INSTRUCTION, Mode, Registers
+from nezdrab.explore.symbol_files import Symbol
 
 from .common import BUILT
 from .systems import KEYS, LEDGER, OfSystems

@@ -5,15 +5,15 @@ import random
 from typing import Sequence
 from unittest import mock
 
-from explore import hands, reads
-from explore.cells import IO_PAGE
-from explore.commands import COMMANDS, Explorer
-from explore.errors import ExploreError
-from explore.machine import MOST_WORDS, Machine, Start
-from explore.reading import Read, Reads
-from explore.replies import DiskFunction
-from explore.transfers import functions_done, with_stays, words_of_core
-from explore.turn_flow import each_flow
+from nezdrab.explore import hands, reads
+from nezdrab.explore.cells import IO_PAGE
+from nezdrab.explore.commands import COMMANDS, Explorer
+from nezdrab.explore.errors import ExploreError
+from nezdrab.explore.machine import MOST_WORDS, Machine, Start
+from nezdrab.explore.reading import Read, Reads
+from nezdrab.explore.replies import DiskFunction
+from nezdrab.explore.transfers import functions_done, with_stays, words_of_core
+from nezdrab.explore.turn_flow import each_flow
 
 from .common import BUILT
 from .machines import OnMachine

@@ -1,8 +1,8 @@
 """Control sequences that a program prints at the console: they are set back, and bring no keys."""
 import signal
 
-from explore.sequences import Sequences
-from explore.visible import visible_bytes
+from nezdrab.explore.sequences import Sequences
+from nezdrab.explore.visible import visible_bytes
 
 from .common import SECONDS, Case
 from .test_consoles import ECHO, LEAVE, AtConsole

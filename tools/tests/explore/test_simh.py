@@ -2,7 +2,7 @@
 import subprocess
 import unittest
 
-from explore.simh import bootstrap
+from nezdrab.explore.simh import bootstrap
 
 from .common import ROOT, SECONDS
 from .installed import SIMH

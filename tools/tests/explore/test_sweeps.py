@@ -7,11 +7,11 @@ from pathlib import Path
 from typing import cast
 from unittest import mock
 
-from explore import work_options
-from explore.at_work import AtWork
-from explore.crew import each_of
-from explore.errors import ExploreError
-from explore.machine import Machine
+from nezdrab.explore import work_options
+from nezdrab.explore.at_work import AtWork
+from nezdrab.explore.crew import each_of
+from nezdrab.explore.errors import ExploreError
+from nezdrab.explore.machine import Machine
 
 from .common import SECONDS
 from .terminal import AtTerminal

@@ -4,11 +4,11 @@ import random
 from typing import Sequence
 from unittest import mock
 
-from explore.commands import Explorer
-from explore.machine import LAST_TURN, Machine
-from explore.matters import Matters, Results, tried
-from explore.moves import Trial
-from explore.unnoticed import Unnoticed
+from nezdrab.explore.commands import Explorer
+from nezdrab.explore.machine import LAST_TURN, Machine
+from nezdrab.explore.matters import Matters, Results, tried
+from nezdrab.explore.moves import Trial
+from nezdrab.explore.unnoticed import Unnoticed
 
 from .machines import LEDGER, OnMachine
 

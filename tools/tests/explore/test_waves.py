@@ -6,10 +6,10 @@ import subprocess
 import unittest
 from typing import Iterator, NamedTuple
 
-from explore.levels import call_in
-from explore.machine import Machine
-from explore.profile import NOT_NAMED
-from explore.replies import Mode
+from nezdrab.explore.levels import call_in
+from nezdrab.explore.machine import Machine
+from nezdrab.explore.profile import NOT_NAMED
+from nezdrab.explore.replies import Mode
 
 from .common import SECONDS
 from .systems import KEYS, LEDGER, OfSystems

@@ -5,14 +5,14 @@ import re
 from typing import Sequence
 from xml.etree import ElementTree
 
-from explore.account import ranges
-from explore.cells import ALL_CODES, drive_cell, is_on_bus, register_cells
-from explore.commands import COMMANDS, Explorer
-from explore.errors import ExploreError
-from explore.labels import Labels, events_with_data
-from explore.machine import Machine
-from explore.origins import Origins
-from explore.turn_flow import Flows
+from nezdrab.explore.account import ranges
+from nezdrab.explore.cells import ALL_CODES, drive_cell, is_on_bus, register_cells
+from nezdrab.explore.commands import COMMANDS, Explorer
+from nezdrab.explore.errors import ExploreError
+from nezdrab.explore.labels import Labels, events_with_data
+from nezdrab.explore.machine import Machine
+from nezdrab.explore.origins import Origins
+from nezdrab.explore.turn_flow import Flows
 
 from .machines import LEDGER, OnMachine
 from .terminal import AtTerminal

@@ -89,7 +89,7 @@ class Wheel(Case):
         with zipfile.ZipFile(wheel) as archive:
             names = set(archive.namelist())
         package = ROOT / "src" / "nezdrab"
-        files = [*package.glob("*.py"), *package.glob("explore/*.py"), package / "py.typed"]
+        files = [*package.rglob("*.py"), package / "py.typed"]
         files += [package / "programs" / it for it in ("pdp11", "search", "disassemble")]
         self.assertEqual({str(it.relative_to(ROOT / "src")) for it in files} - names, set())
         self.run_in(self.room, sys.executable, "-m", "venv", str(self.away))

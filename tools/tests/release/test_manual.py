@@ -11,7 +11,7 @@ from typing import Callable
 from unittest import mock
 
 import sessions
-from explore.commands import COMMANDS
+from nezdrab.explore.commands import COMMANDS
 from manual import made
 from manual.tables import programs
 

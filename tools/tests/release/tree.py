@@ -16,7 +16,7 @@ TOOLS = [
     *("tools/release", ".ci/run", "tools/web", "tools/bundle.py", "tools/sessions.py"),
     "tools/hardware.py",
     *("search", "explore", "tools/start-explore", "tools/python_needed.py", "tools/refuse-each"),
-    *(str(it.relative_to(ROOT)) for it in sorted(ROOT.glob("tools/explore/*.py"))),
+    *(str(it.relative_to(ROOT)) for it in sorted(ROOT.glob("src/nezdrab/explore/*.py"))),
     *(str(it.relative_to(ROOT)) for it in sorted(ROOT.glob("src/nezdrab/*.py"))),
     *(str(it.relative_to(ROOT)) for it in sorted(ROOT.glob("tools/webassembly/*.*"))),
     *(str(it.relative_to(ROOT)) for it in sorted(ROOT.glob("tools/by-node/*"))),
