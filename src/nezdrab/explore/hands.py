@@ -4,16 +4,15 @@ import pickle
 import sys
 from contextlib import ExitStack, closing
 from dataclasses import dataclass
-from pathlib import Path
 from typing import Iterator, Sequence
 
 from .children import Child
 from .errors import ExploreError
 from .machine import Machine
+from .programs import by_another_python
 from .reading import Read, Reads
 
-TOOLS = str(Path(__file__).resolve().parents[1])
-BEGIN = f"import sys; sys.path.insert(0, {TOOLS!r}); from explore.hands import main; main()"
+BEGIN = "from nezdrab.explore.hands import main; main()"
 
 
 @dataclass(frozen=True)
@@ -30,7 +29,7 @@ class Hand(Child):
     """A process that does every so many parts, in their order."""
 
     def __init__(self, machine: Machine, address: int, parts: Sequence[range], most: int):
-        super().__init__([sys.executable, "-S", "-B", "-c", BEGIN])
+        super().__init__(by_another_python(BEGIN))
         past = machine.start, list(machine.journal), list(machine.replies)
         try:
             pickle.dump((past, address, list(parts), most), self.given)

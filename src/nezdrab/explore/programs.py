@@ -10,6 +10,7 @@ from .errors import ExploreError
 
 HERE = Path(__file__).resolve()
 BESIDE = HERE.parents[1] / "programs"  # as a wheel has them
+SOURCES = HERE.parents[2]  # what the package is in
 
 
 def clone() -> Optional[Path]:
@@ -45,6 +46,12 @@ def program_of_clone(root: Path, name: str) -> str:
     if found.returncode:
         raise ExploreError(f"there is no program {name}")
     return os.fsdecode(found.stdout.removesuffix(b"\n"))
+
+
+def by_another_python(statements: str) -> list[str]:
+    """The command of another Python that has this package, and runs these statements."""
+    begin = f"import sys; sys.path.insert(0, {str(SOURCES)!r}); {statements}"
+    return [sys.executable, "-S", "-B", "-c", begin]
 
 
 def own_command() -> str:

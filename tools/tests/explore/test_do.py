@@ -154,7 +154,7 @@ class Words(Case):
 
     def test_a_word_of_another_debugger_may_be_defined(self) -> None:
         written = self.explore("b 1000\ndefine b break $*\nb 1000\nhelp b\nundefine b\nb 1000\n")
-        self.assertIn("b: `break A` sets", written.splitlines()[0])
+        self.assertEqual("b: `break 1000`, then `continue`", written.splitlines()[0])
         self.assertEqual(
             written.splitlines()[1:5],
             ["define b break $*", "breakpoint 1: break 1000", "define b break $*"]

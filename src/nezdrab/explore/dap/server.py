@@ -4,18 +4,18 @@ import os
 import socket
 import subprocess
 import sys
-from pathlib import Path
 
 from ..errors import ExploreError
 from ..interrupts import INTERRUPTS
 from ..options import Parser
 from ..output import complain, put
+from ..programs import by_another_python
 from .adapter import Adapter
 from .launch import Programs
 from .wire import Wire
 
 HOST, LARGEST_PORT = "127.0.0.1", 65_535
-START = Path(__file__).resolve().parents[2] / "start-explore"
+BEGIN = "from nezdrab.explore.main import dap; sys.exit(dap())"
 DESCRIPTION = """\
 What an editor starts to debug in a recorded run, forwards and backwards: it speaks the Debug
 Adapter Protocol on standard input and output, or with --port on that port of this computer alone,
@@ -65,7 +65,7 @@ def serve_port(found: argparse.Namespace) -> None:
     for name in ("program", "disassembler"):
         value = getattr(found, name)
         words += [f"--{name}", os.path.abspath(value)] if value else []
-    command = [sys.executable, "-S", str(START), "dap", *words]
+    command = [*by_another_python(BEGIN), *words]
     started: list["subprocess.Popen[bytes]"] = []
     put(f"{HOST}:{server.getsockname()[1]} waits for editors; Ctrl-C ends")
     try:
