@@ -2,13 +2,11 @@
 
 /** @typedef {import("./lanes.js").Lane} Lane */
 
-/** Where a step is drawn: the middle of its lane, of an event below its mark; null if the lane
-    isn't there.
+/** Where a step is drawn: in the middle of its lane; null if the lane isn't there.
     @param {Lane[]} lanes @param {string} name */
 function heightIn(lanes, name) {
   const lane = lanes.find(it => it.name === name);
-  if (!lane) return null;
-  return lane.kind === "events" ? lane.top + lane.height - 5 : lane.top + lane.height / 2;
+  return lane ? lane.top + lane.height / 2 : null;
 }
 
 /** The points of steps that have a turn and a lane.

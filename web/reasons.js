@@ -105,7 +105,7 @@ export class Reasons {
     element("reasons").replaceChildren(
       make("ol", { "aria-label": "Steps back" }, ...steps.map(it => this.item(it.text, it.turn))),
       ...cut, ...this.eventsInWords(before, turn));
-    this.app.view.path.show([...steps, ...before.map(it => ({ turn: it.turn, lane: "events" }))]);
+    this.app.view.path.show(steps);
     element("why-none").hidden = false;
   }
 

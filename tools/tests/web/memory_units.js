@@ -118,9 +118,8 @@ export function test_words_that_transfers_copy() {
 /** A path goes through the middles of the lanes of its steps; what isn't drawn is left out. */
 export function test_points_of_a_path() {
   const view = Object.assign(new View(0, 100), { left: 50, width: 1000 });
-  const lanes = [{ name: "events", kind: "events", top: 20, height: 60 },
-    { name: "disk", top: 80, height: 30 }];
+  const lanes = [{ name: "user PC", top: 20, height: 60 }, { name: "disk", top: 80, height: 30 }];
   const steps = [{ turn: 10, lane: "disk" }, { turn: null, lane: "" }, { turn: 5, lane: "core 0" },
-    { turn: 2, lane: "events" }];
-  equal(pointsOf(steps, lanes, view), [{ x: 100, y: 95 }, { x: 20, y: 75 }]);
+    { turn: 2, lane: "user PC" }];
+  equal(pointsOf(steps, lanes, view), [{ x: 100, y: 95 }, { x: 20, y: 50 }]);
 }

@@ -107,7 +107,7 @@ class Why(OpenCase):
     def test_the_path_is_drawn_and_taken_away(self) -> None:
         self.why("the ledger", 128_700)
         circles = "document.querySelectorAll('.path circle')"
-        self.assertGreater(self.browser.value(f"{circles}.length"), 3)
+        self.assertEqual(self.browser.value(f"{circles}.length"), len(self.steps()))
         places = self.browser.value(
             f"[...{circles}].map(it => it.getBoundingClientRect()).map(it => it.x + it.width / 2)"
         )
