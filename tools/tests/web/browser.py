@@ -263,7 +263,8 @@ class Browser:
                 self._note(self._message(end - time.monotonic()))
         thread = next(it["tid"] for it in self.traced if it["name"] == "traced")
         tasks = [it for it in self.traced if it["name"] == "RunTask" and it["tid"] == thread]
-        return max(float(it["tdur"]) / 1000 for it in tasks if it["ph"] == "X")
+        times = (it.get("tdur", it["dur"]) for it in tasks if it["ph"] == "X")
+        return max(float(it) / 1000 for it in times)
 
     # Pointer and keys
 
