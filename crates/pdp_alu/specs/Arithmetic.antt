@@ -9,7 +9,7 @@ use Rattle.pdp_alu.specs.declared.effect.Effect.{Effect}
 use Rattle.pdp_alu.specs.Effect.{effect}
 use Rattle.pdp_alu.specs.Operand.{overflows, signed_at}
 
--- ADD: destination plus source; C on a carry out of the word
+-- ADD: destination plus source; C on a carry out of the word [4.6]
 unfoldable pub add_effect : ℕ → ℕ → Effect
 add_effect source destination =
     effect Word (destination + source) (overflows Word (signed_value destination +ℤ signed_value
@@ -24,10 +24,10 @@ difference size minuend subtrahend =
     effect size (span size + from - less) (overflows size (signed_at size from -ℤ signed_at size
     less)) (nat_lt from less)
 
--- SUB: destination minus source
+-- SUB: destination minus source [4.7]
 unfoldable pub sub_effect : ℕ → ℕ → Effect
 sub_effect source destination = difference Word destination source
 
--- CMP: source minus destination, which is not stored
+-- CMP: source minus destination, which is not stored [4.2]
 unfoldable pub cmp_effect : Size → ℕ → ℕ → Effect
 cmp_effect size source destination = difference size source destination

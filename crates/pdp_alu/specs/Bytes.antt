@@ -7,7 +7,7 @@ use Rattle.pdp_word.specs.Word.{join, low_byte, high_byte}
 use Rattle.pdp_alu.specs.declared.effect.Effect.{Effect}
 
 -- SWAB: the bytes of the word exchanged; N and Z are of the low byte of the result, V and C are
--- cleared
+-- cleared [4.21]
 unfoldable pub swab_effect : ℕ → Effect
 swab_effect word =
     let swapped = join (low_byte word) (high_byte word) in
@@ -21,7 +21,7 @@ swab_effect word =
       };
     }
 
--- SXT: N in every bit; Z if N is clear, N and C are kept, V is cleared
+-- SXT: N in every bit; Z if N is clear, N and C are kept, V is cleared [4.22]
 unfoldable pub sxt_effect : Codes → Effect
 sxt_effect codes =
     record {

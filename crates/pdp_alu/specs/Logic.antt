@@ -8,19 +8,19 @@ use Rattle.pdp_alu.specs.declared.effect.Effect.{Effect}
 use Rattle.pdp_alu.specs.Effect.{effect}
 use Rattle.pdp_alu.specs.Operand.{all_ones}
 
--- BIT: destination and source, which is not stored
+-- BIT: destination and source, which is not stored [4.3]
 unfoldable pub bit_effect : Size → ℕ → ℕ → Codes → Effect
 bit_effect size source destination codes = effect size (bit_and destination source) false codes.c
 
--- BIC: destination and the complement of source
+-- BIC: destination and the complement of source [4.4]
 unfoldable pub bic_effect : Size → ℕ → ℕ → Codes → Effect
 bic_effect size source destination codes =
     effect size (bit_and destination (all_ones Word - source)) false codes.c
 
--- BIS: destination or source
+-- BIS: destination or source [4.5]
 unfoldable pub bis_effect : Size → ℕ → ℕ → Codes → Effect
 bis_effect size source destination codes = effect size (bit_or destination source) false codes.c
 
--- XOR: destination exclusive or register
+-- XOR: destination exclusive or register [4.8]
 unfoldable pub xor_effect : ℕ → ℕ → Codes → Effect
 xor_effect register destination codes = effect Word (bit_xor destination register) false codes.c

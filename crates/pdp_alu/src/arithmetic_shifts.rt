@@ -16,7 +16,7 @@ const LONG_SIGN: u32 = 1 << 31;
 /// ASH: a word shifted arithmetically by the signed low six bits of the source, to the left, or to
 /// the right if they are negative. N and Z are of the result. C is the last bit that was moved out,
 /// and V is set if the sign changed at any single shift; both are clear if the count is 0 (DEC
-/// PDP-11/40 Processor Handbook (1972), Extended instruction set, ASH; V and C are [P]).
+/// PDP-11/40 Processor Handbook (1972), Extended instruction set, ASH) [4.25] [4.31].
 #[inline]
 #[tactic(auto, unfolding(crate::specs::ArithmeticShifts::ash_effect))]
 pub fn ash(word: u16, source: u16) -> Effect
@@ -32,7 +32,7 @@ pub fn ash(word: u16, source: u16) -> Effect
 }
 
 /// ASHC: a number of 32 bits shifted as ASH shifts a word. N and Z are of the 32 bits (DEC
-/// PDP-11/40 Processor Handbook (1972), Extended instruction set, ASHC; V and C are [P]).
+/// PDP-11/40 Processor Handbook (1972), Extended instruction set, ASHC) [4.26] [4.31].
 #[inline]
 #[tactic(auto, unfolding(crate::specs::ArithmeticShifts::ashc_effect))]
 pub fn ashc(long: u32, source: u16) -> LongEffect

@@ -24,7 +24,7 @@ pub fn swab(word: u16) -> Effect
 }
 
 /// SXT: 177777 if N is set, else 0. Z is set if N is clear, N and C are kept, V is cleared (DEC
-/// PDP-11/40 Processor Handbook (1972), Instruction set, SXT; V is [P]).
+/// PDP-11/40 Processor Handbook (1972), Instruction set, SXT) [4.22].
 #[inline]
 #[tactic(auto, unfolding(crate::specs::Bytes::sxt_effect))]
 pub fn sxt(codes: Codes) -> Effect

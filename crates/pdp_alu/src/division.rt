@@ -15,7 +15,7 @@ use pdp_word::{Codes, Size, signed};
 /// that a remainder has the dividend's sign. N and Z are of the quotient, V and C are cleared.
 /// Nothing is divided if the divisor is 0, with the codes NZVC 0111, or if the quotient is no
 /// signed word, with the codes 0010 (DEC PDP-11/40 Processor Handbook (1972), Extended instruction
-/// set, DIV; the codes if nothing is divided are [P]).
+/// set, DIV) [4.28] [4.29].
 #[inline]
 #[tactic(auto, unfolding(crate::specs::Division::div_effect))]
 pub fn div(dividend: u32, divisor: u16) -> Div

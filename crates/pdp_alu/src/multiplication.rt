@@ -7,7 +7,7 @@ use pdp_word::signed;
 
 /// MUL: the product of two signed words, in 32 bits. N and Z are of the product, V is cleared, C is
 /// set if it is no signed word (DEC PDP-11/40 Processor Handbook (1972), Extended instruction set,
-/// MUL; C is [P]).
+/// MUL) [4.23].
 #[inline]
 #[tactic(auto, unfolding(crate::specs::Multiplication::mul_effect))]
 pub fn mul(multiplicand: u16, multiplier: u16) -> LongEffect

@@ -88,7 +88,7 @@ pub fn adc(size: Size, value: u16, codes: Codes) -> Effect
 
 /// SBC and SBCB: the value minus C, of a word the low byte if the size is a byte. N and Z are of
 /// the result. If C was set, V is set if the value was 100000 (a byte: 200) and C if it was 0; else
-/// both are cleared (DEC PDP-11/40 Processor Handbook (1972), Instruction set, SBC; C is [P]).
+/// both are cleared (DEC PDP-11/40 Processor Handbook (1972), Instruction set, SBC) [4.15].
 #[inline]
 #[tactic(auto, unfolding(crate::specs::SingleOperand::sbc_effect))]
 pub fn sbc(size: Size, value: u16, codes: Codes) -> Effect

@@ -12,7 +12,7 @@ use std::marker::Model;
 /// A run that an edit of its past ended: states of it, what came out of it with its first touches,
 /// the greatest turn whose events edits may have changed since, and up to which turn it was known.
 /// If a run of the past now comes to one of these states after that turn, it goes on as this run
-/// did. [P]
+/// did.
 #[derive(Drop)]
 pub struct Former {
     // Checkpoints, and states between them.

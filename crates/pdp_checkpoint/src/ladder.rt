@@ -24,18 +24,18 @@ use std::alloc::Global;
 use std::marker::Model;
 use std::mem;
 
-/// How many states a ladder keeps at most [P].
+/// How many states a ladder keeps at most.
 pub const MOST_KEPT: usize = 256;
 
-/// The widest stride of a ladder, in turns [P].
+/// The widest stride of a ladder, in turns.
 pub const WIDEST_STRIDE: u32 = 2_000_000_000;
 
-/// How many states a ladder keeps at most between its checkpoints [P].
+/// How many states a ladder keeps at most between its checkpoints.
 pub const MOST_NEAR: usize = 256;
 
 /// Checkpoints of a machine, at most 256, at the multiples of a stride from turn 0 on, and beside
-/// them at most 256 states near the turns that were asked about last, and at most two former runs
-/// [P]. A contract sees the list of the checkpoints, the earliest first, the stride, the list of the
+/// them at most 256 states near the turns that were asked about last, and at most two former runs.
+/// A contract sees the list of the checkpoints, the earliest first, the stride, the list of the
 /// other states, and that of the former runs.
 #[derive(Drop)]
 pub struct Ladder {
@@ -301,7 +301,7 @@ impl Ladder {
     }
 
     /// Makes these the delays (turns) of the devices in the checkpoint of turn 0, and drops the
-    /// other states and the former runs. It takes no memory. [P]
+    /// other states and the former runs. It takes no memory.
     pub fn set_delays(&mut self, delays: Delays)
         ensures kept { self.new ≡ ladder_with_delays delays self.old }
         ensures count { length self.new.kept ≡ 1 }
@@ -317,7 +317,7 @@ impl Ladder {
     /// turns above it are set aside (`set_aside`), and the states between are dropped. The
     /// checkpoints up to `turn` have the page of the word alike: they share the one page that is
     /// made. All that is needed for the new states is there before the first is changed. The machine
-    /// numbers the new page, and is left as it is. [P]
+    /// numbers the new page, and is left as it is.
     ///
     /// # Errors
     ///

@@ -28,21 +28,21 @@ init_kl = record { keyboard = init_keyboard; printer = init_transmitter }
 abbrev pub kl_struck : Kl → ℕ → Kl
 kl_struck k key = record k { keyboard = key_struck key k.keyboard }
 
--- what a read gives
+-- what a read gives [6.44] [6.45]
 abbrev pub kl_value : KlRegister → Kl → ℕ
 kl_value KeyboardStatus k = ready_enable_status k.keyboard.ready_enable
 kl_value KeyboardBuffer k = k.keyboard.key
 kl_value PrinterStatus k = transmitter_value Status k.printer
 kl_value PrinterBuffer k = transmitter_value Buffer k.printer
 
--- what a read does: one of the keyboard's buffer takes the key
+-- what a read does: one of the keyboard's buffer takes the key [6.45]
 abbrev pub kl_read : KlRegister → Kl → Kl
 kl_read KeyboardStatus k = k
 kl_read KeyboardBuffer k = record k { keyboard = key_taken k.keyboard }
 kl_read PrinterStatus k = record k { printer = transmitter_read Status k.printer }
 kl_read PrinterBuffer k = record k { printer = transmitter_read Buffer k.printer }
 
--- what a write of a word does in a turn, with the printer's delay
+-- what a write of a word does in a turn, with the printer's delay [6.44] [6.45]
 abbrev pub kl_written : KlRegister → ℕ → ℕ → ℕ → Kl → Kl
 kl_written KeyboardStatus word turn delay k =
     record k {
@@ -82,6 +82,6 @@ keyboard_served k = record k {
 abbrev pub printer_served : Kl → Kl
 printer_served k = record k { printer = transmitter_served k.printer }
 
--- RESET: the buffers stay
+-- RESET: the buffers stay [6.108]
 abbrev pub kl_reset : Kl → Kl
 kl_reset k = record { keyboard = keyboard_reset k.keyboard; printer = transmitter_reset k.printer }

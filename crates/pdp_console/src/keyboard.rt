@@ -24,7 +24,7 @@ impl Keyboard {
         self.key == other.key && self.ready_enable.is_same(&other.ready_enable)
     }
 
-    /// A keyboard at power-up: not done, not enabled, with key 0 [P].
+    /// A keyboard at power-up: not done, not enabled, with key 0 [7.7].
     pub fn init() -> Keyboard
         ensures { result ≡ init_keyboard }
     {
@@ -35,7 +35,7 @@ impl Keyboard {
     }
 
     /// A key is struck: it is kept, and done is set. One that comes while done is set replaces the
-    /// last [P].
+    /// last [6.54].
     pub fn strike(&mut self, key: u8)
         ensures { self.new ≡ key_struck key self.old }
     {
@@ -52,7 +52,7 @@ impl Keyboard {
         self.key
     }
 
-    /// RESET: done and enable are cleared and a request is dropped; the key stays [P].
+    /// RESET: done and enable are cleared and a request is dropped; the key stays [6.102] [6.108].
     pub fn reset(&mut self)
         ensures { self.new ≡ keyboard_reset self.old }
     {

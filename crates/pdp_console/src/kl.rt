@@ -10,11 +10,11 @@ use pdp_device::{Transmitter, TransmitterRegister};
 pub enum KlRegister {
     /// TKS: bit 7 done, bit 6 enable, which alone is written.
     KeyboardStatus,
-    /// TKB: the last key. A read clears done; a write does nothing [P].
+    /// TKB: the last key. A read clears done; a write does nothing [6.45].
     KeyboardBuffer,
     /// TPS: bit 7 ready, bit 6 enable, which alone is written.
     PrinterStatus,
-    /// TPB: a write clears ready and begins to print its low byte. Reads 0 [P].
+    /// TPB: a write clears ready and begins to print its low byte. Reads 0 [6.47].
     PrinterBuffer,
 }
 
@@ -58,7 +58,7 @@ impl Kl {
         self.keyboard.is_same(&other.keyboard) && self.printer.is_same(&other.printer)
     }
 
-    /// A console terminal at power-up: as after RESET, with both buffers 0 [P].
+    /// A console terminal at power-up: as after RESET, with both buffers 0 [7.7].
     pub fn init() -> Kl
         ensures { result ≡ init_kl }
     {
@@ -69,7 +69,7 @@ impl Kl {
     }
 
     /// A key is struck: its byte is in the buffer, and done is set. A key that comes while done is
-    /// set replaces the byte [P].
+    /// set replaces the byte [6.54].
     pub fn key(&mut self, key: u8)
         ensures { self.new ≡ kl_struck self.old key }
     {
@@ -101,7 +101,7 @@ impl Kl {
     }
 
     /// Writes a word to the register in turn `turn`. A byte written to the printer buffer is
-    /// printed `printer_delay` turns later; with delay 0 only its event completes it [P].
+    /// printed `printer_delay` turns later; with delay 0 only its event completes it [6.56] [6.59].
     pub fn write_reg(&mut self, register: KlRegister, word: u16, turn: u32, printer_delay: u32)
         ensures { self.new ≡ kl_written register word turn printer_delay self.old }
     {
@@ -118,7 +118,7 @@ impl Kl {
     }
 
     /// The byte that is being printed is out, and the printer is ready again. Gives the byte; if
-    /// none is being printed, nothing happens [P].
+    /// none is being printed, nothing happens [6.58].
     pub fn complete(&mut self) -> Option<u8>
         ensures byte { result ≡ kl_printed self.old }
         ensures after { self.new ≡ kl_completed self.old }
@@ -127,7 +127,7 @@ impl Kl {
     }
 
     /// The keyboard's request is served: it goes, and nothing else changes. The next one appears
-    /// if done or enable was cleared and both are set again [P].
+    /// if done or enable was cleared and both are set again [6.106].
     pub fn serve_keyboard(&mut self)
         ensures { self.new ≡ keyboard_served self.old }
     {
@@ -135,7 +135,7 @@ impl Kl {
     }
 
     /// The printer's request is served: it goes, and nothing else changes. The next one appears
-    /// if ready or enable was cleared and both are set again [P].
+    /// if ready or enable was cleared and both are set again [6.106].
     pub fn serve_printer(&mut self)
         ensures { self.new ≡ printer_served self.old }
     {
@@ -143,7 +143,7 @@ impl Kl {
     }
 
     /// RESET: the keyboard is not done, the printer is ready, neither is enabled or requests, and a
-    /// byte that is being printed is dropped. The buffers stay [P].
+    /// byte that is being printed is dropped. The buffers stay [6.108].
     pub fn reset(&mut self)
         ensures { self.new ≡ kl_reset self.old }
     {

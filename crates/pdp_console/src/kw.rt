@@ -13,7 +13,7 @@ pub struct Kw {
     /// Bit 6: ticks request an interrupt.
     pub enable: bool,
     /// It requests an interrupt. A tick requests if enable is set; a request goes when it is
-    /// served, by RESET, and by a write with bit 6 clear [P].
+    /// served, by RESET, and by a write with bit 6 clear [6.107].
     pub request: bool,
 }
 
@@ -47,7 +47,7 @@ impl Kw {
     }
 
     /// A write of a word to LKS: bit 6 is enable, and a clear bit 7 clears monitor. With bit 6
-    /// clear a request is dropped [P].
+    /// clear a request is dropped [6.107].
     pub fn write_reg(&mut self, word: u16)
         ensures { self.new ≡ kw_written word self.old }
     {

@@ -10,7 +10,7 @@ use pdp_word::NoMemory;
 impl<S: Store, D: Store + Drop> Machine<S, D> {
     /// Adds these drives after those of the machine, with the first touches of their pages: they
     /// get the next numbers. The disk's controller stays as it is, and so do the locks of all
-    /// drives. [P]
+    /// drives.
     ///
     /// Err(NoMemory) if memory was refused. The machine is then as before.
     pub fn add_drives(&mut self, drives: Vec<D>) -> Result<(), NoMemory>
@@ -23,7 +23,7 @@ impl<S: Store, D: Store + Drop> Machine<S, D> {
     }
 
     /// Keeps the first `count` drives and removes the others. If the machine has fewer, all stay.
-    /// Takes no memory. [P]
+    /// Takes no memory.
     pub fn keep_drives(&mut self, count: usize)
         ensures { self.new ≡ machine_with_drives
             (take count self.old.state.world.bus.drives)

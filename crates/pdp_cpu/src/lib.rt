@@ -10,8 +10,10 @@
 //!   (`Machine::turn_and_tell`), and so can the disk's controller when the turn has begun
 //!   (`Machine::turn_and_tell_disk`).
 //! - A burst of n turns of a calm machine is n turns of the definition without events, each of them
-//!   an instruction that leaves the drives, and the meter counts n (`Machine::run_calmly`). A burst that is to stop before
-//!   an address runs no turn that begins with PC there (`run_calmly_before`).
+//!   an instruction that leaves the drives, and the meter counts n (`Machine::run_calmly`). A burst
+//!   that is to stop before an address runs no turn that begins with PC there
+//!   (`run_calmly_before`). One that is to stop at a write to a word of core runs no turn after the
+//!   first that writes it (`run_calmly_to_write`).
 //! - A turn touches the page of every word that it reads, writes, moves or compares, in core and on
 //!   the drives: the first touches after it are those before it with its trace (`Machine::turn`).
 //!   A load leaves them; `first` returns the first touch of a page, and `forget` drops late ones.

@@ -68,8 +68,8 @@ impl<S: Store, D: Store> Model for Machine<S, D> {
 impl<S: Store, D: Store> Machine<S, D> {
     /// The machine as of power-up over this core and these drives, with this paper tape in the
     /// reader and these delays (turns): PC is the start address (octal, bytes), every other
-    /// register and the program status word 0, the devices as after RESET, no drive locked [P]. It
-    /// has run no turn, and printed and punched nothing. Takes no memory.
+    /// register and the program status word 0, the devices as after RESET, no drive locked [7.1]
+    /// [7.2] [7.7]. It has run no turn, and printed and punched nothing. Takes no memory.
     pub fn power(
         alloc: Global,
         lines: Lines,
@@ -100,7 +100,7 @@ impl<S: Store, D: Store> Machine<S, D> {
     /// Makes the room that one turn may need: for one byte printed on the console and one punched.
     ///
     /// Err(NoMemory) if memory was refused, so never if there was room; all but the room is then as
-    /// before too. [P]
+    /// before too.
     #[inline(always)]
     pub fn ready(&mut self) -> Result<(), NoMemory>
         ensures ready { OnOk result (IsReady self.new) }
@@ -142,7 +142,7 @@ impl<S: Store, D: Store> Machine<S, D> {
     /// always takes place.
     ///
     /// DEC PDP-11/40 Processor Handbook (1972), Processor traps and Interrupts; that a turn is one
-    /// act, and their order, are [P].
+    /// act, and their order, are [5.1] [5.2] [5.3] [5.4] [5.5] [5.6].
     #[inline(always)]
     pub fn turn(&mut self, meter: &mut Meter, events: &[Event]) -> Act
         requires ready { IsReady self.old }
@@ -215,8 +215,7 @@ impl<S: Store, D: Store> Machine<S, D> {
         self.computer.bus.clear_lines();
     }
 
-    /// How many turns it has run since power-up, which is the number of the turn that comes next
-    /// [P].
+    /// How many turns it has run since power-up, which is the number of the turn that comes next.
     pub fn turns(&self) -> u32
         ensures { result ≡ self.now.state.turn }
     {
@@ -278,7 +277,7 @@ impl<S: Store, D: Store> Machine<S, D> {
     }
 
     /// The turn and the agent of the last write to the core word of this number (half its byte
-    /// address); None if there was none since power-up. A byte write counts for its word [P].
+    /// address); None if there was none since power-up. A byte write counts for its word [6.28].
     pub fn last(&self, number: usize) -> Option<Stamp>
         requires { number < length self.now.state.world.bus.core }
         ensures { result ≡ slice_index_or self.now.state.world.bus.stamps number None }

@@ -3,7 +3,7 @@ ghost use Rattle.pdp_cpu.specs.Meters.{Counts};
 
 use std::marker::Model;
 
-/// Counts the turns that machines have run [P].
+/// Counts the turns that machines have run.
 #[derive(Drop)]
 pub struct Meter {
     turns: u64,

@@ -25,7 +25,7 @@ pub type PagedMachine = Machine<Paged, PagedDrive>;
 /// A machine as it was: all of it that turns change. Its words are pages that it shares with the
 /// machine, and of what was printed and punched it has the lengths: the bytes are the machine's.
 ///
-/// A contract sees it as a `SavedMachineData`. [P]
+/// A contract sees it as a `SavedMachineData`.
 #[derive(Drop)]
 pub struct Saved {
     turn: u32,
@@ -64,7 +64,7 @@ impl Machine<Paged, PagedDrive> {
     /// The machine as it is now. Words that are shared already are shared again, and only others
     /// copied.
     ///
-    /// Err(NoMemory) if memory was refused. The machine stays as it is in any case. [P]
+    /// Err(NoMemory) if memory was refused. The machine stays as it is in any case.
     pub fn save(&mut self, alloc: Global) -> Result<Saved, NoMemory>
         ensures same { self.new ≡ self.old }
         ensures saved { IfOk result (λ saved. saved ≡ saved_machine self.old.state) }
@@ -81,7 +81,7 @@ impl Machine<Paged, PagedDrive> {
 
     /// Makes the machine the one that was saved, on its own tape, its texts the first of the bytes
     /// that it keeps: none of these goes, and first touches stay. It asks for a core and drives of
-    /// the same sizes, and for as many kept bytes. Takes no memory. [P]
+    /// the same sizes, and for as many kept bytes. Takes no memory.
     pub fn load(&mut self, saved: &Saved)
         requires { CanHold self.old saved.now }
         ensures state { self.new.state ≡ state_on self.old saved.now }
@@ -97,7 +97,7 @@ impl Machine<Paged, PagedDrive> {
     }
 
     /// Drops the bytes at the end of the kept texts that were printed or punched in this turn or
-    /// later, also of the texts of the machine as it is now. Takes no memory. [P]
+    /// later, also of the texts of the machine as it is now. Takes no memory.
     pub fn keep_text(&mut self, turn: u32)
         ensures kept_text { self.new.kept_text ≡ kept_before turn self.old.kept_text }
         ensures kept_punched { self.new.kept_punched ≡ kept_before turn self.old.kept_punched }
@@ -110,7 +110,6 @@ impl Machine<Paged, PagedDrive> {
     }
 
     /// Puts another tape into the reader, of which as many bytes count as read. Takes no memory.
-    /// [P]
     pub fn set_tape(&mut self, tape: Vec<u8>)
         ensures state { self.new.state ≡ state_with_tape tape.items self.old.state }
         ensures kept_text { self.new.kept_text ≡ self.old.kept_text }

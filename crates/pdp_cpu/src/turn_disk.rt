@@ -15,7 +15,7 @@ impl<S: Store, D: Store> Machine<S, D> {
     /// One whole turn, as [`Machine::turn`] runs it; returns the disk's controller as it is when
     /// the turn has begun: after its events and the completions that are due, and before its act.
     ///
-    /// PDP-11 Peripherals Handbook, RK11; the order of a turn is [P].
+    /// PDP-11 Peripherals Handbook, RK11; the order of a turn is [8.2].
     pub fn turn_and_tell_disk(&mut self, meter: &mut Meter, events: &[Event]) -> Rk
         requires ready { IsReady self.old }
         requires limit { self.old.state.turn < LAST_TURN }

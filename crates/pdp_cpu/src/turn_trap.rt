@@ -38,7 +38,7 @@ impl<S: Store, D: Store> Machine<S, D> {
     /// then halts. If the sequence of an interrupt becomes the red one, the turn has no trap.
     ///
     /// DEC PDP-11/40 Processor Handbook (1972), Processor traps and Stack limit violations; that a
-    /// turn is one act is [P].
+    /// turn is one act is [5.7].
     pub fn turn_and_tell(&mut self, meter: &mut Meter, events: &[Event]) -> ActWithTrap
         requires ready { IsReady self.old }
         requires limit { self.old.state.turn < LAST_TURN }

@@ -20,7 +20,7 @@ use single_operand::{byte_single_operand_instr, single_operand_instr};
 /// Every specifier in the result has a mode and a register below 8, every register is below 8, and
 /// the words of MARK and SOB are below 100 (octal).
 ///
-/// Source: DEC PDP-11/40 Processor Handbook (1972), Instruction set; what is reserved is [P].
+/// Source: DEC PDP-11/40 Processor Handbook (1972), Instruction set; what is reserved: [4.66].
 #[inline(always)]
 #[tactic(auto, unfolding(crate::specs::Table::instr_of_word))]
 pub const fn decode(word: u16) -> Instr

@@ -25,159 +25,163 @@ pub struct Spec {
 /// Source: DEC PDP-11/40 Processor Handbook (1972), Instruction set.
 #[derive(Clone, Copy)]
 pub enum Instr {
-    /// HALT, 000000: the processor stops.
+    /// HALT, 000000 [4.40]: the processor stops.
     Halt,
-    /// WAIT, 000001: the processor waits for an interrupt.
+    /// WAIT, 000001 [4.41]: the processor waits for an interrupt.
     Wait,
-    /// RTI, 000002: PC and the status word are popped.
+    /// RTI, 000002 [4.50]: PC and the status word are popped.
     Rti,
-    /// BPT, 000003: a trap through 14.
+    /// BPT, 000003 [4.48]: a trap through 14.
     Bpt,
-    /// IOT, 000004: a trap through 20.
+    /// IOT, 000004 [4.48]: a trap through 20.
     Iot,
-    /// RESET, 000005: the devices are initialised.
+    /// RESET, 000005 [4.42]: the devices are initialised.
     Reset,
-    /// RTT, 000006: RTI, but no trace trap comes before the next instruction.
+    /// RTT, 000006 [4.51]: RTI, but no trace trap comes before the next instruction.
     Rtt,
-    /// JMP, 0001DD: PC becomes the address of the destination.
+    /// JMP, 0001DD [4.43]: PC becomes the address of the destination.
     Jmp { destination: Spec },
-    /// RTS, 00020R: PC becomes the register, and the register is popped.
+    /// RTS, 00020R [4.45]: PC becomes the register, and the register is popped.
     Rts { register: u8 },
-    /// JSR, 004RDD: the register is pushed and becomes PC, and PC the address of the destination.
+    /// JSR, 004RDD [4.44]: the register is pushed and becomes PC, and PC the address of the
+    /// destination.
     Jsr { register: u8, destination: Spec },
-    /// MARK, 0064NN: SP becomes PC plus that many words, PC becomes R5, and R5 is popped.
+    /// MARK, 0064NN [4.46]: SP becomes PC plus that many words, PC becomes R5, and R5 is popped.
     Mark { words: u8 },
-    /// SOB, 077RNN: the register less 1; if that isn't 0, PC falls by that many words.
+    /// SOB, 077RNN [4.47]: the register less 1; if that isn't 0, PC falls by that many words.
     Sob { register: u8, words: u8 },
-    /// EMT, 104000 to 104377: a trap through 30; the code is left to the program.
+    /// EMT, 104000 to 104377 [4.49]: a trap through 30; the code is left to the program.
     Emt { code: u8 },
-    /// TRAP, 104400 to 104777: a trap through 34; the code is left to the program.
+    /// TRAP, 104400 to 104777 [4.49]: a trap through 34; the code is left to the program.
     Trap { code: u8 },
-    /// 000240 to 000257, CLN, CLZ, CLV, CLC and their sums: these condition codes are cleared.
+    /// 000240 to 000257, CLN, CLZ, CLV, CLC and their sums [4.65]: these condition codes are
+    /// cleared.
     ClearCodes { codes: Codes },
-    /// 000260 to 000277, SEN, SEZ, SEV, SEC and their sums: these condition codes are set.
+    /// 000260 to 000277, SEN, SEZ, SEV, SEC and their sums [4.65]: these condition codes are set.
     SetCodes { codes: Codes },
-    /// BR, 000400 to 000777: the offset counts words from the PC that follows the instruction.
+    /// BR, 000400 to 000777 [4.61]: the offset counts words from the PC that follows the
+    /// instruction.
     Br { offset: i8 },
-    /// BNE, 001000 to 001377: BR if Z is clear.
+    /// BNE, 001000 to 001377 [4.62]: BR if Z is clear.
     Bne { offset: i8 },
-    /// BEQ, 001400 to 001777: BR if Z is set.
+    /// BEQ, 001400 to 001777 [4.63]: BR if Z is set.
     Beq { offset: i8 },
-    /// BGE, 002000 to 002377: BR if N equals V.
+    /// BGE, 002000 to 002377 [4.64]: BR if N equals V.
     Bge { offset: i8 },
-    /// BLT, 002400 to 002777: BR if N differs from V.
+    /// BLT, 002400 to 002777 [4.61]: BR if N differs from V.
     Blt { offset: i8 },
-    /// BGT, 003000 to 003377: BR if Z is clear and N equals V.
+    /// BGT, 003000 to 003377 [4.62]: BR if Z is clear and N equals V.
     Bgt { offset: i8 },
-    /// BLE, 003400 to 003777: BR if Z is set or N differs from V.
+    /// BLE, 003400 to 003777 [4.63]: BR if Z is set or N differs from V.
     Ble { offset: i8 },
-    /// BPL, 100000 to 100377: BR if N is clear.
+    /// BPL, 100000 to 100377 [4.64]: BR if N is clear.
     Bpl { offset: i8 },
-    /// BMI, 100400 to 100777: BR if N is set.
+    /// BMI, 100400 to 100777 [4.64]: BR if N is set.
     Bmi { offset: i8 },
-    /// BHI, 101000 to 101377: BR if C and Z are clear.
+    /// BHI, 101000 to 101377 [4.61]: BR if C and Z are clear.
     Bhi { offset: i8 },
-    /// BLOS, 101400 to 101777: BR if C or Z is set.
+    /// BLOS, 101400 to 101777 [4.62]: BR if C or Z is set.
     Blos { offset: i8 },
-    /// BVC, 102000 to 102377: BR if V is clear.
+    /// BVC, 102000 to 102377 [4.63]: BR if V is clear.
     Bvc { offset: i8 },
-    /// BVS, 102400 to 102777: BR if V is set.
+    /// BVS, 102400 to 102777 [4.63]: BR if V is set.
     Bvs { offset: i8 },
-    /// BCC, 103000 to 103377: BR if C is clear.
+    /// BCC, 103000 to 103377 [4.64]: BR if C is clear.
     Bcc { offset: i8 },
-    /// BCS, 103400 to 103777: BR if C is set.
+    /// BCS, 103400 to 103777 [4.64]: BR if C is set.
     Bcs { offset: i8 },
-    /// MOV, 01SSDD: the source goes to the destination.
+    /// MOV, 01SSDD [4.1]: the source goes to the destination.
     Mov { source: Spec, destination: Spec },
-    /// MOVB, 11SSDD: the source byte goes to the destination.
+    /// MOVB, 11SSDD [4.1]: the source byte goes to the destination.
     Movb { source: Spec, destination: Spec },
-    /// CMP, 02SSDD: the condition codes are set by the source less the destination.
+    /// CMP, 02SSDD [4.2]: the condition codes are set by the source less the destination.
     Cmp { source: Spec, destination: Spec },
-    /// CMPB, 12SSDD: CMP of bytes.
+    /// CMPB, 12SSDD [4.2]: CMP of bytes.
     Cmpb { source: Spec, destination: Spec },
-    /// BIT, 03SSDD: the condition codes are set by the bits that are set in both.
+    /// BIT, 03SSDD [4.3]: the condition codes are set by the bits that are set in both.
     Bit { source: Spec, destination: Spec },
-    /// BITB, 13SSDD: BIT of bytes.
+    /// BITB, 13SSDD [4.3]: BIT of bytes.
     Bitb { source: Spec, destination: Spec },
-    /// BIC, 04SSDD: the bits that are set in the source are cleared in the destination.
+    /// BIC, 04SSDD [4.4]: the bits that are set in the source are cleared in the destination.
     Bic { source: Spec, destination: Spec },
-    /// BICB, 14SSDD: BIC of bytes.
+    /// BICB, 14SSDD [4.4]: BIC of bytes.
     Bicb { source: Spec, destination: Spec },
-    /// BIS, 05SSDD: the bits that are set in the source are set in the destination.
+    /// BIS, 05SSDD [4.5]: the bits that are set in the source are set in the destination.
     Bis { source: Spec, destination: Spec },
-    /// BISB, 15SSDD: BIS of bytes.
+    /// BISB, 15SSDD [4.5]: BIS of bytes.
     Bisb { source: Spec, destination: Spec },
-    /// ADD, 06SSDD: the source is added to the destination.
+    /// ADD, 06SSDD [4.6]: the source is added to the destination.
     Add { source: Spec, destination: Spec },
-    /// SUB, 16SSDD: the source is subtracted from the destination.
+    /// SUB, 16SSDD [4.7]: the source is subtracted from the destination.
     Sub { source: Spec, destination: Spec },
-    /// XOR, 074RDD: the destination becomes its exclusive or with the register.
+    /// XOR, 074RDD [4.8]: the destination becomes its exclusive or with the register.
     Xor { register: u8, destination: Spec },
-    /// MUL, 070RSS: the signed product with the source, in the register and its odd neighbour.
+    /// MUL, 070RSS [4.23]: the signed product with the source, in the register and its odd
+    /// neighbour.
     Mul { register: u8, source: Spec },
-    /// DIV, 071RSS: the register and its odd neighbour are divided by the source.
+    /// DIV, 071RSS [4.24]: the register and its odd neighbour are divided by the source.
     Div { register: u8, source: Spec },
-    /// ASH, 072RSS: the register is shifted by the source.
+    /// ASH, 072RSS [4.25]: the register is shifted by the source.
     Ash { register: u8, source: Spec },
-    /// ASHC, 073RSS: the register and its odd neighbour are shifted by the source.
+    /// ASHC, 073RSS [4.26]: the register and its odd neighbour are shifted by the source.
     Ashc { register: u8, source: Spec },
-    /// SWAB, 0003DD: the bytes of the destination are exchanged.
+    /// SWAB, 0003DD [4.21]: the bytes of the destination are exchanged.
     Swab { destination: Spec },
-    /// CLR, 0050DD: the destination becomes 0.
+    /// CLR, 0050DD [4.9]: the destination becomes 0.
     Clr { destination: Spec },
-    /// CLRB, 1050DD: CLR of a byte.
+    /// CLRB, 1050DD [4.9]: CLR of a byte.
     Clrb { destination: Spec },
-    /// COM, 0051DD: the destination becomes its complement.
+    /// COM, 0051DD [4.10]: the destination becomes its complement.
     Com { destination: Spec },
-    /// COMB, 1051DD: COM of a byte.
+    /// COMB, 1051DD [4.10]: COM of a byte.
     Comb { destination: Spec },
-    /// INC, 0052DD: 1 is added to the destination.
+    /// INC, 0052DD [4.11]: 1 is added to the destination.
     Inc { destination: Spec },
-    /// INCB, 1052DD: INC of a byte.
+    /// INCB, 1052DD [4.11]: INC of a byte.
     Incb { destination: Spec },
-    /// DEC, 0053DD: 1 is subtracted from the destination.
+    /// DEC, 0053DD [4.12]: 1 is subtracted from the destination.
     Dec { destination: Spec },
-    /// DECB, 1053DD: DEC of a byte.
+    /// DECB, 1053DD [4.12]: DEC of a byte.
     Decb { destination: Spec },
-    /// NEG, 0054DD: the destination is negated.
+    /// NEG, 0054DD [4.13]: the destination is negated.
     Neg { destination: Spec },
-    /// NEGB, 1054DD: NEG of a byte.
+    /// NEGB, 1054DD [4.13]: NEG of a byte.
     Negb { destination: Spec },
-    /// ADC, 0055DD: C is added to the destination.
+    /// ADC, 0055DD [4.14]: C is added to the destination.
     Adc { destination: Spec },
-    /// ADCB, 1055DD: ADC of a byte.
+    /// ADCB, 1055DD [4.14]: ADC of a byte.
     Adcb { destination: Spec },
-    /// SBC, 0056DD: C is subtracted from the destination.
+    /// SBC, 0056DD [4.15]: C is subtracted from the destination.
     Sbc { destination: Spec },
-    /// SBCB, 1056DD: SBC of a byte.
+    /// SBCB, 1056DD [4.15]: SBC of a byte.
     Sbcb { destination: Spec },
-    /// ROR, 0060DD: the destination is rotated right through C.
+    /// ROR, 0060DD [4.17]: the destination is rotated right through C.
     Ror { destination: Spec },
-    /// RORB, 1060DD: ROR of a byte.
+    /// RORB, 1060DD [4.17]: ROR of a byte.
     Rorb { destination: Spec },
-    /// ROL, 0061DD: the destination is rotated left through C.
+    /// ROL, 0061DD [4.18]: the destination is rotated left through C.
     Rol { destination: Spec },
-    /// ROLB, 1061DD: ROL of a byte.
+    /// ROLB, 1061DD [4.18]: ROL of a byte.
     Rolb { destination: Spec },
-    /// ASR, 0062DD: the destination is shifted right and keeps its sign.
+    /// ASR, 0062DD [4.19]: the destination is shifted right and keeps its sign.
     Asr { destination: Spec },
-    /// ASRB, 1062DD: ASR of a byte.
+    /// ASRB, 1062DD [4.19]: ASR of a byte.
     Asrb { destination: Spec },
-    /// ASL, 0063DD: the destination is shifted left.
+    /// ASL, 0063DD [4.20]: the destination is shifted left.
     Asl { destination: Spec },
-    /// ASLB, 1063DD: ASL of a byte.
+    /// ASLB, 1063DD [4.20]: ASL of a byte.
     Aslb { destination: Spec },
-    /// SXT, 0067DD: the destination becomes 0, or 177777 if N is set.
+    /// SXT, 0067DD [4.22]: the destination becomes 0, or 177777 if N is set.
     Sxt { destination: Spec },
-    /// TST, 0057DD: the condition codes are set by the destination.
+    /// TST, 0057DD [4.16]: the condition codes are set by the destination.
     Tst { destination: Spec },
-    /// TSTB, 1057DD: the condition codes are set by the byte.
+    /// TSTB, 1057DD [4.16]: the condition codes are set by the byte.
     Tstb { destination: Spec },
-    /// MFPI, 0065SS: the source, in the space of the previous mode, is pushed.
+    /// MFPI, 0065SS [4.33]: the source, in the space of the previous mode, is pushed.
     Mfpi { source: Spec },
-    /// MTPI, 0066DD: a word is popped to the destination, in the space of the previous mode.
+    /// MTPI, 0066DD [4.34]: a word is popped to the destination, in the space of the previous mode.
     Mtpi { destination: Spec },
-    /// Any word that the table doesn't name [P].
+    /// Any word that the table doesn't name [4.66].
     Reserved,
 }
 

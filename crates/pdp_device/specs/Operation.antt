@@ -4,7 +4,7 @@ use Rattle.std.specs.Prelude.{if◌then◌else◌}
 use Rattle.pdp_device.specs.declared.operation.Operation.{Operation}
 use Rattle.pdp_device.specs.declared.operation.Operation.TheVariants.{Idle, ByEvent, At}
 
--- begun in this turn, with a delay in turns; delay 0 means by its event alone
+-- begun in this turn, with a delay in turns; delay 0 means by its event alone [6.56]
 abbrev pub begun_operation : ℕ → ℕ → Operation
 begun_operation turn delay = if delay == 0 then ByEvent else At (turn + delay)
 
@@ -13,7 +13,7 @@ is_under_way Idle = false
 is_under_way ByEvent = true
 is_under_way (At due) = true
 
--- it completes by itself at the start of this turn
+-- it completes by itself at the start of this turn [6.56]
 abbrev pub is_due : ℕ → Operation → Bool
 is_due turn (At due) = due == turn
 is_due turn _ = false

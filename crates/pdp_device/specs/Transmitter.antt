@@ -11,7 +11,7 @@ use Rattle.pdp_device.specs.declared.transmitter.TransmitterRegister.{Transmitte
 use Rattle.pdp_device.specs.declared.transmitter.TransmitterRegister.TheVariants.{Status, Buffer}
 
 -- a byte written while one is on its way replaces it and keeps its due turn; else it clears ready
--- and begins
+-- and begins [6.59] [6.60]
 abbrev pub byte_written : ℕ → ℕ → ℕ → Transmitter → Transmitter
 byte_written byte turn delay o =
     if is_under_way o.operation then record o { byte = byte }
@@ -26,7 +26,7 @@ byte_written byte turn delay o =
 abbrev pub byte_out : Transmitter → Option ℕ
 byte_out o = if is_under_way o.operation then Some o.byte else None
 
--- a completion sets ready; if nothing is under way it does nothing
+-- a completion sets ready; if nothing is under way it does nothing [6.58] [6.59] [6.60]
 abbrev pub transmitter_completed : Transmitter → Transmitter
 transmitter_completed o =
     if is_under_way o.operation then record o {
@@ -34,7 +34,7 @@ transmitter_completed o =
       operation = Idle;
     } else o
 
--- RESET: what was under way is dropped, and the byte stays
+-- RESET: what was under way is dropped, and the byte stays [6.103] [6.105] [6.108]
 abbrev pub transmitter_reset : Transmitter → Transmitter
 transmitter_reset o = record o { ready_enable = init_ready_enable true; operation = Idle }
 
@@ -46,7 +46,7 @@ init_transmitter = record { ready_enable = init_ready_enable true; byte = 0; ope
 abbrev pub transmitter_served : Transmitter → Transmitter
 transmitter_served o = record o { ready_enable = ready_enable_served o.ready_enable }
 
--- what a read gives; the buffer reads 0
+-- what a read gives; the buffer reads 0 [6.46] [6.47]
 abbrev pub transmitter_value : TransmitterRegister → Transmitter → ℕ
 transmitter_value Status o = ready_enable_status o.ready_enable
 transmitter_value Buffer o = 0
@@ -55,7 +55,7 @@ transmitter_value Buffer o = 0
 abbrev pub transmitter_read : TransmitterRegister → Transmitter → Transmitter
 transmitter_read register o = o
 
--- what a write of a word does in a turn, with the delay of a byte
+-- what a write of a word does in a turn, with the delay of a byte [6.46] [6.47]
 abbrev pub transmitter_written : TransmitterRegister → ℕ → ℕ → ℕ → Transmitter → Transmitter
 transmitter_written Status word turn delay o = record o {
   ready_enable = enable_written word

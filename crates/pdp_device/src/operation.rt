@@ -1,6 +1,6 @@
 ghost use Rattle.std.specs.Prelude.{◌≡◌, ◌↔◌, true};
 
-/// What a device is doing: nothing, or something that takes until a turn or an event [P].
+/// What a device is doing: nothing, or something that takes until a turn or an event [6.56].
 #[derive(Clone, Copy, PartialEq, Eq, Default)]
 pub enum Operation {
     /// Nothing is under way.
@@ -23,7 +23,7 @@ impl Operation {
     }
 
     /// An operation begun in turn `turn` that is complete `delay` turns later; with delay 0 only
-    /// its event completes it [P].
+    /// its event completes it [6.56].
     pub fn begin(turn: u32, delay: u32) -> Operation
         ensures { result ≡ begun_operation turn delay }
     {

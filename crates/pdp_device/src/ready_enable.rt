@@ -14,7 +14,7 @@ pub struct ReadyEnable {
     /// Bit 6 of the status: its interrupts are enabled.
     pub enable: bool,
     /// It requests an interrupt. A request appears if ready and enable are both set and were not
-    /// before, and goes when it is served or if they are not both set any more [P].
+    /// before, and goes when it is served or if they are not both set any more [6.106].
     pub request: bool,
 }
 
@@ -50,7 +50,7 @@ impl ReadyEnable {
 
     /// Sets or clears ready and enable, both at once. A request appears if the condition didn't
     /// hold before this change and holds after it; it ends if the condition doesn't hold after it
-    /// [P].
+    /// [6.106].
     pub fn change(&mut self, ready: bool, enable: bool)
         ensures { self.new ≡ ready_enable_with ready enable self.old }
     {
@@ -83,7 +83,7 @@ impl ReadyEnable {
     }
 
     /// The request is served: it goes, and nothing else changes. The next one appears if ready
-    /// or enable was cleared and both are set again [P].
+    /// or enable was cleared and both are set again [6.106].
     pub fn serve(&mut self)
         ensures { self.new ≡ ready_enable_served self.old }
     {

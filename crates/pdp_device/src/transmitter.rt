@@ -11,7 +11,7 @@ use pdp_word::low_byte;
 pub enum TransmitterRegister {
     /// Bit 7 ready, bit 6 enable, which alone is written.
     Status,
-    /// A write clears ready and begins to put its low byte out. Reads 0 [P].
+    /// A write clears ready and begins to put its low byte out. Reads 0 [6.47].
     Buffer,
 }
 
@@ -45,7 +45,7 @@ impl Transmitter {
         self.operation.is_same(&other.operation)
     }
 
-    /// A transmitter at power-up: ready, not enabled, with byte 0 and nothing under way [P].
+    /// A transmitter at power-up: ready, not enabled, with byte 0 and nothing under way [7.7].
     pub fn init() -> Transmitter
         ensures { result ≡ init_transmitter }
     {
@@ -67,7 +67,7 @@ impl Transmitter {
     }
 
     /// Writes a word to the register in turn `turn`. A byte written to the buffer is out `delay`
-    /// turns later; with delay 0 only its event completes it [P].
+    /// turns later; with delay 0 only its event completes it [6.56] [6.59].
     pub fn write_reg(&mut self, register: TransmitterRegister, word: u16, turn: u32, delay: u32)
         ensures { self.new ≡ transmitter_written register word turn delay self.old }
     {
@@ -78,7 +78,7 @@ impl Transmitter {
     }
 
     /// The byte that is on its way is out, and the transmitter is ready again. Gives the byte;
-    /// without one on its way, nothing happens [P].
+    /// without one on its way, nothing happens [6.58].
     pub fn complete(&mut self) -> Option<u8>
         ensures byte { result ≡ byte_out self.old }
         ensures after { self.new ≡ transmitter_completed self.old }
@@ -93,7 +93,7 @@ impl Transmitter {
     }
 
     /// RESET: ready, not enabled, no request, nothing under way. The byte stays, and does not come
-    /// out [P].
+    /// out [6.108].
     pub fn reset(&mut self)
         ensures { self.new ≡ transmitter_reset self.old }
     {

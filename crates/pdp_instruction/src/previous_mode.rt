@@ -16,8 +16,8 @@ use pdp_word::Size;
 /// MFPI: the operand's address is formed in the current mode, the operand is read in the previous
 /// mode, and it is pushed on the stack of the current mode. Codes of the word, V 0, C kept.
 ///
-/// DEC PDP-11/40 Processor Handbook (1972), Memory management; that the current mode decides
-/// whether the kernel's stack has its limit is [P].
+/// DEC PDP-11/40 Processor Handbook (1972), Memory management; the current mode decides whether the
+/// kernel's stack has its limit [4.39].
 ///
 /// Err if the operand can't be found or read, or the push can't be made; the codes then stay.
 #[inline(never)]
@@ -41,8 +41,8 @@ pub fn move_from_previous<S: Store, D: Store>(
 /// formed in the current mode, and then the word is written in the previous mode. Codes of the
 /// word, V 0, C kept.
 ///
-/// DEC PDP-11/40 Processor Handbook (1972), Memory management; the order, and that the current mode
-/// decides whether the kernel's stack has its limit, are [P].
+/// DEC PDP-11/40 Processor Handbook (1972), Memory management; the order: [4.34]. The current mode
+/// decides whether the kernel's stack has its limit [4.39].
 ///
 /// Err if the word can't be popped, or the destination can't be found or written; the codes then
 /// stay.

@@ -26,7 +26,7 @@ fn either(one: Mode, other: Mode) -> Mode
 }
 
 /// The program status that RTI and RTT leave with this word. In user mode modes stay or are set,
-/// and the priority stays [P].
+/// and the priority stays [4.59].
 #[tactic(auto, unfolding(crate::specs::Handbook::ReturnFromTrap::returned_status))]
 pub fn returned(old: Status, word: u16) -> Status
     ensures { result ≡ returned_status word old }

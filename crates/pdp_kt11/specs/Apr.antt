@@ -42,14 +42,14 @@ numbered_page number =
     else if number == 6 then P6
     else P7
 
--- the space whose pages a mode uses; modes 01 and 10 have no pages
+-- the space whose pages a mode uses; modes 01 and 10 have no pages [4.38] [6.6]
 abbrev pub space_of : Mode → Option Space
 space_of Kernel = Some space.Kernel
 space_of User = Some space.User
 space_of Bad1 = None
 space_of Bad2 = None
 
--- the two bits of an access control field
+-- the two bits of an access control field [6.9]
 abbrev pub access_bits : AccessControl → ℕ
 access_bits NonResident = 0
 access_bits ReadOnly = 1
@@ -71,7 +71,7 @@ abbrev pub expansion_of : Bool → Expansion
 expansion_of false = Upward
 expansion_of true = Downward
 
--- a page as of power-up: all bits of its registers are 0
+-- a page as of power-up: all bits of its registers are 0 [7.4]
 unfoldable pub empty_page : Apr
 empty_page = record {
   frame = 0;
@@ -82,14 +82,14 @@ empty_page = record {
       NonResident;
 }
 
--- the page descriptor register: 14-8 length, 6 W, 3 downward, 2-1 access
+-- the page descriptor register: 14-8 length, 6 W, 3 downward, 2-1 access [6.9] [6.33]
 abbrev pub descriptor_word : Apr → ℕ
 descriptor_word page =
     page.length * pdr_length + bit_of page.written * pdr_written + expansion_bit page.expansion *
     pdr_downward
     + access_bits page.access * pdr_access
 
--- a write of the descriptor keeps bits 14-8 and 3-1 of the word, and clears W
+-- a write of the descriptor keeps bits 14-8 and 3-1 of the word, and clears W [6.11] [6.33]
 unfoldable pub descriptor_written : ℕ → Apr → Apr
 descriptor_written word page = record page {
   length = field 8 7 word;
@@ -98,6 +98,6 @@ descriptor_written word page = record page {
   access = access_control_of (field 1 2 word);
 }
 
--- a write of the page address register keeps bits 11-0 of the word, and clears W
+-- a write of the page address register keeps bits 11-0 of the word, and clears W [6.11] [6.34]
 unfoldable pub address_written : ℕ → Apr → Apr
 address_written word page = record page { frame = field 0 12 word; written = false }

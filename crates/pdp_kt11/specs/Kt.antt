@@ -33,7 +33,7 @@ unfoldable pub with_page : Space → PageNumber → Apr → MappingRegisters →
 with_page space number page kt = with_pages space (slice_set (pages_of space kt)
     (page_number number) page) kt
 
--- as of power-up: every bit of every register is 0
+-- as of power-up: every bit of every register is 0 [7.4]
 unfoldable pub powered_kt : MappingRegisters
 powered_kt = record {
   status = clear_status;
@@ -44,11 +44,12 @@ powered_kt = record {
       empty_page ∷ [];
 }
 
--- RESET clears SR0; the pages and SR2 stay
+-- RESET clears SR0; the pages and SR2 stay [6.108]
 abbrev pub kt_reset : MappingRegisters → MappingRegisters
 kt_reset kt = record kt { status = clear_status }
 
--- an instruction was fetched at this virtual address: SR2 takes it, while no abort is told
+-- an instruction was fetched at this virtual address: SR2 takes it, while no abort is told [6.24]
+-- [6.26]
 unfoldable pub kt_fetched : ℕ → MappingRegisters → MappingRegisters
 kt_fetched address kt = if tells_abort kt.status then kt else record kt { last_fetch = address }
 
@@ -59,7 +60,7 @@ is_among first address = nat_le first address && nat_le address (first + 0o16)
 abbrev pub page_from : ℕ → ℕ → PageNumber
 page_from first address = numbered_page ((address - first) / 2)
 
--- the register at a physical address; none is at an odd one
+-- the register at a physical address; none is at an odd one [6.33] [6.34] [6.49] [6.50] [6.51]
 unfoldable pub kt_register_at : ℕ → Option KtRegister
 kt_register_at address = (
     if address % 2 == 1 then None else
@@ -71,7 +72,7 @@ kt_register_at address = (
     if is_among 0o777600 address then Some (Descriptor User (page_from 0o777600 address)) else
     if is_among 0o777640 address then Some (Address User (page_from 0o777640 address)) else None)
 
--- what a read gives; it does nothing
+-- what a read gives; it does nothing [6.33] [6.34] [6.49] [6.50] [6.51]
 unfoldable pub kt_value : KtRegister → MappingRegisters → ℕ
 kt_value Status0 kt = mapping_status_word kt.status
 kt_value Status1 kt = 0
@@ -79,7 +80,7 @@ kt_value Status2 kt = kt.last_fetch
 kt_value (Descriptor space number) kt = descriptor_word (page_at space number kt)
 kt_value (Address space number) kt = (page_at space number kt).frame
 
--- what a write of a word does
+-- what a write of a word does [6.33] [6.34] [6.49] [6.50] [6.51]
 unfoldable pub kt_written : KtRegister → ℕ → MappingRegisters → MappingRegisters
 kt_written Status0 word kt = record kt { status = mapping_status_written word kt.status }
 kt_written Status1 word kt = kt

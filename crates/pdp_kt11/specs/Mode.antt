@@ -3,7 +3,7 @@ use Rattle.std.specs.Prelude.{ℕ, ◌==◌, if◌then◌else◌}
 use Rattle.pdp_kt11.specs.declared.mode.Mode.{Mode}
 use Rattle.pdp_kt11.specs.declared.mode.Mode.TheVariants.{Kernel, Bad1, Bad2, User}
 
--- the two bits of a mode in the program status word
+-- the two bits of a mode in the program status word: 00 kernel, 11 user [2.3] [2.4]
 abbrev pub mode_bits : Mode → ℕ
 mode_bits Kernel = 0
 mode_bits Bad1 = 1

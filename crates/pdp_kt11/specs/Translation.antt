@@ -22,19 +22,20 @@ use Rattle.pdp_kt11.specs.declared.place.Access.{Access}
 use Rattle.pdp_kt11.specs.declared.place.Access.TheVariants.{Read, Write}
 
 -- a virtual address: its page, bits 15-13; its block of 100 bytes in the page, bits 12-6; its byte
--- in the block
+-- in the block [6.8]
 abbrev pub page_of : ℕ → PageNumber
 page_of address = numbered_page (address / page_bytes)
 
 abbrev pub block_of : ℕ → ℕ
 block_of address = address / block_bytes % blocks_of_page
 
--- the physical address of a byte in a page: (PAR + block) * 100 + byte, modulo 2 to the 18th
+-- the physical address of a byte in a page: (PAR + block) * 100 + byte, modulo 2 to the 18th [6.8]
 abbrev pub mapped_address : Apr → ℕ → ℕ
 mapped_address page address = ((page.frame + block_of address) * block_bytes + address %
     block_bytes) % physical_addresses
 
--- whether the access control lets anything pass, and whether it lets writes pass
+-- whether the access control lets anything pass, and whether it lets writes pass [6.9] [6.17]
+-- [6.19]
 abbrev pub is_resident : AccessControl → Bool
 is_resident control.ReadOnly = true
 is_resident control.ReadWrite = true
@@ -44,12 +45,12 @@ abbrev pub is_permitted : AccessControl → Access → Bool
 is_permitted control.ReadOnly Write = false
 is_permitted _ _ = true
 
--- upward, a block above the length is outside of the page; downward, one below it
+-- upward, a block above the length is outside of the page; downward, one below it [6.9] [6.18]
 abbrev pub is_within_length : Expansion → ℕ → ℕ → Bool
 is_within_length Upward length block = nat_le block length
 is_within_length Downward length block = nat_le length block
 
--- the first test that fails, if one does: of residence, of length, of access
+-- the first test that fails, if one does: of residence, of length, of access [6.17] [6.18] [6.19]
 abbrev pub abort_in : Apr → Access → ℕ → Option Abort
 abort_in page access block =
     if is_resident page.access
@@ -62,14 +63,14 @@ pub record Translation : Type 0 where
   pub address : Result ℕ Abort
   pub after : MappingRegisters
 
--- a write through a page sets its W
+-- a write through a page sets its W [6.10]
 abbrev pub with_w_bit : Access → Space → PageNumber → MappingRegisters → MappingRegisters
 with_w_bit Read space number kt = kt
 with_w_bit Write space number kt = with_page space number (record (page_at space number kt) {
   written = true;
 }) kt
 
--- SR0 tells of an abort, if no other is told
+-- SR0 tells of an abort, if no other is told [6.20] [6.23]
 abbrev pub aborted_translation : Abort → Mode → ℕ → MappingRegisters → Translation
 aborted_translation abort mode address kt = record {
   address = Err abort;
@@ -86,7 +87,7 @@ checked_translation None space mode address access kt = record {
   after = with_w_bit access space (page_of address) kt;
 }
 
--- an access in the space of a mode, if it has one
+-- an access in the space of a mode, if it has one [6.6] [6.17]
 abbrev pub mapped_in : Option Space → Mode → ℕ → Access → MappingRegisters → Translation
 mapped_in None mode address access kt = aborted_translation Resident mode address kt
 mapped_in (Some space) mode address access kt =
@@ -97,7 +98,7 @@ mapped_in (Some space) mode address access kt =
 unfoldable pub mapped_translation : Mode → ℕ → Access → MappingRegisters → Translation
 mapped_translation mode address access kt = mapped_in (space_of mode) mode address access kt
 
--- an access: by the mapping registers as they are
+-- an access: by the mapping registers as they are [6.5] [6.7]
 unfoldable pub translate : Mode → ℕ → Access → MappingRegisters → Translation
 translate mode address access kt =
     if kt.status.enabled then mapped_translation mode address access kt

@@ -24,7 +24,7 @@ pub enum Space {
 }
 
 impl Space {
-    /// The space whose pages this mode uses; the modes 01 and 10 have none [P].
+    /// The space whose pages this mode uses; the modes 01 and 10 have none [6.6].
     #[inline(always)]
     pub fn of(mode: Mode) -> Option<Space>
         ensures { result ≡ space_of mode }
@@ -98,7 +98,7 @@ pub enum AccessControl {
     NonResident,
     /// 01: a write aborts.
     ReadOnly,
-    /// 10, which the handbook doesn't use: every access aborts as non-resident [P].
+    /// 10, which the handbook doesn't use: every access aborts as non-resident [6.9] [6.17].
     Unused,
     /// 11
     ReadWrite,
@@ -187,7 +187,7 @@ pub struct Apr {
 }
 
 impl Apr {
-    /// A page as of power-up: every bit of both registers 0 [P].
+    /// A page as of power-up: every bit of both registers 0 [7.4].
     #[tactic(auto, unfolding(crate::specs::Apr::empty_page))]
     pub const fn empty() -> Apr
         ensures { result ≡ empty_page }
@@ -202,7 +202,7 @@ impl Apr {
     }
 
     /// The page descriptor register: bits 14-8 length, 6 W, 3 downward, 2-1 access. The others are
-    /// 0 [P].
+    /// 0 [6.33].
     pub fn descriptor(self) -> u16
         ensures { result ≡ descriptor_word self }
     {
@@ -239,7 +239,7 @@ impl Apr {
     }
 
     /// Why an access to a block of the page aborts, if it does: of the tests of residence, of
-    /// length and of access the first that fails [P].
+    /// length and of access the first that fails [6.17] [6.18] [6.19].
     #[inline(always)]
     pub fn abort(self, access: Access, block: u16) -> Option<Abort>
         ensures { result ≡ abort_in self access block }

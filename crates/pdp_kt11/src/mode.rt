@@ -4,7 +4,7 @@ ghost use Rattle.std.specs.Prelude.{◌≡◌, ◌<◌};
 /// it.
 ///
 /// DEC PDP-11/40 Processor Handbook (1972), Memory management. The bit patterns 01 and 10 name no
-/// mode of the handbook: they use the user's stack pointer [P].
+/// mode of the handbook: they use the user's stack pointer [2.2].
 #[derive(Clone, Copy, PartialEq, Eq, Default)]
 pub enum Mode {
     /// 00

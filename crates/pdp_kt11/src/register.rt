@@ -10,9 +10,9 @@ use crate::apr::{PageNumber, Space};
 pub enum KtRegister {
     /// SR0, 777572.
     Status0,
-    /// 777574, which reads 0; a write does nothing [P].
+    /// 777574, which reads 0; a write does nothing [6.50].
     Status1,
-    /// SR2, 777576: the virtual address of the last instruction; a write does nothing [P].
+    /// SR2, 777576: the virtual address of the last instruction; a write does nothing [6.51].
     Status2,
     /// A page descriptor register: of kernel space 772300 to 772316, of user space 777600 to
     /// 777616.

@@ -60,7 +60,7 @@ impl MappingStatus {
     /// and neither it nor SR2 follows what comes.
     ///
     /// DEC PDP-11/40 Processor Handbook (1972), Memory management, which has it that an abort stops
-    /// SR2; that it stops SR0, and that bits which were written stop both, is [P].
+    /// SR2; that it stops SR0, and that bits which were written stop both, is [6.23] [6.25].
     #[inline(always)]
     pub fn tells_abort(self) -> bool
         ensures { result ≡ tells_abort self }
@@ -69,7 +69,7 @@ impl MappingStatus {
     }
 
     /// The word of SR0: 15 non-resident, 14 length, 13 read only, 6-5 mode, 3-1 page, 0 enable. The
-    /// others are 0 [P].
+    /// others are 0 [6.49].
     pub fn word(self) -> u16
         ensures { result ≡ mapping_status_word self }
     {
@@ -80,7 +80,8 @@ impl MappingStatus {
         aborts + place + bit_of(self.enabled)
     }
 
-    /// SR0 after a word was written to it: bits 15-13 and 0 are the word's, mode and page stay [P].
+    /// SR0 after a word was written to it: bits 15-13 and 0 are the word's, mode and page stay
+    /// [6.25].
     #[tactic(auto, unfolding(crate::specs::Status::mapping_status_written))]
     pub fn written(self, word: u16) -> MappingStatus
         ensures { result ≡ mapping_status_written word self }
@@ -95,7 +96,7 @@ impl MappingStatus {
     }
 
     /// SR0 after an abort at this page of the mode: its flag, the mode and the page, if it tells of
-    /// none yet. Else it stays [P].
+    /// none yet. Else it stays [6.23].
     #[tactic(auto, unfolding(crate::specs::Status::abort_told))]
     pub fn with_abort(self, abort: Abort, mode: Mode, page: PageNumber) -> MappingStatus
         ensures { result ≡ abort_told abort mode page self }

@@ -165,7 +165,7 @@ fn step(size: Size, register: u8) -> u16
 /// this makes.
 ///
 /// DEC PDP-11/40 Processor Handbook (1972), Addressing modes: a register changes before the access
-/// that it serves, and keeps its change if the access faults [P]. Once the pointer of @-(SP) was
+/// that it serves [3.12], and keeps its change if the access faults. Once the pointer of @-(SP) was
 /// read in the yellow zone of the kernel's stack, a stack trap is pending.
 ///
 /// Err if a reference to memory faults, or if -(SP) or @-(SP) is past the limit of the kernel's
@@ -279,8 +279,8 @@ pub fn fetch_before_store<S: Store, D: Store>(
 /// register is filled. If the place is in the yellow zone of the kernel's stack, a stack trap is
 /// then pending.
 ///
-/// DEC PDP-11/40 Processor Handbook (1972), Addressing modes, MOV and Stack limit; that a written
-/// status wins is [P].
+/// DEC PDP-11/40 Processor Handbook (1972), Addressing modes, MOV and Stack limit; a written status
+/// wins [2.11].
 ///
 /// Err if the reference to memory faults; nothing is written then, and no stack trap is pending by
 /// it.

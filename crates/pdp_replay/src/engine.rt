@@ -170,7 +170,7 @@ impl Engine {
     }
 
     /// The states that are kept of the run of the past as it is now: those of turn 0 and of each
-    /// multiple of the stride up to the known turn [P].
+    /// multiple of the stride up to the known turn.
     pub fn kept_states(&self) -> &Ladder
         ensures states { AreCheckpointsOf self.now.past self.now.known result.now }
         ensures stride { result.now.stride ≡ self.now.stride }
@@ -180,8 +180,8 @@ impl Engine {
 
     /// The machine that runs the turns. It keeps what was printed and punched before the known
     /// turn, each byte with its turn. After an answer it is in the run's state of the turn asked
-    /// about, until an edit reaches back before that turn, or memory is refused to a later question
-    /// [P].
+    /// about, until an edit reaches back before that turn, or memory is refused to a later
+    /// question.
     pub fn machine(&self) -> &PagedMachine
         ensures texts { KeepsTexts self.now.past self.now.known result.now }
         ensures shown { ShowsTexts self.now.past self.now.known result.now }

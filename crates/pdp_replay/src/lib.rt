@@ -18,8 +18,10 @@
 //! - **Searches**: [`Engine::first_at`] returns the first turn of the run that is sought, by its
 //!   act, by its trap, or by conditions on the state before it, [`Engine::last_at`] the last one,
 //!   [`Engine::writes`] the writes to a word of core, [`Engine::next_change`] the first turn that
-//!   changes a word of a drive, and [`Engine::disk_completions`] the functions of the disk that were
-//!   completed, for every past and whatever is kept. The turns run for them are bounded: those of
+//!   changes a word of a drive, [`Engine::disk_completions`] the functions of the disk that were
+//!   completed, and [`Engine::turn_of_byte`] the turn in which a byte was printed or punched, for
+//!   every past and whatever is kept. [`Engine::text_from`] returns what was printed or punched
+//!   before a turn, from one of its bytes on. The turns run for them are bounded: those of
 //!   `last_at` are the ones from the turn found on and two strides, where they were known.
 //! - **Counts**: [`Engine::counts`] returns for each of some words of virtual addresses how many
 //!   turns began an instruction there, in the mode that is given. It runs each of the turns once.
@@ -42,8 +44,9 @@
 //!   `first_touches_are_taken`). So the saved machines of the one run, with their stamps laid over
 //!   those of the other, are those of the other (`saved_machines_are_taken`), and a machine of the
 //!   other goes on from them (`adopted_runs_go_on`).
-//! - [`Engine::events`] lists the events of the script, and [`Engine::setup`] the numbers of the
-//!   setup, as the edits so far left them.
+//! - [`Engine::events`] lists the events of the script, [`Engine::setup`] returns the numbers of
+//!   the setup, and [`Engine::drive_count`] how many drives there are, as the edits so far left
+//!   them.
 //! - Alterations and drops of events, and edits of tape and delays, are never refused for memory
 //!   (`some_edits_need_no_memory`). Texts only grow from turn to turn (`texts_only_grow`).
 //!

@@ -67,7 +67,7 @@ is_read_check ReadCheck = true
 is_read_check _ = false
 
 -- why a function can't be done with so many drives, if so: of the drive, the cylinder, the sector
--- and the write lock the first that is amiss
+-- and the write lock the first that is amiss [6.80] [6.81] [6.82] [6.83] [6.84]
 unfoldable pub refusal : Rk → ℕ → Option Failure
 refusal rk drives = (
     if not (nat_lt (drive_in rk.disk_address) drives) then Some NoDrive else
@@ -77,28 +77,28 @@ refusal rk drives = (
     Some NoSector else
     if is_write_function rk.function && is_locked rk then Some WriteLocked else None)
 
--- the word of core at a bus address of 18 bits
+-- the word of core at a bus address of 18 bits [6.85] [6.98]
 abbrev pub core_word_of_bus_address : ℕ → ℕ
 core_word_of_bus_address address = address % bus_addresses / 2
 
--- how many words were asked for: RKWC counts up to 0, and 0 at the start is 65,536
+-- how many words were asked for: RKWC counts up to 0, and 0 at the start is 65,536 [6.86] [6.90]
 abbrev pub words_asked : Rk → ℕ
 words_asked rk = most_words_asked - rk.word_count
 
 -- how many of them come before an address outside a core of so many words; a read check asks for no
--- address
+-- address [6.88]
 abbrev pub within_core : Rk → ℕ → ℕ
 within_core rk words = (
     if is_read_check rk.function || rk.no_increment && nat_lt (core_word_of_bus_address rk.address)
     words then words_asked rk
     else words - core_word_of_bus_address rk.address)
 
--- the first word of the sector that RKDA names
+-- the first word of the sector that RKDA names [6.67] [6.85]
 abbrev pub first_word_of_sector : Rk → ℕ
 first_word_of_sector rk = sector_number rk.disk_address * words_of_sector
 
 -- what is done: the least of the words asked for, those left on a drive of this size, and those
--- before an address outside core
+-- before an address outside core [6.85] [6.86] [6.87] [6.88] [6.94]
 unfoldable pub transfer_of : Rk → ℕ → ℕ → Transfer
 transfer_of rk words size = record {
   no_increment = rk.no_increment;
@@ -107,24 +107,25 @@ transfer_of rk words size = record {
   count = min (words_asked rk) (min (size - first_word_of_sector rk) (within_core rk words));
 }
 
--- why it stopped before its end, if it did
+-- why it stopped before its end, if it did [6.86] [6.87] [6.88]
 abbrev pub stop_of : ℕ → ℕ → ℕ → Option Failure
 stop_of count asked left = if count == asked then None else if count == left then Some Overrun else
     Some NoMemory
 
 -- where the bus address is left: after the last word done, unless it is not to be incremented, or a
--- read check
+-- read check [6.91] [6.96]
 abbrev pub address_after : Rk → Transfer → ℕ
 address_after rk t = if rk.no_increment || is_read_check rk.function then t.core_start * 2 else
     (t.core_start + t.count) * 2
 
--- where the disk address is left: at the sector after the last one in which a word was done
+-- where the disk address is left: at the sector after the last one in which a word was done [6.95]
 abbrev pub disk_address_after : ℕ → Transfer → ℕ
 disk_address_after address t =
     if t.count == 0 then address else address_of_sector (drive_in address)
     ((t.disk_start + t.count - 1) / words_of_sector + 1)
 
 -- the registers after a transfer with a drive of this size, and whether a write check differed
+-- [6.89] [6.92]
 unfoldable pub registers_after : ℕ → Transfer → Bool → Rk → Rk
 registers_after size t different rk = record rk {
   word_count = (rk.word_count + t.count) % most_words_asked;
@@ -134,15 +135,16 @@ registers_after size t different rk = record rk {
   failure = stop_of t.count (words_asked rk) (size - t.disk_start);
 }
 
--- the drive that RKDA names
+-- the drive that RKDA names [6.66]
 abbrev pub drive_of : DiskWorld → List ℕ
 drive_of w = words_of_drive w.drives (drive_in w.rk.disk_address)
 
+-- the stamp that a read of the disk leaves on a word of core [6.97]
 abbrev pub stamp_of_disk : ℕ → Stamp
 stamp_of_disk turn = record { turn = turn; agent = Disk }
 
 -- core and drives after a transfer: a read leaves core's words stamped, a write the drive's, a
--- check none
+-- check none [6.74] [6.75] [6.76] [6.77]
 abbrev pub lists_after : Function → Transfer → ℕ → DiskWorld → DiskWorld
 lists_after Read t turn w = record w {
   core = core_after_read t (drive_of w) w.core;
@@ -165,14 +167,15 @@ unfoldable pub rk_transferred : ℕ → DiskWorld → DiskWorld
 rk_transferred turn w = after_transfer (transfer_of w.rk (length w.core) (length
     (drive_of w))) turn w
 
+-- a seek or a drive reset sets search complete [6.78]
 abbrev pub rk_searched : Rk → Rk
 rk_searched rk = record rk { search_complete = true }
 
--- write lock: for good
+-- write lock: for good [6.79]
 abbrev pub write_locked : Rk → Rk
 write_locked rk = record rk { locked = slice_set rk.locked (drive_in rk.disk_address) true }
 
--- what a function does that nothing forbids
+-- what a function does that nothing forbids [6.73] [6.78] [6.79]
 abbrev pub run_function : Function → ℕ → DiskWorld → DiskWorld
 run_function ControlReset turn w = w
 run_function Seek turn w = with_rk w (rk_searched w.rk)
@@ -183,25 +186,27 @@ run_function _ turn w = rk_transferred turn w
 abbrev pub rk_failed : Failure → Rk → Rk
 rk_failed failure rk = record rk { failure = Some failure }
 
+-- a function that fails one of its tests does nothing [6.80]
 abbrev pub run_unless_refused : Option Failure → ℕ → DiskWorld → DiskWorld
 run_unless_refused (Some failure) turn w = with_rk w (rk_failed failure w.rk)
 run_unless_refused None turn w = run_function w.rk.function turn w
 
--- ready again
+-- ready again [6.72]
 abbrev pub rk_finished : Rk → Rk
 rk_finished rk = record rk { operation = Idle; ready_enable = with_ready true rk.ready_enable }
 
 abbrev pub world_finished : DiskWorld → DiskWorld
 world_finished w = with_rk w (rk_finished w.rk)
 
--- the completion of what is under way, in this turn; if nothing is under way it does nothing
+-- the completion of what is under way, in this turn; if nothing is under way it does nothing [6.58]
+-- [6.72]
 unfoldable pub rk_completed : ℕ → DiskWorld → DiskWorld
 rk_completed turn w =
     if is_under_way w.rk.operation then world_finished (run_unless_refused (refusal w.rk
     (length w.drives)) turn w) else w
 
 -- the last stamps of each drive, if they have any, after a transfer with the drive of a number:
--- only a write changes them, and only that drive's
+-- only a write changes them, and only that drive's [6.97]
 abbrev pub stamps_after : Function → Transfer → ℕ → List (List (Option Stamp)) → List (List
     (Option Stamp))
 stamps_after Write t drive stamps = slice_set stamps drive (stamps_written t

@@ -19,7 +19,7 @@ words_of_sector = 256
 abbrev pub sectors_of_cylinder : ℕ
 sectors_of_cylinder = 24
 
--- 203 cylinders of 2 surfaces of 12 sectors
+-- 203 cylinders of 2 surfaces of 12 sectors [6.67]
 abbrev pub sectors_of_drive : ℕ
 sectors_of_drive = 4872
 
@@ -38,11 +38,12 @@ bus_words = 0o400000
 abbrev pub address_bit_16 : ℕ
 address_bit_16 = 0o200000
 
--- the words that RKWC 0 asks for, and the most
+-- the words that RKWC 0 asks for, and the most [6.90]
 abbrev pub most_words_asked : ℕ
 most_words_asked = 0o200000
 
--- the parts of a disk address, RKDA: 15-13 drive, 12-5 cylinder, 4 surface, 3-0 sector
+-- the parts of a disk address, RKDA: 15-13 drive, 12-5 cylinder, 4 surface, 3-0 sector [6.40]
+-- [6.53]
 abbrev pub drive_in : ℕ → ℕ
 drive_in address = field 13 3 address
 
@@ -55,13 +56,13 @@ surface_in address = field 4 1 address
 abbrev pub sector_in : ℕ → ℕ
 sector_in address = field 0 4 address
 
--- the number on its drive of the sector that an address names
+-- the number on its drive of the sector that an address names [6.67]
 abbrev pub sector_number : ℕ → ℕ
 sector_number address =
     (cylinder_in address * surfaces + surface_in address) * sectors_of_track + sector_in address
 
 -- the address of the sector of this number on a drive; after the last sector it is cylinder 203,
--- surface 0, sector 0
+-- surface 0, sector 0 [6.95]
 abbrev pub address_of_sector : ℕ → ℕ → ℕ
 address_of_sector drive number =
     drive * rkda_drive + number / sectors_of_cylinder * rkda_cylinder

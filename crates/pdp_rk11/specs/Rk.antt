@@ -39,7 +39,7 @@ rk_register_at offset = (
     if offset == 0o10 then Some BusAddress else
     if offset == 0o12 then Some DiskAddress else None)
 
--- the functions by their codes, bits 3-1 of RKCS
+-- the functions by their codes, bits 3-1 of RKCS [6.73] [6.74] [6.75] [6.76] [6.77] [6.78] [6.79]
 abbrev pub function_of : ℕ → Function
 function_of code = (
     if code == 0 then ControlReset else
@@ -60,7 +60,7 @@ code_of ReadCheck = 5
 code_of DriveReset = 6
 code_of WriteLock = 7
 
--- the bit of RKER by which a failure is told
+-- the bit of RKER by which a failure is told [6.53] [6.81] [6.82] [6.83] [6.84] [6.87] [6.88]
 abbrev pub failure_bit : Failure → ℕ
 failure_bit NoSector = rker_no_sector
 failure_bit NoCylinder = rker_no_cylinder
@@ -77,12 +77,12 @@ abbrev pub failure_bits : Option Failure → ℕ
 failure_bits None = 0
 failure_bits (Some failure) = failure_bit failure
 
--- no drive is locked
+-- no drive is locked [7.6]
 abbrev pub no_locks : List Bool
 no_locks = false ∷ false ∷ false ∷ false ∷ false ∷ false ∷ false ∷ false ∷ []
 
 -- at power-up: ready, not enabled, nothing under way, no function, no error, and word count, bus
--- address and disk address 0, with no drive locked
+-- address and disk address 0, with no drive locked [6.101] [7.7]
 abbrev pub init_rk : Rk
 init_rk = record {
   ready_enable = init_ready_enable true;
@@ -98,30 +98,31 @@ init_rk = record {
   operation = Idle;
 }
 
--- as RESET leaves it: as at power-up, but for the write locks, which stay
+-- as RESET leaves it: as at power-up, but for the write locks, which stay [6.101] [6.108]
 abbrev pub rk_reset : Rk → Rk
 rk_reset rk = record init_rk { locked = rk.locked }
 
--- whether the drive that a disk address names is locked
+-- whether the drive that a disk address names is locked [6.66]
 abbrev pub is_locked : Rk → Bool
 is_locked rk = slice_index_or rk.locked (drive_in rk.disk_address) false
 
--- RKDS of a drive that is there and not locked: 4700
+-- RKDS of a drive that is there and not locked: 4700 [6.35]
 abbrev pub drive_there : ℕ
 drive_there = rkds_rk05 + rkds_sector_counter + rkds_ready + rkds_heads_ready
 
--- RKDS of a controller with so many drives: 0 if the drive that RKDA names isn't there
+-- RKDS of a controller with so many drives: 0 if the drive that RKDA names isn't there [6.35]
+-- [6.66]
 abbrev pub drive_status : ℕ → Rk → ℕ
 drive_status drives rk =
     if nat_lt (drive_in rk.disk_address) drives then drive_there + bit_of
     (is_locked rk) * rkds_write_locked else 0
 
--- RKER: bit 0 is the write check's
+-- RKER: bit 0 is the write check's [6.36] [6.92]
 abbrev pub error_word : Rk → ℕ
 error_word rk = failure_bits rk.failure + bit_of rk.write_check
 
 -- RKCS: 15 error, 14 hard error, 13 search complete, 11 no increment, 7 ready, 6 enable, 5-4 bits
--- 17-16 of the bus address, 3-1 function; go, bit 0, reads 0
+-- 17-16 of the bus address, 3-1 function; go, bit 0, reads 0 [6.37] [6.53] [6.99]
 abbrev pub control_word : Rk → ℕ
 control_word rk =
     bit_of (has_failed rk.failure || rk.write_check) * rkcs_error + bit_of
@@ -130,7 +131,8 @@ control_word rk =
     + ready_enable_status rk.ready_enable + field 16 2 rk.address * rkcs_address + code_of
     rk.function * rkcs_function
 
--- what a read gives, with so many drives; no read has an effect
+-- what a read gives, with so many drives; no read has an effect [6.35] [6.36] [6.37] [6.38] [6.39]
+-- [6.40]
 abbrev pub rk_value : RkRegister → ℕ → Rk → ℕ
 rk_value DriveStatus drives rk = drive_status drives rk
 rk_value Error drives rk = error_word rk
@@ -140,7 +142,7 @@ rk_value BusAddress drives rk = field 0 16 rk.address
 rk_value DiskAddress drives rk = rk.disk_address
 
 -- bits 11 and 5-1 of a word written to RKCS: the function, bits 17-16 of the bus address, and no
--- increment
+-- increment [6.69] [6.71]
 abbrev pub with_command : ℕ → Rk → Rk
 with_command word rk = record rk {
   function = function_of (field 1 3 word);
@@ -149,6 +151,7 @@ with_command word rk = record rk {
 }
 
 -- a function begins, but for control reset: ready, the errors and search complete are cleared
+-- [6.71]
 abbrev pub begun_function : ℕ → ℕ → ℕ → Rk → Rk
 begun_function word turn delay rk = record (with_command word rk) {
   ready_enable = ready_enable_with false (is_set rkcs_enable word) rk.ready_enable;
@@ -158,18 +161,18 @@ begun_function word turn delay rk = record (with_command word rk) {
   operation = begun_operation turn delay;
 }
 
--- go with this function, while ready: control reset acts at once
+-- go with this function, while ready: control reset acts at once [6.70] [6.73]
 abbrev pub gone_with : Function → ℕ → ℕ → ℕ → Rk → Rk
 gone_with ControlReset word turn delay rk = rk_reset rk
 gone_with _ word turn delay rk = begun_function word turn delay rk
 
--- a word written to RKCS while ready, without go or with it
+-- a word written to RKCS while ready, without go or with it [6.37] [6.69]
 abbrev pub rk_commanded : ℕ → ℕ → ℕ → Rk → Rk
 rk_commanded word turn delay rk =
     if is_set rkcs_go word then gone_with (function_of (field 1 3 word)) word turn delay rk
     else record (with_command word rk) { ready_enable = enable_written word rk.ready_enable }
 
--- a word written to RKCS; while not ready it sets or clears enable alone
+-- a word written to RKCS; while not ready it sets or clears enable alone [6.68]
 abbrev pub control_written : ℕ → ℕ → ℕ → Rk → Rk
 control_written word turn delay rk =
     if rk.ready_enable.ready then rk_commanded word turn delay rk else record rk {
@@ -182,6 +185,7 @@ abbrev pub while_ready : Rk → Rk → Rk
 while_ready written rk = if rk.ready_enable.ready then written else rk
 
 -- what a write of a word does in a turn, with the delay of the disk; RKDS and RKER can't be written
+-- [6.35] [6.36] [6.37] [6.38] [6.39] [6.40]
 unfoldable pub rk_written : RkRegister → ℕ → ℕ → ℕ → Rk → Rk
 rk_written DriveStatus word turn delay rk = rk
 rk_written Error word turn delay rk = rk

@@ -9,7 +9,7 @@ use Rattle.pdp_rk11.specs.declared.function.Function.{Function}
 use Rattle.pdp_rk11.specs.declared.function.Function.TheVariants.{Write, Read, WriteCheck, ReadCheck}
 use Rattle.pdp_rk11.specs.declared.rk.Rk.{Rk}
 
--- which functions move or compare words
+-- which functions move or compare words [6.85]
 abbrev pub is_transfer : Function → Bool
 is_transfer Write = true
 is_transfer Read = true

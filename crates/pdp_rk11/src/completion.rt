@@ -48,7 +48,7 @@ impl Rk {
     /// drive, and so are the words of the zero fill. A read check touches no word of core.
     ///
     /// PDP-11 Peripherals Handbook, RK11; that it is one act, the order of the tests, the fill, and
-    /// where the registers are left [P].
+    /// where the registers are left [6.72] [6.80] [6.93] [6.95] [6.96].
     #[tactic(auto, unfolding(crate::proofs::Rules::completions), using(crate::proofs::Rules::maps))]
     pub fn complete<S: Store, D: Store>(&mut self, core: &mut S, drives: &mut [D], turn: u32)
         ensures world { stored_world S.words S.stamps D.words self.new core.new drives.new

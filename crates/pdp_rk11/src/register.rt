@@ -6,10 +6,10 @@ ghost use Rattle.std.specs.Prelude.{◌≡◌};
 #[derive(Clone, Copy)]
 pub enum RkRegister {
     /// RKDS: 4700, and bit 5 if the drive that RKDA names is locked; 0 if that drive isn't
-    /// there. It can't be written [P].
+    /// there. It can't be written [6.35].
     DriveStatus,
     /// RKER: bit 0 write check, 5 no sector, 6 no cylinder, 7 no drive, 10 no memory, 13 write
-    /// locked, 14 overrun. It can't be written [P].
+    /// locked, 14 overrun. It can't be written [6.36].
     Error,
     /// RKCS: bit 0 go, 3-1 function, 5-4 bits 17-16 of the bus address, 6 enable, 7 ready, 11 no
     /// increment, 13 search complete, 14 hard error, 15 error.

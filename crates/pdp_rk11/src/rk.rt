@@ -73,7 +73,7 @@ impl Rk {
         self.operation.is_same(&other.operation)
     }
 
-    /// The controller at power-up: as after RESET, with no drive locked [P].
+    /// The controller at power-up: as after RESET, with no drive locked [7.6] [7.7].
     pub fn init() -> Rk
         ensures { result ≡ init_rk }
     {
@@ -96,7 +96,7 @@ impl Rk {
     /// effect.
     ///
     /// PDP-11 Peripherals Handbook, RK11; that RKDS has no other bits, and is 0 for a drive that
-    /// isn't there [P].
+    /// isn't there [6.35].
     pub fn read_reg(&self, register: RkRegister, drives: usize) -> u16
         ensures { result ≡ rk_value register drives self.now }
     {
@@ -116,7 +116,7 @@ impl Rk {
     /// drops the enable that is written with it.
     ///
     /// PDP-11 Peripherals Handbook, RK11; how long a function takes, what a write does while the
-    /// controller isn't ready, and that control reset acts at once [P].
+    /// controller isn't ready, and that control reset acts at once [6.68] [6.70].
     #[tactic(auto, unfolding(crate::specs::Rk::rk_written))]
     pub fn write_reg(&mut self, register: RkRegister, word: u16, turn: u32, delay: u32)
         ensures { self.new ≡ rk_written register word turn delay self.old }
@@ -146,7 +146,7 @@ impl Rk {
     /// RESET, and control reset: ready, not enabled, no request, nothing under way, no error, and
     /// word count, bus address and disk address 0. Drives that are locked stay so.
     ///
-    /// PDP-11 Peripherals Handbook, RK11; that the locks stay [P].
+    /// PDP-11 Peripherals Handbook, RK11; that the locks stay [6.101].
     pub fn reset(&mut self)
         ensures { self.new ≡ rk_reset self.old }
     {
@@ -164,7 +164,7 @@ impl Rk {
     }
 
     /// The request is served: it goes, and nothing else changes. The next one appears if ready or
-    /// enable was cleared and both are set again [P].
+    /// enable was cleared and both are set again [6.106].
     pub fn serve(&mut self)
         ensures { self.new ≡ rk_served self.old }
     {

@@ -33,9 +33,10 @@ impl Rk {
         sector_number(self.disk_address) * WORDS_OF_SECTOR
     }
 
-    /// How many words a function moved or compared. It was under way in `before` and is done in
-    /// `self`. If it didn't fail it did all words that it was asked for, otherwise as many as RKWC
-    /// counted up. The law `words_done_are_counted` says that its completion did so many.
+    /// How many words a function moved or compared, from the controller before its completion
+    /// (`before`) and after it (`self`). A function that didn't fail did all the words that it was
+    /// asked for. One that failed did as many as RKWC grew by. The law `words_done_are_counted`
+    /// says that this is the number of words that the completion moved or compared.
     ///
     /// PDP-11 Peripherals Handbook, RK11.
     pub fn words_done(&self, before: &Rk) -> u32

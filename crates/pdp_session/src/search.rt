@@ -4,14 +4,9 @@ ghost use Rattle.std.specs.Prelude.{◌≡◌};
 ghost use Rattle.pdp_script.specs.Refusal.{for_memory, question_answer};
 ghost use Rattle.pdp_session.specs.Search.{search_result};
 
-mod finders;
 mod found_list;
 
 use crate::version::Version;
-use finders::{
-    find_answer, find_change, find_counts, find_events, find_fading, find_first, find_latest,
-    find_setup, find_text, find_transfers, find_turn_of_byte, find_writes,
-};
 pub use found_list::FoundList;
 use pdp_replay::{
     Bytes, CountedWords, DiskCompletion, Engine, Entry, Fault, LastWrite, PastEdit, Question,
@@ -109,23 +104,42 @@ impl Search {
         ensures past { engine.new.past ≡ engine.old.past }
     {
         match self {
-            Search::First { from, to, sought } => find_first(alloc, engine, from, to, sought),
-            Search::Latest { from, to, sought } => find_latest(alloc, engine, from, to, sought),
-            Search::Writes { from, to, address } => find_writes(alloc, engine, from, to, address),
-            Search::Transfers { from, to } => find_transfers(alloc, engine, from, to),
+            Search::First { from, to, sought } => {
+                Ok(Finding::First(engine.first_at(alloc, sought, from, to)?.value))
+            }
+            Search::Latest { from, to, sought } => {
+                Ok(Finding::Latest(engine.last_at(alloc, sought, from, to)?.value))
+            }
+            Search::Writes { from, to, address } => {
+                let found = engine.writes(alloc, address, from, to)?;
+                let more = found.value.reached < to;
+                Ok(Finding::Writes(FoundList::new(found.value.writes), more))
+            }
+            Search::Transfers { from, to } => {
+                let found = engine.disk_completions(alloc, from, to)?;
+                let more = found.value.reached < to;
+                Ok(Finding::Transfers(FoundList::new(found.value.completions), more))
+            }
             Search::Change {
                 from,
                 to,
                 drive,
                 number,
-            } => find_change(alloc, engine, from, to, drive, number),
-            Search::TextFrom { kind, turn, first } => find_text(alloc, engine, kind, turn, first),
-            Search::When { number } => find_turn_of_byte(alloc, engine, number),
-            Search::Fades { to, edit } => find_fading(alloc, engine, to, edit),
-            Search::Ask(question) => find_answer(alloc, engine, question),
-            Search::Counts { from, to, words } => find_counts(alloc, engine, from, to, words),
-            Search::Events => find_events(alloc, engine),
-            Search::Setup => find_setup(engine),
+            } => { Ok(Finding::Change(engine.next_change(alloc, drive, number, from, to)?.value)) }
+            Search::TextFrom { kind, turn, first } => {
+                Ok(Finding::TextFrom(kind, engine.text_from(alloc, kind, turn, first)?.value))
+            }
+            Search::When { number } => {
+                Ok(Finding::When(engine.turn_of_byte(alloc, TextKind::Printed, number)?.value))
+            }
+            Search::Fades { to, edit } => Ok(Finding::Fades(engine.fades(alloc, edit, to)?.value)),
+            Search::Ask(question) => Ok(Finding::Answer(engine.ask(alloc, question)?.value)),
+            Search::Counts { from, to, words } => {
+                let counted = engine.counts(alloc, words, from, to)?;
+                Ok(Finding::Counts(FoundList::new(counted.value)))
+            }
+            Search::Events => Ok(Finding::Events(FoundList::new(engine.events(alloc)?))),
+            Search::Setup => Ok(Finding::Setup(Version::of(engine), engine.setup())),
         }
     }
 }

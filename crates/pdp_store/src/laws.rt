@@ -6,7 +6,6 @@ ghost use Rattle.pdp_store.specs.Stamps.{TracesLeaveLastWrites};
 
 /// A law and no code: while there are serials enough, what is taken as pages keeps the serial of
 /// each base, and gives each other place one that was not given before, no two of them the same.
-/// [P]
 pub fn serials_are_given_once()
     ensures { SerialsAreGivenOnce }
 {}
@@ -19,7 +18,7 @@ pub fn traces_leave_last_writes()
 
 /// A law and no code: stamps laid over others, and both over third ones, are one overlay. The upper
 /// turn hides the stamps in the middle if they are all before it; if it isn't later than the lower
-/// turn, the middle may be laid over first. [P]
+/// turn, the middle may be laid over first.
 pub fn overlays_are_flat()
     ensures { OverlaysAreFlat }
 {}

@@ -81,12 +81,11 @@ pub struct Stamp {
 ///
 /// Words are numbered from 0 up: word i of core memory is the one at byte address 2i. The number of
 /// words never changes. A store is made with stamps (core memory) or without (a drive); one without
-/// answers `None` to [`Store::last`] always. Stamps are [P].
+/// answers `None` to [`Store::last`] always. Stamps: [6.28] [6.97].
 ///
 /// Words stand in pages of 256, numbered from 0 up: word i is in page i / 256. A store keeps the
 /// first touch of each page, which is the first turn with an access to one of its words. The caller
-/// reports each access by [`Store::touch`]; a read or a write by itself touches nothing. First
-/// touches are [P].
+/// reports each access by [`Store::touch`]; a read or a write by itself touches nothing.
 ///
 /// No call fails or takes memory. The caller keeps each index below [`Store::len`], except in
 /// [`Store::touch`] and [`Store::first`].

@@ -15,7 +15,7 @@ pub const PAGE_WORDS: usize = 256;
 /// A list of shared pages, itself shared: the words of a drive, 256 at each place.
 pub type Pages = Rc<Vec<Rc<Page>>>;
 
-/// 256 words with their last stamps, as a store had them at a place when they were taken. [P]
+/// 256 words with their last stamps, as a store had them at a place when they were taken.
 #[derive(Drop)]
 pub struct Page {
     /// The number that the store gave it when it was made: from 1 up, each number once; 0 if they

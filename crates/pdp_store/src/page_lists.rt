@@ -14,7 +14,7 @@ use std::alloc::Global;
 use std::rc::Rc;
 
 /// The page of word `i`, counted from 0 over all these pages, with that word changed to `w`. It has
-/// the next serial of the store, and the stamps of the page as it was. [P]
+/// the next serial of the store, and the stamps of the page as it was.
 ///
 /// # Errors
 ///
@@ -42,7 +42,7 @@ pub fn page_with_word<S: Paging>(
     Ok(Rc::new(alloc, page)?)
 }
 
-/// These pages with this one at a place. All other pages are shared. [P]
+/// These pages with this one at a place. All other pages are shared.
 ///
 /// # Errors
 ///

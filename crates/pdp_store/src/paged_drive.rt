@@ -39,7 +39,7 @@ enum Backing {
 }
 
 /// A store without stamps which reads each place of 256 words from a page that it shares, until a
-/// word there is written. [P]
+/// word there is written.
 ///
 /// So to load pages is to share their list, whose words stay where they are.
 #[derive(Drop)]
@@ -104,7 +104,7 @@ impl PagedDrive {
         })
     }
 
-    /// Makes a drive of `len` zero words; `len` is a whole number of pages. [P]
+    /// Makes a drive of `len` zero words; `len` is a whole number of pages.
     ///
     /// Each place reads one page of zeros, which all of them own. So the drive takes memory for
     /// that page, for the list of its owners, for the words of its own that a write needs, and for

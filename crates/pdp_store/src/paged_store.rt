@@ -25,7 +25,7 @@ use std::rc::Rc;
 /// A store of pages that keeps its words in one array and their stamps in another, so that a read
 /// costs what it costs in [`Flat`](crate::Flat), and a write the mark of its place more. Taking
 /// copies the places that were written since they were last taken or loaded; loading copies every
-/// place. [P]
+/// place.
 #[derive(Drop)]
 pub struct Paged {
     words: Vec<u16>,

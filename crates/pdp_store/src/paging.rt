@@ -17,7 +17,7 @@ use std::alloc::Global;
 /// from them.
 ///
 /// At each place of 256 words it has a base, the page last taken or loaded there, until a word
-/// there is written or set. It numbers the pages that are made of it. [P]
+/// there is written or set. It numbers the pages that are made of it.
 pub trait Paging: Store {
     ghost use Rattle.std.specs.Prelude.{List, ℕ, Option};
 
@@ -69,7 +69,7 @@ pub trait Paging: Store {
 }
 
 /// A [`Paging`] store whose pages are taken as one list, which is itself shared. So a store that
-/// was not written since gives the same list again, and a load shares it. [P]
+/// was not written since gives the same list again, and a load shares it.
 pub trait SharedPaging: Paging {
     /// The words with their last stamps, as pages: each base is given again, and each other place
     /// as a new page under the next serial, which becomes its base. So only the words of places

@@ -3,7 +3,7 @@
 ghost use Rattle.std.specs.Prelude.{◌≡◌};
 ghost use Rattle.pdp_store.specs.Parts.{part_of};
 
-/// A part of the machine that has words. [P]
+/// A part of the machine that has words.
 #[derive(Clone, Copy, Debug, PartialEq, Eq, Hash)]
 pub enum Part {
     /// Core memory.
@@ -34,7 +34,7 @@ impl Part {
     }
 }
 
-/// A word, by where it is. [P]
+/// A word, by where it is.
 #[derive(Clone, Copy, Debug, PartialEq, Eq, Hash)]
 pub struct WordAt {
     pub part: Part,

@@ -24,21 +24,22 @@ pc_register_at offset = (
 abbrev pub init_pc : Pc
 init_pc = record { reader = init_reader; punch = init_transmitter }
 
--- what a read gives
+-- what a read gives [6.42] [6.43]
 abbrev pub pc_value : PcRegister → Pc → ℕ
 pc_value ReaderStatus p = reader_status p.reader
 pc_value ReaderBuffer p = p.reader.byte
 pc_value PunchStatus p = transmitter_value Status p.punch
 pc_value PunchBuffer p = transmitter_value Buffer p.punch
 
--- what a read does: one of the reader's buffer clears done
+-- what a read does: one of the reader's buffer clears done [6.43]
 abbrev pub pc_read : PcRegister → Pc → Pc
 pc_read ReaderStatus p = p
 pc_read ReaderBuffer p = record p { reader = buffer_read p.reader }
 pc_read PunchStatus p = record p { punch = transmitter_read Status p.punch }
 pc_read PunchBuffer p = record p { punch = transmitter_read Buffer p.punch }
 
--- what a write of a word does in a turn, with the delays of the reader and of the punch
+-- what a write of a word does in a turn, with the delays of the reader and of the punch [6.42]
+-- [6.43]
 abbrev pub pc_written : PcRegister → ℕ → ℕ → ℕ → ℕ → Pc → Pc
 pc_written ReaderStatus word turn reader_delay punch_delay p =
     record p { reader = reader_status_written word turn reader_delay p.reader }
@@ -68,6 +69,6 @@ reader_served p = record p { reader = record p.reader { request = false } }
 abbrev pub punch_served : Pc → Pc
 punch_served p = record p { punch = transmitter_served p.punch }
 
--- RESET: the buffers stay
+-- RESET: the buffers stay [6.108]
 abbrev pub pc_reset : Pc → Pc
 pc_reset p = record { reader = reader_reset p.reader; punch = transmitter_reset p.punch }

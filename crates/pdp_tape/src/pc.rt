@@ -12,11 +12,11 @@ pub enum PcRegister {
     /// written.
     ReaderStatus,
     /// PRB: the last byte read, or 0 once go has begun a new one. A read clears done; a write does
-    /// nothing [P].
+    /// nothing [6.43].
     ReaderBuffer,
-    /// PPS: bit 7 ready, bit 6 enable, which alone is written. Bit 15, error, is always 0 [P].
+    /// PPS: bit 7 ready, bit 6 enable, which alone is written. Bit 15, error, is always 0 [6.46].
     PunchStatus,
-    /// PPB: a write clears ready and begins to punch its low byte. Reads 0 [P].
+    /// PPB: a write clears ready and begins to punch its low byte. Reads 0 [6.47].
     PunchBuffer,
 }
 
@@ -60,7 +60,7 @@ impl Pc {
         self.reader.is_same(&other.reader) && self.punch.is_same(&other.punch)
     }
 
-    /// Reader and punch at power-up: as after RESET, with both buffers 0 [P].
+    /// Reader and punch at power-up: as after RESET, with both buffers 0 [7.7].
     pub fn init() -> Pc
         ensures { result ≡ init_pc }
     {
@@ -95,7 +95,7 @@ impl Pc {
     }
 
     /// Writes a word to the register in turn `turn`. A byte is read `reader_delay` turns later, or
-    /// punched `punch_delay` turns later; with delay 0 only its event completes it [P].
+    /// punched `punch_delay` turns later; with delay 0 only its event completes it [6.56].
     pub fn write_reg(
         &mut self,
         register: PcRegister,
@@ -120,7 +120,7 @@ impl Pc {
 
     /// The read that is under way is over, with the next byte of the tape, if there is one: the
     /// byte is in the buffer and done is set, else error is set. If none is under way, nothing
-    /// happens [P].
+    /// happens [6.58].
     pub fn complete_reader(&mut self, next: Option<u8>)
         ensures { self.new ≡ pc_reader_completed next self.old }
     {
@@ -128,7 +128,7 @@ impl Pc {
     }
 
     /// The byte that is being punched is out, and the punch is ready again. Gives the byte; if
-    /// none is being punched, nothing happens [P].
+    /// none is being punched, nothing happens [6.58].
     pub fn complete_punch(&mut self) -> Option<u8>
         ensures byte { result ≡ pc_punched self.old }
         ensures after { self.new ≡ pc_punch_completed self.old }
@@ -137,7 +137,8 @@ impl Pc {
     }
 
     /// The reader's request is served: it goes, and nothing else changes. The next one appears
-    /// if its condition has become false and true again, or at a go that finds error [P].
+    /// if its condition has become false and true again, or at a go that finds error
+    /// [6.62] [6.106].
     pub fn serve_reader(&mut self)
         ensures { self.new ≡ reader_served self.old }
     {
@@ -145,7 +146,7 @@ impl Pc {
     }
 
     /// The punch's request is served: it goes, and nothing else changes. The next one appears if
-    /// ready or enable was cleared and both are set again [P].
+    /// ready or enable was cleared and both are set again [6.106].
     pub fn serve_punch(&mut self)
         ensures { self.new ≡ punch_served self.old }
     {
@@ -153,7 +154,7 @@ impl Pc {
     }
 
     /// RESET: the reader has nothing set, error too, the punch is ready, neither is enabled or
-    /// requests, and bytes that are being read or punched are dropped. The buffers stay [P].
+    /// requests, and bytes that are being read or punched are dropped. The buffers stay [6.108].
     pub fn reset(&mut self)
         ensures { self.new ≡ pc_reset self.old }
     {

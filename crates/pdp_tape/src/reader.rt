@@ -9,7 +9,7 @@ use pdp_word::{bit_of, is_set};
 /// PDP-11 Peripherals Handbook, PC11.
 #[derive(Clone, Copy)]
 pub struct Reader {
-    /// Bit 15 of the status: a read found no byte. RESET alone clears it [P].
+    /// Bit 15 of the status: a read found no byte. RESET alone clears it [6.64].
     pub error: bool,
     /// Bit 7 of the status: a byte has come since the buffer was last read or a read of a new one
     /// began.
@@ -18,7 +18,7 @@ pub struct Reader {
     pub enable: bool,
     /// It requests an interrupt. A request appears if enable and one of error and done come to
     /// be set, and at a go that finds error and leaves enable set; it goes when it is served or
-    /// if they are not set any more [P].
+    /// if they are not set any more [6.62] [6.106].
     pub request: bool,
     /// The last byte read, or 0 once a read of a new one began.
     pub byte: u8,
@@ -45,7 +45,7 @@ impl Reader {
         self.operation.is_same(&other.operation)
     }
 
-    /// A reader at power-up: nothing set, with byte 0 and nothing under way [P].
+    /// A reader at power-up: nothing set, with byte 0 and nothing under way [7.7].
     pub fn init() -> Reader
         ensures { result ≡ init_reader }
     {
@@ -73,7 +73,7 @@ impl Reader {
     /// Writes a word to the status in turn `turn`: bit 6 is enable, and bit 0 is go. Go clears done
     /// and the byte, and begins to read a byte, which is there `delay` turns later; with delay 0
     /// only its event completes it. While busy go does nothing. With error set it begins nothing,
-    /// and requests an interrupt if bit 6 is set [P].
+    /// and requests an interrupt if bit 6 is set [6.61] [6.62] [6.63].
     pub fn write_status(&mut self, word: u16, turn: u32, delay: u32)
         ensures { self.new ≡ reader_status_written word turn delay self.old }
     {
@@ -96,7 +96,7 @@ impl Reader {
 
     /// The read that is under way is over, with the next byte of the tape, if there is one: the
     /// byte is in the buffer and done is set, else error is set. If none is under way, nothing
-    /// happens [P].
+    /// happens [6.58].
     pub fn complete(&mut self, next: Option<u8>)
         ensures { self.new ≡ reader_completed next self.old }
     {
@@ -114,7 +114,7 @@ impl Reader {
     }
 
     /// RESET: error, done and enable are cleared, a request and what is under way are dropped. The
-    /// byte stays [P].
+    /// byte stays [6.108].
     pub fn reset(&mut self)
         ensures { self.new ≡ reader_reset self.old }
     {

@@ -46,17 +46,17 @@ at_start w = record { bus = w; printed = []; punched = [] }
 abbrev pub on_io_page : Progress → IoPage → Progress
 on_io_page p io_page = record p { bus = with_io_page p.bus io_page }
 
--- a key is struck
+-- a key is struck [6.54]
 abbrev pub after_key : ℕ → Progress → Progress
 after_key key p = on_io_page p (record p.bus.io_page {
   console = kl_struck p.bus.io_page.console key;
 })
 
--- the clock ticks
+-- the clock ticks [6.55]
 abbrev pub clock_ticked : Progress → Progress
 clock_ticked p = on_io_page p (record p.bus.io_page { clock = kw_ticked p.bus.io_page.clock })
 
--- the printer completes: its byte joins the text
+-- the printer completes: its byte joins the text [6.59]
 abbrev pub printer_done : Progress → Progress
 printer_done p = record (on_io_page p (record p.bus.io_page {
   console = kl_completed
@@ -65,7 +65,7 @@ printer_done p = record (on_io_page p (record p.bus.io_page {
   printed = p.printed ++ option_to_list (kl_printed p.bus.io_page.console);
 }
 
--- the reader completes: if it was reading, the next byte of the tape is taken
+-- the reader completes: if it was reading, the next byte of the tape is taken [6.64]
 abbrev pub reader_done : Progress → Progress
 reader_done p = record p {
   bus = record p.bus {
@@ -78,7 +78,7 @@ reader_done p = record p {
   };
 }
 
--- the punch completes: its byte joins those punched
+-- the punch completes: its byte joins those punched [6.60]
 abbrev pub punch_done : Progress → Progress
 punch_done p = record (on_io_page p (record p.bus.io_page {
   paper_tape = pc_punch_completed
@@ -92,7 +92,7 @@ abbrev pub switches_set : ℕ → Progress → Progress
 switches_set word p = on_io_page p (record p.bus.io_page { switches = word })
 
 -- the disk completes: its function is done, to core and the drives, and the pages of the words that
--- it moves or compares are touched
+-- it moves or compares are touched [6.72]
 abbrev pub disk_done : Progress → Progress
 disk_done p = record p {
   bus = with_first_touches (with_disk_world p.bus (rk_completed p.bus.turn (disk_world_of p.bus)))
@@ -100,7 +100,7 @@ disk_done p = record p {
       p.bus.first_touches);
 }
 
--- what an event does to the bus; Continue is the processor's
+-- what an event does to the bus; Continue is the processor's [6.58] [8.5]
 abbrev pub after_event : Event → Progress → Progress
 after_event (Key key) p = after_key key p
 after_event Tick p = clock_ticked p
@@ -117,7 +117,7 @@ after_events [] p = p
 after_events (e ∷ es) p = after_events es (after_event e p)
 
 -- whether the clock ticks by itself in turn t: in the positive multiples of its period, if that is
--- above 0
+-- above 0 [8.1]
 abbrev pub is_tick : ℕ → ℕ → Bool
 is_tick t period = nat_lt 0 period && nat_lt 0 t && t % period == 0
 

@@ -39,7 +39,7 @@ pub record BusWorld : Type 0 where
   pub first_touches : FirstTouches
 
 -- the I/O page as of power-up: every bit of the program status word, of the mapping registers and
--- of the switches 0, the devices as after RESET
+-- of the switches 0, the devices as after RESET [7.2] [7.4] [7.7]
 abbrev pub io_page_at_power_up : Delays → IoPage
 io_page_at_power_up delays = record {
   status = record {
@@ -58,7 +58,7 @@ io_page_at_power_up delays = record {
   switches = 0;
 }
 
--- the bus as of power-up, over this core, these drives and this tape, with no first touches
+-- the bus as of power-up, over this core, these drives and this tape, with no first touches [7.8]
 abbrev pub bus_at_power_up : List ℕ → List (Option Stamp) → List (List ℕ) → List ℕ → Delays
     → BusWorld
 bus_at_power_up words stamps drives tape delays =
@@ -114,7 +114,7 @@ with_disk_world w d = record w {
 }
 
 -- RESET: each device is initialised, and SR0 is cleared, so mapping is off; the program status, the
--- pages, SR2, the delays and the switches stay
+-- pages, SR2, the delays and the switches stay [6.108]
 unfoldable pub io_page_reset : IoPage → IoPage
 io_page_reset b = record b {
   mapping = kt_reset b.mapping;

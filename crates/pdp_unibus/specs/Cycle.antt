@@ -38,16 +38,17 @@ abbrev pub device_slave : Option Register → Slave
 device_slave (Some register) = Device register
 device_slave None = Nobody
 
--- core of so many words is at the lowest addresses
+-- core of so many words is at the lowest addresses [6.3] [6.4] [6.29]
 abbrev pub slave_at : ℕ → ℕ → Slave
 slave_at words address =
     (if nat_lt (address / 2) words then Core (address / 2) else device_slave (register_at address))
 
--- the stamp that a write of the processor leaves in this turn
+-- the stamp that a write of the processor leaves in this turn [6.28]
 abbrev pub stamp_of_cycle : BusWorld → Stamp
 stamp_of_cycle w = record { turn = w.turn; agent = Cpu }
 
 -- the bus after a read of a word of core, and after a write of one: each touches the word's page
+-- [6.27] [6.28]
 abbrev pub core_read : BusWorld → ℕ → BusWorld
 core_read w k = with_first_touches w (word_touched part.Core k w.turn w.first_touches)
 
@@ -58,10 +59,11 @@ core_written w k word = record w {
   first_touches = word_touched part.Core k w.turn w.first_touches;
 }
 
--- nobody answered: nothing changes
+-- nobody answered: nothing changes [6.29]
 abbrev pub timed_out : BusWorld → Answer
 timed_out w = record { value = Err (record {}); after = w }
 
+-- a read, and its effect if a register has one [6.31]
 abbrev pub read_from : Slave → BusWorld → Answer
 read_from (Core k) w = record { value = Ok (slice_index w.core k); after = core_read w k }
 read_from (Device r) w = record {
@@ -80,6 +82,7 @@ write_to (Device r) word w = record {
 }
 write_to Nobody word w = timed_out w
 
+-- a write of a byte, to its half of a word of core or to a register [6.27] [6.30]
 abbrev pub write_byte_to : Slave → ℕ → ℕ → BusWorld → Answer
 write_byte_to (Core k) address byte w =
     record {

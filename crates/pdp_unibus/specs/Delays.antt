@@ -9,7 +9,7 @@ use Rattle.pdp_unibus.specs.declared.delays.DelayedDevice.TheVariants.{Clock}
 abbrev pub standard_delays : Delays
 standard_delays = record { printer = 1; reader = 4; punch = 4; disk = 10; clock = 0 }
 
--- the delay of one device is set
+-- the delay of one device is set [6.57]
 abbrev pub with_delay : DelayedDevice → ℕ → Delays → Delays
 with_delay Printer delay d = record d { printer = delay }
 with_delay Reader delay d = record d { reader = delay }

@@ -17,7 +17,9 @@ use Rattle.pdp_unibus.specs.declared.register.Register.TheVariants.{Clock, Conso
 use Rattle.pdp_unibus.specs.declared.register.Register.TheVariants.{PaperTape, Switches}
 use Rattle.pdp_unibus.specs.declared.register.Register.TheVariants.{ProgramStatus}
 
--- the owners: a device has its registers from its first address on
+-- the owners: a device has its registers from its first address on; the program status word is at
+-- 777776 [2.8] [6.35] [6.36] [6.37] [6.38] [6.39] [6.40] [6.41] [6.42] [6.43] [6.44] [6.45] [6.46]
+-- [6.47] [6.48] [6.52]
 abbrev pub register_of_word : ℕ → Option Register
 register_of_word address = (
     if nat_le 0o777400 address && nat_le address 0o777412 then option_map Disk (rk_register_at
@@ -30,11 +32,11 @@ register_of_word address = (
     if address == 0o777570 then Some Switches else
     if address == 0o777776 then Some ProgramStatus else option_map Mapping (kt_register_at address))
 
--- the register that has an address in its word
+-- the register that has an address in its word [6.29]
 unfoldable pub register_at : ℕ → Option Register
 register_at address = register_of_word (address - address % 2)
 
--- what a read gives, with so many drives
+-- what a read gives, with so many drives [6.48] [6.52]
 unfoldable pub value_in : Register → ℕ → IoPage → ℕ
 value_in (Console r) drives b = kl_value r b.console
 value_in Clock drives b = kw_value b.clock
@@ -54,7 +56,7 @@ after_read Switches b = b
 after_read (Mapping r) b = b
 after_read ProgramStatus b = b
 
--- what a write of a word does in a turn; the switches can't be written
+-- what a write of a word does in a turn; the switches can't be written [6.48] [6.52] [6.57]
 unfoldable pub after_write : Register → ℕ → ℕ → IoPage → IoPage
 after_write (Console r) word turn b = record b {
   console = kl_written r word turn b.delays.printer
@@ -68,20 +70,21 @@ after_write Switches word turn b = b
 after_write (Mapping r) word turn b = record b { mapping = kt_written r word b.mapping }
 after_write ProgramStatus word turn b = record b { status = status_written word b.status }
 
--- the word with the byte of this address replaced: the even address is the low half
+-- the word with the byte of this address replaced: the even address is the low half [1.4]
 abbrev pub word_with_byte : ℕ → ℕ → ℕ → ℕ
 word_with_byte word address byte =
     (if address % 2 == 0 then word - word % 256 + byte else byte * 256 + word % 256)
 
 -- whether a write of a byte at an address does anything: at the odd address of the printer's and
--- the punch's buffer it does nothing
+-- the punch's buffer it does nothing [6.32]
 abbrev pub is_byte_written : Register → ℕ → Bool
 is_byte_written (Console PrinterBuffer) address = address % 2 == 0
 is_byte_written (PaperTape PunchBuffer) address = address % 2 == 0
 is_byte_written _ address = true
 
 -- what a write of a byte does: the word is written with the other half as a read would give it,
--- without the effect of a read, with so many drives
+-- without the effect of a read, with so many drives; so a byte of the program status word sets what
+-- its half has [2.10] [6.30] [6.32]
 unfoldable pub after_byte : Register → ℕ → ℕ → ℕ → ℕ → IoPage → IoPage
 after_byte register drives address byte turn b =
     if is_byte_written register address then after_write register (word_with_byte

@@ -14,13 +14,13 @@ use Rattle.pdp_unibus.specs.declared.source.Source.{Source}
 use Rattle.pdp_unibus.specs.declared.source.Source.TheVariants.{Keyboard, Printer, Reader, Punch}
 use Rattle.pdp_unibus.specs.declared.source.Source.TheVariants.{Clock, Disk}
 
--- the level at which a source requests
+-- the level at which a source requests [6.100] [6.101] [6.102] [6.103] [6.104] [6.105]
 abbrev pub level_of : Source → Priority
 level_of Clock = Level6
 level_of Disk = Level5
 level_of _ = Level4
 
--- where its vector is
+-- where its vector is [5.17] [6.100] [6.101] [6.102] [6.103] [6.104] [6.105]
 abbrev pub vector_of : Source → ℕ
 vector_of Keyboard = 0o60
 vector_of Printer = 0o64
@@ -29,7 +29,8 @@ vector_of Punch = 0o74
 vector_of Clock = 0o100
 vector_of Disk = 0o220
 
--- the order in which they go: by levels, and then by the profile
+-- the order in which they go: by levels, and then by the profile [6.100] [6.101] [6.102] [6.103]
+-- [6.104] [6.105]
 abbrev pub order : List Source
 order = Clock ∷ Disk ∷ Keyboard ∷ Printer ∷ Reader ∷ Punch ∷ []
 
@@ -56,11 +57,11 @@ requests b Punch = b.paper_tape.punch.ready_enable.request
 abbrev pub has_request : IoPage → Bool
 has_request b = list_any (requests b) order
 
--- the source that interrupts a processor of this priority
+-- the source that interrupts a processor of this priority [5.4]
 unfoldable pub chosen_source : Priority → IoPage → Option Source
 chosen_source priority b = first_above (requests b) priority
 
--- the source's request is served: that request goes, and nothing else changes
+-- the source's request is served: that request goes, and nothing else changes [5.7] [6.106]
 unfoldable pub io_page_served : Source → IoPage → IoPage
 io_page_served Clock b = record b { clock = kw_served b.clock }
 io_page_served Disk b = record b { disk = rk_served b.disk }

@@ -26,8 +26,8 @@ priority_bits Level7 = 7
 abbrev pub is_above : Priority → Priority → Bool
 is_above level other = nat_lt (priority_bits other) (priority_bits level)
 
--- the program status word: 15-14 mode, 13-12 previous mode, 11-8 zero, 7-5 priority, 4 T, 3 N, 2 Z,
--- 1 V, 0 C
+-- the program status word: 15-14 mode [2.3], 13-12 previous mode [2.4], 11-8 zero [2.12], 7-5
+-- priority [2.5], 4 T [2.6], 3 N, 2 Z, 1 V, 0 C [2.7]
 abbrev pub status_word : Status → ℕ
 status_word s =
     mode_bits s.mode * ps_mode + mode_bits s.previous * ps_previous + priority_bits s.priority *
@@ -58,7 +58,7 @@ status_codes word = record {
       is_set ps_c word;
 }
 
--- the program status that a whole word says: bits 11-8 count for nothing
+-- the program status that a whole word says: bits 11-8 count for nothing [2.9] [4.58]
 unfoldable pub status_of_word : ℕ → Status
 status_of_word word = record {
   mode = mode_of (field 14 2 word);
@@ -68,6 +68,6 @@ status_of_word word = record {
   codes = status_codes word;
 }
 
--- the program status after its word was written: T can't be written
+-- the program status after its word was written: T can't be written [2.9] [6.52]
 unfoldable pub status_written : ℕ → Status → Status
 status_written word s = record (status_of_word word) { trace_bit = s.trace_bit }

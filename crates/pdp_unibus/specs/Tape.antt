@@ -11,5 +11,6 @@ abbrev pub next_byte : List ℕ → ℕ → Option ℕ
 next_byte tape read = slice_get tape read
 
 -- how many have been read after one more read: one more if there was a byte, and as many at the end
+-- [6.64]
 abbrev pub read_on : List ℕ → ℕ → ℕ
 read_on tape read = if nat_lt read (length tape) then read + 1 else read

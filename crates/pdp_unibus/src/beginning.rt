@@ -14,7 +14,7 @@ use crate::watch::Watch;
 use pdp_store::Store;
 
 /// The byte that was printed on the console and the byte that was punched in the beginning of a
-/// turn, if any [P].
+/// turn, if any.
 #[derive(Clone, Copy, Default)]
 pub struct Output {
     pub printed: Option<u8>,
@@ -29,7 +29,7 @@ impl<S: Store, D: Store> Bus<S, D> {
     /// printed and the byte that was punched.
     ///
     /// `Continue` is the processor's and does nothing here. An event for an operation that isn't
-    /// under way does nothing. [P]
+    /// under way does nothing. [6.58]
     #[inline(never)]
     #[tactic(auto, unfolding(crate::specs::after_beginning, crate::specs::before_disk))]
     pub fn events(&mut self, turn: u32, events: &[Event]) -> Output
@@ -49,7 +49,7 @@ impl<S: Store, D: Store> Bus<S, D> {
     }
 
     /// Begins this turn without events if the bus knows that nothing happens in its beginning, and
-    /// returns true. Otherwise it does nothing and returns false, also if it only doesn't know. [P]
+    /// returns true. Otherwise it does nothing and returns false, also if it only doesn't know.
     #[inline(always)]
     pub fn begin_quietly(&mut self, turn: u32) -> bool
         ensures begun { result ≡ true → after_beginning turn [] self.old ≡ at_start self.new }

@@ -1,7 +1,7 @@
 ghost use Rattle.std.specs.Prelude.{◌≡◌, ◌↔◌, true};
 ghost use Rattle.pdp_unibus.specs.Delays.{standard_delays, with_delay};
 
-/// A device whose delay can be set [P].
+/// A device whose delay can be set [6.57].
 #[derive(Clone, Copy)]
 pub enum DelayedDevice {
     /// The console terminal's printer.
@@ -18,7 +18,7 @@ pub enum DelayedDevice {
 
 /// How many turns after it began an operation of each device completes: 0 says by an event alone.
 /// Of the clock it is the period: with p above 0 it ticks in the turns p, 2p and so on, with 0 by
-/// events alone [P].
+/// events alone [6.56] [8.1].
 #[derive(Clone, Copy)]
 pub struct Delays {
     pub printer: u32,

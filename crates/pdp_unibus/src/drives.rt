@@ -12,7 +12,6 @@ use pdp_word::NoMemory;
 impl<S: Store, D: Store + Drop> Bus<S, D> {
     /// Adds these drives after those of the bus, with the first touches of their pages: they get
     /// the next numbers. The disk's controller stays as it is, and so do the locks of all drives.
-    /// [P]
     ///
     /// Err(NoMemory) if memory was refused. The bus is then as before.
     pub fn add_drives(&mut self, mut drives: Vec<D>) -> Result<(), NoMemory>
@@ -28,7 +27,7 @@ impl<S: Store, D: Store + Drop> Bus<S, D> {
     }
 
     /// Keeps the first `count` drives and removes the others. If the bus has fewer, all stay. Takes
-    /// no memory. [P]
+    /// no memory.
     #[tactic(auto, using(crate::proofs::FewerDrives::first_seen))]
     pub fn keep_drives(&mut self, count: usize)
         ensures { self.new ≡ with_first_touches

@@ -33,7 +33,7 @@ pub struct IoPage {
 
 impl IoPage {
     /// The I/O page as of power-up, with these delays: every bit of the program status word, of the
-    /// mapping registers and of the switches 0, and the devices as after RESET [P].
+    /// mapping registers and of the switches 0, and the devices as after RESET [7.2] [7.4] [7.7].
     pub(crate) fn power(delays: Delays) -> IoPage
         ensures { result ≡ io_page_at_power_up delays }
     {
@@ -147,7 +147,7 @@ impl IoPage {
 
     /// A write of a byte to the register, at an address in its word, in this turn, with so many
     /// drives: the other half is written as a read would give it, without the effect of a read. At
-    /// the odd address of the printer's and the punch's buffer it does nothing. [P]
+    /// the odd address of the printer's and the punch's buffer it does nothing. [6.30] [6.32]
     #[tactic(auto, unfolding(crate::specs::Register::after_byte))]
     pub fn write_byte(
         &mut self,

@@ -37,7 +37,8 @@ impl IoPage {
     }
 
     /// The source that is served first, of those that request with a level above the priority, if
-    /// there is one: the highest level, and at one level the order of the profile [P].
+    /// there is one: the highest level, and at one level the order keyboard, printer, reader, punch
+    /// [6.102] [6.103] [6.104] [6.105].
     #[cold]
     #[inline(never)]
     #[tactic(auto, unfolding(crate::specs::chosen_source), using(crate::proofs::Rules::choices))]

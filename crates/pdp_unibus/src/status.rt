@@ -34,7 +34,7 @@ impl Status {
     }
 
     /// The program status word: bits 15-14 current mode, 13-12 previous mode, 7-5 priority, 4 T, 3
-    /// N, 2 Z, 1 V, 0 C. Bits 11-8 are 0 [P].
+    /// N, 2 Z, 1 V, 0 C. Bits 11-8 are 0 [6.52].
     pub fn word(self) -> u16
         ensures { result ≡ status_word self }
     {
@@ -44,7 +44,7 @@ impl Status {
         modes + self.priority.bits() * PS_PRIORITY + bit_of(self.trace_bit) * PS_TRACE + codes
     }
 
-    /// What a whole program status word says, T with it. Bits 11-8 count for nothing [P].
+    /// What a whole program status word says, T with it. Bits 11-8 count for nothing [4.58] [5.38].
     #[tactic(auto, unfolding(crate::specs::Status::status_of_word))]
     pub fn of_word(word: u16) -> Status
         ensures { result ≡ status_of_word word }
@@ -64,7 +64,7 @@ impl Status {
     }
 
     /// The program status after its word was written: modes, priority and codes as the word has
-    /// them. T stays, and bits 11-8 count for nothing [P].
+    /// them. T stays, and bits 11-8 count for nothing [2.9].
     #[tactic(auto, unfolding(crate::specs::Status::status_written))]
     pub fn written(self, word: u16) -> Status
         ensures { result ≡ status_written word self }

@@ -11,7 +11,7 @@ use pdp_store::{Part, Store};
 impl<S: Store, D: Store> Bus<S, D> {
     /// Returns the first turn with an access to a word of this page of a part. `None` if the page
     /// has no first touch, if every touch of it was forgotten, and if there is no such page. A page
-    /// is 256 words; pages count from 0. [P]
+    /// is 256 words; pages count from 0.
     pub fn first(&self, part: Part, page: usize) -> Option<u32>
         ensures { result ≡ first_turn
             (slice_index_or (first_touches_in part self.now.first_touches) page never) }
@@ -23,7 +23,6 @@ impl<S: Store, D: Store> Bus<S, D> {
     }
 
     /// Drops the first touches of this turn and of later turns; earlier ones stay. Takes no memory.
-    /// [P]
     pub fn forget(&mut self, turn: u32)
         ensures { self.new
             ≡ with_first_touches self.old (all_first_touches_before turn self.old.first_touches) }

@@ -4,7 +4,7 @@ use Rattle.std.specs.Prelude.{ℕ, Bool, nat_le}
 use Rattle.pdp_word.specs.declared.size.Size.{Size}
 use Rattle.pdp_word.specs.declared.size.Size.TheVariants.{Word, Byte}
 
--- how many values a word or a byte has
+-- how many values a word or a byte has: of 16 bits, and of 8 [1.1]
 abbrev pub span : Size → ℕ
 span Word = 0o200000
 span Byte = 0o400

@@ -2,7 +2,7 @@
 -- (DEC PDP-11/40 Processor Handbook (1972), Addressing modes and Instruction set).
 use Rattle.std.specs.Prelude.{ℕ, ℤ, pos, ◌+◌, ◌-◌, ◌*◌, ◌/◌, ◌%◌, ◌-ℤ◌, nat_lt, if◌then◌else◌}
 
--- a word as a signed number: less 2 ^ 16 if its top bit is set
+-- a word as a signed number: less 2 ^ 16 if its top bit is set [1.2]
 abbrev pub signed_value : ℕ → ℤ
 signed_value word = if nat_lt word 0o100000 then pos word else pos word -ℤ pos 0o200000
 

@@ -57,7 +57,7 @@ abbrev pub powered_world : ℕ → List ℕ → List (Option Stamp) → List (Li
 powered_world start words stamps drives tape delays =
     world (powered_processor start) (bus_at_power_up words stamps drives tape delays)
 
--- the machine as of power-up: no byte was printed or punched
+-- the machine as of power-up: no byte was printed or punched [7.8]
 abbrev pub powered_machine : ℕ → List ℕ → List (Option Stamp) → List (List ℕ) → List ℕ → Delays
     → MachineState
 powered_machine start words stamps drives tape delays = record {
@@ -79,7 +79,7 @@ with_begun events m = record m {
   punched = m.punched ++ punched_in m.turn events m.world;
 }
 
--- the machine after its next turn, with these events
+-- the machine after its next turn, with these events [8.3]
 abbrev pub after_turn : List Event → MachineState → MachineState
 after_turn events m = record {
   turn = m.turn + 1;

@@ -18,7 +18,7 @@ use std::alloc::Global;
 use std::marker::Model;
 
 /// What came out of a machine from some turn on, and the first touches of its pages: copied, so
-/// that the machine of another run can take them. [P]
+/// that the machine of another run can take them.
 #[derive(Drop)]
 pub struct SavedOutput {
     text: Vec<KeptByte>,
@@ -48,7 +48,7 @@ impl Machine<Paged, PagedDrive> {
     /// The bytes that came out in this turn and later, also of those that are kept of later turns,
     /// and all first touches.
     ///
-    /// Err(NoMemory) if memory was refused. [P]
+    /// Err(NoMemory) if memory was refused.
     pub fn save_output(&self, alloc: Global, turn: u32) -> Result<SavedOutput, NoMemory>
         ensures { IfOk result (λ output. output ≡ output_from turn self.now) }
     {
@@ -69,7 +69,7 @@ impl Machine<Paged, PagedDrive> {
 
     /// Whether the machine and a saved machine of another run meet: they are of the same turn and
     /// equal, except for the last stamps of core and how many bytes were printed and punched. It
-    /// doesn't compare the bytes of the tape, nor first touches. [P]
+    /// doesn't compare the bytes of the tape, nor first touches.
     pub fn meets(&self, saved: &Saved) -> bool
         requires { HasSizesOf saved.now.bus self.now.state.world.bus }
         ensures { (result ≡ true) ↔ SavedMeet (saved_machine self.now.state) saved.now }
@@ -81,7 +81,7 @@ impl Machine<Paged, PagedDrive> {
     }
 
     /// Whether each page that the other run touched before the turn of this machine was touched
-    /// before it in the run of this machine too. [P]
+    /// before it in the run of this machine too.
     pub fn has_touches_of(&self, output: &SavedOutput) -> bool
         requires { HasPagesOf output.now.first_touches self.now.first_touches }
         ensures { (result ≡ true) ↔ (first_touches_over self.now.state.turn self.now.first_touches
@@ -96,7 +96,6 @@ impl Machine<Paged, PagedDrive> {
     /// turns. The bytes come after all that the machine keeps.
     ///
     /// Err(NoMemory) if memory was refused. The machine stays as it is then, except for its room.
-    /// [P]
     pub fn take_output(
         &mut self,
         output: &SavedOutput,
@@ -133,7 +132,7 @@ impl Machine<Paged, PagedDrive> {
 
     /// Makes the machine the later saved machine `next` of the other run, which it meets in the
     /// saved machine `there`: its last stamps from there on are laid over those of the machine, and
-    /// as many bytes more came out of it as between the two. Takes no memory. [P]
+    /// as many bytes more came out of it as between the two. Takes no memory.
     pub fn load_over(&mut self, there: &Saved, next: &Saved)
         requires sizes { HasSizesOf next.now.bus self.old.state.world.bus }
         requires held { CanHold self.old (saved_over self.old.state.turn

@@ -13,7 +13,7 @@ use std::alloc::Global;
 impl Saved {
     /// The page of a word, with this value in the word. Its stamps are kept. The bus of `machine`
     /// numbers the page; as a contract sees it, `machine` stays as it is, since its value has no
-    /// serials. [P]
+    /// serials.
     ///
     /// # Errors
     ///
@@ -36,7 +36,7 @@ impl Saved {
     }
 
     /// What takes the place of the page that was patched here: all the memory that `put_pages`
-    /// needs. [P]
+    /// needs.
     ///
     /// # Errors
     ///
@@ -49,7 +49,7 @@ impl Saved {
     }
 
     /// Puts the pages that were made for it in place of its own. The machine is the same then,
-    /// except for the word of the patched page. It takes no memory. [P]
+    /// except for the word of the patched page. It takes no memory.
     #[tactic(auto, unfolding(crate::specs::Saved::saved_machine_with_word))]
     pub fn put_pages(&mut self, page: &PatchedPage, new: NewPages)
         requires { AreNewPages page.now self.old.bus new }

@@ -9,12 +9,12 @@ use Rattle.pdp_store.specs.declared.part.Part.{Part}
 use Rattle.pdp_store.specs.declared.part.Part.TheVariants.{Core, Drive}
 use Rattle.pdp_store.specs.declared.part.WordAt.{WordAt}
 
--- the first value of a core word: its patch, else its image's word, else 0
+-- the first value of a core word: its patch, else its image's word, else 0 [7.5]
 abbrev pub first_core_word : SetupData → ℕ → ℕ
 first_core_word s number = unwrap_or (patch_of s.patches (word_at Core number))
     (slice_index s.core number)
 
--- and of a word of a drive
+-- and of a word of a drive [7.6]
 abbrev pub first_disk_word : SetupData → ℕ → ℕ → ℕ
 first_disk_word s drive number = unwrap_or (patch_of s.patches (word_at (Drive drive) number))
     (slice_index (image_of s.disks drive) number)

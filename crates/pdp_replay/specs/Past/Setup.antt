@@ -36,7 +36,7 @@ pub record SetupData : Type 0 where
 
 -- the limits of a setup: the units of core and the words of one, the drives of one controller and
 -- the words of a drive (203 cylinders of 2 surfaces of 12 sectors of 256 words), and the bytes of a
--- tape
+-- tape [6.4] [6.66] [6.67]
 abbrev pub most_units : ℕ
 most_units = 31
 
@@ -67,6 +67,7 @@ image_of disks drive = slice_index_or disks drive []
 abbrev pub first_drives : ℕ
 first_drives = 1
 
+-- how many drives a run has: one, or all eight [6.66]
 abbrev pub drive_count : DriveCount → ℕ
 drive_count One = first_drives
 drive_count Eight = most_drives
@@ -123,7 +124,7 @@ pub record IsOfSize (base : BaseSetup) (s : SetupData) : Type 0 where
   pub units : s.units ≡ base.units
   pub drives : s.drives ≡ drive_count base.drives
 
--- units and stride within their limits, and an even start
+-- units and stride within their limits, and an even start [6.4] [7.1]
 abbrev pub has_good_numbers : SetupData → Bool
 has_good_numbers s = nat_le 1 s.units && nat_le s.units most_units && s.start % 2 == 0 && nat_le 1
     s.stride && nat_le s.stride widest_stride

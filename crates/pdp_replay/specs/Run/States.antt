@@ -12,24 +12,25 @@ use Rattle.pdp_replay.specs.Past.Setup.{SetupData, core_size}
 use Rattle.pdp_replay.specs.Past.FirstWords.{core_words, drives_words}
 use Rattle.pdp_replay.specs.Past.{Past}
 
--- power-up: core and the drives with the patches, the tape in the reader, and the delays
+-- power-up: core and the drives with the patches, the tape in the reader, and the delays [7.5]
+-- [7.6] [7.8]
 unfoldable pub power : SetupData → World
 power s = powered_world s.start (core_words s) (replicate (core_size s) None)
     (drives_words s) s.tape s.delays
 
 -- the state before turn n: that of power-up, taken through the turns 0 to n - 1, each with its
--- events of the script
+-- events of the script [8.3]
 unfoldable pub state_at : Past → ℕ → World
 state_at p zero = power p.setup
 state_at p (suc n) = one_turn n (events_at p.script.entries n) (state_at p n)
 
 -- the bytes that were printed on the console before turn n, in their order: those of the turns 0 to
--- n - 1
+-- n - 1 [8.6]
 unfoldable pub text_at : Past → ℕ → List ℕ
 text_at p zero = []
 text_at p (suc n) = text_at p n ++ printed_in n (events_at p.script.entries n) (state_at p n)
 
--- and those that were punched
+-- and those that were punched [8.6]
 unfoldable pub punched_at : Past → ℕ → List ℕ
 punched_at p zero = []
 punched_at p (suc n) = punched_at p n ++ punched_in n (events_at p.script.entries n) (state_at p n)

@@ -3,7 +3,7 @@ ghost use Rattle.pdp_replay.specs.Past.Setup.{drive_count, image_of, images_of};
 
 use crate::past::MOST_DRIVES;
 
-/// How many drives a run has [P].
+/// How many drives a run has [6.66].
 #[derive(Clone, Copy)]
 pub(crate) enum DriveCount {
     /// Drive 0 alone, as every run begins.

@@ -28,8 +28,8 @@ use std::alloc::Global;
 use std::mem;
 
 /// The machine of a run, what each word is carried out by, the checkpoints, the count of
-/// the turns that were run, the known turn, up to which all is kept that ought to be, and whether
-/// the machine is in the run's state of its turn.
+/// the turns that were run, the known turn, and whether the machine is in the run's state of its
+/// turn. known: every checkpoint and text before this turn is valid.
 #[derive(Drop)]
 pub(crate) struct KeptRun {
     pub(crate) machine: PagedMachine,

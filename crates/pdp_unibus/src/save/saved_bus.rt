@@ -27,7 +27,7 @@ pub use patched_page::{NewPages, PatchedPage};
 /// touches of pages. Words are kept as pages that it shares with the stores of the bus. The list of
 /// core's pages is its own, and a drive's list is shared.
 ///
-/// A contract sees it as a `SavedBusData`. [P]
+/// A contract sees it as a `SavedBusData`.
 #[derive(Drop)]
 pub struct SavedBus {
     io_page: IoPage,

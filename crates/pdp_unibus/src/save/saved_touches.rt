@@ -14,7 +14,7 @@ use std::alloc::Global;
 use std::marker::Model;
 
 /// The first touches of the pages of core and of each drive, as a bus had them. A contract sees
-/// them as `FirstTouches`. [P]
+/// them as `FirstTouches`.
 #[derive(Drop)]
 pub struct SavedTouches {
     core: Vec<u32>,

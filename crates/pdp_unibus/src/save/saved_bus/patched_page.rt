@@ -21,7 +21,7 @@ use std::alloc::Global;
 use std::rc::Rc;
 
 /// A page of 256 words with one word changed. All saved buses that have the page alike can share
-/// it. [P]
+/// it.
 #[derive(Drop)]
 pub struct PatchedPage {
     /// The word that is changed.
@@ -32,7 +32,7 @@ pub struct PatchedPage {
     pub page: Rc<Page>,
 }
 
-/// What takes the place of a page in one saved bus. [P]
+/// What takes the place of a page in one saved bus.
 #[derive(Drop)]
 pub enum NewPages {
     /// The page itself, for core.
@@ -42,7 +42,7 @@ pub enum NewPages {
 }
 
 impl SavedBus {
-    /// The page of a word, with this value in the word. Its stamps are kept. [P]
+    /// The page of a word, with this value in the word. Its stamps are kept.
     ///
     /// The bus numbers the page, and stays as a contract sees it: its value has no serials.
     ///
@@ -147,7 +147,7 @@ impl SavedBus {
     }
 
     /// What takes the place of the page that was patched here: all the memory that `put_pages`
-    /// needs. [P]
+    /// needs.
     ///
     /// # Errors
     ///
@@ -182,7 +182,7 @@ impl SavedBus {
     }
 
     /// Puts the pages that were made for it in place of its own. The saved bus is the same then,
-    /// except for the word of the patched page. It takes no memory. [P]
+    /// except for the word of the patched page. It takes no memory.
     #[tactic(auto, unfolding(crate::specs::PatchedPages::AreNewPages))]
     pub fn put_pages(&mut self, page: &PatchedPage, new: NewPages)
         requires { AreNewPages page.now self.old new }
