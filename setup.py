@@ -1,5 +1,5 @@
-"""Adds the programs to the package, as release/ has them. Where they run, on Linux on x86-64 with
-glibc 2.34 or later, the wheel is one of that system. Elsewhere, or with NEZDRAB_WHEEL=any in the
+"""Adds the programs and the page to the package, as release/ has them. On Linux on x86-64 the wheel
+is one of that system, whatever its C library. Elsewhere, or with NEZDRAB_WHEEL=any in the
 environment, it is one of any system, whose programs are the WebAssembly modules, run by node."""
 import hashlib
 import os
@@ -18,21 +18,19 @@ except ImportError:  # setuptools before 70.1
 
 ROOT = Path(__file__).resolve().parent
 NAMES = ("pdp11", "search", "disassemble")
+PAGE = "nezdrab.html"
 # What node takes to run the modules, as a clone has it.
 BY_NODE = (
     *(f"tools/by-node/{it}" for it in (*NAMES, "start", "host.mjs")),
     *("web/host.js", "web/heap.js", "web/package.json"),
 )
-LEAST_GLIBC = (2, 34)
-TAG = "manylinux_2_34_x86_64"
+TAG = "manylinux1_x86_64.musllinux_1_1_x86_64"
 
 
 def runs_programs() -> bool:
-    """Whether the release files run on this system."""
-    name, version = platform.libc_ver()
-    numbers = tuple(int(it) for it in version.split(".") if it.isdigit())
+    """Whether the release files run on this system, and its Python takes a wheel of that."""
     is_system = sys.platform == "linux" and platform.machine() == "x86_64"
-    return is_system and name == "glibc" and numbers >= LEAST_GLIBC
+    return is_system and sys.maxsize > 2**32
 
 
 NATIVE = runs_programs() and os.environ.get("NEZDRAB_WHEEL") != "any"
@@ -77,10 +75,11 @@ class BuildWithPrograms(build_py):
         shutil.rmtree(Path(self.build_lib) / "nezdrab", ignore_errors=True)  # of an earlier build
         super().run()
         folder = Path(self.build_lib) / "nezdrab" / "programs"
-        for name, path in (native_files() if NATIVE else files_for_node()).items():
+        files = native_files() if NATIVE else files_for_node()
+        for name, path in {**files, PAGE: ROOT / "release" / PAGE}.items():
             (folder / name).parent.mkdir(parents=True, exist_ok=True)
             shutil.copy(path, folder / name)
-            (folder / name).chmod(0o755 if NATIVE or not path.suffix else 0o644)
+            (folder / name).chmod(0o644 if path.suffix else 0o755)
 
 
 class WheelOfSystem(bdist_wheel):

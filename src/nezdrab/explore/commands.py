@@ -2,6 +2,7 @@
 import itertools
 import re
 from dataclasses import dataclass, field
+from pathlib import Path
 from typing import Callable, Iterator, Optional
 
 from .breakpoints import Breakpoints
@@ -102,7 +103,7 @@ class Explorer:
     machine: Machine
     disassembler: Disassembler
     symbols: Symbols = field(default_factory=Symbols)
-    session: str = ""
+    session: Optional[Path] = None
     turn: int = 0
     shown: Optional[Shown] = None
     is_terminal: bool = False

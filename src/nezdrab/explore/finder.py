@@ -19,9 +19,12 @@ def parts_of(turns: range) -> Iterator[range]:
             progress.step(len(part))
 
 
-def growing_parts(turns: range, is_backwards: bool = False) -> Iterator[range]:
-    """The turns in parts that double, from the first turn on or from the last one back."""
-    size = TURNS_AT_FIRST
+def growing_parts(
+    turns: range, is_backwards: bool = False, most: int = TURNS_OF_A_SEARCH
+) -> Iterator[range]:
+    """The turns in parts that double, from the first turn on or from the last one back, and have so
+    many turns at most."""
+    size = min(TURNS_AT_FIRST, most)
     with Progress(len(turns), "turns") as progress:
         while turns:
             if is_backwards:
@@ -30,7 +33,7 @@ def growing_parts(turns: range, is_backwards: bool = False) -> Iterator[range]:
                 part, turns = turns[:size], turns[size:]
             yield part
             progress.step(len(part))
-            size = min(2 * size, TURNS_OF_A_SEARCH)
+            size = min(2 * size, most)
 
 
 @dataclass(frozen=True)

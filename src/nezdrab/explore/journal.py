@@ -19,7 +19,7 @@ ENDING = ".journal"
 MOST_KEPT = 30
 SECONDS_BETWEEN_SYNCS = 0.05
 AT_THE_PROMPT = "# at the prompt"
-OF_SESSION = "# session "
+OF_SESSION, NO_SESSION = "# session ", "none"
 # Comments before the edits of a line at the prompt: the line, and the options that it changed, as
 # they were before.
 OF_LINE, OPTIONS_BEFORE = "# line ", "#<"
@@ -56,7 +56,7 @@ class Contents:
     """What a journal has: its session's name, the session's edits, the steps at the prompt, and
     where each edit of these ends, in bytes. What follows the last line feed was cut off."""
 
-    session: str = "none"
+    session: str = NO_SESSION
     of_session: list[str] = field(default_factory=list)
     steps: list[KeptStep] = field(default_factory=list)
     ends: list[int] = field(default_factory=list)

@@ -12,7 +12,7 @@ from .disassembly import Disassembler
 from .errors import ExploreError
 from .in_words import counted
 from .interrupts import INTERRUPTS
-from .journal import OF_SESSION, Contents, Journal, in_use, newest, state_folder
+from .journal import NO_SESSION, OF_SESSION, Contents, Journal, in_use, newest, state_folder
 from .journal import there_already, told
 from .load import warnings_of
 from .machine import Machine, Start, existing_program, is_refused
@@ -20,7 +20,7 @@ from .options import Options, Parser, ShowVersion, add_options, check_options, c
 from .options import option_lines, options_of, words_of_options
 from .output import Unwritable, complain, fault_in_words, flush
 from .output import leave_streams, prepare_streams, put
-from .programs import clone, found_program
+from .programs import found_program
 from .prompt import Prompt, read_at_terminal, read_lines
 from .session_file import refused_lines
 
@@ -119,7 +119,7 @@ def journal_of(found: argparse.Namespace, options: Options) -> Optional[Journal]
     """The journal of this run, if it has one."""
     if found.no_journal or not (found.journal or sys.stdin.isatty()):
         return None
-    session = os.path.abspath(found.session) if found.session else "none"
+    session = os.path.abspath(found.session) if found.session else NO_SESSION
     of_session = f"{OF_SESSION}{session}".replace("\n", " ")
     heading = [*option_lines(options), of_session]
     if not found.journal:
@@ -144,6 +144,8 @@ def take_up(explorer: Explorer, path: Path, is_kept_on: bool) -> Iterator[str]:
     steps.count = len(machine.journal)
     explorer.saved = list(contents.of_session)
     steps.done = taken_steps(contents, path, machine.start)
+    if contents.session != NO_SESSION:
+        explorer.session = Path(contents.session)
     yield f"{counted(len(contents.edits), 'edit')} taken up (session: {contents.session})"
 
 
@@ -172,7 +174,7 @@ def begun(found: argparse.Namespace) -> Explorer:
     machine = Machine(Start(program, words_of_options(options), Path.cwd()))
     explorer = Explorer(machine, disassembler_of(found.disassembler))
     explorer.is_terminal = sys.stdin.isatty()
-    explorer.session = session.name if session else ""
+    explorer.session = session
     if taken_up:
         for line in take_up(explorer, taken_up, not found.no_journal):
             put(line)
@@ -225,8 +227,6 @@ def status() -> int:
     """Does what the arguments say, and returns the exit status."""
     try:
         if sys.argv[1:2] == ["web"]:
-            if clone() is None:
-                raise ExploreError("web: the page is made of a clone, and this is a package alone")
             from .web import show_page  # what a prompt doesn't need, and takes a while to read
 
             with INTERRUPTS.allowed():

@@ -5,11 +5,12 @@ from dataclasses import dataclass, field
 from typing import Iterator, Optional
 
 from .account import Account
-from .drawing import CHARACTER, NAMESPACE
 from .origins import Kind
 from .steps import Source, Step, Steps
 
 MOST_ROWS = 1_000
+NAMESPACE = "http://www.w3.org/2000/svg"
+CHARACTER = 6.7  # how wide one is
 ROW, LANE, LEFT, TOP, RADIUS = 18, 14, 16, 16, 4
 KINDS = {Kind.EVENT: "event", Kind.MADE: "made", Kind.MOVED: "made"}
 STYLE = (

@@ -116,7 +116,7 @@ def started(fields: Fields, programs: Programs) -> tuple[Explorer, list[str]]:
     except BaseException:
         disassembler.close()
         raise
-    explorer = Explorer(machine, disassembler, session=session.name if session else "")
+    explorer = Explorer(machine, disassembler, session=session)
     try:
         said += refused_lines(machine, session) if session else []
     except BaseException:

@@ -6,7 +6,7 @@ from . import memory
 from .client import Client
 from .evaluate import core_of_expression
 from .fields import Fields
-from .points import DATA, FUNCTIONS, INSTRUCTIONS, LINES, VECTORS
+from .points import ACCESSES, DATA, FUNCTIONS, INSTRUCTIONS, LINES, VECTORS
 from .sources import Place
 from .table import request
 from .variables import Scope, variables
@@ -79,7 +79,7 @@ def set_exception_breakpoints(client: Client, fields: Fields) -> Object:
 
 @request("dataBreakpointInfo")
 def data_breakpoint_info(client: Client, fields: Fields) -> Object:
-    """Whether a write to what is named can be found: words of core have their last writes."""
+    """Whether accesses to what is named can be found: those of words of core can."""
     name, core = fields.text("name"), None
     try:
         if fields.has("variablesReference"):
@@ -94,12 +94,13 @@ def data_breakpoint_info(client: Client, fields: Fields) -> Object:
     except ExploreError as error:
         return {"dataId": None, "description": f"{name}: {error}"}
     if core is None:
-        return {"dataId": None, "description": f"{name} is no word of core, whose writes are known"}
+        described = f"{name} is no word of core, whose accesses can be found"
+        return {"dataId": None, "description": described}
     where = f"core {core:06o}"
     return {
         "dataId": f"core {core:o}",
         "description": where if where.endswith(name) else f"{name}, {where}",
-        "accessTypes": ["write"],
+        "accessTypes": list(ACCESSES),
         "canPersist": True,
     }
 

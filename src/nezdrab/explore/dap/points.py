@@ -27,6 +27,11 @@ TRAPS = {
     0o34: "TRAP",
     0o250: "memory management",
 }
+ACCESSES = {"write": ("watch",), "read": ("rwatch",), "readWrite": ("watch", "rwatch")}
+READS_SEARCHED = (
+    "reads are looked for turn by turn, by explore's own rules, which aren't proved: some 50000 to "
+    "200000 turns a second"
+)
 OPERATOR = re.compile(r"\s*(==|!=|=|<|>|&)\s*")
 
 
@@ -109,13 +114,20 @@ class Points:
         return {"id": self.at(place, fields.text("condition", ""), INSTRUCTIONS).number}
 
     def of_data(self, fields: Fields) -> Object:
-        """A write of a word of core, at the address in `dataId`."""
+        """A write or a read of a word of core, at the address in `dataId`. Of both explore has two
+        breakpoints, and the editor one."""
         address = re.fullmatch(r"core ([0-7]{1,6})", fields.text("dataId"))
         if address is None:
             raise ExploreError(f"'{fields.text('dataId')}' is no dataId of dataBreakpointInfo")
-        if fields.text("accessType", "write") != "write":
-            raise ExploreError("data breakpoints are of writes alone here")
-        condition = fields.text("condition", "")
+        access, condition = fields.text("accessType", "write"), fields.text("condition", "")
+        if access not in ACCESSES:
+            raise ExploreError(f"'{access}' is no accessType: {', '.join(ACCESSES)}")
+        if access != "write":
+            if condition:
+                raise ExploreError("a data breakpoint of reads takes no condition here")
+            points = [self.added(f"{it} {address[1]}", DATA) for it in ACCESSES[access]]
+            self.editors.update((it.number, points[0].number) for it in points)
+            return {"id": points[0].number, "message": READS_SEARCHED}
         sought = condition_sought(self.explorer, [as_condition(condition)]) if condition else ""
         point = self.added(f"watch {address[1]}", DATA)
         if sought:

@@ -8,7 +8,7 @@ from ..breakpoints import Breakpoint, Breakpoints
 from ..calls import doubt_lines, ended_levels
 from ..commands import Explorer
 from ..errors import ExploreError
-from ..finder import growing_parts
+from ..finder import TURNS_OF_A_SEARCH, growing_parts
 from ..levels import Call, Stacks, call_in, left_in
 from ..machine import LAST_TURN
 
@@ -16,6 +16,7 @@ from ..machine import LAST_TURN
 Goal = Callable[[range], Optional[int]]
 # Has an editor show a line.
 Say = Callable[[str], None]
+READS_TURNS = 8_192  # of a part in which reads are looked for: a fifth of a second at most
 
 
 @dataclass(frozen=True)
@@ -50,16 +51,21 @@ def joined(one: Stop, other: Stop) -> Stop:
 
 
 def split(points: list[Breakpoint]) -> tuple[Breakpoints, Breakpoints]:
-    """Those that hold before a turn, and those of writes, which hold after it."""
+    """Those that hold before a turn, and those of writes and reads, which hold after it."""
     before = [it for it in points if it.address is None]
     return Breakpoints(before), Breakpoints([it for it in points if it.address is not None])
 
 
+def turns_at_once(points: list[Breakpoint]) -> int:
+    """How many turns a part has at most: reads are looked for turn by turn."""
+    return READS_TURNS if any(it.is_read for it in points) else TURNS_OF_A_SEARCH
+
+
 def first_stop(explorer: Explorer, part: range, begin: int, goal: Optional[Goal]) -> Optional[Stop]:
-    """The first stop in these turns, behind the turn `begin`. A write is found in its turn, and
-    stops before the next one."""
+    """The first stop in these turns, behind the turn `begin`. A write or a read is found in its
+    turn, and stops before the next one."""
     machine = explorer.machine
-    before, writes = split(explorer.breakpoints.points)
+    before, accesses = split(explorer.breakpoints.points)
     turns = range(max(part.start, begin + 1), part.stop)
     end = goal(turns) if goal else None
     looked = turns if end is None else range(turns.start, end + 1)
@@ -68,10 +74,10 @@ def first_stop(explorer: Explorer, part: range, begin: int, goal: Optional[Goal]
     if reached is not None:
         stop = at_points(explorer, reached.turn, reached.points, False)
     looked = range(part.start, part.stop if stop is None else stop.turn)
-    written = writes.reached(machine, looked) if writes.points else None
-    if written is None:
+    accessed = accesses.reached(machine, looked) if accesses.points else None
+    if accessed is None:
         return stop
-    behind = at_points(explorer, written.turn, written.points, True)
+    behind = at_points(explorer, accessed.turn, accessed.points, True)
     one = range(behind.turn, min(behind.turn + 1, LAST_TURN))
     also = before.reached(machine, one) if before.points else None
     return joined(behind, at_points(explorer, also.turn, also.points, False)) if also else behind
@@ -80,8 +86,8 @@ def first_stop(explorer: Explorer, part: range, begin: int, goal: Optional[Goal]
 def ahead(explorer: Explorer, end: int, goal: Optional[Goal] = None) -> Run:
     """On to the first breakpoint or to the goal. Between the parts the current turn is the last one
     that was looked at."""
-    begin = explorer.turn
-    for part in growing_parts(range(begin, max(begin, end))):
+    begin, most = explorer.turn, turns_at_once(explorer.breakpoints.points)
+    for part in growing_parts(range(begin, max(begin, end)), most=most):
         yield
         stop = first_stop(explorer, part, begin, goal)
         if stop is not None:
@@ -96,14 +102,17 @@ def back(explorer: Explorer, bottom: int = 0, reason: str = "entry") -> Run:
     """Back to the last breakpoint, or to the turn `bottom`. The last write is asked at once: it is
     found without a search."""
     machine, turns = explorer.machine, range(bottom, explorer.turn)
-    before, writes = split(explorer.breakpoints.points)
+    points = explorer.breakpoints.points
+    writes = [it for it in points if it.address is not None and not it.is_read]
+    sought = Breakpoints([it for it in points if it not in writes])
     yield
-    lasts = [(it.last(machine, turns), it) for it in writes.points]
+    lasts = [(it.last(machine, turns), it) for it in writes]
     low = max((turn for turn, _ in lasts if turn is not None), default=bottom)
     written = [it for turn, it in lasts if turn == low]
-    for part in growing_parts(range(low, turns.stop if before.points else low), is_backwards=True):
+    looked = range(low, turns.stop if sought.points else low)
+    for part in growing_parts(looked, is_backwards=True, most=turns_at_once(points)):
         yield
-        reached = before.reached(machine, part, is_backwards=True)
+        reached = sought.reached(machine, part, is_backwards=True)
         if reached is not None:
             also = written if reached.turn == low else []
             return at_points(explorer, reached.turn, [*reached.points, *also], False)

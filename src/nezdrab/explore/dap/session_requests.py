@@ -10,7 +10,6 @@ from .sources import source
 from .table import request
 from .wire import Object
 
-# Data breakpoints are of writes alone: `dataBreakpointInfo` says so of each word.
 SUPPORTED = """
     ConfigurationDoneRequest FunctionBreakpoints ConditionalBreakpoints EvaluateForHovers StepBack
     SetVariable RestartFrame GotoTargetsRequest CompletionsRequest ExceptionFilterOptions
