@@ -1,12 +1,16 @@
 // The page: the session that is open, its edits, where one looks, and the other parts. Each part is
 // told what it must know.
 
+import { Calls } from "./calls.js";
+import { ChosenByte } from "./chosen-byte.js";
 import { Console } from "./console.js";
 import { CursorPanels } from "./cursor.js";
+import { Drives } from "./drives.js";
 import { Edits } from "./edits.js";
 import { EventList } from "./events.js";
 import { Examples } from "./examples.js";
 import { Finder } from "./find.js";
+import { FrontPanel } from "./front-panel.js";
 import { Happened } from "./happened.js";
 import { Inspect } from "./inspect.js";
 import { Linking } from "./linking.js";
@@ -58,13 +62,18 @@ export class App {
     this.stepping = new Stepping(this);
     this.inspect = new Inspect(this);
     this.reasons = new Reasons(this);
+    this.chosenByte = new ChosenByte(this);
+    this.calls = new Calls(this);
+    this.front = new FrontPanel(this);
     this.examples = new Examples(this);
+    this.drives = new Drives(this);
     this.linking = new Linking(this);
     /** @type {Part[]} in the order in which they are told: what is asked first is shown first */
     this.parts = [
       this.view, this.outcome, this.watched, this.edits, this.events, this.sweep, this.console,
-      this.pictures, this.text, this.panels, this.inspect, this.reasons, this.happened,
-      this.pasts, this.linking,
+      this.pictures, this.text, this.chosenByte, this.panels, this.inspect, this.reasons,
+      this.calls, this.happened, this.pasts, this.linking, this.front,
+      this.drives,
     ];
   }
 

@@ -132,11 +132,22 @@ export class CursorPanels {
     const cells = REGISTER_NAMES.map(name => {
       const isChanged = old.words[name] !== now.words[name];
       return make("div", { class: isChanged ? "register changed" : "register" },
-        make("dt", {}, name), make("dd", {}, octal(now.words[name]), isChanged ? "*" : ""));
+        make("dt", {}, name),
+        make("dd", {}, this.registerWord(name, now.words[name]), isChanged ? "*" : ""));
     });
     const status = `${now.state}; ${statusInWords(now.ps)}`;
     element("registers").replaceChildren(make("dl", { class: "registers" }, ...cells),
       make("p", {}, status), make("p", { class: "faint" }, "* changed by the turn before"));
+  }
+
+  /** A register's word: touched, it is asked why it is so. Where a program stands isn't followed.
+      @param {string} name @param {number} word */
+  registerWord(name, word) {
+    if (name === "PC") return octal(word);
+    const made = link(octal(word), `Why is ${name} so?`,
+      () => this.app.reasons.askMade({ kind: "register", name }));
+    made.setAttribute("aria-label", `${name}: ${octal(word)}. Why?`);
+    return made;
   }
 
   /** @param {Devices} devices */
@@ -306,7 +317,7 @@ export class CursorPanels {
 /** The mode that a line names for the addresses of a mode: while mapping is off they are the same
     in all modes. Null while it is on for the modes 01 and 10, which have no pages.
     @param {Pages} pages @param {string} mode @returns {Space} */
-function spaceOf({ sr0, descriptors }, mode) {
+export function spaceOf({ sr0, descriptors }, mode) {
   if (!(sr0 & 1)) return "kernel";
   return Object.hasOwn(descriptors, mode) ? mode : null;
 }

@@ -1,13 +1,14 @@
 // What the user does to the past: edits, moves of events, undo and redo, one after the other.
 
 import { keepEdits, sumOf } from "./kept.js";
+import { checkPlace, patchesOf } from "./loading.js";
 import { button, element, field, itemsOf, make } from "./page.js";
 import { isEdit } from "./past.js";
 import { isRefused } from "./replies.js";
 import { Priority } from "./run.js";
 import { itemsOf as itemsOfLedger, switchItem } from "./switching.js";
 
-const MOST_REPLY = 20_000;
+const [MOST_REPLY, MOST_LINES] = [20_000, 256];
 // Stands before the text of what is switched off: no line begins with it.
 const OFF = "\n";
 // The program gives no event this number, or a larger one.
@@ -106,6 +107,22 @@ export class Edits {
     line.setSelectionRange(before.length, before.length + changed.length);
   }
 
+  /** Loads a program into core, as one edit. Returns how many patches that took.
+      @param {import("./loading.js").Loaded} program */
+  async load(program) {
+    const { app } = this;
+    let count = 0;
+    await this.inTurn(async () => {
+      const { run } = app.session;
+      checkPlace(program, run.past.core);
+      const lines = await patchesOf(it => run.ask(it, Priority.EDIT), program.bytes);
+      app.pasts.keepOld();
+      count = await run.commitAll(lines);
+      await app.changed();
+    });
+    return count;
+  }
+
   // Moves of events
 
   /** While an event is moved its turn is tried, if the machine is quick enough.
@@ -175,10 +192,13 @@ export class Edits {
   /** Switches off what the user did at once, or on.
       @param {Element} item */
   toggle(item) {
+    // of the list as it is now: what was begun before may make the item anew
+    const place = [...this.list.children].indexOf(item);
     return this.inTurn(async () => {
       const { app } = this, { run } = app.session;
-      const place = [...this.list.children].indexOf(item);
-      const found = itemsOfLedger(run.ledger)[place], [{ line }] = found.change;
+      const found = itemsOfLedger(run.ledger)[place];
+      if (!found) return;
+      const [{ line }] = found.change;
       const refused = await switchItem(run, place);
       await app.changed();
       const more = refused.length ? `, and with it off: ${refused.join(", ")}` : "";
@@ -272,11 +292,14 @@ const kept = ({ line, event }) => ({ line, event });
     @param {KeptEdit} edit @returns {Edit} */
 const restored = ({ line, event }) => ({ line, event, back: null, before: 0 });
 
-/** The lines of what the user did at once: one, or how many there are, with all of them folded.
+/** The lines of what the user did at once: one, or how many there are, with the first of them
+    folded.
     @param {string[]} lines */
 function shownLines(lines) {
   if (lines.length === 1) return make("code", {}, lines[0]);
   const summary = make("summary", {}, `${lines.length} lines, from ${lines[0]} on`);
-  const shown = lines.map(it => make("div", {}, make("code", {}, it)));
-  return make("details", {}, summary, ...shown);
+  const shown = lines.slice(0, MOST_LINES).map(it => make("div", {}, make("code", {}, it)));
+  const left = lines.length - shown.length;
+  const more = left > 0 ? [make("div", {}, `and ${left} more`)] : [];
+  return make("details", {}, summary, ...shown, ...more);
 }

@@ -1,15 +1,20 @@
-// The sessions that the page has besides the one that it begins with, and a disk of the user that
-// is booted as one of them is.
+// The sessions that the page has besides the one that it begins with, and a disk or a program of
+// the user on a machine of its own.
 
+import { sessionOfFiles } from "./files.js";
+import { kindOf, readFiles } from "./given.js";
 import { firstSession, forgetSession, keepSession, sumOfSession } from "./kept.js";
 import { packedExamples, packedSession } from "./packed.js";
 import { element, field, make, part } from "./page.js";
 import { fragmentOf } from "./place.js";
-import { visibleName } from "./replies.js";
-import { kindOfFile, withFile } from "./session.js";
+import { octal, visibleName } from "./replies.js";
+import { withFile } from "./session.js";
 
 // The example whose disk another one takes the place of, and up to which turn that one is run.
 const [BOOT, BOOTED] = ["boot", 1_000_000];
+// Up to which turn a program is run.
+const PROGRAM_TURNS = 1_000;
+const SESSIONS = /\.(session|txt)$/i;
 
 /**
  * @typedef {import("./session.js").Session} Session
@@ -26,6 +31,22 @@ export function bootOf(example, name, bytes) {
   const lines = example.lines.filter(it => !/^(text|regs) /.test(it));
   const session = { ...example, name, lines: [...lines, `text ${BOOTED}`] };
   return withFile(session, "disk", name, bytes);
+}
+
+/** The session of a program alone, with its start, and with the symbols among these files.
+    @param {import("./given.js").Given[]} files */
+export function sessionOfProgram(files) {
+  const { name } = files.find(it => kindOf(it) === "program") ?? files[0];
+  const { session, programs, notes } = sessionOfFiles(
+    { name, arguments: [], files: {}, lines: [] }, files);
+  const bytes = new Map(programs.flatMap(it => [...it.bytes]));
+  /** @param {number} at */
+  const wordAt = at => (bytes.get(at) ?? 0) | (bytes.get(at + 1) ?? 0) << 8;
+  const places = [...new Set([...bytes.keys()].map(it => it & ~1))].filter(wordAt);
+  const patches = places.sort((one, other) => one - other)
+    .map(at => `core ${at.toString(8)} ${octal(wordAt(at))}`);
+  const lines = [...patches, `text ${PROGRAM_TURNS}`];
+  return { session: { ...session, lines }, programs, notes };
 }
 
 export class Examples {
@@ -58,15 +79,15 @@ export class Examples {
     const chooser = field("boot-file");
     element("boot").addEventListener("click", () => chooser.click());
     chooser.addEventListener("change", () => {
-      const [file] = chooser.files ?? [];
+      const files = [...chooser.files ?? []];
       chooser.value = "";
-      if (file) this.boot(file);
+      if (files.length) this.boot(files);
     });
     this.menu.addEventListener("drop", event => {
       event.preventDefault();
       event.stopPropagation();
       document.body.classList.remove("over");
-      this.bootDropped([...event.dataTransfer?.files ?? []]);
+      this.boot([...event.dataTransfer?.files ?? []]);
     });
   }
 
@@ -98,37 +119,48 @@ export class Examples {
 
   /** Opens a session in the place of the one that is open. That of the page is kept anyway.
       @param {Session} session @param {Partial<import("./place.js").Place>} [place]
-      @param {KeptEdits} [edits] those that are made, in place of those that were kept */
-  async begin(session, place = {}, edits) {
+      @param {KeptEdits} [edits] those that are made, in place of those that were kept
+      @param {import("./loading.js").Loaded[]} [programs] for which it must have room */
+  async begin(session, place = {}, edits, programs) {
     const { app } = this, isOwn = isSameSession(session, await packedSession());
     if (isOwn) forgetSession();
-    await app.opening.open(isOwn ? await firstSession() : session, place, edits);
+    await app.opening.open(isOwn ? await firstSession() : session, place, edits, programs);
     history.replaceState(null, "", fragmentOf(app.view.place()));
     if (!isOwn) app.attempt(async () => {
       element("session-kept").hidden = await keepSession(session);
     });
   }
 
-  /** @param {File[]} files */
-  bootDropped(files) {
-    if (files.length === 1) return this.boot(files[0]);
-    return this.app.say("Drop one image of a disk.");
+  /** Begins on a machine of its own: an image of a disk is booted, or a program loaded, which may
+      have its symbols beside it.
+      @param {File[]} files */
+  boot(files) {
+    this.close();
+    const { app } = this;
+    return app.attempt(async () => {
+      const given = await readFiles(files), kinds = new Set(given.map(kindOf));
+      const names = given.map(it => visibleName(it.name)).join(", ");
+      if (kinds.delete("program")) kinds.delete("symbols");
+      else if (given.length === 1 && !SESSIONS.test(given[0].name)) return this.bootDisk(given[0]);
+      else kinds.add("session");
+      if (kinds.size) {
+        app.say(`${names}: what begins here is one image of a disk, or a program with its symbols. `
+          + "Open other files as files.");
+        return;
+      }
+      const { session, programs, notes } = sessionOfProgram(given);
+      await this.begin(session, {}, undefined, programs);
+      app.say([`Loaded: ${names}. The text is that of its first ${PROGRAM_TURNS} turns.`, ...notes]
+        .join(" "));
+    });
   }
 
   /** Boots an image of a disk.
-      @param {File} file */
-  boot(file) {
-    this.close();
-    const { app } = this, name = file.name, shown = visibleName(name);
-    if (kindOfFile(name) === "session" && /\.(session|txt)$/i.test(name)) {
-      return app.say(`${shown} is no image of a disk: open it as a file.`);
-    }
-    return app.attempt(async () => {
-      const bytes = new Uint8Array(await file.arrayBuffer());
-      const example = await this.opened(BOOT);
-      if (!example) return app.say("This page has no bootstrap.");
-      await this.begin(bootOf(example, name, bytes));
-      app.say(`Booted: ${shown}. The text is that of its first ${BOOTED} turns.`);
-    });
+      @param {import("./given.js").Given} image */
+  async bootDisk({ name, bytes }) {
+    const { app } = this, example = await this.opened(BOOT);
+    if (!example) return app.say("This page has no bootstrap.");
+    await this.begin(bootOf(example, name, bytes));
+    app.say(`Booted: ${visibleName(name)}. The text is that of its first ${BOOTED} turns.`);
   }
 }

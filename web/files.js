@@ -1,16 +1,33 @@
 // Opening files, by dialog or drop, and saving.
 
+import { linesOfNames } from "./names.js";
 import {
   FileError, namesFile, optionLines, optionText, optionsOf, shellWords, wordsOfOptions,
 } from "./options.js";
 import { pageWith } from "./packed.js";
+import { kindOf, whyNot } from "./given.js";
+import { beginsAsTape } from "./kinds.js";
+import { loadedOf } from "./loading.js";
 import { visibleName } from "./replies.js";
-import { kindOfFile, latin1, linesOf, readableLine, withFile } from "./session.js";
+import { latin1, linesOf, readableLine, withFile } from "./session.js";
+import { fileInWords } from "./symbol-files.js";
+import { modesOfSymbols, namesOf } from "./symbols.js";
 
 /**
  * @typedef {import("./session.js").Session} Session
  * @typedef {import("./past.js").Past} Past
+ * @typedef {import("./given.js").Given} Given
+ * @typedef {import("./loading.js").Loaded} Loaded
  */
+
+/**
+ * What files make of a session: itself, what is loaded into its core, what is said of them, and the
+ * names of files that its options name and that aren't here.
+ * @typedef {{session: Session, programs: Loaded[], notes: string[], missing: string[]}} Together
+ */
+
+// Where the machine begins if no option says it.
+const START = "1000";
 
 /** Gives the user a file.
     @param {string} name @param {string} contents @param {string} type */
@@ -35,49 +52,112 @@ export function textOfPast(session, past, end) {
   // a comment has at most 200 bytes too
   const head = `# ${visibleName(session.name).slice(0, 40)}, saved by the page.`;
   const asked = [`regs ${end}`, `text ${end}`];
-  return `${[head, ...optionLines(session.arguments), ...past.lines(), ...asked].join("\n")}\n`;
+  const lines = [head, ...optionLines(session.arguments), ...linesOfNames(session)];
+  return `${[...lines, ...past.lines(), ...asked].join("\n")}\n`;
 }
 
 /** The page as one file with the past and its files in it.
     @param {Session} session @param {Past} past @param {number} end */
 export function pageOfPast(session, past, end) {
-  return pageWith({ ...session, lines: [...past.lines(), `regs ${end}`] });
+  const lines = [...linesOfNames(session), ...past.lines(), `regs ${end}`];
+  return pageWith({ ...session, lines });
 }
 
 /** The files that were opened before and wait for others, and those that are opened now, unless
     these begin another session.
-    @param {{files: File[], missing: string[]}} waiting @param {File[]} given */
+    @param {{files: Given[], missing: string[]}} waiting @param {Given[]} given */
 export function filesTogether({ files, missing }, given) {
-  /** @param {File} it */
-  const isOther = it => kindOfFile(it.name) === "session" && !missing.includes(it.name);
+  /** @param {Given} it */
+  const isOther = it => kindOf(it) === "session" && !missing.includes(it.name);
   return given.some(isOther) ? given : [...files, ...given];
 }
 
 /**
  * The session that these files make: a session file begins a new one with the files that its
- * options name; images and symbols are added to it, or to the one that is open.
+ * options name; images, programs and symbols are added to it, or to the one that is open.
  * @param {Session} open
- * @param {string[]} lines those of the session that is open
- * @param {File[]} files
- * @returns {Promise<{session: Session, notes: string[], missing: string[]}>}
- *   `missing` are names of files that the options name and that aren't here
+ * @param {Given[]} files
+ * @returns {Together}
  */
-export async function sessionOfFiles(open, lines, files) {
-  const left = new Map();
-  for (const it of files) left.set(it.name, new Uint8Array(await it.arrayBuffer()));
-  let session = begun({ ...open, lines }, left);
-  const notes = [];
-  for (const [name, bytes] of left) {
-    const kind = kindOfFile(name);
-    if (kind === "session") notes.push(`${visibleName(name)} is a second session, left out.`);
-    else if (kind === "arguments") notes.push(`${visibleName(name)} isn't used: see its session.`);
-    else if (kind !== "symbols") session = withFile(session, kind, name, bytes);
-    else session = { ...session, files: { ...session.files, [name]: bytes } };
+export function sessionOfFiles(open, files) {
+  const left = new Map(files.map(it => [it.name, it.bytes]));
+  /** @type {Together} */
+  const found = { session: begun(open, left), programs: [], notes: [], missing: [] };
+  for (const [name, bytes] of left) addFile(found, { name, bytes });
+  const { arguments: words, name, files: all } = found.session;
+  found.missing = [...optionsOf(words, name)]
+    .filter(([option, it]) => namesFile(option) && !Object.hasOwn(all, it)).map(([, it]) => it);
+  return found;
+}
+
+/** Adds a file to a session: an image, a program with its start and its symbols, or symbols.
+    @param {Together} found @param {Given} file */
+function addFile(found, file) {
+  const { name, bytes } = file, kind = kindOf(file), shown = visibleName(name);
+  switch (kind) {
+    case "session":
+      found.notes.push(`${shown} is a second session, left out.`);
+      break;
+    case "arguments":
+      found.notes.push(`${shown} isn't used: see its session.`);
+      break;
+    case "program":
+      addProgram(found, file);
+      break;
+    case "symbols":
+      addSymbols(found, file);
+      break;
+    case "other": throw whyNot(file);
+    default:
+      found.session = withFile(found.session, kind, name, bytes);
+      if (kind === "tape" && beginsAsTape(bytes)) {
+        found.notes.push(`${shown} is in the reader: named .lda, it would be loaded into core.`);
+      }
   }
-  const named = [...optionsOf(session.arguments, session.name)];
-  const missing = named.filter(([option, it]) =>
-    namesFile(option) && !Object.hasOwn(session.files, it));
-  return { session, notes, missing: missing.map(([, name]) => name) };
+}
+
+/** @param {Together} found @param {Given} file */
+function addProgram(found, file) {
+  const program = loadedOf(file.name, file.bytes), { start } = program;
+  found.programs.push(program);
+  if (start !== null) found.session = startedAt(found.session, start);
+  if (program.symbols.length) found.session = withSymbols(found.session, file);
+}
+
+/** @param {Together} found @param {Given} file */
+function addSymbols(found, file) {
+  const shown = visibleName(file.name);
+  try {
+    const names = namesOf(file.bytes), modes = modesOfSymbols(file.name);
+    const where = modes.length > 1 ? "" : ` for ${modes[0]} mode`;
+    const moved = names.symbols.filter(it => it.isRelocatable).length;
+    const more = moved ? ` ${moved} are relocatable, and count from 0.` : "";
+    found.notes.push(`${shown}: ${fileInWords(names)}${where}.${more}`);
+  } catch (error) {
+    if (!(error instanceof FileError)) throw error;
+    throw new FileError(`${shown}: ${error.message}. Nothing was opened.`);
+  }
+  found.session = withSymbols(found.session, file);
+}
+
+/** The session that begins at an address.
+    @param {Session} session @param {number} start @returns {Session} */
+function startedAt(session, start) {
+  if (startOf(session) === start) return session;
+  const options = optionsOf(session.arguments, session.name);
+  return { ...session, arguments: wordsOfOptions(options.set("start", start.toString(8))) };
+}
+
+/** The address at which a session's machine begins.
+    @param {Session} session */
+export const startOf = session =>
+  parseInt(optionsOf(session.arguments, session.name).get("start") ?? START, 8);
+
+/** The session with a file of symbols, which takes the place of those there were of its modes.
+    @param {Session} session @param {Given} file @returns {Session} */
+function withSymbols(session, { name, bytes }) {
+  const { [name]: _, ...files } = session.files;
+  return { ...session, files: { ...files, [name]: bytes } };
 }
 
 /** The session that a session file among these begins, or the one that is open, with the options
@@ -86,10 +166,11 @@ export async function sessionOfFiles(open, lines, files) {
     @param {Session} open @param {Map<string, Uint8Array>} left */
 function begun(open, left) {
   const names = [...left.keys()];
-  /** @param {string} name */
-  const isSession = name => kindOfFile(name) === "session";
-  const name = names.find(it => it.endsWith(".session")) ?? names.find(isSession);
-  const beside = names.find(it => kindOfFile(it) === "arguments");
+  /** @param {string} kind */
+  const first = kind => names.find(name =>
+    kindOf({ name, bytes: left.get(name) ?? new Uint8Array() }) === kind);
+  const name = names.find(it => it.endsWith(".session")) ?? first("session");
+  const beside = first("arguments");
   /** @param {string} it */
   const take = it => {
     const bytes = left.get(it) ?? new Uint8Array();
@@ -129,16 +210,18 @@ function withOptions(session, words, left, take) {
   return { ...session, files, arguments: wordsOfOptions(all) };
 }
 
-/** Takes files that are dropped on the page.
+/** Takes files that are dropped on a place. What is around it doesn't get them.
     @param {HTMLElement} place @param {(files: File[]) => void} onFiles */
 export function takeDrops(place, onFiles) {
   place.addEventListener("dragover", event => {
     event.preventDefault();
+    event.stopPropagation();
     place.classList.add("over");
   });
   place.addEventListener("dragleave", () => place.classList.remove("over"));
   place.addEventListener("drop", event => {
     event.preventDefault();
+    event.stopPropagation();
     place.classList.remove("over");
     const files = [...event.dataTransfer?.files ?? []];
     if (files.length) onFiles(files);

@@ -22,7 +22,7 @@ import { LAST_TURN } from "./replies.js";
 
 /** An edit in which the number of an event is another one, if it names this one.
     @param {string} line @param {string} number @param {string} given */
-const renumbered = (line, number, given) => line.replace(/^(alter|drop) (\d+)/,
+export const renumbered = (line, number, given) => line.replace(/^(alter|drop) (\d+)/,
   (all, verb, named) => named === number ? `${verb} ${given}` : all);
 
 export class Ledger {
@@ -90,6 +90,14 @@ export class Ledger {
     const last = this.changes.at(-1);
     if (joins && last) last.push(edit);
     else this.changes.push([edit]);
+  }
+
+  /** The user made edits at once.
+      @param {Edit[]} edits */
+  addAll(edits) {
+    if (!edits.length) return;
+    this.undone = [];
+    this.changes.push(edits);
   }
 
   /** What was tried is put back: none of its edits is left, unless one has used up the number of an

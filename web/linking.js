@@ -3,6 +3,7 @@
 
 import { isSameSession } from "./examples.js";
 import { firstSession, isOwn, keptEdits, sumOfSession } from "./kept.js";
+import { renumbered } from "./ledger.js";
 import { LinkError, editsOfLink, hasEdits, wordsOfLink } from "./links.js";
 import { element, make } from "./page.js";
 import { fragmentOf, placeOf } from "./place.js";
@@ -10,14 +11,40 @@ import { counted } from "./replies.js";
 
 /**
  * The example that a link is about, and its edits.
- * @typedef {{session: import("./session.js").Session, changes: Changes}} Linked
+ * @typedef {{session: import("./session.js").Session, done: Done}} Linked
  * @typedef {import("./stored.js").Changes} Changes
+ * @typedef {import("./links.js").Done} Done
  * @typedef {Partial<import("./place.js").Place>} Place
  * @typedef {import("./kept.js").KeptEdits} KeptEdits
  */
 
+// The numbers of events that edits of one's own made: no line of a link names them.
+const FIRST_FREE = 2 ** 41;
+
 /** @param {Changes} changes */
 const countOf = changes => changes.flat().length;
+
+/** How many edits there are, on and off, in words.
+    @param {Done} done */
+function doneInWords({ changes, off }) {
+  const left = countOf(off.map(it => it.change));
+  return `${counted(countOf(changes), "edit")}${left ? `, and ${left} switched off` : ""}`;
+}
+
+/** What was switched off, with other numbers for the events that it makes: those of a link may be
+    the same.
+    @param {Done["off"]} off @returns {Done["off"]} */
+function renumberedOff(off) {
+  const made = off.flatMap(it => it.change).flatMap(it => it.event ?? []);
+  const given = new Map(made.map((it, at) => [it, String(FIRST_FREE + at)]));
+  /** @param {import("./kept.js").KeptEdit} edit */
+  const other = ({ line, event }) => {
+    const number = /^(?:alter|drop) (\d+)/.exec(line)?.[1] ?? "";
+    return { line: renumbered(line, number, given.get(number) ?? number),
+      event: event && given.get(event) };
+  };
+  return off.map(({ change, place }) => ({ change: change.map(other), place }));
+}
 
 /** @param {Changes} changes */
 const linesOf = changes => JSON.stringify(changes.map(it => it.map(({ line }) => line)));
@@ -60,18 +87,18 @@ export class Linking {
     return app.attempt(async () => {
       const { contents } = app.session, key = await app.examples.keyOf(contents);
       if (key === null) throw new LinkError("the session is none of the page's examples");
-      const { changes } = app.edits.kept();
-      const words = await wordsOfLink(key, sumOfSession(contents), changes);
+      const { changes, off = [] } = app.edits.kept(), done = { changes, off };
+      const words = await wordsOfLink(key, sumOfSession(contents), done);
       const place = fragmentOf(app.view.place()).slice(1);
-      this.offer(`${location.href.replace(/#.*$/s, "")}#${words}&${place}`, changes);
+      this.offer(`${location.href.replace(/#.*$/s, "")}#${words}&${place}`, done);
     }, error => this.offerPage(error));
   }
 
   /** Shows the link, and copies it if the browser allows that.
-      @param {string} address @param {Changes} changes */
-  offer(address, changes) {
+      @param {string} address @param {Done} done */
+  offer(address, done) {
     const link = make("input", { readonly: true, "aria-label": "Link", value: address });
-    const what = counted(countOf(changes), "edit"), length = address.split("#")[1].length;
+    const what = doneInWords(done), length = address.split("#")[1].length;
     const elsewhere = location.protocol === "file:"
       ? " Another copy of this page takes all from # on." : "";
     const said = make("span", {}, "Copy this link");
@@ -129,12 +156,12 @@ export class Linking {
     try {
       const found = await editsOfLink(fragment);
       if (!found) return { linked: null, why: "" };
-      const { key, isOf, changes } = found, session = await this.app.examples.opened(key);
+      const { key, isOf, done } = found, session = await this.app.examples.opened(key);
       if (!session) throw new LinkError("it is about a session that this page doesn't have");
       if (!isOf(sumOfSession(session))) {
         throw new LinkError("it is about another version of an example than this page has");
       }
-      return { linked: { session, changes }, why: "" };
+      return { linked: { session, done }, why: "" };
     } catch (error) {
       if (!(error instanceof LinkError)) throw error;
       const why = `The link can't be opened: ${error.message}. Nothing was changed.`;
@@ -145,7 +172,7 @@ export class Linking {
   /** Another session is open: the user is asked first.
       @param {Linked} found @param {Place} place */
   ask(found, place) {
-    const { name } = found.session, what = counted(countOf(found.changes), "edit");
+    const { name } = found.session, what = doneInWords(found.done);
     const open = () => this.app.attempt(() => this.open(found, place));
     this.show(`The link has ${what} of ${name}, and another session is open. `,
       make("button", { type: "button", onclick: open }, `Open ${name}`));
@@ -153,30 +180,39 @@ export class Linking {
 
   /** Makes the edits of a link. Those of one's own are switched off.
       @param {Linked} found @param {Place} place */
-  async open({ session, changes }, place) {
-    const { app } = this, isOpen = app.opened && isSameSession(session, app.opened.contents);
+  async open({ session, done }, place) {
+    const { app } = this, { changes } = done;
+    const isOpen = app.opened && isSameSession(session, app.opened.contents);
     const kept = isOpen ? app.edits.kept() : keptEdits(session);
     /** @type {KeptEdits} */
     const before = kept ?? { changes: [], off: [], end: 0, saved: null };
     const isThere = linesOf(before.changes) === linesOf(changes);
     const own = isThere ? [] : before.changes.filter(it => !isAmong(it, changes))
       .map(change => ({ change, place: 0 }));
-    const off = [...own, ...before.off ?? []].map(it => ({ ...it, place: 0 }));
+    const linked = done.off.map(it => it.change);
+    /** @param {Changes[0]} change */
+    const isInLink = change => isThere ? linked.some(it => linesOf([it]) === linesOf([change]))
+      : isAmong(change, linked);
+    const left = [...own, ...(before.off ?? []).filter(it => !isInLink(it.change))];
+    const mine = renumberedOff(left.map(it => ({ ...it, place: 0 })));
+    const off = [...mine, ...structuredClone(done.off)];
     await app.examples.begin(session, place, { changes: structuredClone(changes), off,
       end: before.end, saved: null });
-    if (!off.length) app.edits.noteSaved();
-    this.tell(changes, own.map(it => it.change));
+    if (!mine.length) app.edits.noteSaved();
+    this.tell(done, own.map(it => it.change));
   }
 
   /** Says what was made of the edits of a link, and which of one's own are switched off.
-      @param {Changes} changes @param {Changes} own */
-  tell(changes, own) {
+      @param {Done} done @param {Changes} own */
+  tell({ changes, off }, own) {
     const made = this.app.session.run.ledger.changes.flat().length, all = countOf(changes);
     const refused = made < all ? ` ${all - made} of the link's edits were refused.` : "";
+    const left = countOf(off.map(it => it.change));
+    const others = left ? ` ${left} more ${left === 1 ? "is" : "are"} switched off in it.` : "";
     const count = countOf(own);
     const which = count === 1 ? "Your own edit from before is" : `Your own ${count} edits are`;
     const mine = count ? ` ${which} in the list, switched off.` : "";
     const were = made === 1 ? "The link's edit was" : `The link's ${made} edits were`;
-    this.show(`${were} made: Undo takes back what was done at once.${refused}${mine}`);
+    this.show(`${were} made: Undo takes back what was done at once.${others}${refused}${mine}`);
   }
 }

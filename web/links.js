@@ -1,19 +1,22 @@
-// A link that holds the edits of one of the page's examples: as the part of an address after #. The
-// lines stand there as they are, with - for a space; if that is long, they are packed.
+// A link that holds the edits of one of the page's examples, on and off: as the part of an address
+// after #. The lines stand there as they are, with - for a space; if that is long, they are packed.
 
 import { sumOf } from "./kept.js";
 import { isEdit, wordsOfLine } from "./past.js";
 import { latin1 } from "./session.js";
+import { itemsOf } from "./switching.js";
 
 const [LONGEST_PLAIN, LONGEST_LINK, LONGEST_TEXT] = [400, 8_000, 200_000];
-// What stands between words, between an edit and its event, edits done at once, and others.
-const [SPACE, EVENT, EDIT, CHANGE] = ["-", "~", "_", "."];
+// What stands between words, between an edit and its event, edits done at once, and others; and
+// before what is switched off.
+const [SPACE, EVENT, EDIT, CHANGE, OFF] = ["-", "~", "_", ".", "~"];
 // The numbers of events that no line of the link names: the program gives none of them.
 const FREE = 2 ** 40;
 
 /**
- * What was done, each at once.
+ * What was done, each at once: what is on, and what is off.
  * @typedef {import("./stored.js").Changes} Changes
+ * @typedef {{changes: Changes, off: {change: Changes[0], place: number}[]}} Done
  */
 
 // The browser has these; the checker of types doesn't know them.
@@ -29,20 +32,23 @@ const CUT = "it was cut or changed on its way";
 const shortSum = text => sumOf([text]).split("-")[0];
 
 /** The edits as a text of letters, digits, and - _ . ~ alone.
-    @param {Changes} changes */
-export function textOfChanges(changes) {
-  const words = changes.flat().map(it => wordsOfLine(it.line));
+    @param {Done} done */
+export function textOfDone(done) {
+  const items = itemsOf(done);
+  const words = items.flatMap(it => it.change).map(it => wordsOfLine(it.line));
   const named = new Set(words.filter(([it]) => ["alter", "drop"].includes(it)).map(it => it[1]));
   /** @param {import("./kept.js").KeptEdit} edit */
   const textOf = ({ line, event }) =>
     wordsOfLine(line).join(SPACE) + (event && named.has(event) ? `${EVENT}${event}` : "");
-  return changes.map(it => it.map(textOf).join(EDIT)).join(CHANGE);
+  return items.map(it => (it.isOn ? "" : OFF) + it.change.map(textOf).join(EDIT)).join(CHANGE);
 }
 
 /** The edits of such a text.
-    @param {string} text @returns {Changes} */
-export function changesOfText(text) {
+    @param {string} text */
+export function doneOfText(text) {
   let free = FREE;
+  /** @type {Done} */
+  const done = { changes: [], off: [] };
   /** @param {string} it */
   const editOf = it => {
     const [words, event] = it.split(EVENT), line = words.replaceAll(SPACE, " ");
@@ -50,7 +56,12 @@ export function changesOfText(text) {
     const isAt = wordsOfLine(line)[0] === "at";
     return { line, event: event ?? (isAt ? String(free++) : undefined) };
   };
-  return text ? text.split(CHANGE).map(it => it.split(EDIT).map(editOf)) : [];
+  for (const it of text ? text.split(CHANGE) : []) {
+    const isOn = !it.startsWith(OFF), change = it.slice(isOn ? 0 : 1).split(EDIT).map(editOf);
+    if (isOn) done.changes.push(change);
+    else done.off.push({ change, place: done.changes.length });
+  }
+  return done;
 }
 
 /** @param {BlobPart[]} parts @param {any} stream */
@@ -86,9 +97,9 @@ async function unpacked(text) {
 }
 
 /** The words of an address for the edits of the example `key`, whose sum is `sum`.
-    @param {string} key @param {string} sum @param {Changes} changes */
-export async function wordsOfLink(key, sum, changes) {
-  const text = textOfChanges(changes);
+    @param {string} key @param {string} sum @param {Done} done */
+export async function wordsOfLink(key, sum, done) {
+  const text = textOfDone(done);
   if (text.length > LONGEST_TEXT) throw new LinkError("its edits are too long");
   const isPlain = text.length <= LONGEST_PLAIN;
   const held = isPlain ? text : await packed(text);
@@ -117,7 +128,7 @@ export const hasEdits = fragment => heldIn(fragment) !== null;
  * The edits that a fragment holds, or null if it holds none. A LinkError says what is wrong.
  * `isOf(sum)` says whether they are those of a session with this sum.
  * @param {string} fragment
- * @returns {Promise<{key: string, isOf: (sum: string) => boolean, changes: Changes} | null>}
+ * @returns {Promise<{key: string, isOf: (sum: string) => boolean, done: Done} | null>}
  */
 export async function editsOfLink(fragment) {
   const found = heldIn(fragment);
@@ -127,5 +138,5 @@ export async function editsOfLink(fragment) {
   if (!parts.length || held.length > 2 * LONGEST_LINK) throw new LinkError(CUT);
   const text = name === "edits" ? rest : await unpacked(rest);
   if (shortSum(text) !== check) throw new LinkError(CUT);
-  return { key, isOf: it => shortSum(it) === sum, changes: changesOfText(text) };
+  return { key, isOf: it => shortSum(it) === sum, done: doneOfText(text) };
 }

@@ -5,7 +5,9 @@ import { CYLINDERS, SECTORS, SECTOR_WORDS, SURFACES } from "./hardware.js";
 import { WORDS_AT_ONCE, octal, shownByte, unreadOf, wordsOf } from "./replies.js";
 
 const WORDS_OF_A_DRIVE = CYLINDERS * SURFACES * SECTORS * SECTOR_WORDS;
-const END_OF_ADDRESSES = 0o200000, DRIVES = 8;
+const END_OF_ADDRESSES = 0o200000;
+// The drives of version 2.
+export const DRIVES = 8;
 /** How many words stand in a row.
     @type {Object<string, number>} */
 export const IN_A_ROW = { octal: 4, bytes: 4, text: 16 };

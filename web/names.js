@@ -26,16 +26,19 @@ export function wordNamed(name) {
   return index ? { kind: "disk", drive: parseInt(drive, 8), at: parseInt(index, 8) } : null;
 }
 
-/**
- * What a session calls its words, by their names: lines `# name core 30000 clerk A's balance`.
- * @param {{lines: string[]}} session
- * @returns {Map<string, string>}
- */
+// Says what a session calls a word: `# name core 30000 clerk A's balance`.
+const NAMED = /^# name ((?:core|disk)(?: [0-7]{1,10}){1,2}) ([^\s0-7].*)$/;
+
+/** The lines of a session that say what words are called.
+    @param {{lines: string[]}} session */
+export const linesOfNames = ({ lines }) => lines.filter(it => NAMED.test(it));
+
+/** What a session calls its words, by their names.
+    @param {{lines: string[]}} session @returns {Map<string, string>} */
 export function namesOfSession({ lines }) {
   const found = new Map();
   for (const line of lines) {
-    const [, place, name] =
-      /^# name ((?:core|disk)(?: [0-7]{1,10}){1,2}) ([^\s0-7].*)$/.exec(line) ?? [];
+    const [, place, name] = NAMED.exec(line) ?? [];
     const word = place ? wordNamed(place) : null;
     if (word) found.set(nameOfWord(word), visibleName(readableLine(name)));
   }
@@ -47,7 +50,7 @@ export function namesOfSession({ lines }) {
     @param {Run} run @param {WatchedWord} word @param {Partial<Symbols>} symbols
     @param {number} turn */
 export async function symbolOfWord(run, { kind, at }, symbols, turn) {
-  const symbol = kind === "core" && symbols.kernel?.find(it => it.value === at);
+  const symbol = kind === "core" && symbols.kernel?.find(it => !it.isConstant && it.value === at);
   if (!symbol) return "";
   const line = `translate ${turn} kernel ${at.toString(8)}`;
   const place = physicalOf(await run.askOne(line, Priority.PICTURE));

@@ -2,8 +2,9 @@
 // run is compared.
 
 import { Run } from "./run.js";
-import { lastTurnOf, symbolsOfSession } from "./session.js";
+import { lastTurnOf } from "./session.js";
 import { isStory } from "./story.js";
+import { symbolsOfSession } from "./symbols.js";
 
 const FEWEST_TURNS = 1_000;
 

@@ -1,9 +1,13 @@
 // Opens sessions and files, and saves what is open.
 
 import {
-  filesTogether, pageOfPast, saveFile, savedName, sessionOfFiles, textOfPast,
+  filesTogether, pageOfPast, saveFile, savedName, sessionOfFiles, startOf, textOfPast,
 } from "./files.js";
-import { firstSession, forgetSession, isOwn, keepSession, keptEdits } from "./kept.js";
+import { readFiles } from "./given.js";
+import {
+  firstSession, forgetSession, isOwn, keepSession, keptEdits, sumOfSession,
+} from "./kept.js";
+import { checkPlace, loadedInWords } from "./loading.js";
 import { OpenSession, newRun } from "./opened.js";
 import { element } from "./page.js";
 import { showRefused } from "./refused.js";
@@ -13,13 +17,14 @@ import { visibleName } from "./replies.js";
  * @typedef {import("./session.js").Session} Session
  * @typedef {import("./place.js").Place} Place
  * @typedef {import("./kept.js").KeptEdits} KeptEdits
+ * @typedef {import("./loading.js").Loaded} Loaded
  */
 
 export class Opening {
   /** @param {import("./app.js").App} app */
   constructor(app) {
     this.app = app;
-    /** @type {{files: File[], missing: string[]}} files that wait for others */
+    /** @type {{files: import("./given.js").Given[], missing: string[]}} that wait for others */
     this.waiting = { files: [], missing: [] };
     /** @type {import("./run.js").Run | null} the machine of a session that is being opened */
     this.run = null;
@@ -29,9 +34,10 @@ export class Opening {
    * @param {Session} contents
    * @param {Partial<Place>} place where it is shown
    * @param {KeptEdits | null} edits those that are made again
+   * @param {Loaded[]} programs for which its core must have room
    */
-  async open(contents, place, edits = keptEdits(contents)) {
-    const { app } = this, { run, refused } = await this.loaded(contents);
+  async open(contents, place, edits = keptEdits(contents), programs = []) {
+    const { app } = this, { run, refused } = await this.loaded(contents, programs);
     const numbers = new Set(refused.map(it => it.number));
     app.begin(new OpenSession(contents, run, numbers, app.bar));
     const said = showRefused(element("refused"), refused, contents.lines);
@@ -47,13 +53,15 @@ export class Opening {
   }
 
   /** A run with the session's lines, and those that were refused. What is open stays so far.
-      @param {Session} contents */
-  async loaded(contents) {
+      @param {Session} contents @param {Loaded[]} programs for which it has room */
+  async loaded(contents, programs) {
     this.stop();
     const run = newRun(contents, this.app.bar);
     this.run = run;
     try {
-      return { run, refused: await run.load(contents.lines) };
+      const refused = await run.load(contents.lines);
+      for (const it of programs) checkPlace(it, run.past.core);
+      return { run, refused };
     } catch (error) {
       run.end();
       throw error;
@@ -68,35 +76,48 @@ export class Opening {
   }
 
   /**
-   * Opens files: a session begins anew; images and symbols are added to what is open. A session
-   * that names files which aren't here waits for them.
+   * Opens files: a session begins anew; images, programs and symbols are added to what is open. A
+   * session that names files which aren't here waits for them.
    * @param {File[]} given
    */
   openFiles(given) {
     const { app } = this;
     return app.attempt(async () => {
-      const files = filesTogether(this.waiting, given);
-      this.waiting = { files: [], missing: [] };
-      const { contents: open } = app.session;
-      const { session, notes, missing } = await sessionOfFiles(open, open.lines, files);
+      const files = filesTogether(this.waiting, await readFiles(given));
+      const found = sessionOfFiles(app.session.contents, files), { session, missing } = found;
+      this.waiting = missing.length ? { files, missing } : { files: [], missing: [] };
       if (missing.length) {
-        this.waiting = { files, missing };
         const names = missing.map(visibleName).join(", ");
         app.say(`${visibleName(session.name)} isn't open yet: its options name ${names}. `
           + "Open what is missing too.");
         return;
       }
-      // files that are added to what is open leave its edits
-      const isAdded = session.lines === app.session.contents.lines;
-      await this.open(session, {}, isAdded ? app.edits.kept() : undefined);
+      const said = await this.add(found);
+      const names = files.map(it => visibleName(it.name)).join(", ");
+      app.say([`Opened: ${names}.`, ...found.notes, ...said].filter(Boolean).join(" "));
+    });
+  }
+
+  /** Opens what files made of a session, and loads its programs. Files that are added to what is
+      open leave its edits. Returns what is said of it.
+      @param {{session: Session, programs: Loaded[]}} found */
+  async add({ session, programs }, isAdded = session.lines === this.app.session.contents.lines) {
+    const { app } = this, { contents } = app.session;
+    const isOther = !isAdded || sumOfSession(session) !== sumOfSession(contents);
+    if (isOther) {
+      await this.open(session, {}, isAdded ? app.edits.kept() : undefined, programs);
       app.attempt(async () => {
         element("session-kept").hidden = await keepSession(session);
       });
       history.replaceState(null, "", "#");
-      const names = files.map((/** @type {File} */ it) => visibleName(it.name)).join(", ");
-      const said = element("reply").textContent;
-      app.say([`Opened: ${names}.`, ...notes, said].filter(Boolean).join(" "));
-    });
+    }
+    const said = [isOther ? element("reply").textContent ?? "" : ""];
+    const start = startOf(session), isMoved = start !== startOf(contents);
+    for (const it of programs) {
+      const patches = await app.edits.load(it);
+      said.push(loadedInWords(it, patches, start, isAdded && isMoved));
+    }
+    return said;
   }
 
   /** Opens the page's own session again. */

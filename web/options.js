@@ -22,6 +22,10 @@ export class FileError extends Error {}
 /** @param {string} option */
 export const namesFile = option => FILES.test(option);
 
+/** The option that names the image of a drive.
+    @param {number} drive */
+export const optionOfDrive = drive => drive ? `disk${drive}` : "disk";
+
 /** The options in these words, each value by its option's name.
     @param {string[]} words @param {string} where
     @returns {Map<string, string>} */

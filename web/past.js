@@ -30,13 +30,17 @@ export const PAST_LINES = Object.keys(TOLD);
     @param {string} line */
 export const wordsOfLine = line => line.startsWith("#") ? [] : line.split(/[ \t]+/).filter(Boolean);
 
+/** The first word of a line, or an empty text: there may be 10,000 lines to look at.
+    @param {string} line */
+export const wordOfLine = line => line.startsWith("#") ? "" : /[^ \t]+/.exec(line)?.[0] ?? "";
+
 /** @param {string} line */
-export const isEdit = line => EDITS.has(wordsOfLine(line)[0]);
+export const isEdit = line => EDITS.has(wordOfLine(line));
 
 /** The lines that tell what an edit has changed.
     @param {string} line */
 export const linesThatTell = line =>
-  EDITS_OF_SCRIPT.has(wordsOfLine(line)[0]) ? ["events"] : ["setup", "patches"];
+  EDITS_OF_SCRIPT.has(wordOfLine(line)) ? ["events"] : ["setup", "patches"];
 
 /** Whether a line runs no turns, whatever the past is.
     @param {string} line */
@@ -173,13 +177,38 @@ function without(events, others) {
   });
 }
 
+/** How many events two scripts begin with that are the same.
+    @param {ScriptEvent[]} old @param {ScriptEvent[]} now */
+function sameAtFirst(old, now) {
+  const most = Math.min(old.length, now.length);
+  let at = 0;
+  while (at < most && old[at].turn === now[at].turn && old[at].text === now[at].text) at++;
+  return at;
+}
+
+/** How many events two scripts end with that are the same.
+    @param {ScriptEvent[]} old @param {ScriptEvent[]} now */
+function sameAtLast(old, now) {
+  const most = Math.min(old.length, now.length);
+  /** @param {number} count */
+  const isSame = count => {
+    const [one, other] = [old[old.length - count], now[now.length - count]];
+    return one.turn === other.turn && one.text === other.text;
+  };
+  let count = 0;
+  while (count < most && isSame(count + 1)) count++;
+  return count;
+}
+
 /** How a script differs from an old one: the events that are gone and that came, and the turns
     whose events, or their order, are others.
     @param {ScriptEvent[]} old @param {ScriptEvent[]} now */
 export function differenceOf(old, now) {
   /** @type {{gone: ScriptEvent[], come: ScriptEvent[], turns: number[]}} */
   const { gone, come, turns } = { gone: [], come: [], turns: [] };
-  for (let at = 0, place = 0; at < old.length || place < now.length;) {
+  const begin = sameAtFirst(old, now), end = old.length - sameAtLast(old, now);
+  for (let at = begin, place = begin; at < old.length || place < now.length;) {
+    if (at >= end && old.length - at === now.length - place) break;
     const [one, other] = [old[at], now[place]];
     if (one && other && one.turn === other.turn && one.text === other.text) {
       at++;

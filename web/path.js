@@ -1,6 +1,12 @@
 // Draws the steps of a path over the timeline: a line from one to the next, by their turns.
 
-/** @typedef {import("./lanes.js").Lane} Lane */
+/**
+ * A step of a path: its turn, and the name of its lane. It is drawn to the step with the number
+ * `above`; without that to the one before it.
+ * @typedef {{turn: number | null, lane: string, above?: number}} PathStep
+ * @typedef {import("./lanes.js").Lane} Lane
+ * @typedef {{x: number, y: number}} Point
+ */
 
 /** Where a step is drawn: in the middle of its lane; null if the lane isn't there.
     @param {Lane[]} lanes @param {string} name */
@@ -9,13 +15,24 @@ function heightIn(lanes, name) {
   return lane ? lane.top + lane.height / 2 : null;
 }
 
-/** The points of steps that have a turn and a lane.
-    @param {{turn: number | null, lane: string}[]} steps @param {Lane[]} lanes
-    @param {import("./lanes.js").View} view @returns {{x: number, y: number}[]} */
+/** The points of steps that have a turn and a lane; null of the others.
+    @param {PathStep[]} steps @param {Lane[]} lanes
+    @param {import("./lanes.js").View} view @returns {(Point | null)[]} */
 export function pointsOf(steps, lanes, view) {
-  return steps.flatMap(({ turn, lane }) => {
+  return steps.map(({ turn, lane }) => {
     const y = heightIn(lanes, lane);
-    return turn === null || y === null ? [] : [{ x: view.x(turn) - view.left, y }];
+    return turn === null || y === null ? null : { x: view.x(turn) - view.left, y };
+  });
+}
+
+/** The lines between the points of steps: of a chain one through all that have points, otherwise
+    one from each to the one above it.
+    @param {PathStep[]} steps @param {(Point | null)[]} points @returns {Point[][]} */
+export function linesBetween(steps, points) {
+  if (steps.every(it => it.above === undefined)) return [points.flatMap(it => it ?? [])];
+  return steps.flatMap(({ above = -1 }, at) => {
+    const [from, to] = [points[above], points[at]];
+    return from && to ? [[from, to]] : [];
   });
 }
 
@@ -23,7 +40,7 @@ export class Path {
   /** @param {import("./timeline.js").Timeline} timeline */
   constructor(timeline) {
     this.timeline = timeline;
-    /** @type {{turn: number | null, lane: string}[]} */
+    /** @type {PathStep[]} */
     this.steps = [];
     this.drawing = /** @type {SVGElement} */ (timeline.element.querySelector(".path"));
   }
@@ -35,7 +52,7 @@ export class Path {
     return made;
   }
 
-  /** @param {{turn: number | null, lane: string}[]} steps */
+  /** @param {PathStep[]} steps */
   show(steps) {
     this.steps = steps;
     this.draw();
@@ -49,10 +66,11 @@ export class Path {
     drawing.setAttribute("width", String(view.width));
     drawing.setAttribute("height", String(top + height));
     const points = pointsOf(steps, lanes, view);
-    const line = points.map(({ x, y }) => `${clamped(x)},${y}`).join(" ");
-    const circles = points.filter(({ x }) => x >= 0 && x <= view.width)
+    const drawn = linesBetween(steps, points).map(line => this.shape("polyline",
+      { points: line.map(({ x, y }) => `${clamped(x)},${y}`).join(" ") }));
+    const circles = points.flatMap(it => it ?? []).filter(({ x }) => x >= 0 && x <= view.width)
       .map(({ x, y }) => this.shape("circle", { cx: x, cy: y, r: 5 }));
-    drawing.replaceChildren(this.shape("polyline", { points: line }), ...circles);
+    drawing.replaceChildren(...drawn, ...circles);
   }
 }
 

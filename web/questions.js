@@ -1,7 +1,7 @@
 // What a question needs of the machine: the turns that it is about, and how a search of many turns
 // is asked part by part.
 
-import { wordsOfLine } from "./past.js";
+import { wordOfLine, wordsOfLine } from "./past.js";
 import { LAST_TURN, isRefused, turnOf } from "./replies.js";
 
 const OF_A_TURN = new Set([
@@ -11,8 +11,9 @@ const OF_A_TURN = new Set([
 const OF_TURNS = new Set(["first", "latest", "counts", "writes", "change"]);
 const MOST_WRITES = 256;
 const LONGEST_LINE = 200;
-// In the first turns of a run a question is answered at once. A trail has at most so many turns.
-const EARLY = 64;
+// In the first turns of a run a question is answered at once. A trail has at most so many turns. A
+// search of no more turns is asked as other questions are.
+const EARLY = 64, SHORT = 64;
 
 /** A turn as the program takes it: it refuses any other at once.
     @param {string} word */
@@ -22,8 +23,9 @@ const isTurn = word => /^\d{1,10}$/.test(word ?? "") && Number(word) <= LAST_TUR
     @param {string} line */
 export function turnsAsked(line) {
   if (line.length > LONGEST_LINE) return [0, 0];
-  const [word, ...rest] = wordsOfLine(line);
-  const turns = rest.slice(0, OF_A_TURN.has(word) ? 1 : OF_TURNS.has(word) ? 2 : 0);
+  const word = wordOfLine(line), count = OF_A_TURN.has(word) ? 1 : OF_TURNS.has(word) ? 2 : 0;
+  if (!count) return [0, 0];
+  const turns = wordsOfLine(line).slice(1, 1 + count);
   const [begin, end] = turns.every(isTurn) ? turns.map(Number) : [];
   return end < begin ? [0, 0] : [begin ?? 0, end ?? begin ?? 0];
 }
@@ -44,8 +46,12 @@ export function earlyQuestion(line) {
 export const askedAtOnce = line =>
   turnsAsked(line)[1] > 0 || byteAsked(line) !== null ? earlyQuestion(line) : line;
 
-/** @param {string} line */
-export const isSearch = line => OF_TURNS.has(wordsOfLine(line)[0]);
+/** Whether a line is asked in parts.
+    @param {string} line */
+export function isSearch(line) {
+  const [from, to] = turnsAsked(line);
+  return OF_TURNS.has(wordOfLine(line)) && to - from > SHORT;
+}
 
 /** The byte of the console's text that `when` is about; null for any other line.
     @param {string} line */
@@ -68,7 +74,7 @@ export function byteAsked(line) {
 export function searchOf(line) {
   const [word, , , ...rest] = wordsOfLine(line);
   const [from, to] = turnsAsked(line);
-  if (!OF_TURNS.has(word) || to === from) return null;
+  if (!isSearch(line)) return null;
   /** @param {number} low @param {number} high */
   const part = (low, high) => [word, low, high, ...rest].join(" ");
   /** @type {{writes: string[], counts: number[]}} */

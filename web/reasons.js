@@ -1,8 +1,11 @@
-// The panel that says which write made a word what it is, with a path over the timeline. It says by
-// what a word was written, not what would be otherwise.
+// The panel that says why a word, a register or a printed byte is so, with a path over the
+// timeline. Of a word it says by what it was written, of the others what they are made of; not what
+// would be otherwise.
 
+import { MadeQuestion } from "./accounts.js";
 import { markTurn, stateOf } from "./cursor.js";
 import { FindError } from "./find.js";
+import { madeNamed } from "./made.js";
 import { nameOfWord } from "./names.js";
 import { element, field, link, make } from "./page.js";
 import { eventInWords, eventsIn } from "./past.js";
@@ -13,6 +16,12 @@ import { Why } from "./why.js";
 const EVENTS_BEFORE = 3;
 
 /**
+ * A question about a thing: its name, how it is answered, and the same question about another past.
+ * An answer has what is shown, and the turn before which it is.
+ * @typedef {{name: string, answer: (ask: Ask, turn: number) => Promise<Answer>,
+ *   anew: () => Question}} Question
+ * @typedef {{turn: number, inside: HTMLElement[], path: import("./path.js").PathStep[]}} Answer
+ * @typedef {import("./cursor.js").Ask} Ask
  * @typedef {import("./why.js").Step} Step
  * @typedef {import("./names.js").WatchedWord} Word
  * @typedef {import("./run.js").Run} Run
@@ -23,8 +32,8 @@ export class Reasons {
   /** @param {import("./app.js").App} app */
   constructor(app) {
     this.app = app;
-    /** @type {Word | null} the word that is asked about, before a turn */
-    this.word = null;
+    /** @type {Question | null} what is asked, before a turn */
+    this.question = null;
     this.turn = 0;
     /** @type {import("./cursor.js").State | undefined} */
     this.shown = undefined;
@@ -37,7 +46,16 @@ export class Reasons {
 
   /** @param {string} name */
   askNamed(name) {
-    return this.attempt(() => this.ask(this.app.finder.wordOf(name)));
+    const thing = madeNamed(name);
+    return this.attempt(() => thing ? this.show(new MadeQuestion(this.app, thing))
+      : this.ask(this.app.finder.wordOf(name)));
+  }
+
+  /** Why a register or a printed byte is so; the panel is brought into sight.
+      @param {import("./made.js").MadeThing} thing */
+  askMade(thing) {
+    element("why-panel").scrollIntoView({ block: "nearest" });
+    return this.attempt(() => this.show(new MadeQuestion(this.app, thing)));
   }
 
   /** Does work, and says what is wrong with what was asked.
@@ -57,7 +75,7 @@ export class Reasons {
   /** The path is no longer wanted. */
   forget() {
     this.app.token("why");
-    this.word = null;
+    this.question = null;
     this.shown = undefined;
     this.app.view.path.show([]);
     element("reasons").replaceChildren();
@@ -67,29 +85,39 @@ export class Reasons {
 
   /** The past has changed: what is shown is asked again, before the same turn. */
   pastChanged() {
-    const { word, turn } = this;
-    if (word) this.attempt(() => this.ask(word, turn));
+    const { question, turn } = this;
+    if (question) this.attempt(() => this.show(question.anew(), turn));
+  }
+
+  /** The machine was stopped. */
+  stopped() {
+    const work = document.querySelector("#reasons .at-work");
+    if (work) work.textContent = "Stopped: it isn't known why.";
   }
 
   /** Why a word is so before a turn, at first that of the cursor.
       @param {Word} word */
-  async ask(word, turn = this.app.view.timeline.cursor) {
-    const { app } = this, { run, symbols, contents } = app.session, token = app.token("why");
-    this.word = word;
+  ask(word, turn = this.app.view.timeline.cursor) {
+    return this.show(new WordQuestion(this.app, word), turn);
+  }
+
+  /** Shows the answer to a question before a turn, at first that of the cursor.
+      @param {Question} question */
+  async show(question, turn = this.app.view.timeline.cursor) {
+    const { app } = this, { run } = app.session, token = app.token("why");
+    this.question = question;
     this.turn = turn;
-    field("why-word").value = nameOfWord(word);
+    field("why-word").value = question.name;
     this.mark(run);
-    /** @type {import("./cursor.js").Ask} */
+    element("reasons").replaceChildren(make("p", { class: "faint at-work" }, "Looking back .."));
+    /** @type {Ask} */
     const ask = async lines => (await run.ask(lines, Priority.QUESTION, token)).map(mustBeTaken);
-    /** @param {string} line */
-    const one = async line => (await ask([line]))[0];
-    const why = new Why({ ask, past: run.past, symbols, options: contents.arguments,
-      instructionsOf: trail => app.panels.pastInstructions(ask, trail),
-      changeBefore: (disk, before) =>
-        app.finder.change(disk, -1, { cursor: before, end: before, one }) });
-    const { steps, isCut } = await why.stepsOf(word, turn);
-    this.shown = stateOf(run, turn);
-    this.show(steps, isCut);
+    const answer = await question.answer(ask, turn);
+    this.turn = answer.turn;
+    this.shown = stateOf(run, answer.turn);
+    element("reasons").replaceChildren(...answer.inside);
+    app.view.path.show(answer.path);
+    element("why-none").hidden = false;
     this.mark(run);
   }
 
@@ -97,16 +125,45 @@ export class Reasons {
   mark(run) {
     markTurn(element("why-turn"), this.shown, stateOf(run, this.turn));
   }
+}
 
-  /** @param {Step[]} steps @param {boolean} isCut whether there are more */
-  show(steps, isCut) {
+/** By what a word was written. */
+class WordQuestion {
+  /** @param {import("./app.js").App} app @param {Word} word */
+  constructor(app, word) {
+    this.app = app;
+    this.word = word;
+  }
+
+  get name() {
+    return nameOfWord(this.word);
+  }
+
+  anew() {
+    return this;
+  }
+
+  /** @param {Ask} ask @param {number} turn @returns {Promise<Answer>} */
+  async answer(ask, turn) {
+    const { app } = this, { run, symbols, contents } = app.session;
+    /** @param {string} line */
+    const one = async line => (await ask([line]))[0];
+    const why = new Why({ ask, past: run.past, symbols, options: contents.arguments,
+      instructionsOf: trail => app.panels.pastInstructions(ask, trail),
+      changeBefore: (disk, before) =>
+        app.finder.change(disk, -1, { cursor: before, end: before, one }) });
+    const { steps, isCut } = await why.stepsOf(this.word, turn);
+    return { turn, inside: this.inside(steps, isCut), path: steps };
+  }
+
+  /** @param {Step[]} steps @param {boolean} isCut whether there are more
+      @returns {HTMLElement[]} */
+  inside(steps, isCut) {
     const { turn } = steps[steps.length - 1], before = turn === null ? [] : this.eventsBefore(turn);
     const cut = isCut ? [make("p", {}, `The first ${counted(steps.length, "step")} back.`)] : [];
-    element("reasons").replaceChildren(
-      make("ol", { "aria-label": "Steps back" }, ...steps.map(it => this.item(it.text, it.turn))),
-      ...cut, ...this.eventsInWords(before, turn));
-    this.app.view.path.show(steps);
-    element("why-none").hidden = false;
+    const list = make("ol", { "aria-label": "Steps back" },
+      ...steps.map(it => this.item(it.text, it.turn)));
+    return [list, ...cut, ...this.eventsInWords(before, turn)];
   }
 
   /** @param {ScriptEvent[]} events @param {number | null} turn @returns {HTMLElement[]} */

@@ -334,17 +334,18 @@ export function tailOf(reply, most) {
 export const shownByte = byte =>
   byte >= 0o40 && byte < 0o177 ? String.fromCharCode(byte) : "\u00b7";
 
+/** The numbers of the bytes that readable text shows: a CR before or after LF isn't.
+    @param {number[] | Uint8Array} bytes @returns {number[]} */
+export function shownBytes(bytes) {
+  /** @param {number} at */
+  const endsLine = at => bytes[at] === 0o15 && [bytes[at - 1], bytes[at + 1]].includes(0o12);
+  return Array.from(bytes, (_, at) => at).filter(at => !endsLine(at));
+}
+
 /** Console text for reading: lines end at LF, and a CR before or after it isn't shown.
     @param {number[] | Uint8Array} bytes */
-export function readableText(bytes) {
-  let text = "";
-  bytes.forEach((byte, at) => {
-    const endsLine = byte === 0o15 && [bytes[at - 1], bytes[at + 1]].includes(0o12);
-    if (byte === 0o12) text += "\n";
-    else if (!endsLine) text += shownByte(byte);
-  });
-  return text;
-}
+export const readableText = bytes =>
+  shownBytes(bytes).map(at => bytes[at] === 0o12 ? "\n" : shownByte(bytes[at])).join("");
 
 const KEY_NAMES = new Map(
   [[0o11, "Tab"], [0o12, "LF"], [0o15, "CR"], [0o33, "ESC"], [0o40, "space"], [0o177, "DEL"]]);

@@ -2,6 +2,7 @@
 
 import { Ledger } from "./ledger.js";
 import { Machine, Stopped } from "./machine.js";
+import { makePatches, patchesAhead, takeBackPatches } from "./patching.js";
 import { isEdit, runsNothing, wordsOfLine } from "./past.js";
 import {
   askedAtOnce, byteAsked, earlyQuestion, isSearch, searchOf, turnsAsked,
@@ -70,6 +71,11 @@ export class Run {
       this.jobs.push(job);
       this.work();
     });
+  }
+
+  /** @param {string[]} lines */
+  askEdits(lines) {
+    return this.ask(lines, Priority.EDIT);
   }
 
   /** @param {string} line @param {number} [priority] @param {Token | null} [token] */
@@ -357,6 +363,16 @@ export class Run {
     return reply;
   }
 
+  /** Makes patches of different words of core, which one undo takes back. Returns how many.
+      @param {string[]} lines */
+  async commitAll(lines) {
+    await this.putBack();
+    const { edits, refused } = await makePatches(this, lines);
+    this.ledger.addAll(edits);
+    refused.forEach(mustBeTaken);
+    return edits.length;
+  }
+
   /**
    * Makes an edit. Returns its reply, and the edit if it was taken.
    * @param {string} line @returns {Promise<{reply: string, edit: Edit | null}>}
@@ -391,9 +407,9 @@ export class Run {
     const taken = [];
     undone.push(taken);
     for (let edit = change.at(-1); edit; edit = change.at(-1)) {
-      await this.takeBack(edit);
-      change.pop();
-      taken.unshift(edit);
+      const patches = await takeBackPatches(this, change);
+      if (!patches) await this.takeBack(edit);
+      taken.unshift(...change.splice(-Math.max(1, patches)));
     }
     changes.pop();
   }
@@ -423,6 +439,12 @@ export class Run {
     const change = [];
     changes.push(change);
     while (wanted.length) {
+      const patches = patchesAhead(wanted);
+      if (patches.length) {
+        change.push(...(await makePatches(this, patches)).edits);
+        wanted.splice(0, patches.length);
+        continue;
+      }
       const { edit } = await this.make(wanted[0].line), { event } = wanted[0];
       wanted.shift();
       if (edit) change.push(edit);

@@ -9,8 +9,8 @@ import { turnsAsked } from "./questions.js";
  */
 
 /**
- * A name of an address, and the names of each mode.
- * @typedef {{name: string, value: number}} Symbol
+ * A name of an address, or of a constant, and the names of each mode by their values.
+ * @typedef {{name: string, value: number, isConstant?: boolean}} Symbol
  * @typedef {{kernel: Symbol[], user: Symbol[]}} Symbols
  */
 
@@ -25,9 +25,10 @@ export function linesOf(text) {
     @param {Uint8Array} bytes */
 export function latin1(bytes) {
   let text = "";
-  // not all at once: the arguments of a call are limited
+  // not all at once: the arguments of a call are limited. Spread, they take ten times as long.
   for (let at = 0; at < bytes.length; at += 4096) {
-    text += String.fromCharCode(...bytes.subarray(at, at + 4096));
+    const part = /** @type {any} */ (bytes.subarray(at, at + 4096));
+    text += String.fromCharCode.apply(null, part);
   }
   return text;
 }
@@ -48,48 +49,12 @@ export function readableLine(line) {
 export const lastTurnOf = lines =>
   lines.reduce((last, line) => Math.max(last, turnsAsked(line)[1]), 0);
 
-/** The symbols among the files of a session: those of each mode.
-    @param {Session} session */
-export function symbolsOfSession(session) {
-  /** @type {Symbols} */
-  const found = { kernel: [], user: [] };
-  for (const [name, bytes] of Object.entries(session.files)) {
-    if (kindOfFile(name) !== "symbols") continue;
-    const symbols = symbolsOf(new TextDecoder().decode(bytes));
-    for (const mode of modesOfSymbols(name)) found[mode] = symbols;
-  }
-  return found;
-}
-
-/** The modes whose addresses a file of symbols names: its name has one, or it is for both.
-    @param {string} name @returns {("kernel" | "user")[]} */
-function modesOfSymbols(name) {
-  if (/user/i.test(name)) return ["user"];
-  return /kernel/i.test(name) ? ["kernel"] : ["kernel", "user"];
-}
-
-/** Symbols: lines `NAME OCTAL`, or what nm writes in octal or with eight digits hexadecimal.
-    @param {string} text */
-export function symbolsOf(text) {
-  /** @type {Symbol[]} */
-  const found = [];
-  for (const line of linesOf(text)) {
-    const own = /^\s*(\S+)\s+([0-7]{1,6})\s*$/.exec(line.replace(/#.*/, ""));
-    const nm = /^\s*([0-9a-fA-F]+)\s*[A-Za-z?]\s+(\S+)\s*$/.exec(line);
-    if (nm) {
-      const base = [4, 8, 16].includes(nm[1].length) ? 16 : 8;
-      found.push({ name: nm[2], value: parseInt(nm[1], base) });
-    } else if (own) found.push({ name: own[1], value: parseInt(own[2], 8) });
-  }
-  return found.filter(it => it.value < 0o200000).sort((a, b) => a.value - b.value);
-}
-
 /** The symbol at or before an address, such as `DISK+4`, or an empty text.
     @param {Symbol[] | undefined} symbols @param {number} address */
 export function symbolNear(symbols, address) {
   /** @type {Symbol | null} */
   let best = null;
-  for (const it of symbols ?? []) if (it.value <= address) best = it;
+  for (const it of symbols ?? []) if (!it.isConstant && it.value <= address) best = it;
   if (!best || address - best.value >= 0o10000) return "";
   const offset = address - best.value;
   return offset ? `${best.name}+${offset.toString(8)}` : best.name;
@@ -101,28 +66,44 @@ export function symbolsOfMode(symbols, mode) {
   return (mode === "kernel" ? symbols.kernel : mode === "user" ? symbols.user : null) ?? [];
 }
 
-/** What a file that was opened is, by its name: an image, symbols or a session.
+/** What a file that was opened is, by its name: an image, a program for core, symbols, options; or
+    a session, if the name doesn't say it.
     @param {string} name */
 export function kindOfFile(name) {
   const end = name.toLowerCase().split(".").at(-1) ?? "";
   if (["disk", "rk05", "rk", "dsk", "img"].includes(end)) return "disk";
   if (["core", "bin"].includes(end)) return "core";
   if (["tape", "ptap", "pt"].includes(end)) return "tape";
-  if (["sym", "symbols", "nm"].includes(end)) return "symbols";
+  if (["lda", "abs", "aout", "out"].includes(end)) return "program";
+  if (["sym", "symbols", "nm", "lst", "lis", "map"].includes(end)) return "symbols";
   return end === "args" ? "arguments" : "session";
+}
+
+/** The session without the file of an option. A file that another option names too stays.
+    @param {Session} session @param {string} option @returns {Session} */
+export function withoutFile(session, option) {
+  const words = [...session.arguments], at = words.indexOf(`--${option}`);
+  if (at < 0) return session;
+  const [, name] = words.splice(at, 2), { [name]: _, ...files } = session.files;
+  return { ...session, files: words.includes(name) ? session.files : files, arguments: words };
+}
+
+/** The name by which a session has a file: its own, or if another file has that one, the option
+    before it.
+    @param {Session} session @param {string} option @param {string} name @param {Uint8Array} bytes
+    @returns {string} */
+function heldName(session, option, name, bytes) {
+  if (!Object.hasOwn(session.files, name)) return name;
+  const other = session.files[name];
+  const isSame = other.length === bytes.length && other.every((byte, at) => byte === bytes[at]);
+  return isSame ? name : heldName(session, option, `${option}-${name}`, bytes);
 }
 
 /** The options with a file in the place of the one that the option had.
     @param {Session} session @param {string} option @param {string} name @param {Uint8Array} bytes
     @returns {Session} */
 export function withFile(session, option, name, bytes) {
-  const words = [...session.arguments];
-  const at = words.indexOf(`--${option}`);
-  const files = { ...session.files };
-  if (at >= 0) {
-    delete files[words[at + 1]];
-    words.splice(at, 2);
-  }
-  return { ...session, files: { ...files, [name]: bytes },
-    arguments: [...words, `--${option}`, name] };
+  const left = withoutFile(session, option), held = heldName(left, option, name, bytes);
+  return { ...left, files: { ...left.files, [held]: bytes },
+    arguments: [...left.arguments, `--${option}`, held] };
 }

@@ -1,16 +1,11 @@
-// Steps over a call, out of a routine, and to an instruction: by searches of the program for the
-// stack pointer and PC. What an instruction is the proved disassembler says.
+// Steps over a call, out of a routine, and to an instruction. What a call is, and when it has
+// returned, is as in the call stack.
 
+import { Facts } from "./facts.js";
+import { Stacks } from "./levels.js";
 import { element } from "./page.js";
-import { mustBeTaken, octal, registersOf, turnOf, turnsOf } from "./replies.js";
+import { mustBeTaken, octal, turnOf, turnsOf } from "./replies.js";
 import { Priority } from "./run.js";
-
-const CALLS = /^(JSR|EMT|TRAP|IOT|BPT)\b/, RETURNS = /^(RTS|RTI|RTT)\b/;
-// So many times a routine may take words off its stack before it returns.
-const MOST_TRIES = 64;
-
-/** @param {string} mode */
-const pointerOf = mode => mode === "user" ? "USP" : "KSP";
 
 /**
  * The cursor's turn, the last turn that is searched, and what asks lines; the turn to which a step
@@ -62,48 +57,42 @@ export class Stepping {
     });
   }
 
-  /** @param {Ask} ask @param {number} turn */
-  async registers(ask, turn) {
-    return registersOf((await ask([`regs ${turn}`]))[0]);
-  }
-
-  /** The text of a turn's instruction, or an empty one if it was none.
+  /** The text of what a turn did.
       @param {Ask} ask @param {number} turn */
   async instruction(ask, turn) {
     const trail = turnsOf((await ask([`trail ${turn + 1} 1`]))[0]);
-    const [found] = await this.app.panels.pastInstructions(ask, trail);
-    return { isCall: found.act !== "instr" && found.act !== "idle", text: found.text };
+    return (await this.app.panels.pastInstructions(ask, trail))[0].text.trim();
   }
 
-  /** One turn on; from a call to where the stack pointer is above what it pushed.
+  /** What finds calls and returns.
+      @param {Ask} ask */
+  stacks(ask) {
+    /** @type {Ask} */
+    const taken = async lines => (await ask(lines)).map(mustBeTaken);
+    return new Stacks(new Facts(taken, this.app.session.run.past));
+  }
+
+  /** One turn on; from a call to where its routine has been left.
       @param {Turns} turns @returns {Promise<Step>} */
   async overFrom({ ask, cursor, end }) {
-    const { isCall, text } = await this.instruction(ask, cursor);
-    const next = { turn: cursor + 1, said: "" };
-    if (!isCall && !CALLS.test(text)) return next;
-    const { mode, words } = await this.registers(ask, cursor + 1), name = pointerOf(mode);
-    const where = `where ${name} > ${octal(words[name])}`;
-    const reply = mustBeTaken((await ask([`first ${cursor + 1} ${end} ${where}`]))[0]);
-    const turn = turnOf(reply);
+    const stacks = this.stacks(ask), call = await stacks.call(cursor);
+    if (!call) return { turn: cursor + 1, said: "" };
+    const turn = await stacks.leftIn(call, cursor + 1, end);
     if (turn === null) return { turn, said: `It doesn't return up to turn ${end}.` };
-    return { turn, said: `Turn ${turn}: the first with ${name} above ${octal(words[name])}.` };
+    return { turn, said: `Turn ${turn}: ${call.kind} has returned.` };
   }
 
-  /** On to the first return that leaves the stack pointer above where it is now, and above all that
-      the routine itself has taken off its stack until then.
+  /** On to where the routine of the innermost call has been left.
       @param {Turns} turns @returns {Promise<Step>} */
   async outFrom({ ask, cursor, end }) {
-    const { mode, words } = await this.registers(ask, cursor), name = pointerOf(mode);
-    let from = cursor, pointer = words[name];
-    for (let tries = 0; tries < MOST_TRIES; tries++) {
-      const line = `first ${from + 1} ${end} where ${name} > ${octal(pointer)}`;
-      const turn = turnOf(mustBeTaken((await ask([line]))[0]));
-      if (turn === null) break;
-      const { text } = await this.instruction(ask, turn - 1);
-      if (RETURNS.test(text)) return { turn, said: `Turn ${turn}: after ${text.trim()}.` };
-      pointer = (await this.registers(ask, turn)).words[name];
-      from = turn;
+    const stacks = this.stacks(ask), [level] = await stacks.levels(cursor);
+    if (!level) return { turn: null, said: `No call is found that turn ${cursor} stands in.` };
+    const { call, doubt } = level, turn = await stacks.leftIn(call, cursor + 1, end);
+    const believed = doubt ? ` That it is of turn ${call.turn} is believed: ${doubt}.` : "";
+    if (turn === null) {
+      return { turn, said: `${call.kind} doesn't return up to turn ${end}.${believed}` };
     }
-    return { turn: null, said: `No return is found up to turn ${end}.` };
+    const text = await this.instruction(ask, turn - 1);
+    return { turn, said: `Turn ${turn}: after ${text}, out of ${call.kind}.${believed}` };
   }
 }

@@ -4,6 +4,7 @@ import { sumOf } from "./kept.js";
 
 // sumOfPast of examples/ledger/ledger.session: another sumOf gives another one.
 const SUM = "pd79pa-62k3c4";
+const EVENTS = 27;
 export const STORY = { first: 126_300, span: 2_600, cursor: 126_967, wanted: "145",
   sweep: { event: 15, from: 126_600, to: 127_400 },
   // where the event is safe: so the tests find by trying it; and the deposit before it
@@ -42,7 +43,7 @@ export function targetOf(past, begun) {
 /** Whether this is the session that the story tells of, whatever its file's name is.
     @param {{arguments: string[]}} session @param {Past} past */
 export const isStory = (session, past) =>
-  !session.arguments.length && sumOfPast(past) === SUM;
+  !session.arguments.length && past.script.length === EVENTS && sumOfPast(past) === SUM;
 
 /** The fourth balance that the teller printed, such as 137, or null before that.
     @param {string} text */

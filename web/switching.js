@@ -4,7 +4,11 @@
 /**
  * What the user did at once, and whether it is in the past. `place` is how many of those that are
  * on come before it.
- * @typedef {{change: Edit[], isOn: boolean, place: number}} Item
+ * @template [Kind=Edit]
+ * @typedef {{change: Kind[], isOn: boolean, place: number}} Item
+ */
+
+/**
  * @typedef {import("./run.js").Run} Run
  * @typedef {import("./ledger.js").Ledger} Ledger
  * @typedef {import("./ledger.js").Edit} Edit
@@ -12,7 +16,9 @@
  */
 
 /** All that the user did, in order: what is on, and what is off.
-    @param {Ledger} ledger @returns {Item[]} */
+    @template Kind
+    @param {{changes: Kind[][], off: {change: Kind[], place: number}[]}} ledger
+    @returns {Item<Kind>[]} */
 export function itemsOf({ changes, off }) {
   /** @param {number} place */
   const offAt = place => off.filter(it => Math.min(it.place, changes.length) === place)

@@ -3,7 +3,7 @@
 import { markTurn, stateOf } from "./cursor.js";
 import { marked } from "./differences.js";
 import { element } from "./page.js";
-import { readableText, tailOf } from "./replies.js";
+import { lengthOf, readableText, shownBytes, tailOf } from "./replies.js";
 import { Priority } from "./run.js";
 
 const MOST_TEXT = 40_000;
@@ -12,7 +12,7 @@ const MOST_TEXT = 40_000;
     @param {string} reply */
 function shownText(reply) {
   const { bytes, isCut } = tailOf(reply, MOST_TEXT);
-  return { text: readableText(bytes), count: bytes.length, isCut };
+  return { text: readableText(bytes), count: bytes.length, isCut, bytes };
 }
 
 /**
@@ -28,6 +28,8 @@ export class ConsoleText {
     this.old = null;
     /** @type {import("./cursor.js").Shown | null} of which turn and past the text is */
     this.shown = null;
+    /** @type {number[]} the numbers of the bytes that are shown */
+    this.numbers = [];
   }
 
   sessionBegins() {
@@ -70,6 +72,17 @@ export class ConsoleText {
     if (this.shown && place.classList.contains("stale")) outcome.ask();
   }
 
+  /** The number of the byte that is shown as a character.
+      @param {number} at the number of the character */
+  numberOfByte(at) {
+    return this.numbers[at] ?? null;
+  }
+
+  /** Whether the text is of another turn or past than the one that is asked for. */
+  isStale() {
+    return element("text-turn").classList.contains("stale");
+  }
+
   /** The text that is shown is that of an event in another turn than it is in now. */
   isOld() {
     if (this.shown) this.shown = { ...this.shown, pasts: -1 };
@@ -80,7 +93,8 @@ export class ConsoleText {
       @param {string} reply @param {number | null} moved */
   show(reply, moved = null) {
     const { app, old } = this, { session } = app;
-    const { text, count, isCut } = shownText(reply);
+    const { text, count, isCut, bytes } = shownText(reply), first = lengthOf(reply) - count;
+    this.numbers = shownBytes(bytes).map(it => first + it);
     const isCompared = old?.end === session.end && !isCut && !old.isCut;
     const unmarked = session.old && !isCompared ? "; what differs isn't marked" : "";
     const more = isCut ? `, its last ${count} bytes${unmarked}` : "";

@@ -3,14 +3,14 @@
 // instruction read isn't followed. Each answer is the program's: `last`, `change`, `transfers`.
 
 import { nameOfWord } from "./names.js";
+import { optionOfDrive } from "./options.js";
 import {
-  devicesOf, lastOf, mustBeTaken, octal, registersOf, turnsOf, vectorName, visibleName, wordsOf,
+  lastOf, mustBeTaken, octal, registersOf, turnsOf, vectorName, visibleName, wordsOf,
 } from "./replies.js";
 import { symbolNear } from "./session.js";
+import { copiedBy, stayed, transfersOf } from "./transfers.js";
 
 const MOST_STEPS = 16, FARTHEST_BEGIN = 100_000;
-// The bit of RKCS with which the bus address doesn't grow: all words go to one, or come from it.
-const STAYS = 0o4000;
 
 /**
  * A step back: what was so in a turn, in words. `lane` is where it is drawn: the name of a lane, or
@@ -22,41 +22,7 @@ const STAYS = 0o4000;
  *   and the word before a turn that is asked about next, or null
  */
 
-/**
- * A function of the disk that ended in a turn. `begin` is the turn that began it, or null;
- * `stays` says that it kept to one word of core.
- * @typedef {{turn: number, begin: number | null, name: string, drive: number, index: number,
- *   core: number, count: number, error: number}} Ended
- * @typedef {Ended & {stays: boolean}} Transfer
- * @typedef {ReturnType<typeof turnsOf>} Trail
- */
-
-/** The last line of the reply of `transfers`, or null.
-    @param {string} reply @returns {Ended | null} */
-export function transferOf(reply) {
-  const [head, ...lines] = reply.split("\n");
-  if (!/^transfers \d+/.test(head)) throw new Error("a reply of `transfers` can't be read");
-  const last = lines.at(-1);
-  if (last === undefined) return null;
-  const [turn, begin, name, drive, index, core, count, error] = last.split(" ");
-  return {
-    turn: Number(turn), begin: begin === "before" ? null : Number(begin), name,
-    drive: parseInt(drive, 8), index: parseInt(index, 8), core: parseInt(core, 8),
-    count: Number(count), error: parseInt(error, 8),
-  };
-}
-
-/** The word that a transfer copied to a word, or null.
-    @param {Omit<Transfer, "stays"> & {stays?: boolean}} transfer @param {Word} word
-    @returns {Word | null} */
-export function copiedBy({ drive, index, core, count, stays }, word) {
-  const isRead = word.kind === "core", last = count - 1;
-  const offset = isRead ? (word.at - core) / 2 : word.at - index;
-  const isMoved = Number.isInteger(offset) && offset >= 0 && offset <= (isRead && stays ? 0 : last);
-  if (!isMoved || count === 0) return null;
-  if (isRead) return { kind: "disk", drive, at: index + (stays ? last : offset) };
-  return { kind: "core", drive: 0, at: core + (stays ? 0 : 2 * offset) };
-}
+/** @typedef {ReturnType<typeof turnsOf>} Trail */
 
 export class Why {
   /**
@@ -128,7 +94,7 @@ export class Why {
     const { kind, drive, at } = word, place = at.toString(8);
     const names = kind === "core" ? [`core ${place}`] : [`disk ${place}`, `disk ${drive} ${place}`];
     const name = names.find(it => this.past.patches.has(it));
-    const option = kind === "core" ? "--core" : drive ? `--disk${drive}` : "--disk";
+    const option = `--${kind === "core" ? "core" : optionOfDrive(drive)}`;
     const image = this.options.includes(option)
       ? `it comes from the image of ${option}, or is 0 after its end` : "it is 0, as at power-up";
     const from = name ? `the patch ${name} ${this.past.patches.get(name)} made it so` : image;
@@ -153,13 +119,12 @@ export class Why {
   }
 
   /** The transfer that ended in a turn, or null.
-      @param {number} turn @returns {Promise<Transfer | null>} */
+      @param {number} turn @returns {Promise<import("./transfers.js").Transfer | null>} */
   async transferIn(turn) {
     const first = Math.max(0, turn - Math.min(FARTHEST_BEGIN, this.past.delays.disk + 1));
-    const found = transferOf(await this.one(`transfers ${first} ${turn + 1}`));
+    const found = transfersOf(await this.one(`transfers ${first} ${turn + 1}`)).ended.at(-1);
     if (found?.turn !== turn) return null;
-    const { words } = devicesOf(await this.one(`devices ${turn}`));
-    return { ...found, stays: (words.RKCS & STAYS) !== 0 };
+    return { ...found, stays: stayed(await this.one(`devices ${turn}`)) };
   }
 
   /** A word that a transfer wrote in a turn, and the word that it copied.

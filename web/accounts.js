@@ -1,0 +1,88 @@
+// What a register or a printed byte is made of, in the panel of Why: its lines, each with its turn,
+// and the path over the timeline.
+
+import { MOST_STEPS, MadeOf, nameOfMade } from "./made.js";
+import { link, make } from "./page.js";
+
+// So many levels are drawn further to the right; and so many times more steps are followed.
+const [DEEPEST, INDENT, MORE] = [8, 12, 4];
+
+/**
+ * @typedef {import("./made.js").Made} Made
+ * @typedef {import("./made.js").MadeThing} MadeThing
+ * @typedef {import("./path.js").PathStep} PathStep
+ * @typedef {import("./reasons.js").Answer} Answer
+ */
+
+/** A text as a sentence.
+    @param {string} text */
+const sentence = text => `${text[0].toUpperCase()}${text.slice(1)}.`;
+
+export class MadeQuestion {
+  /** @param {import("./app.js").App} app @param {MadeThing} thing */
+  constructor(app, thing, most = MOST_STEPS) {
+    this.app = app;
+    this.thing = thing;
+    this.most = most;
+    /** @type {MadeOf | null} what was found so far of this past */
+    this.found = null;
+  }
+
+  get name() {
+    return nameOfMade(this.thing);
+  }
+
+  /** The same question about another past. */
+  anew() {
+    return new MadeQuestion(this.app, this.thing, this.most);
+  }
+
+  /** The same question, of which more steps are followed. */
+  further() {
+    const question = new MadeQuestion(this.app, this.thing, this.most * MORE);
+    question.found = this.found;
+    return question;
+  }
+
+  /** @param {import("./cursor.js").Ask} ask @param {number} turn @returns {Promise<Answer>} */
+  async answer(ask, turn) {
+    const { panels, session: { run, contents, end } } = this.app, { thing } = this;
+    this.found ??= new MadeOf({ thing, turn, end, past: run.past, options: contents.arguments,
+      instructionsOf: (it, trail) => panels.pastInstructions(it, trail) });
+    const made = await this.found.answer(ask, this.most);
+    return { turn: made.turn, inside: this.inside(made), path: pathOf(made) };
+  }
+
+  /** @param {Made} made @returns {HTMLElement[]} */
+  inside({ first, lines, isCut, ends, left, isLimited }) {
+    const list = make("ul", { class: "account", "aria-label": "Steps back" },
+      this.item({ ...first, depth: 0, head: "" }), ...lines.map(it => this.item(it)));
+    const cut = isCut ? ["further lines aren't shown; what follows counts all steps"] : [];
+    const more = make("button", { type: "button", onclick: () => this.goFurther() },
+      "Follow further");
+    const unfollowed = left ? [make("p", {}, `${sentence(left)} `, isLimited ? more : "")] : [];
+    return [list, ...[...cut, ...ends].map(it => make("p", {}, sentence(it))), ...unfollowed];
+  }
+
+  /** A line, whose step a click goes to.
+      @param {{depth: number, head: string, text: string, turn: number | null}} line */
+  item({ depth, head, text, turn }) {
+    const step = turn === null ? text
+      : link(text, `Go to turn ${turn}`, () => this.app.goTo(turn));
+    const made = make("li", { "aria-level": depth + 1 }, head, step);
+    made.style.marginLeft = `${INDENT * Math.min(depth, DEEPEST)}px`;
+    return made;
+  }
+
+  goFurther() {
+    const { reasons } = this.app;
+    return reasons.attempt(() => reasons.show(this.further(), reasons.turn));
+  }
+}
+
+/** The steps of a path, each with the number of the one that is made of it.
+    @param {Made} made @returns {PathStep[]} */
+const pathOf = ({ first, lines }) => [
+  { ...first, above: -1 },
+  ...lines.map(({ turn, lane, above }) => ({ turn, lane, above: above + 1 })),
+];

@@ -1,0 +1,180 @@
+// The images of drives 0 to 7: a line for each drive, with which an image is chosen, dropped or
+// taken away.
+
+import { takeDrops } from "./files.js";
+import { BYTES_OF_A_DRIVE, readFiles } from "./given.js";
+import { foreignOf } from "./kinds.js";
+import { DRIVES } from "./memory.js";
+import { FileError, optionOfDrive, optionsOf } from "./options.js";
+import { element, field, make, part } from "./page.js";
+import { wordsOfLine } from "./past.js";
+import { counted, visibleName } from "./replies.js";
+import { withFile, withoutFile } from "./session.js";
+
+/**
+ * @typedef {import("./session.js").Session} Session
+ * @typedef {import("./kept.js").KeptEdits} KeptEdits
+ */
+
+const VERSION_2 = "version 2", STAYS = "Nothing was changed.";
+
+/** The file that is the image of a drive, or undefined.
+    @param {Session} session @param {number} drive */
+const imageOf = (session, drive) =>
+  optionsOf(session.arguments, session.name).get(optionOfDrive(drive));
+
+/** What is wrong with the size of an image, or an empty text.
+    @param {number} bytes */
+function wrongSize(bytes) {
+  if (bytes > BYTES_OF_A_DRIVE) return `a drive has ${BYTES_OF_A_DRIVE}`;
+  return bytes % 2 ? "an image has an even number of them" : "";
+}
+
+/** The image in a file. A FileError says why it can't be one.
+    @param {File} file */
+async function imageIn(file) {
+  const shown = visibleName(file.name), why = wrongSize(file.size);
+  if (why) throw new FileError(`${shown} has ${counted(file.size, "byte")}, and ${why}. ${STAYS}`);
+  const [image] = await readFiles([file]);
+  const isWhole = image.bytes.length === BYTES_OF_A_DRIVE;
+  const foreign = isWhole ? null : foreignOf(image.bytes);
+  if (foreign) throw new FileError(`${shown} is ${foreign}. ${STAYS}`);
+  return image;
+}
+
+/** The first of the user's edits, on or off, that version 2 would refuse: a patch of a drive that
+    names none.
+    @param {KeptEdits} edits */
+function editOfVersion1({ changes, off = [] }) {
+  const lines = [...changes, ...off.map(it => it.change)].flat().map(it => it.line);
+  return lines.find(it => {
+    const words = wordsOfLine(it);
+    return words[0] === "disk" && words.length === 3;
+  });
+}
+
+export class Drives {
+  /** @param {import("./app.js").App} app */
+  constructor(app) {
+    this.app = app;
+    /** The drive for which a file is chosen. */
+    this.chosen = 0;
+    this.rows = [...Array(DRIVES).keys()].map(drive => this.row(drive));
+    element("drive-list").append(...this.rows);
+    const chooser = field("drive-file");
+    chooser.addEventListener("change", () => {
+      const files = [...chooser.files ?? []];
+      chooser.value = "";
+      if (files.length) this.give(this.chosen, files);
+    });
+  }
+
+  sessionBegins() {
+    this.say("");
+  }
+
+  pastChanged() {
+    const { contents, run } = this.app.session;
+    const given = this.rows.filter((_, drive) => imageOf(contents, drive) !== undefined);
+    this.rows.forEach((row, drive) => this.showRow(row, drive));
+    const { length } = given;
+    element("drives-count").textContent = length ? counted(length, "image") : "no image";
+    element("drives-version").hidden = run.past.version !== 1;
+  }
+
+  /** The line of a drive.
+      @param {number} drive */
+  row(drive) {
+    const choose = () => {
+      this.chosen = drive;
+      field("drive-file").click();
+    };
+    const row = make("li", { "data-drive": drive }, make("span"),
+      make("button", { type: "button", class: "choose", onclick: choose,
+        "aria-label": `Choose the image of drive ${drive}` }, "Choose"),
+      make("button", { type: "button", class: "take", onclick: () => this.takeAway(drive),
+        "aria-label": `Take away the image of drive ${drive}` }, "Take away"));
+    takeDrops(row, files => this.give(drive, files));
+    return row;
+  }
+
+  /** @param {HTMLElement} row @param {number} drive */
+  showRow(row, drive) {
+    const { contents } = this.app.session, name = imageOf(contents, drive);
+    const text = name === undefined ? "no image"
+      : `${visibleName(name)}, ${counted(contents.files[name].length, "byte")}`;
+    part(row, "span").textContent = `Drive ${drive}: ${text}`;
+    part(row, ".take").toggleAttribute("disabled", name === undefined);
+  }
+
+  /** Puts a file into a drive as its image.
+      @param {number} drive @param {File[]} files */
+  give(drive, files) {
+    const { app } = this;
+    return this.attempt(async () => {
+      if (files.length > 1) throw new FileError(`A drive takes one image. ${STAYS}`);
+      const { name, bytes } = await imageIn(files[0]), { contents, run } = app.session;
+      const becomes2 = drive > 0 && run.past.version === 1;
+      if (becomes2) this.refuseVersion1();
+      const option = optionOfDrive(drive), session = withFile(contents, option, name, bytes);
+      const held = imageOf(session, drive) ?? name;
+      const said = [`Drive ${drive} has ${visibleName(name)}.`];
+      if (held !== name) {
+        said.push(`It is called ${visibleName(held)} here, since another file has its name.`);
+      }
+      if (becomes2) {
+        said.push("The session is of version 2 now, from its last line on: a line about a drive "
+          + `names it, as dsk 0 ${drive} 0 1.`);
+      }
+      await this.open(becomes2 ? ofVersion2(session) : session, said);
+    });
+  }
+
+  /** A FileError if the session can't become one of version 2, since an edit would be refused. */
+  refuseVersion1() {
+    const edit = editOfVersion1(this.app.edits.kept());
+    if (edit === undefined) return;
+    const [, word, value] = wordsOfLine(edit);
+    throw new FileError("This session is of version 1, which has drive 0 alone, and version 2 "
+      + `would refuse your edit ${edit}. Undo it, choose the image again, and make the edit anew `
+      + `as disk 0 ${word} ${value}. ${STAYS}`);
+  }
+
+  /** Takes the image of a drive away.
+      @param {number} drive */
+  takeAway(drive) {
+    return this.attempt(async () => {
+      const { contents } = this.app.session;
+      await this.open(withoutFile(contents, optionOfDrive(drive)),
+        [`Drive ${drive} has no image.`]);
+      part(this.rows[drive], ".choose").focus();
+    });
+  }
+
+  /** Opens a session with the edits of the one that is open.
+      @param {Session} session @param {string[]} said */
+  async open(session, said) {
+    const more = await this.app.opening.add({ session, programs: [] }, true);
+    this.say([...said, ...more].filter(Boolean).join(" "));
+  }
+
+  /** Does work, and says beside the drives why a file was refused.
+      @param {() => Promise<void>} work */
+  attempt(work) {
+    this.say("");
+    return this.app.attempt(work, error => {
+      if (error instanceof FileError) this.say(error.message);
+      return error instanceof FileError;
+    });
+  }
+
+  /** @param {string} text */
+  say(text) {
+    element("drives-said").textContent = text;
+  }
+}
+
+/** The session as one of version 2, which begins with its last line: the lines before it keep what
+    they mean.
+    @param {Session} session @returns {Session} */
+const ofVersion2 = session => ({ ...session, lines: [...session.lines, VERSION_2] });

@@ -1,0 +1,161 @@
+// What rules of data ask of the machine about turns, in the numbers of the program's replies.
+
+import {
+  TURNS_OF_A_TRAIL, devicesOf, lastOf, mustBeTaken, physicalOf, turnOf, turnsOf, wordsOf,
+} from "./replies.js";
+import { stayed, transfersOf } from "./transfers.js";
+
+const WORDS_OF_ROW = ["R0", "R1", "R2", "R3", "R4", "R5", "KSP", "USP", "PC", "PS"];
+const REGISTERS = new RegExp(`^${WORDS_OF_ROW.map(it => `${it} ([0-7]{6})`).join(" ")} \\w+$`);
+/** The modes by their two bits in PS; those between have no pages. */
+export const SPACES = ["kernel", null, null, "user"];
+export const KERNEL = 0;
+export const USER = 3;
+
+/**
+ * The registers before a turn: R0 to R5, KSP and USP, and PC and PS.
+ * @typedef {{words: number[], pc: number, ps: number}} Row
+ * @typedef {ReturnType<typeof turnsOf>[number]} Act
+ * @typedef {{act: Act, before: Row, after: Row, trap: number | null}} Seen a turn with the
+ *   registers before and after it, and the vector of the trap that it has
+ * @typedef {import("./transfers.js").Transfer} Transfer
+ * @typedef {import("./transfers.js").Ended} Ended
+ * @typedef {{turn: number, mode: number, address: number}} Place a virtual address before a turn
+ */
+
+/** The traps that the word of an instruction alone doesn't tell. */
+const TRAPS = [0o4, 0o10, 0o250];
+
+/** @param {string} reply @returns {Row} */
+export function rowOfReply(reply) {
+  const found = REGISTERS.exec(mustBeTaken(reply));
+  if (!found) throw new Error("a reply of `regs` can't be read");
+  const words = found.slice(1).map(it => parseInt(it, 8));
+  return { words: words.slice(0, 8), pc: words[8], ps: words[9] };
+}
+
+export class Facts {
+  /** @param {import("./cursor.js").Ask} ask @param {import("./past.js").Past} past */
+  constructor(ask, past) {
+    this.ask = ask;
+    this.past = past;
+  }
+
+  /** @param {string} line */
+  async one(line) {
+    return (await this.ask([line]))[0];
+  }
+
+  /** @param {number} turn */
+  async row(turn) {
+    return rowOfReply(await this.one(`regs ${turn}`));
+  }
+
+  /** The turns from `first` to the one before `end`, at most as many as a trail has, and the
+      functions of the disk that ended in them.
+      @param {number} first @param {number} end
+      @returns {Promise<{seen: Seen[], ended: Ended[]}>} */
+  async seen(first, end) {
+    const count = Math.min(end - first, TURNS_OF_A_TRAIL), last = first + count;
+    const regs = Array.from({ length: count + 1 }, (_, at) => `regs ${first + at}`);
+    const searches = TRAPS.map(it => trapLine(first, last, it));
+    const [trail, transfers, ...replies] = await this.ask(
+      [`trail ${last} ${count}`, `transfers ${first} ${last}`, ...searches, ...regs]);
+    const traps = await this.traps(replies.slice(0, TRAPS.length), last);
+    const rows = replies.slice(TRAPS.length).map(rowOfReply);
+    const seen = turnsOf(trail).map((act, at) => (
+      { act, before: rows[at], after: rows[at + 1], trap: traps.get(act.turn) ?? null }));
+    return { seen, ended: transfersOf(transfers).ended };
+  }
+
+  /** The vectors of the turns that trap, of which the first of each is replied.
+      @param {string[]} replies @param {number} end */
+  async traps(replies, end) {
+    /** @type {Map<number, number>} */
+    const found = new Map();
+    for (const [at, vector] of TRAPS.entries()) {
+      let turn = turnOf(replies[at]);
+      while (turn !== null) {
+        found.set(turn, vector);
+        turn = turn + 1 < end ? turnOf(await this.one(trapLine(turn + 1, end, vector))) : null;
+      }
+    }
+    return found;
+  }
+
+  /** The physical addresses of virtual ones for a read, or null if memory management aborts it. In
+      a mode without pages it does while mapping is on; otherwise that is one of kernel mode.
+      @param {Place[]} asked @returns {Promise<(number | null)[]>} */
+  async places(asked) {
+    const replies = await this.ask(asked.map(({ turn, mode, address }) =>
+      `translate ${turn} ${SPACES[mode] ?? "kernel"} ${address.toString(8)}`));
+    const found = replies.map(physicalOf);
+    for (const [at, { turn, mode }] of asked.entries()) {
+      if (!SPACES[mode] && await this.isMapped(turn)) found[at] = null;
+    }
+    return found;
+  }
+
+  /** @param {number} turn */
+  async isMapped(turn) {
+    return (parseInt((await this.one(`pages ${turn}`)).split(" ")[2], 8) & 1) !== 0;
+  }
+
+  /** @param {number} turn @param {number} address @param {number} count */
+  async words(turn, address, count) {
+    return wordsOf(await this.one(`mem ${turn} ${address.toString(8)} ${count}`));
+  }
+
+  /** The question that has a word of core or of a drive before a turn.
+      @param {number} turn @param {import("./names.js").WatchedWord} word */
+  lineOfWord(turn, { kind, drive, at }) {
+    const named = this.past.version === 2 ? `${drive} ` : "", place = at.toString(8);
+    return kind === "core" ? `mem ${turn} ${place} 1` : `dsk ${turn} ${named}${place} 1`;
+  }
+
+  /** Who wrote a word of core last before a turn, or null.
+      @param {number} turn @param {number} address */
+  async last(turn, address) {
+    return lastOf(await this.one(`last ${turn} ${address.toString(8)}`));
+  }
+
+  /** The same of several words, each before a turn of its own.
+      @param {{turn: number, place: number}[]} asked */
+  async lasts(asked) {
+    const lines = asked.map(({ turn, place }) => `last ${turn} ${place.toString(8)}`);
+    return (await this.ask(lines)).map(lastOf);
+  }
+
+  /** @param {number[]} turns */
+  async rows(turns) {
+    return (await this.ask(turns.map(it => `regs ${it}`))).map(rowOfReply);
+  }
+
+  /** @param {number} turn */
+  async isDiskReady(turn) {
+    return devicesOf(await this.one(`devices ${turn}`)).diskIsReady;
+  }
+
+  /** The functions of the disk that ended in these turns.
+      @param {number} first @param {number} end */
+  async ended(first, end) {
+    const found = [];
+    for (let from = first; from < end;) {
+      const { ended, hasMore } = transfersOf(await this.one(`transfers ${from} ${end}`));
+      found.push(...ended);
+      from = hasMore ? ended[ended.length - 1].turn + 1 : end;
+    }
+    return found;
+  }
+
+  /** Those of such functions that moved words.
+      @param {Ended[]} ended @returns {Promise<Transfer[]>} */
+  async moving(ended) {
+    const found = ended.filter(it => it.name === "read" || it.name === "write");
+    const replies = await this.ask(found.map(it => `devices ${it.turn}`));
+    return found.map((it, at) => ({ ...it, stays: stayed(replies[at]) }));
+  }
+}
+
+/** @param {number} first @param {number} end @param {number} vector */
+const trapLine = (first, end, vector) => `first ${first} ${end} trap ${vector.toString(8)}`;

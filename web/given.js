@@ -1,0 +1,47 @@
+// Files that the user gives the page, by the dialog or a drop, and what each one is: by its name,
+// or if that doesn't say it, by its first bytes.
+
+import { beginsAsAout, beginsAsTape, foreignOf } from "./kinds.js";
+import { SECTORS, SECTOR_WORDS, CYLINDERS, SURFACES } from "./hardware.js";
+import { FileError } from "./options.js";
+import { visibleName } from "./replies.js";
+import { kindOfFile } from "./session.js";
+import { isListingOrMap } from "./symbol-files.js";
+
+export const BYTES_OF_A_DRIVE = 2 * CYLINDERS * SURFACES * SECTORS * SECTOR_WORDS;
+// Names of images of core, and of tapes of the absolute loader.
+const MANY_THINGS = /\.bin$/i;
+const SURELY_SESSION = /\.(session|txt)$/i;
+
+/**
+ * @typedef {{name: string, bytes: Uint8Array}} Given
+ */
+
+/** The files with their bytes.
+    @param {File[]} files @returns {Promise<Given[]>} */
+export const readFiles = files => Promise.all(files.map(async it => (
+  { name: it.name, bytes: new Uint8Array(await it.arrayBuffer()) })));
+
+/** What a file is: disk, core, tape, program, symbols, arguments, session, or other, if the page
+    can't use it.
+    @param {Given} given */
+export function kindOf({ name, bytes }) {
+  const byName = kindOfFile(name), isProgram = beginsAsTape(bytes) || beginsAsAout(bytes);
+  if (MANY_THINGS.test(name) && isProgram) return "program";
+  if (byName !== "session" || SURELY_SESSION.test(name)) return byName;
+  // an image may begin with the word that an a.out begins with: it is a branch too
+  if (bytes.length === BYTES_OF_A_DRIVE && bytes.includes(0)) return "disk";
+  if (isProgram) return "program";
+  if (foreignOf(bytes)) return "other";
+  if (bytes.includes(0)) return "other";
+  return isListingOrMap(new TextDecoder().decode(bytes)) ? "symbols" : "session";
+}
+
+/** Why the page can't use a file.
+    @param {Given} given */
+export function whyNot({ name, bytes }) {
+  const foreign = foreignOf(bytes), shown = visibleName(name);
+  if (foreign) return new FileError(`${shown} is ${foreign}. Nothing was opened.`);
+  return new FileError(`${shown} is no session, no tape of the absolute loader and no a.out. An `
+    + "image has a name that ends in .disk, .core or .tape. Nothing was opened.");
+}

@@ -1,0 +1,176 @@
+// What a register or a printed byte is made of before a turn: as explore's `why` tells it, back to
+// keys, switches, the tape, patches and images. Made of is of data: what a branch decided isn't
+// followed, nor at which address a value was.
+
+import { Account } from "./account.js";
+import {
+  ALL_CODES, REGISTER_NAMES, REST, TPB, nameOfCell, registerCells,
+} from "./cells.js";
+import { Facts } from "./facts.js";
+import { FindError } from "./find.js";
+import { OriginSteps } from "./origin-steps.js";
+import { Kind, Origins, eventsOfGraph, eventsWithData, isWhole, isWrite } from "./origins.js";
+import { pointerOf } from "./operands.js";
+import { bytesOf, counted, octal, turnOf, turnsOf } from "./replies.js";
+
+const MOST_ENDS = 6;
+/** How many steps are followed at first. */
+export const MOST_STEPS = 500;
+
+/**
+ * What is asked about: a register by its name, or a byte of the console's text by its number.
+ * @typedef {{kind: "register", name: string} | {kind: "byte", number: number}} MadeThing
+ * @typedef {{name: string, cell: number, origin: import("./origins.js").Origin}} Root
+ * @typedef {import("./account.js").Shown} Shown
+ */
+
+/**
+ * What a value is made of: `first` says what it is, `lines` the steps, and `ends` what it is made
+ * of in all. `left` says what wasn't followed, or is empty; `isLimited` if that is so by the limit
+ * alone. `turn` is the one before which the value is.
+ * @typedef {{turn: number, first: {text: string, turn: number, lane: string}, lines: Shown[],
+ *   isCut: boolean, ends: string[], left: string, isLimited: boolean}} Made
+ */
+
+/** The register or the byte with a name such as `R0`, `SP`, `PS`, `N` or `byte 12`, or null.
+    @param {string} name @returns {MadeThing | null} */
+export function madeNamed(name) {
+  const [, register, number] =
+    /^(?:(r[0-5]|[ku]?sp|ps|[nzvc])|byte +(\d{1,10}))$/i.exec(name) ?? [];
+  if (register) return { kind: "register", name: register.toUpperCase() };
+  return number ? { kind: "byte", number: Number(number) } : null;
+}
+
+/** @param {MadeThing} thing */
+export const nameOfMade = thing => thing.kind === "byte" ? `byte ${thing.number}` : thing.name;
+
+/** A byte as a character in quotes, or in octal.
+    @param {number} byte */
+const inQuotes = byte => byte >= 0o40 && byte < 0o177 ? `'${String.fromCharCode(byte)}'`
+  : `\\${octal(byte, 3)}`;
+
+/** Numbers in their order, such as `1, 3-5, 9`.
+    @param {number[]} numbers */
+export function rangesOf(numbers) {
+  /** @type {[number, number][]} */
+  const parts = [];
+  for (const it of numbers) {
+    const last = parts.at(-1);
+    if (last && last[1] + 1 === it) last[1] = it;
+    else parts.push([it, it]);
+  }
+  return parts.map(([from, to]) => from === to ? `${from}` : `${from}-${to}`).join(", ");
+}
+
+export class MadeOf {
+  /**
+   * `turn` is the one before which it is asked, `end` the last turn up to which bytes are.
+   * @param {{thing: MadeThing, turn: number, end: number, past: import("./past.js").Past,
+   *   options: string[], instructionsOf: InstructionsOf}} about
+   * @typedef {(ask: import("./cursor.js").Ask, trail: ReturnType<typeof turnsOf>) =>
+   *   Promise<{mode: string, pc: number, symbol: string, text: string}[]>} InstructionsOf
+   */
+  constructor({ thing, turn, end, past, options, instructionsOf }) {
+    this.thing = thing;
+    this.turn = turn;
+    this.end = end;
+    this.past = past;
+    this.options = options;
+    this.instructionsOf = instructionsOf;
+    /** @type {Origins | null} what was found so far, for when more steps are followed */
+    this.origins = null;
+  }
+
+  /** What it is made of. `ask` gives the replies to lines; `most` steps are followed.
+      @param {import("./cursor.js").Ask} ask @param {number} most @returns {Promise<Made>} */
+  async answer(ask, most) {
+    const facts = new Facts(ask, this.past);
+    const { first, turn, roots: named } = await this.begin(facts);
+    const origins = this.origins ??= new Origins(facts, turn);
+    origins.facts = facts;
+    /** @type {Root[]} */
+    const roots = [];
+    for (const { name, cell, before } of named) {
+      roots.push({ name, cell, origin: await origins.before(cell, before) });
+    }
+    const graph = await origins.graph(roots.map(it => it.origin), most);
+    const steps = new OriginSteps(origins, graph);
+    const turnsInWords = (/** @type {number[]} */ turns) => this.turnsInWords(ask, turns);
+    const account = new Account({ facts, steps, turnsInWords, options: this.options });
+    const lines = await account.written(roots);
+    const ends = await account.known(() => this.ends(account, turn));
+    const isLimited = graph.left.size > 0 && !graph.stopped;
+    return { turn, first, lines, isCut: account.isCut, ends, left: leftOf(graph, most), isLimited };
+  }
+
+  /** What the value is, the turn before which it is, and the cells that it has.
+      @param {Facts} facts */
+  async begin(facts) {
+    return this.thing.kind === "byte" ? this.beginByte(facts, this.thing.number)
+      : this.beginRegister(facts, this.thing.name);
+  }
+
+  /** @param {Facts} facts @param {string} register */
+  async beginRegister(facts, register) {
+    const { turn } = this, { words, ps } = await facts.row(turn);
+    const name = register === "SP" ? REGISTER_NAMES[pointerOf(ps >> 14)] : register;
+    const number = REGISTER_NAMES.indexOf(name), code = "NZVC".indexOf(name);
+    const cells = number >= 0 ? registerCells(number) : code >= 0 ? [ALL_CODES[code]]
+      : [REST, ...ALL_CODES];
+    const called = number >= 0 ? name : nameOfCell(cells[0], false);
+    const value = number >= 0 ? octal(words[number]) : code >= 0 ? ps >> 3 - code & 1 : octal(ps);
+    const mode = ["kernel", "", "", "user"][ps >> 14];
+    return {
+      turn, roots: cells.map(cell => ({ name: called, cell, before: turn })),
+      first: { text: `${called} before turn ${turn}: ${value}`, turn, lane: `${mode} PC` },
+    };
+  }
+
+  /** A byte is printed as the printer ends: it is what TPB had before that turn.
+      @param {Facts} facts @param {number} number */
+  async beginByte(facts, number) {
+    const { end } = this, [byte] = bytesOf(await facts.one(`text ${end} from ${number}`));
+    if (byte === undefined) throw new FindError(`byte ${number} isn't printed before turn ${end}`);
+    const printed = turnOf(await facts.one(`when ${number}`)) ?? 0, name = inQuotes(byte);
+    return {
+      turn: printed + 1, roots: [{ name: `text ${name}`, cell: TPB, before: printed }],
+      first: { text: `byte ${number} of the text, ${name}, was printed in turn ${printed}`,
+        turn: printed, lane: "console" },
+    };
+  }
+
+  /** @param {import("./cursor.js").Ask} ask @param {number[]} turns */
+  async turnsInWords(ask, turns) {
+    const replies = await ask(turns.map(it => `trail ${it + 1} 1`));
+    const found = await this.instructionsOf(ask, replies.flatMap(turnsOf));
+    return found.map(({ mode, pc, symbol, text }) =>
+      `${mode} ${octal(pc)}${symbol ? ` (${symbol})` : ""} ${text.trim()}`);
+  }
+
+  /** What a value is made of in all, as far as it was followed.
+      @param {Account} account @param {number} turn */
+  ends(account, turn) {
+    const { steps } = account, events = eventsOfGraph(steps.graph);
+    const others = eventsWithData(this.past)
+      .filter(it => it.turn < turn && !events.includes(it.number)).map(it => it.number);
+    const limit = isWhole(steps.graph) ? "" : ", as far as it was followed";
+    const made = events.length ? `event${events.length > 1 ? "s" : ""} ${rangesOf(events)}`
+      : "no event";
+    const not = others.length ? `, not of ${rangesOf(others.sort((a, b) => a - b))}` : "";
+    const ends = steps.ordered.filter(it => !isWrite(it) && it.kind !== Kind.EVENT);
+    const shown = ends.slice(0, MOST_ENDS).map(it => account.end(it));
+    const more = ends.length > MOST_ENDS ? `; and ${ends.length - MOST_ENDS} more` : "";
+    const also = shown.length ? [`and of ${shown.join("; ")}${more}`] : [];
+    return [`made of ${made}${not}${limit}`, ...also];
+  }
+}
+
+/** What of a graph wasn't followed, and why, or an empty text.
+    @param {import("./origins.js").Graph} graph @param {number} most */
+function leftOf({ left, stopped }, most) {
+  if (!left.size) return "";
+  const last = Math.max(...[...left].map(it => it.turn));
+  const are = left.size === 1 ? "wasn't" : "weren't";
+  return `${counted(left.size, "write")} in turn ${last} or before it ${are} followed: `
+    + (stopped || `the limit is ${counted(most, "step")}`);
+}
