@@ -1,24 +1,25 @@
 """Packs a page of web/ into one file that opens from a disk: the page with its style, its modules
 as one script, and in elements of their own, which a browser doesn't run, the text of the worker,
-the WebAssembly modules, a session and examples. A content security policy allows what is packed to run, and
-nothing elsewhere to be reached.
+the WebAssembly modules, a session and examples. A content security policy allows what is packed to
+run, and nothing elsewhere to be reached.
 
 A module imports by lines `import { a, b } from "./name.js";`, and exports functions, classes and
 constants where they are declared. In the script each module is a function that returns what it
 exports."""
 import base64
-import gzip
 import hashlib
-import json
 import re
-import zlib
 from pathlib import Path
 from typing import Mapping, NamedTuple, Sequence
+
+from nezdrab.explore.page_file import EMPTY, SESSION, PageSession, as_json, element, json_element
+from nezdrab.explore.page_file import packed_bytes
 
 WORKER = "machine-worker.js"
 IMPORT = re.compile(r'^import \{([^}]*)\} from "\./([a-z-]+\.js)";\n', re.M)
 EXPORT = re.compile(r"^export (?=(?:async )?(?:function|class|const) (\w+))", re.M)
-COMMENT = re.compile(r"^\s*(?:/\*.*?\*/|//[^\n]*)", re.M | re.S)
+# A comment alone in its lines. One that code follows stays.
+COMMENT = re.compile(r"^[ \t]*(?:/\*(?:(?!\*/).)*\*/|//[^\n]*)[ \t]*\n", re.M | re.S)
 OTHER_FORMS = re.compile(r"^(?:import|export)\b.*|\bimport(?:\(|\.meta)", re.M)
 ENDS_SCRIPT = re.compile(r"</script|<!--", re.I)
 SCRIPT = re.compile(r'<script type="module" src="([a-z-]+\.js)"></script>')
@@ -30,25 +31,12 @@ class PackingError(Exception):
     """Why a page can't be packed, for the user to read."""
 
 
-class Session(NamedTuple):
-    """A session for the page: its name, the words of the program's command line, its lines, and the
-    files that those words name."""
-
-    name: str
-    arguments: Sequence[str]
-    lines: Sequence[str]
-    files: Mapping[str, bytes]
-
-
 class Example(NamedTuple):
     """A session that can be opened in the page: its name in a link, and what the page calls it."""
 
     key: str
     title: str
-    session: Session
-
-
-EMPTY = Session("", (), (), {})
+    session: PageSession
 
 
 def text_of(path: Path) -> str:
@@ -78,11 +66,12 @@ def in_order(folder: Path, entry: str) -> list[str]:
 
 
 def as_function(folder: Path, name: str) -> str:
-    """A module's text as a function that returns what the module exports."""
-    text = text_of(folder / name)
+    """A module's text, without the lines of comments that web/ has, as a function that returns what
+    the module exports."""
+    text = COMMENT.sub("", text_of(folder / name))
     exported = EXPORT.findall(text)
     text = EXPORT.sub("", IMPORT.sub(taken, text))
-    other = OTHER_FORMS.search(COMMENT.sub("", text)) or ENDS_SCRIPT.search(text)
+    other = OTHER_FORMS.search(text) or ENDS_SCRIPT.search(text)
     if other:
         raise PackingError(f"{folder / name}: the packing doesn't know '{other[0]}'")
     given = ", ".join(exported)
@@ -98,36 +87,6 @@ def script_of(folder: Path, entry: str) -> str:
     """The module and all that it imports as one script."""
     functions = "".join(as_function(folder, name) for name in in_order(folder, entry))
     return f'"use strict";\nconst modules = {{}};\n{functions}'
-
-
-def packed_bytes(held: bytes) -> str:
-    return base64.b64encode(gzip.compress(held, 9, mtime=0)).decode("ascii")
-
-
-def unpacked_bytes(text: str) -> bytes:
-    """What was packed; a ValueError if it can't be read."""
-    try:
-        return gzip.decompress(base64.b64decode(text, validate=True))
-    except (OSError, EOFError, zlib.error) as error:
-        raise ValueError(f"it can't be unpacked: {error}") from error
-
-
-def element(kind: str, name: str, text: str) -> str:
-    return f'<script type="{kind}" id="{name}">{text}</script>\n'
-
-
-def as_json(session: Session) -> dict[str, object]:
-    files = {name: packed_bytes(held) for name, held in session.files.items()}
-    return {
-        "name": session.name,
-        "arguments": list(session.arguments),
-        "lines": list(session.lines),
-        "files": files,
-    }
-
-
-def json_element(name: str, held: object) -> str:
-    return element("application/json", name, json.dumps(held).replace("<", "\\u003c"))
 
 
 def example_as_json(example: Example) -> dict[str, object]:
@@ -153,7 +112,7 @@ def source_of(text: str) -> str:
 def page(
     path: Path,
     programs: Mapping[str, bytes],
-    session: Session = EMPTY,
+    session: PageSession = EMPTY,
     examples: Sequence[Example] = (),
 ) -> str:
     """The page at `path` with the WebAssembly modules of these programs, the session, and further
@@ -170,7 +129,7 @@ def page(
     inside = element("text/plain", WORKER, script_of(folder, WORKER))
     for name in sorted(programs):
         inside += element("text/plain", f"{name}.wasm", packed_bytes(programs[name]))
-    inside += json_element("session", as_json(session))
+    inside += json_element(SESSION, as_json(session))
     inside += json_element("examples", [example_as_json(it) for it in examples])
     allowed = policy(script, list(styles.values()))
     head = f'<meta http-equiv="Content-Security-Policy" content="{allowed}">\n'

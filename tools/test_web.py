@@ -1,12 +1,12 @@
 #!/usr/bin/env python3
 """test_web.py PROGRAM [--page ADDRESS] [--shots FOLDER] [--only NAME]: tests the page in a headless
-Chromium, by the tests in tools/tests/web.
+Chromium, and its main parts in a headless Firefox, by the tests in tools/tests/web.
 
 PROGRAM is the built search: what the page shows is compared with its replies. The page is packed
 anew of web/ and the modules in release/, or is the one at ADDRESS. FOLDER gets the screenshots of
-the tour. --only runs the tests with NAME in their name. Without Chromium or the modules the tests
-that need them are skipped, and each is named; those of style, names and widths run. The last line
-is 'N passed, M failed'."""
+the tour. --only runs the tests with NAME in their name. Without Chromium, Firefox or the modules
+the tests that need them are skipped, and each is named; those of style, names and widths run. The
+last line is 'N passed, M failed'."""
 import argparse
 import sys
 from pathlib import Path

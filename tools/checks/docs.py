@@ -49,7 +49,7 @@ from pseudo_terminal import NotShown, PseudoTerminal
 
 ROOT = os.path.normpath(os.path.join(os.path.dirname(os.path.abspath(__file__)), "..", ".."))
 README, DOCS, DEFINITIONS = "README.md", "docs", "crates/DEFINITIONS.md"
-WIDEST_PROSE, WIDEST_CELL, MOST_LINES = 100, 120, 2737
+WIDEST_PROSE, WIDEST_CELL, MOST_LINES = 100, 120, 2598
 NOT_REPLAYED = {"python", "text", "sh", "rust"}
 SESSION, SEARCH, COMMANDS, OUTPUT, TYPED = "session", "search", "commands", "output", "typed"
 EXPLORE, PROMPT = "explore", "explore> "
@@ -302,21 +302,21 @@ def failure_of_block(
 # Links, widths, sizes, and the kit
 
 
-def anchors_of(document: Document) -> set[str]:
-    """The anchors of a document's headings, as GitHub makes them."""
+def anchors_of(document: Document) -> list[str]:
+    """The anchors of a document's headings, in their order, as GitHub makes them."""
     seen: Counter[str] = Counter()
-    anchors = set()
+    anchors = []
     for _, line in document.prose:
         if line.startswith("#"):
             title = CODE.sub(lambda code: code.group().strip("`"), line.lstrip("#").strip())
             anchor = re.sub(r"[^\w\- ]", "", title.lower()).replace(" ", "-")
-            anchors.add(f"{anchor}-{seen[anchor]}" if seen[anchor] else anchor)
+            anchors.append(f"{anchor}-{seen[anchor]}" if seen[anchor] else anchor)
             seen[anchor] += 1
     return anchors
 
 
 def failures_of_links(
-    document: Document, anchors: dict[str, set[str]]
+    document: Document, anchors: dict[str, list[str]]
 ) -> Iterator[Optional[str]]:
     """What is wrong with each link of a document to a file or an anchor, or None."""
     for number, line in document.prose:
@@ -328,7 +328,7 @@ def failures_of_links(
             name = os.path.normpath(name)
             if not os.path.exists(os.path.join(ROOT, name)):
                 yield f"{document.name}:{number}: there is no {name}"
-            elif anchor and anchor not in anchors.get(name, set()):
+            elif anchor and anchor not in anchors.get(name, []):
                 yield f"{document.name}:{number}: {name} has no heading '{anchor}'"
             else:
                 yield None

@@ -13,11 +13,12 @@ keeps. With --past-start these alone are refused, and no later one with any of t
 With a list of strides each session that has no stride of its own is run with each of them. The
 sessions of a folder `long` are left out: they make too many requests, or may run long if a line is
 refused. The last line is 'N passed, M failed', which counts runs in which a request was refused.
-The status is 77 if there is no C compiler."""
+The status is 77 if there is no C compiler, or if the program takes no library, as release files."""
 import contextlib
 import functools
 import os
 import shutil
+import struct
 import subprocess
 import sys
 import tempfile
@@ -35,6 +36,8 @@ MOST_PAST_START = 2_000
 LEFT_OUT = "long"
 COMPILER = os.environ.get("CC", "cc")
 SKIPPED = 77
+# The kind of an ELF file's segment that names what loads libraries.
+LOADER = 3
 
 
 class Told(NamedTuple):
@@ -54,6 +57,19 @@ class Task(NamedTuple):
     first: int
     past: int
     later: bool
+
+
+def takes_libraries(program: str) -> bool:
+    """Whether a library can be preloaded to it: a file in ELF that names what loads libraries, or
+    a script."""
+    with open(program, "rb") as file:
+        head = file.read(4096)
+    if head[:4] != b"\x7fELF":
+        return True
+    (start,) = struct.unpack_from("<Q", head, 32)
+    size, count = struct.unpack_from("<HH", head, 54)
+    kinds = (struct.unpack_from("<I", head, start + size * it)[0] for it in range(count))
+    return LOADER in kinds
 
 
 def build_library(folder: str) -> str:
@@ -196,6 +212,9 @@ def main() -> int:
     past_start = "--past-start" in asked.flags
     if shutil.which(COMPILER) is None:
         print(f"{COMPILER} isn't installed")
+        return SKIPPED
+    if not takes_libraries(asked.program):
+        print(f"{asked.program} takes no library, so no allocator can be preloaded to it")
         return SKIPPED
     passed = failed = 0
     with tempfile.TemporaryDirectory() as room, ThreadPoolExecutor(os.cpu_count()) as pool:

@@ -72,7 +72,7 @@ BODIES: dict[str, Any] = {
     "dataBreakpointInfo": {
         "dataId": (str, type(None)),
         "description": str,
-        "accessTypes?": [{"write"}],
+        "accessTypes?": [{"read", "write", "readWrite"}],
         "canPersist?": bool,
     },
     "breakpointLocations": {"breakpoints": [{"line": int}]},

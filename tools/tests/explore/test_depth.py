@@ -60,11 +60,12 @@ class Depth(OnMachine):
 
     def test_page(self) -> None:
         explorer = self.explorer(LEDGER)
-        # halving for the text, and one further for each function of the disk that is told
-        self.done(explorer, f"page {self.folder}/it.html to 100000 words 30000 disk 0", 40)
-        # halving for the halt
-        halted = self.explorer("", [f"core {it}" for it in COUNTING])
-        self.done(halted, f"page {self.folder}/it.html words 2000", 30)
+        machine, path = explorer.machine, self.folder / "it.html"
+        machine.read("regs 5000")
+        asked = machine.asked.questions
+        for line in (f"page {path}", f"page {path} to 200000000"):
+            self.done(explorer, line, 0)
+        self.assertEqual(machine.asked.questions, asked, "no turn is run")
 
     def test_first_core(self) -> None:
         explorer = self.explorer(LEDGER)

@@ -7,6 +7,7 @@ from nezdrab.explore.dap.running import ahead
 from nezdrab.explore.finder import TURNS_AT_FIRST
 from nezdrab.explore.levels import Stacks
 from nezdrab.explore.machine import SHORT_SENT_AHEAD
+from nezdrab.explore.reading import Reads
 from nezdrab.explore.replies import Registers, Turn
 
 from .common import ROOT
@@ -106,7 +107,7 @@ class Going(OfEditors):
         editor.enter(**launch, end=end)
         for address in (MOVES, TICKS):
             info = editor.ask("dataBreakpointInfo", name=f"{address:o}")
-            self.assertEqual(info["accessTypes"], ["write"])
+            self.assertEqual(info["accessTypes"], ["write", "read", "readWrite"])
             points = [{"dataId": info["dataId"]}]
             editor.ask("setDataBreakpoints", breakpoints=points)
             lines, _ = explorer.machine.writes(range(end), address)
@@ -119,10 +120,49 @@ class Going(OfEditors):
             self.assertEqual(editor.go("continue"), (turns[5] + 1, "data breakpoint"))
             self.assertEqual(editor.text.split()[-2:], lines[5].split()[1:])  # by whom, and what
             self.to(editor, 0)
-        read = {"dataId": "core 1276", "accessType": "read"}
-        shown = editor.ask("setDataBreakpoints", breakpoints=[read])["breakpoints"]
-        self.assertIn("writes alone", shown[0]["message"])
+        editor.ask("disconnect")
+
+    def test_reads(self) -> None:
+        """A read stops as a write does, and of reads and writes the next one of either."""
+        explorer, launch = self.hanoi()
+        editor, end = self.editor(), 4_000
+        editor.enter(**launch, end=end)
+        reads = [it.turn for it in Reads(explorer.machine, ROUNDS).of(range(end))]
+        lines, _ = explorer.machine.writes(range(end), ROUNDS)
+        both = sorted({*reads, *(int(it.split()[0]) for it in lines)})
+        self.assertGreater(len(both), max(len(reads), len(lines)))
+        for access, turns in (("read", reads), ("readWrite", both)):
+            point = {"dataId": f"core {ROUNDS:o}", "accessType": access}
+            (shown,) = editor.ask("setDataBreakpoints", breakpoints=[point])["breakpoints"]
+            self.assertTrue(shown["verified"])
+            self.assertIn("aren't proved", shown["message"])
+            self.walk(editor, turns, "data breakpoint", end)
+        editor.ask("setDataBreakpoints", breakpoints=[])
         self.assertIn("no breakpoint", editor.type("breakpoints"))
+        editor.ask("disconnect")
+
+    def test_reads_that_cannot_be_had(self) -> None:
+        _, launch = self.hanoi()
+        editor = self.editor()
+        editor.enter(**launch)
+        for wrong, why in (
+            ({"accessType": "execute"}, "no accessType"),
+            ({"accessType": "read", "condition": "r0 = 1"}, "no condition"),
+        ):
+            point = {"dataId": f"core {MOVES:o}", **wrong}
+            (shown,) = editor.ask("setDataBreakpoints", breakpoints=[point])["breakpoints"]
+            self.assertFalse(shown["verified"])
+            self.assertIn(why, shown["message"])
+        self.assertIn("no breakpoint", editor.type("breakpoints"))
+        editor.ask("disconnect")
+
+    def test_pause_is_heard_while_reads_are_looked_for(self) -> None:
+        _, launch = self.hanoi()
+        editor = self.editor()
+        editor.enter(**launch)
+        editor.ask("setDataBreakpoints", breakpoints=[{"dataId": "core 0", "accessType": "read"}])
+        editor.ask("continue", threadId=1)
+        self.assertEqual(editor.go("pause")[1], "pause")
         editor.ask("disconnect")
 
     def run_of(

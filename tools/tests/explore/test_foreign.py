@@ -114,7 +114,7 @@ class Junk(Media):
             "core {} 5",
             "first core {} = 5 to 9",
             "last 3 {}",
-            "page p.svg to 3 words {}",
+            "page {} to 3",
             "load names at {}",
             "writes 0 5 {}",
             "first 0 5 at {}",

@@ -287,13 +287,13 @@ class Words(Media):
         self.put("it's.ini", b"d 3000 5\n")
         self.put("names", b"HERE 1000\n")
         lines = "load 'a file at 5 words' at 2000\nmem 0 2000 1\nimport \"it's.ini\"\n"
-        lines += "save \"a b.ses\"\ncore \"a c\" at 0\nexport 'e f' at 0\npage \"p q.svg\" to 1\n"
+        lines += "save \"a b.ses\"\ncore \"a c\" at 0\nexport 'e f' at 0\npage \"p q.html\" to 1\n"
         lines += "sweep -o 's t' tick from 1 to 1: regs 2\nsweep --gather 's t'\nsave a\\ d\n"
         lines += "sweep --jobs 'j k' tick from 1 to 1: regs 2\nsymbols na\"me\"s\n"
         written = self.explore(lines)
         self.assertIn("mem 000007\n", written)
         made = {it.name for it in self.folder.iterdir()}
-        names = {"a b.ses", "a c", "e f", "e f.rk0", "p q.svg", "s t", "a d", "j k", "j k.session"}
+        names = {"a b.ses", "a c", "e f", "e f.rk0", "p q.html", "s t", "a d", "j k", "j k.session"}
         self.assertLessEqual(names, made)
         self.assertIn("run it: pdp11 'e f', then", written)
         self.assertIn("parallel < 'j k' > 'j k.out'\nthen: sweep --gather 'j k.out'\n", written)

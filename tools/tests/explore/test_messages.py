@@ -40,7 +40,6 @@ class Messages(Case):
             "where disk 5 9999999999",
             "export it at 9999999999",
             "drop from 9999999999",
-            "page it.html from 1000000001",
             "page it.html to 1000000001",
         ):
             turn = line.split(":")[0].split()[-1]
@@ -54,8 +53,6 @@ class Messages(Case):
             "next 1000 to 1000000000",
             "first disk 5 = 5 from 1000000000",
             "compare from 1000000000",
-            "page it.html from 0 to 1000000000",
-            "page it.html from 1000000000",
         ):
             self.refuses(f"core 0 1\n{line}", f"{line.split()[0]}: {end}")
         self.assertEqual(not_found(range(5, LAST_TURN), "it"), f"not in {LAST}; the run ends there")
@@ -81,7 +78,7 @@ class Messages(Case):
         self.refuses(f"{taking}type ab from 11 every 999999999", message)
 
     def test_a_drive_in_version_1(self) -> None:
-        for line in ("first disk 3 5 = 0", "where disk 3 5 60", "page it.html to 5 disk 3:5"):
+        for line in ("first disk 3 5 = 0", "where disk 3 5 60"):
             self.refuses(line, "version 1 has one drive, which isn't named; see version 2\n")
         self.assertIn("disk 3 0000005", self.explore("version 2\nfirst disk 3 5 = 0\n"))
 
@@ -89,17 +86,12 @@ class Messages(Case):
         session = "examples/first-run.session"
         self.assertEqual(self.explore("see\t2\n", session), self.explore("see 2\n", session))
 
-    def test_a_key_of_page_without_a_number(self) -> None:
-        for key in ("from", "to", "words", "disk"):
-            self.refuses(f"page it.html {key}", f"page: '{key}' has no number; the form is: page ")
-        self.assertFalse((self.folder / "it.html").exists())
-
     def test_numbers_with_commas(self) -> None:
         self.refuses("regs 1,000", "N, a turn, or a count of turns: 1,000 is written 1000, without")
         message = "see: 1,000,000 is written 1000000, without commas; see [N [C]] [operands]"
         self.refuses("see 1,000,000", message)
         for line in (
-            "page it.html from 1,000",
+            "page it.html to 1,000",
             "sweep tick from 1 to 1,000: regs 5",
             "type x from 1,000",
         ):

@@ -1,19 +1,17 @@
-"""What explore writes for others: sessions, SIMH, browsers, GNU parallel."""
+"""What explore writes for others: sessions, pages, SIMH, GNU parallel."""
 import re
 import shutil
-import struct
 import subprocess
 import unittest
-import zlib
 from pathlib import Path
 
 import sessions
 
 from .common import BUILT, ROOT, SECONDS, Case
-from .installed import CHROMIUM, SIMH
+from .installed import SIMH
+from .pages import held_in
 
 QUESTIONED_TURNS = (0, 1, 7, 40, 400, 5000)
-WIDTHS = (1000, 400)
 
 
 class Saved(Case):
@@ -51,7 +49,7 @@ class Saved(Case):
             path = self.folder / "stored.session"
             path.write_bytes(stored.lines)
             path.with_suffix(".args").write_text("".join(f"{it}\n" for it in options))
-        self.explore(f"save {saved}\n", str(path))
+        self.explore(f"save {saved}\npage! it.html\n", str(path))
         text = b"".join(it if it.endswith(b"\n") else it + b"\n" for it in edits).decode()
         before = self.pdp11(text + questions, *options).splitlines()
         lines = saved.read_text()
@@ -60,7 +58,18 @@ class Saved(Case):
         self.assertNotIn("refused", " ".join(after[:count]))
         self.assertEqual(after[count:], before[len(edits) :])
         self.assertEqual(lines.splitlines()[0], " ".join(["#!", *options]))
+        self.is_in_the_page(lines.splitlines()[1:], options)
         saved.unlink()
+
+    def is_in_the_page(self, lines: list[str], options: list[str]) -> None:
+        """The page has the lines that were saved, the options, and the files that these name."""
+        page = held_in(self.folder / "it.html")
+        *edits, last = (it for it in page.lines if not it.startswith("#"))
+        self.assertEqual(edits, lines)
+        self.assertRegex(last, "^regs [0-9]+$")
+        self.assertEqual(page.arguments, [Path(it).name for it in options])
+        paths = [Path(it) for it in options if "/" in it]
+        self.assertEqual(page.files, {it.name: it.read_bytes() for it in paths})
 
     def test_options_are_in_the_file_itself(self) -> None:
         """A file of options that is beside it counts no more, and those that are given win."""
@@ -155,68 +164,6 @@ class Exported(Case):
         self.explore("export it.ini at 40\n", "examples/who-wrote-this-word.session")
         image = (self.folder / "it.rk0").read_bytes()
         self.assertEqual((len(image), image[:4]), (2_494_464, b"\x47\x00\x00\x00"))
-
-
-def pixels_of(path: Path) -> tuple[int, int, int]:
-    """Width, height, and how many colours the rows of a PNG of 8 bits have."""
-    data = path.read_bytes()
-    width, height, depth, kind = struct.unpack(">IIBB", data[16:26])
-    packed, at = b"", 8
-    while at < len(data):
-        (length,) = struct.unpack(">I", data[at : at + 4])
-        if data[at + 4 : at + 8] == b"IDAT":
-            packed += data[at + 8 : at + 8 + length]
-        at += 12 + length
-    raw = zlib.decompress(packed)
-    channels = {2: 3, 6: 4}[kind]
-    size = 1 + width * channels
-    rows = {raw[row * size + 1 : (row + 1) * size] for row in range(height)}
-    assert depth == 8
-    return width, height, len(rows)
-
-
-@unittest.skipUnless(CHROMIUM, "chromium isn't installed")
-class Drawn(Case):
-    """A browser shows a page, and has nothing to say of it."""
-
-    def test_a_page_at_two_widths(self) -> None:
-        lines = "page it.html words 2000 disk 0\npage it.svg words 2000\n"
-        self.explore(lines, "examples/who-wrote-this-word.session")
-        for name in ("it.html", "it.svg"):
-            for width in WIDTHS:
-                self.is_shown(name, width)
-
-    def is_shown(self, name: str, width: int) -> None:
-        picture = self.folder / f"{name}.{width}.png"
-        ended = subprocess.run(
-            [
-                str(CHROMIUM),
-                "--headless",
-                "--no-sandbox",
-                "--disable-gpu",
-                "--hide-scrollbars",
-                "--enable-logging=stderr",
-                f"--user-data-dir={self.folder}/chromium",
-                f"--window-size={width},900",
-                f"--screenshot={picture}",
-                f"file://{self.folder}/{name}",
-            ],
-            capture_output=True,
-            text=True,
-            timeout=SECONDS,
-        )
-        self.assertTrue(picture.exists(), ended.stderr)
-        self.assertEqual([it for it in ended.stderr.splitlines() if "CONSOLE" in it], [])
-        shown_width, _, rows = pixels_of(picture)
-        self.assertEqual(shown_width, width)
-        self.assertGreater(rows, 100, "the page is nearly empty")
-
-    def test_nothing_comes_from_outside(self) -> None:
-        self.explore("page it.html\n", "examples/who-wrote-this-word.session")
-        page = (self.folder / "it.html").read_text()
-        self.assertEqual(
-            re.findall(r"(?:src|href)=\"(?!data:)[^\"]*\"|url\(|@import|<script", page), []
-        )
 
 
 @unittest.skipUnless(shutil.which("parallel"), "GNU parallel isn't installed")

@@ -1,219 +1,253 @@
-"""What a page says of a run: nothing that isn't so, and a label for each mark."""
-import html
-import re
+"""The page that `page` writes has what explore has, and what it can't have is refused."""
+import os
+import threading
+from pathlib import Path
+from typing import Optional
 from unittest import mock
 
-from nezdrab.explore.machine import LAST_TURN
-from nezdrab.explore.page import FORM
-from nezdrab.explore.picture import guessed_last
+from nezdrab.explore import page_file
+from nezdrab.explore.commands import COMMANDS, Explorer
+from nezdrab.explore.disassembly import Disassembler
+from nezdrab.explore.errors import ExploreError
+from nezdrab.explore.files import OUTPUT
+from nezdrab.explore.machine import Machine, Start
+from nezdrab.explore.page_file import BEGIN, END, EMPTY, NAME, PageSession, page_with
+from nezdrab.explore.symbol_files import Symbol
+from nezdrab.explore.web_session import symbol_text
 
-from .common import ROOT, Case
+from .common import BUILT, ROOT, SECONDS, Case
+from .machines import OnMachine
+from .pages import held_in
 
-# MOV #1000,R0; INC @#2000; SOB R0,.-4; HALT: each write to 2000 is known to be INC's
-LOOP = "core 1000 12700\ncore 1002 1000\ncore 1004 5237\ncore 1006 2000\ncore 1010 77003\n"
-# prints A without end: MOV #101,@#177566; TSTB @#177564; BPL .-4; BR .-14
-PRINTING = (
-    "core 1000 12737\ncore 1002 101\ncore 1004 177566\ncore 1006 105737\ncore 1010 177564\n"
-    "core 1012 100375\ncore 1014 771\n"
-)
-RECTANGLE = re.compile(
-    r'<rect class="(\w+)" x="([\d.]+)" y="[\d.]+" width="([\d.]+)" height="([\d.]+)">'
-    r"(?:<title>(.*?)</title>)?"
-)
-
-
-class Pages(Case):
-    """The text of pages, as the drawings have it at both widths."""
-
-    def page(self, lines: str, *words: str) -> list[str]:
-        """The page's two drawings, the wide one first."""
-        (self.folder / "it.html").unlink(missing_ok=True)
-        self.explore(lines, *words)
-        self.written = (self.folder / "it.html").read_text()
-        drawings = re.findall(r'<div class="(?:wide|narrow)">(<svg.*?</svg>)', self.written)
-        self.assertEqual(len(drawings), 2)
-        return drawings
-
-    @staticmethod
-    def texts(drawing: str) -> list[str]:
-        return [html.unescape(it) for it in re.findall(r"<text [^>]*>([^<]*)</text>", drawing)]
-
-    @staticmethod
-    def places(drawing: str) -> dict[str, float]:
-        found = re.findall(r'<text x="([\d.]+)"[^>]*>([^<]*)</text>', drawing)
-        return {text: float(x) for x, text in found}
-
-    def test_a_word_with_too_many_writes_is_hatched_and_sampled(self) -> None:
-        for drawing in self.page(f"{LOOP}page it.html to 2000 words 2000\n"):
-            self.assertIn("more than 400 writes", self.texts(drawing))
-            self.assertIn('class="hatch"', drawing)
-            self.assertNotIn("<circle", drawing)
-            self.assertIn("not each change is known", self.texts(drawing))
-            samples = [it for it in RECTANGLE.findall(drawing) if it[0] == "sample" and it[4]]
-            self.assertEqual(samples[0][4], "before turn 0: 000000, a sample")
-            self.assertEqual(samples[1][4], "before turn 4: 000002, a sample")
-        self.assertIn("core 002000: more than 400 writes", self.written)
-        self.assertNotIn("010770", self.written)
-
-    def test_a_word_of_a_drive_with_too_many_changes_is_hatched_and_sampled(self) -> None:
-        # INC @#2000; then sector 0 is written from 2000 on, and waited for
-        program = "5237 2000 12737 177777 177406 12737 2000 177410 5037 177412 12737 3 177404"
-        program += " 105737 177404 100375 757"
-        core = "".join(f"core {0o1000 + 2 * at:o} {it}\n" for at, it in enumerate(program.split()))
-        asked = "".join(f"dsk {it} 0 1\n" for it in range(2001))
-        words = self.explore(f"{core}{asked}").splitlines()[core.count("\n") :]
-        changes = [at for at, (old, new) in enumerate(zip(words, words[1:])) if old != new]
-        self.page(f"{core}page it.html to 1999 disk 0\n")
-        shown = re.findall(r"<tr><td>(\d+)</td><td>[0-7]{6}</td><td>disk</td>", self.written)
-        self.assertEqual(list(map(int, shown)), changes)
-        self.assertGreater(len(changes), 100)
-        for drawing in self.page(f"{core}page it.html to 9999 disk 0\n"):
-            self.assertIn("more than 400 changes", self.texts(drawing))
-            self.assertIn('class="hatch"', drawing)
-
-    def test_a_word_with_as_many_writes_as_are_listed_is_whole(self) -> None:
-        # 400 writes of the turns 1, 3 and so on
-        for drawing in self.page(f"{LOOP}page it.html to 800 words 2000\n"):
-            self.assertEqual(drawing.count("<circle"), 400)
-            self.assertNotIn('class="hatch"', drawing)
-        self.assertIn("Of more than 60 writes the instructions aren't listed.", self.written)
-        self.page(f"{LOOP}page it.html to 801 words 2000\n")
-        self.assertNotIn("<circle", self.written)
-        self.assertNotIn("the instructions aren't listed", self.written)
-
-    def test_console_text_that_is_cut_says_so(self) -> None:
-        for drawing in self.page(f"{PRINTING}page it.html to 9999\n"):
-            cut = [it for it in self.texts(drawing) if "further bytes not drawn" in it]
-            self.assertEqual(len(cut), 1)
-        self.assertRegex(self.written, r"Console: the first 2000 of \d+ bytes")
-
-    def test_a_label_stands_where_its_byte_was_printed(self) -> None:
-        ledger = "examples/ledger/ledger.session"
-        drawings = self.page("page it.html from 126700 to 128700\n", ledger)
-        turn = 127_703  # text 127703 lacks the B, text 127704 has it
-        for drawing, (left, right) in zip(drawings, ((92, 950), (74, 354))):
-            places = self.places(drawing)
-            label = next(it for it in places if it.startswith("B"))
-            share = (turn - 126_700) / 2_001
-            self.assertAlmostEqual(places[label], left + share * (right - left), delta=0.1)
-        # bytes that are printed on one pixel make no label that is longer than the time it took
-        for drawing in self.page(f"{PRINTING}page it.html to 9999\n"):
-            labels = [it for it in self.texts(drawing) if set(it) == {"A"}]
-            self.assertLessEqual(max(map(len, labels)), 10)
-
-    def test_a_transfer_is_as_long_as_it_was(self) -> None:
-        # a read takes 3 turns, and 41 turns are 280 pixels
-        session = "examples/who-wrote-this-word.session"
-        bars = self.bars(self.page("page it.html to 40\n", session)[1])
-        titles = [it[4] for it in bars[:2]]
-        self.assertEqual(titles, ["read: turn 6 to turn 9", "read: turn 17 to turn 20"])
-        self.assertAlmostEqual(float(bars[0][2]), 3 * 280 / 41, delta=0.1)
-        # 5,000 turns: under a pixel, so a mark
-        bars = self.bars(self.page("page it.html to 4999\n", session)[1])
-        self.assertEqual([(it[2], it[4]) for it in bars[:1]], [("1.0", "read: turn 6 to turn 9")])
-
-    def test_words_and_transfers_are_what_questions_tell(self) -> None:
-        """Of more turns than are asked at once."""
-        ledger = "examples/ledger/ledger.session"
-        self.page("page it.html from 126700 to 128700 words 30000 disk 0\n", ledger)
-        bars = self.bars(self.written)
-        ends = [tuple(map(int, re.findall(r"turn (\d+)", it[4]))) for it in bars]
-        self.assertEqual(len(ends), 8)
-        asked = [at + 1 for pair in ends for at in (pair[0] - 1, *pair, pair[1] - 1)]
-        lines = "".join(f"devices {it}\n" for it in asked)
-        replies = self.explore(lines, ledger).splitlines()
-        ready = [int(it.split()[it.split().index("RKCS") + 1], 8) >> 7 & 1 for it in replies]
-        self.assertEqual(ready, [1, 0, 1, 0] * len(ends))
-        for title, question in (("core 030000", "mem {} 30000 1"), ("disk 0000000", "dsk {} 0 1")):
-            section = re.search(f"<h2>{title}</h2>(.*?)</table>", self.written)
-            assert section is not None, title
-            rows = re.findall(r"<tr><td>(\d+)</td><td>(\d+)</td><td>(\w+)", section[1])
-            self.assertGreater(len(rows), 1)
-            lines = "".join(f"{question.format(int(turn) + 1)}\n" for turn, _, _ in rows)
-            replies = self.explore(lines, ledger).splitlines()
-            self.assertEqual([it.split()[1] for it in replies], [word for _, word, _ in rows])
-        writes = re.findall(r"a write of 256 words from core (\d+) to sector 0", self.written)
-        self.assertEqual(writes, 3 * ["040000", "030000"])
-
-    def bars(self, drawing: str) -> list[tuple[str, ...]]:
-        return [it for it in RECTANGLE.findall(drawing) if it[0] == "bar"]
-
-    def test_each_mode_has_an_axis(self) -> None:
-        symbols = "".join(
-            f"symbols examples/ledger/{name} {mode}\n"
-            for name, mode in (("kernel.sym", "kernel"), ("user.sym", "user"))
-        )
-        ledger = "examples/ledger/ledger.session"
-        for drawing in self.page(f"{symbols}page it.html from 126700 to 128700\n", ledger):
-            places = self.places(drawing)
-            self.assertLess(places["RESUME"], 100)
-            self.assertGreater(places["DIGIT"], 300)
-            self.assertLess(places["kernel"], places["user"])
-
-    def test_names_on_an_axis(self) -> None:
-        """A mode without symbols isn't that of the symbols; a name that is cut says so."""
-        symbols = "A_NAME_THAT_IS_LONGER_THAN_THE_AXIS=1160\nSHORT=1306\n"
-        (self.folder / "long.sym").write_text(symbols)
-        lines = "symbols long.sym kernel\npage it.html from 20 to 60\n"
-        wide, narrow = self.page(lines, "examples/ledger/ledger.session")
-        for drawing, name in ((wide, "A_NAME_THA…"), (narrow, "A_NAME_T…")):
-            places = self.places(drawing)
-            self.assertLess({name, "SHORT", "kernel"}, set(places))
-            self.assertLess(places["kernel"], 100)
-
-    def test_the_title_names_the_session(self) -> None:
-        self.page("page it.html to 40\n", "examples/who-wrote-this-word.session")
-        self.assertIn("<h1>who-wrote-this-word.session: turns 0 to 40</h1>", self.written)
-
-    def test_each_mark_has_a_label_when_narrow(self) -> None:
-        drawings = self.page(
-            "page it.html from 126700 to 128700 words 30000 40000 disk 0\n",
-            "examples/ledger/ledger.session",
-        )
-        for drawing in drawings:
-            texts = self.texts(drawing)
-            self.assertEqual(texts.count("keyboard") + texts.count("clock"), 4)
-            self.assertEqual(texts.count("130 disk") + texts.count("136 cpu"), 3)
-            self.assertEqual(texts.count("read") + texts.count("write"), 4)
-            self.assertEqual([it for it in texts if "no room" in it], [])
-
-    def test_labels_without_room_are_counted(self) -> None:
-        drawing = self.page(f"{LOOP}page it.html to 800 words 2000\n")[1]
-        labels = [it for it in self.texts(drawing) if it.endswith(" cpu")]
-        self.assertIn(f"{400 - len(labels)} labels have no room", self.texts(drawing))
+LEDGER = "examples/ledger/ledger.session"
+FORM = "the form is: page FILE [to N]"
 
 
-class Asked(Case):
-    """What can't be drawn is refused before the machine runs."""
+class PageCase(Case):
+    def page(self, lines: str, *words: str) -> PageSession:
+        """What the page has that is written after these lines; `said` is what explore says then."""
+        written = self.explore(f"{lines}page! it.html\n", *words)
+        self.said = written.partition("the machine is in it.html, ")[2].splitlines()
+        return held_in(self.folder / "it.html")
 
-    def test_before_the_work(self) -> None:
-        (self.folder / "old.html").write_text("old")
-        written = self.explore(
-            "page old.html from 5 words 1\npage new.html from 5 words 1\n"
-            "page new.html from 5 disk 4604000\npage new.html from 5 6\n"
-        )
+    def put(self, name: str, data: bytes) -> str:
+        path = self.folder / name
+        path.parent.mkdir(exist_ok=True)
+        path.write_bytes(data)
+        return name
+
+
+class Pages(PageCase):
+    """What is in the page."""
+
+    def test_all_else_is_the_packed_page(self) -> None:
+        before, _, rest = (ROOT / "release" / NAME).read_text(encoding="utf-8").partition(BEGIN)
+        self.page("core 1000 5\n", LEDGER)
+        written = (self.folder / "it.html").read_text(encoding="utf-8")
+        self.assertTrue(written.startswith(f'{before}{BEGIN}{{"name": "ledger.session", '))
+        self.assertTrue(written.endswith(f"}}}}{rest[rest.index(END) :]}"))
+
+    def test_nothing(self) -> None:
+        self.assertEqual(self.page(""), PageSession("", [], ["regs 0"], {}))
+        self.assertEqual(self.said, ["with its turns to 0"])
+
+    def test_a_session_with_edits(self) -> None:
+        """Its comments that name words stay, and its questions say how far it goes."""
+        edits = "alter 15 127165 key 66\ndrop 1\ncore 2000 7\ndelay disk 9\ntape 1 2\n"
+        found = self.page(edits, LEDGER)
+        self.assertEqual((found.name, found.lines[-1]), ("ledger.session", "regs 238614"))
+        self.assertEqual(found.lines[2:4], ["# name disk 0 the ledger", "tape 1 2"])
+        self.assertLessEqual({"delay disk 9", "core 2000 7"}, set(found.lines))
+        events = [it for it in found.lines if it.startswith("at ")]
+        self.assertEqual(events, sorted(events, key=lambda it: int(it.split()[1])))
+        self.assertEqual((len(events), "at 127165 key 66" in events), (26, True))
+
+    def test_a_session_of_which_lines_were_refused(self) -> None:
+        text = b"# name core 2 caf\xc3\xa9</script>\ncore 1 5\nat 5 nothing\ncore 2 5\n"
+        text += b"regs 2000000000\n# name core 4 " + b"x" * 200 + b"\nregs 30\r\nat 3 tick\nmem 4"
+        found = self.page("core 2 6\nat 70 bell\n", self.put("my.session", text))
+        named = "# name core 2 caf\u00c3\u00a9</script>"
+        self.assertEqual(found.lines, [named, "core 2 6", "at 3 tick", "regs 30"])
+
+    def test_a_journal_that_is_taken_up(self) -> None:
+        session = self.put("my.session", b"# name core 2 it\ncore 2 5\nregs 30\n")
+        self.explore("at 7 tick\nundo\nat 9 tick\n", "--journal", "kept", session)
+        found = self.page("", "--resume", "kept")
+        wanted = ["# name core 2 it", "core 2 5", "at 9 tick", "regs 30"]
+        self.assertEqual((found.name, found.lines), ("my.session", wanted))
+
+    def test_the_turns_that_are_shown(self) -> None:
+        """Up to the last that was asked about, or the one that is named; and the last event's."""
+        for lines, end in (
+            ("regs 500\nregs 3\nregs 9999999999\n", 500),
+            ("at 600 tick\nregs 500\n", 600),
+            ("regs 900\nshow 700\n", 900),
+        ):
+            found = self.page(lines)
+            self.assertEqual(found.lines[-1], f"regs {end}")
+            self.assertEqual(self.said[0], f"with its turns to {end}")
+        self.assertEqual(self.said[1:], ["it.html#turn=700 opens it at the current turn"])
+        lines = "at 600 tick\nregs 5000\npage it.html to 900\npage it.html to 9\n"
+        said = self.explore(f"{lines}page it.html to 1000000001\n".replace("page", "page!"))
         self.assertEqual(
-            written.splitlines(),
+            said.splitlines()[2:],
             [
-                "page: old.html is there already; page! overwrites it",
-                "page: mem 0 1 1: refused 3 OddAddress",
-                "page: dsk 0 4604000 1: refused 4 OutsideDisk",
-                f"page: 'from' has one number; the form is: {FORM}",
+                "the machine is in it.html, with its turns to 900",
+                "the machine is in it.html, with its turns to 600",
+                "page: turn 1000000001 is above 1000000000",
             ],
         )
 
-    def test_a_last_turn_that_is_guessed(self) -> None:
-        machine = mock.Mock()
-        machine.registers.return_value.state = "halted"
-        machine.script = []
-        self.assertEqual(guessed_last(machine, LAST_TURN - 2), LAST_TURN - 1)
+    def test_images(self) -> None:
+        """Each has a name of its own, which the program takes for no option."""
+        names = ("one/my.disk", "two/my.disk", "-x.core", "it's \N{SNOWMAN}.tape")
+        files = [self.put(it, bytes([at, 0])) for at, it in enumerate(names)]
+        kinds = ("disk", "disk1", "core", "tape")
+        options = [f"--{kind}={name}" for kind, name in zip(kinds, files)]
+        found = self.page("version 2\n", *options, "--units=2")
+        words = "--core core--x.core --disk my.disk --disk1 disk1-my.disk --tape"
+        self.assertEqual(found.arguments, [*words.split(), names[3], "--units", "2"])
+        held = [b"\2\0", b"\0\0", b"\1\0", b"\3\0"]
+        self.assertEqual([found.files[it] for it in found.arguments[1:8:2]], held)
+        self.assertEqual(found.lines, ["version 2", "regs 0"])
+
+    def test_a_start_that_was_loaded(self) -> None:
+        found = self.page("load examples/media/hello.aout\n")
+        self.assertEqual(found.arguments, ["--start", "0"])
+        self.assertIn("user.sym", found.files)
+        self.assertGreater(len(found.lines), 9)
+
+    def test_a_name_that_is_no_text(self) -> None:
+        self.assertEqual(self.page("", self.put(os.fsdecode(b"\xff<b>"), b"")).name, "?<b>")
+
+    def test_symbols(self) -> None:
+        """Those of places, by the modes."""
+        self.put("both", b"START 1000\nADD=1002\n")
+        self.put("more", b"000000 T _main\n")
+        listing = b"1 000010 000240 LOOP: NOP\nSymbol table\n\nLOOP 000010  TOP = 000020\n"
+        self.put("it.lst", listing)
+        both = {"kernel.sym": b"START 1000\nADD 1002\n", "user.sym": b"START 1000\nADD 1002\n"}
+        self.assertEqual(self.page("symbols both\n").files, both)
+        lines = "symbols both\nsymbols more user\nsymbols it.lst kernel\n"
+        found = {"kernel.sym": b"LOOP 10\n", "user.sym": b"_main 0\n"}
+        self.assertEqual(self.page(lines).files, found)
+        files = self.page(lines, "--disk", self.put("user.sym", b"\1\0")).files
+        self.assertEqual(files, {**found, "user.sym": b"\1\0", "user-user.sym": b"_main 0\n"})
+        # what follows a # is a comment in the page's file
+        self.assertEqual(symbol_text([Symbol("a#b", 4), Symbol("c", 0o10)]), b"c 10\n")
 
 
-class Stored(Case):
-    """The picture of README is what `page` draws now."""
+class OnExplorer(OnMachine):
+    def written(self, explorer: Explorer) -> list[str]:
+        """What `page` says of explore in this process."""
+        OUTPUT.overwrites = True
+        return list(COMMANDS["page"].lines(explorer, str(self.folder / "it.html")))
 
-    def test_the_picture_of_an_update_that_gets_lost(self) -> None:
-        lines = "core 1214 2000\npage it.svg to 40 words 2000\n"
-        self.explore(lines, "examples/who-wrote-this-word.session")
-        drawn = (self.folder / "it.svg").read_text()
-        self.assertEqual(drawn, (ROOT / "docs" / "lost-update.svg").read_text())
+    def with_disk(self, path: Path) -> Explorer:
+        machine = Machine(Start(BUILT.program, ["--disk", str(path)], self.folder))
+        self.addCleanup(machine.close)
+        return Explorer(machine, Disassembler(None))
+
+
+class Refused(PageCase, OnExplorer):
+    """What can't be written is refused before the work, and leaves what was there."""
+
+    def test_names_of_files(self) -> None:
+        self.put("old.html", b"old")
+        self.put("old.svg", b"old")
+        named = "a browser takes a file for a page if its name ends in .html"
+        for line, said in (
+            ("page old.html", "old.html is there already; page! overwrites it"),
+            ("page! old.svg", f"old.svg: {named}"),
+            ("page it", f"it: {named}"),
+            ("page it.html.gz", f"it.html.gz: {named}"),
+            ("page none/it.html", "none/it.html can't be written: No such file or directory"),
+            ("page old.html/it.html", "old.html/it.html can't be written: Not a directory"),
+            (f"page {'a' * 300}.html", f"{'a' * 300}.html can't be written: File name too long"),
+            ("page ''", "a FILE has no name"),
+            ("page it.html to", FORM),
+            ("page it.html from 5", FORM),
+            ("page it.html to 5 words 2000", FORM),
+            ("page it.html to -1", FORM),
+        ):
+            self.assertIn(f"page: {said}", self.explore(f"{line}\n"), line)
+        self.assertEqual((self.folder / "old.svg").read_bytes(), b"old")
+        self.assertEqual(len(list(self.folder.glob("*it*"))), 0)
+        self.page("page IT.HTM\n", LEDGER)
+        self.assertTrue((self.folder / "IT.HTM").exists())
+
+    def test_an_image_that_cannot_be_read_again(self) -> None:
+        gone, pipe = self.folder / "gone.disk", self.folder / "pipe"
+        gone.write_bytes(b"\7\0")
+        os.mkfifo(pipe)
+        thread = threading.Thread(target=pipe.write_bytes, args=(b"\7\0",))
+        thread.start()
+        explorers = [self.with_disk(it) for it in (gone, pipe)]
+        thread.join(SECONDS)
+        # who reads the pipe again gets other bytes
+        threading.Thread(target=pipe.write_bytes, args=(b"\5\0",), daemon=True).start()
+        gone.unlink()
+        for explorer, said in zip(explorers, ("No such file", "is no plain file, and can't be")):
+            with self.assertRaisesRegex(ExploreError, said):
+                self.written(explorer)
+            self.assertEqual(explorer.machine.read("dsk 0 0 1"), "dsk 000007")
+        self.assertFalse((self.folder / "it.html").exists())
+
+    def test_a_session_whose_file_is_gone(self) -> None:
+        """The past is there, without names of words."""
+        explorer = self.explorer(edits=("core 2 5",))
+        explorer.session = self.folder / "gone.session"
+        self.assertIn("with its turns to 0", self.written(explorer)[0])
+        found = held_in(self.folder / "it.html")
+        self.assertEqual((found.name, found.lines), ("gone.session", ["core 2 5", "regs 0"]))
+
+
+class Packed(OnExplorer):
+    """Where the packed page is, and what is said if it isn't as it should be."""
+
+    def setUp(self) -> None:
+        super().setUp()
+        self.clone: Optional[Path] = self.folder / "clone"
+        self.release = self.folder / "clone" / "release"
+        self.release.mkdir(parents=True)
+        for name, what in (("BESIDE", self.folder), ("clone", lambda: self.clone)):
+            patched = mock.patch.object(page_file, name, what)
+            patched.start()
+            self.addCleanup(patched.stop)
+
+    def test_where_it_is(self) -> None:
+        page = f"{BEGIN}{{}}{END}"
+        with self.assertRaisesRegex(ExploreError, "isn't here: .*clone/release/nezdrab.html; a"):
+            self.written(self.explorer())
+        (self.release / NAME).write_text(f"of the clone{page}")
+        self.assertTrue(page_with(EMPTY).startswith("of the clone"))
+        (self.folder / NAME).write_text(f"beside{page}")
+        self.assertTrue(page_with(EMPTY).startswith("beside"))
+        self.clone = None
+        (self.folder / NAME).unlink()
+        with self.assertRaisesRegex(ExploreError, f"there is no {self.folder}/{NAME}; a clone"):
+            self.written(self.explorer())
+        self.assertFalse((self.folder / "it.html").exists())
+
+    def test_what_is_no_packed_page(self) -> None:
+        for text, said in (
+            (b"<html>", "no place for a session"),
+            (2 * f"{BEGIN}{END}".encode(), "no place for a session"),
+            (b"\xff", "can't decode"),
+        ):
+            (self.release / NAME).write_bytes(text)
+            with self.assertRaisesRegex(ExploreError, f"{NAME}.*{said}"):
+                self.written(self.explorer())
+
+    def test_a_page_that_is_older_than_the_sources(self) -> None:
+        (self.release / NAME).write_text(f"{BEGIN}{END}")
+        (self.clone or Path()).joinpath("tools").mkdir()
+        summing = self.folder / "clone" / "tools" / "sources-sum"
+        summing.write_text("#!/bin/sh\necho the sum of $1\n")
+        summing.chmod(0o755)
+        for sums, count in (((), 1), (("the sum of search", "another"), 2), (("another",), 2)):
+            for name, it in zip(("search", "disassemble"), sums):
+                (self.release / f"{name}.wasm.sources").write_text(f"sources {it}\nway 5\n")
+            written = self.written(self.explorer())
+            self.assertEqual(len(written), count, sums)
+        self.assertIn("is older than the sources of this clone", written[-1])

@@ -7,6 +7,7 @@ import re
 import runpy
 from pathlib import Path
 from unittest import mock
+from xml.etree import ElementTree
 
 import nezdrab
 from nezdrab import Machine, NezdrabError, questions, sessions
@@ -16,6 +17,7 @@ from .common import EXAMPLES, ROOT, Case, program
 
 DOCUMENT = ROOT / "docs" / "PYTHON.md"
 NOTEBOOK = EXAMPLES / "notebook" / "lost-update.py"
+PICTURE = EXAMPLES / "notebook" / "picture.py"
 
 
 class Programs(Case):
@@ -109,11 +111,23 @@ class Programs(Case):
         tested.globs["m"].close()
         self.assertEqual((failed, tried > 5), (0, True), wrong.getvalue())
 
-    def test_notebook(self) -> None:
+    def written_by(self, path: Path) -> str:
         written = io.StringIO()
         with mock.patch("nezdrab.machine.found_program", lambda name: program()):
             with contextlib.redirect_stdout(written):
-                runpy.run_path(str(NOTEBOOK))
-        self.assertEqual(written.getvalue(), NOTEBOOK.with_suffix(".expected").read_text())
+                runpy.run_path(str(path))
+        return written.getvalue()
+
+    def test_picture(self) -> None:
+        """That of README is what is drawn now."""
+        drawn = self.written_by(PICTURE)
+        self.assertEqual(drawn, (ROOT / "docs" / "lost-update.svg").read_text())
+        texts = [it.text for it in ElementTree.fromstring(drawn).iter() if it.tag.endswith("text")]
+        self.assertLessEqual({"read", "write", "107 cpu", "key 101", "keyboard"}, set(texts))
+
+    def test_notebook(self) -> None:
+        self.assertEqual(
+            self.written_by(NOTEBOOK), NOTEBOOK.with_suffix(".expected").read_text()
+        )
         cells = [it for it in NOTEBOOK.read_text().splitlines() if it and not it.startswith("#")]
         self.assertLessEqual(len(cells), 30)

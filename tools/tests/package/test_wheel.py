@@ -26,11 +26,9 @@ USING = """\
 import importlib, pkgutil, sys
 import nezdrab, nezdrab.explore
 from nezdrab import Machine
-# what makes the page is in a clone alone
 names = [it.name for it in pkgutil.iter_modules(nezdrab.explore.__path__)]
 for name in names:
-    if not name.startswith("web"):
-        importlib.import_module(f"nezdrab.explore.{name}")
+    importlib.import_module(f"nezdrab.explore.{name}")
 with Machine.of_session(sys.argv[1]) as machine:
     print(len(names) > 50, nezdrab.__file__, machine.last(40, 0o2000), nezdrab.__version__)
 """
@@ -85,12 +83,14 @@ class Wheel(Case):
 
     def test_wheel_of_the_system(self) -> None:
         wheel = self.made(self.sources, "wheel")
-        self.assertTrue(wheel.name.endswith("-py3-none-manylinux_2_34_x86_64.whl"), wheel.name)
+        tag = "-py3-none-manylinux1_x86_64.musllinux_1_1_x86_64.whl"
+        self.assertTrue(wheel.name.endswith(tag), wheel.name)
         with zipfile.ZipFile(wheel) as archive:
             names = set(archive.namelist())
         package = ROOT / "src" / "nezdrab"
         files = [*package.rglob("*.py"), package / "py.typed"]
-        files += [package / "programs" / it for it in ("pdp11", "search", "disassemble")]
+        programs = ("pdp11", "search", "disassemble", "nezdrab.html")
+        files += [package / "programs" / it for it in programs]
         self.assertEqual({str(it.relative_to(ROOT / "src")) for it in files} - names, set())
         self.run_in(self.room, sys.executable, "-m", "venv", str(self.away))
         python, explore = (str(self.away / "bin" / it) for it in ("python", "nezdrab-explore"))
@@ -103,9 +103,12 @@ class Wheel(Case):
         for command in ("nezdrab", "nezdrab-search"):
             shown = self.run_in(self.room, str(self.away / "bin" / command), given="regs 0\n")
             self.assertIn("PC 001000", shown)
-        ran = subprocess.run([explore, "web"], capture_output=True, text=True, cwd=self.room)
-        self.assertEqual((ran.returncode, ran.stdout), (1, ""))
-        self.assertIn("the page is made of a clone", ran.stderr)
+        self.run_in(self.room, explore, "web", "--no-open", "my.session")
+        said = self.run_in(self.room, explore, "my.session", given="page it.html\n")
+        self.assertEqual(said, "the machine is in it.html, with its turns to 40\n")
+        for name in "my.html", "it.html":
+            written = (self.room / name).read_text(encoding="utf-8")
+            self.assertIn('id="session">{"name": "my.session", ', written)
 
     def test_wheel_for_any_system(self) -> None:
         """Its programs are run by node."""

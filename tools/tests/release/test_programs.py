@@ -9,7 +9,7 @@ import unittest
 from checks import by_node
 from pseudo_terminal import PseudoTerminal
 
-from .tree import BUILT, CRATES, NEWER_GLIBC, PROGRAM, RELEASE, ROOT, SECONDS
+from .tree import BUILT, CANNOT_RUN, CRATES, PROGRAM, RELEASE, ROOT, SECONDS
 from .tree import STORED_HELP, Tree, path_without
 
 # Node of a version, which takes an option of its machine if this begins as one of these.
@@ -75,8 +75,14 @@ class Found(Tree):
         self.assertRuns()
 
     def test_a_release_file_that_cannot_run(self) -> None:
-        self.make_release(NEWER_GLIBC)
-        self.assertRefuses("version GLIBC_2.34 not found", "glibc 2.34", "x86-64-v2")
+        self.make_release(CANNOT_RUN)
+        self.assertRefuses("CPU lacks POPCNT", "a 64-bit Linux", "x86-64-v2")
+
+    def test_a_32_bit_system_on_a_64_bit_kernel(self) -> None:
+        self.make_release()
+        text = OTHER_SYSTEM.replace("Darwin", "Linux").replace("arm64", "i686")
+        self.write("../bin/uname", text, 0o755)
+        self.assertRuns()
 
     def test_another_system(self) -> None:
         self.make_release()
@@ -121,7 +127,7 @@ class ByNode(Tree):
 
     def setUp(self) -> None:
         super().setUp()
-        self.make_release(NEWER_GLIBC)
+        self.make_release(CANNOT_RUN)
         self.module("a module")
         self.node("16.0.0")
 
@@ -149,7 +155,7 @@ class ByNode(Tree):
     def test_node_that_is_too_old(self) -> None:
         for version in "14.21.3", "9.0.0", "unknown":
             self.node(version)
-            self.assertRefuses("version GLIBC_2.34 not found", "or install node, 16 or later")
+            self.assertRefuses("CPU lacks POPCNT", "or install node, 16 or later")
 
     def test_a_module_of_other_sources_or_bytes(self) -> None:
         for name in "release/pdp11.wasm", "release/pdp11.wasm.sources":
@@ -184,7 +190,7 @@ class ByThisNode(Tree):
 
     def setUp(self) -> None:
         super().setUp()
-        self.make_release(NEWER_GLIBC)
+        self.make_release(CANNOT_RUN)
         self.module((ROOT / "release/pdp11.wasm").read_bytes())
         for name in "web/host.js", "web/heap.js", "web/package.json":
             self.copy(name)
@@ -217,8 +223,9 @@ class ByThisNode(Tree):
         self.assertEqual((ended.returncode, ended.stdout), (1, ""))
         self.assertRegex(ended.stderr, "^pdp11: node can't run it: [^\n]*\n$")
 
-    def ended_by(self, sent: signal.Signals, *before: str) -> int:
-        """The status of a program that is sent a signal while it computes, and killed after."""
+    def ended_by(self, sent: signal.Signals, *before: str, seconds: int = SECONDS) -> int:
+        """The status of a program that is sent a signal while it computes, and is killed if it goes
+        on for so long."""
         path = os.pathsep.join(map(str, [self.folder / "bin", *self.path]))
         environment, pipe = {**os.environ, "PATH": path}, subprocess.PIPE
         command = [*before, str(self.tree / "pdp11")]
@@ -228,15 +235,18 @@ class ByThisNode(Tree):
             ran.stdin.flush()
             self.assertEqual(ran.stdout.readline(), b"ok\n")
             ran.send_signal(sent)
-            ran.send_signal(signal.SIGTERM)
-            return ran.wait(SECONDS)
+            try:
+                return ran.wait(seconds)
+            except subprocess.TimeoutExpired:
+                ran.send_signal(signal.SIGTERM)
+                return ran.wait(SECONDS)
 
     def test_signals_end_it_unless_they_are_ignored(self) -> None:
         self.assertEqual(self.ended_by(signal.SIGINT), -signal.SIGINT)
         self.assertEqual(self.ended_by(signal.SIGHUP), -signal.SIGHUP)
         shell = ["sh", "-c", "trap '' HUP INT; exec \"$0\""]
         for sent in signal.SIGINT, signal.SIGHUP:
-            self.assertEqual(self.ended_by(sent, *shell), -signal.SIGTERM)
+            self.assertEqual(self.ended_by(sent, *shell, seconds=1), -signal.SIGTERM)
 
 
 class CheckNode(Tree):

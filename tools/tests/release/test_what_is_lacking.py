@@ -122,8 +122,11 @@ class Lacking(Tree):
         self.run_in("./pdp11", "--help", kit=True)
         self.assertIn("the first run proves and builds it", self.said)
 
-    def test_a_system_without_a_64_bit_loader(self) -> None:
-        held = (ROOT / RELEASE).read_bytes()
-        self.make_release(held.replace(b"/lib64/ld-linux", b"/lib99/ld-linux"))
-        self.assertRefuses("64-bit glibc, whose /lib99/ld-linux-x86-64.so.2 isn't here")
-        self.assertNotIn("2.34", self.said)
+    def test_a_program_that_takes_no_library(self) -> None:
+        for name in "checks/refusals.py", "checks/__init__.py":
+            self.copy(f"tools/{name}")
+        self.write("pdp11-static", b"\x7fELF".ljust(64, b"\0"), 0o755)
+        self.write("../bin/cc", "#!/bin/sh\n", 0o755)
+        ended = self.run_in("tools/refuse-each", "./pdp11-static", "crates")
+        self.assertEqual(ended.returncode, 77, self.said)
+        self.assertRegex(self.said, "^[^\n]*pdp11-static takes no library, [^\n]*\n$")

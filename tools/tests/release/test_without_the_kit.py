@@ -1,7 +1,21 @@
 """A copy of this repository, whose release files are needed, without rt."""
 import shutil
+import subprocess
+import tempfile
+import unittest
+from pathlib import Path
 
-from .tree import ROOT, Tree
+from .tree import RELEASE, ROOT, SECONDS, Tree
+
+# Runs a command as root of a namespace of its own, in a folder that is all it sees.
+IN_FOLDER = ["unshare", "--user", "--map-root-user", "chroot"]
+
+
+def can_be_root() -> bool:
+    """Whether this user can be root of a namespace."""
+    if not shutil.which("unshare"):
+        return False
+    return subprocess.run([*IN_FOLDER, "/", "true"], capture_output=True).returncode == 0
 
 
 class WithoutTheKit(Tree):
@@ -35,3 +49,22 @@ class WithoutTheKit(Tree):
         self.assertNotIn("== ", ended.stdout)
         self.assertIn("--without-proofs", ended.stderr)
         self.assertEqual(self.run_in("bash", ".ci/run", "--anew").returncode, 2)
+
+
+@unittest.skipUnless(can_be_root(), "unshare isn't installed, or a user namespace isn't allowed")
+class InAnEmptyFolder(unittest.TestCase):
+    """The release file where there is nothing else: no library, no /dev and no /proc."""
+
+    def test_the_first_session(self) -> None:
+        with tempfile.TemporaryDirectory() as folder:
+            shutil.copy(ROOT / RELEASE, Path(folder) / "pdp11")
+            with open(ROOT / "examples/first-run.session", encoding="ascii") as given:
+                ended = subprocess.run(
+                    [*IN_FOLDER, folder, "/pdp11"],
+                    stdin=given,
+                    capture_output=True,
+                    text=True,
+                    timeout=SECONDS,
+                )
+        wanted = (ROOT / "examples/first-run.expected").read_text()
+        self.assertEqual((ended.stdout, ended.stderr, ended.returncode), (wanted, "", 0))

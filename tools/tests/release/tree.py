@@ -13,8 +13,8 @@ SECONDS = 60
 TOOLS = [
     *("pdp11", "tools/start", "tools/program", "tools/build", "tools/sources-sum"),
     *("VERSION", "CHANGELOG.md", "disassemble", "tools/portable"),
-    *("tools/release", ".ci/run", "tools/web", "tools/bundle.py", "tools/sessions.py"),
-    "tools/hardware.py",
+    *("tools/release", ".ci/run", "tools/web", "tools/bundle.py", "tools/page_examples.py"),
+    *("tools/sessions.py", "tools/hardware.py", "tools/made_of_table.py"),
     *("search", "explore", "tools/start-explore", "tools/python_needed.py", "tools/refuse-each"),
     *(str(it.relative_to(ROOT)) for it in sorted(ROOT.glob("src/nezdrab/explore/*.py"))),
     *(str(it.relative_to(ROOT)) for it in sorted(ROOT.glob("src/nezdrab/*.py"))),
@@ -37,7 +37,15 @@ run) mkdir -p out && printf '%s' "$PROGRAM" >out/${{PWD##*/}} && chmod +x out/${
 esac
 """
 PROGRAM = "#!/bin/sh\necho a program: $*\n"
-NEWER_GLIBC = "#!/bin/sh\necho 'libc.so.6: version GLIBC_2.34 not found' >&2\nexit 1\n"
+CANNOT_RUN = "#!/bin/sh\necho 'CPU lacks POPCNT' >&2\nexit 127\n"
+# What stands for tools/release-static: it copies the programs.
+STATIC = """\
+#!/bin/sh
+cd "${0%/*}/.." && [ -f ../kit/musl ] || { echo musl is lacking; exit 77; }
+[ "$1" != --library ] || exec cat ../kit/musl
+mkdir -p "$1"
+for it in disassemble pdp11; do cp crates/$it/out/$it "$1/$it" || exit 1; done
+"""
 
 
 class Tree(unittest.TestCase):
@@ -59,6 +67,8 @@ class Tree(unittest.TestCase):
         self.write("crates/low/specs/Low.antt", "-- a definition\n")
         self.write("README.md", f"Made with `{KIT}`.\n")
         self.write("../kit/rt", RT, 0o755)
+        self.write("../kit/musl", "line of musl\n")
+        self.write("tools/release-static", STATIC, 0o755)
 
     def copy(self, name: str) -> None:
         (self.tree / name).parent.mkdir(parents=True, exist_ok=True)

@@ -10,7 +10,9 @@ import tempfile
 import time
 from typing import Any, Callable, Optional
 
-SECONDS, WAIT = 120.0, 120.0
+from .driven import BrowserError, Driven
+
+SECONDS = 120.0
 OPTIONS = (
     "--headless=new",
     "--no-sandbox",
@@ -36,25 +38,6 @@ KEYS = {
 ALT, SHIFT = 1, 8
 # What is traced: the tasks of each thread, and the marks that the page makes.
 TRACED = ["disabled-by-default-devtools.timeline", "blink.user_timing"]
-# The middle of an element, after it was scrolled into sight, or why it can't be pressed there now.
-PRESSED = """(async name => {
-  const frame = () => new Promise(requestAnimationFrame);
-  await frame();
-  const it = document.querySelector(name);
-  if (!it) return "it isn't there";
-  it.scrollIntoView({block: "nearest"});
-  const before = it.getBoundingClientRect();
-  await frame();
-  const {x, y, width, height} = it.getBoundingClientRect();
-  const isSeen = getComputedStyle(it).visibility === "visible";
-  if (!width || !height || !isSeen) return "it isn't shown";
-  const isStill = x === before.x && y === before.y;
-  if (!isStill || width !== before.width || height !== before.height) return "it moves";
-  if (it.disabled) return "it is disabled";
-  const middle = [x + width / 2, y + height / 2], found = document.elementFromPoint(...middle);
-  if (!found) return "its middle is out of sight";
-  return it.contains(found) ? middle : `this lies over it: ${found.outerHTML.slice(0, 200)}`;
-})"""
 
 
 def found_browser() -> Optional[str]:
@@ -62,11 +45,7 @@ def found_browser() -> Optional[str]:
     return next(filter(None, map(shutil.which, names)), None)
 
 
-class BrowserError(Exception):
-    """The browser doesn't do what it is told."""
-
-
-class Browser:
+class Browser(Driven):
     """A browser with one page."""
 
     def __init__(self, program: str) -> None:
@@ -222,31 +201,8 @@ class Browser:
             raise BrowserError(f"{expression}: {said}")
         return found["result"].get("value")
 
-    def wait(self, expression: str, seconds: float = WAIT) -> Any:
-        """Waits until the expression holds."""
-        end = time.monotonic() + seconds
-        while True:
-            found = self.value(expression)
-            if found:
-                return found
-            if time.monotonic() > end:
-                said = "; ".join(self.messages)
-                raise BrowserError(f"this doesn't come: {expression}; messages: {said}")
-            time.sleep(0.03)
-
-    def text(self, selector: str) -> str:
-        return str(self.value(f"document.querySelector({json.dumps(selector)}).textContent"))
-
-    def middle(self, selector: str, seconds: float = WAIT) -> list[float]:
-        """The middle of an element, once a user could press it there: it is shown and stands still,
-        and nothing lies over it."""
-        end = time.monotonic() + seconds
-        while True:
-            found = self.value(f"{PRESSED}({json.dumps(selector)})")
-            if not isinstance(found, str):
-                return list(found)
-            if time.monotonic() > end:
-                raise BrowserError(f"{selector} can't be pressed: {found}")
+    def said(self) -> list[str]:
+        return self.messages
 
     def longest_task(self, act: Callable[[], None]) -> float:
         """The most milliseconds of a processor that one task of the page takes while this is done.
@@ -270,9 +226,6 @@ class Browser:
 
     def mouse(self, kind: str, x: float, y: float, **more: Any) -> None:
         self.call("Input.dispatchMouseEvent", type=kind, x=x, y=y, **more)
-
-    def click(self, selector: str) -> None:
-        self.click_at(*self.middle(selector))
 
     def click_at(self, x: float, y: float) -> None:
         self.mouse("mouseMoved", x, y)

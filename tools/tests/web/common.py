@@ -11,7 +11,8 @@ from typing import Optional
 
 from tests import under_test
 
-from .browser import WAIT, Browser, found_browser
+from .browser import Browser, found_browser
+from .driven import WAIT, Driven
 
 ROOT = Path(__file__).resolve().parents[3]
 LEDGER = ROOT / "examples" / "ledger"
@@ -73,13 +74,82 @@ def ledger_lines() -> list[str]:
     return (LEDGER / "ledger.session").read_text().splitlines()
 
 
-class PageCase(unittest.TestCase):
+class OnPage:
+    """What a test does with the page that is open in a browser."""
+
+    browser: Driven
+
+    def wait_text(self, selector: str, part: str) -> str:
+        """Waits until the element's text has a part; returns the text."""
+        name, wanted = json.dumps(selector), json.dumps(part)
+        self.browser.wait(f"document.querySelector({name})?.textContent.includes({wanted})")
+        return self.browser.text(selector)
+
+    def wait_still(self) -> None:
+        """Waits until the picture is drawn and nothing is under way."""
+        self.browser.wait("document.documentElement.dataset.work === 'none'")
+
+    def type_line(self, line: str) -> str:
+        """Types a line and Enter; returns what the page says of it."""
+        self.fill("#line")
+        self.browser.type(line)
+        self.browser.key("Enter")
+        return self.wait_text("#reply", f"{line}: ")
+
+    def fill(self, selector: str, text: str = "") -> None:
+        """Puts the focus into a field, and types in it."""
+        name = json.dumps(selector)
+        self.browser.value(
+            f"(() => {{ const it = document.querySelector({name}); it.value = ''; it.focus(); }})()"
+        )
+        self.browser.type(text)
+
+    def balance(self, wanted: str) -> None:
+        self.wait_text("#balance", wanted)
+
+    def turn(self) -> int:
+        return int(self.browser.value("document.querySelector('#turns').ariaValueNow"))
+
+    def give(self, *paths: Path) -> None:
+        """Opens files by the dialog's input."""
+        self.browser.value("document.querySelector('#reply').textContent = ''")
+        self.browser.give_files("#files", [str(it) for it in paths])
+        self.wait_text("#reply", "Opened: ")
+
+    def edits(self) -> list[str]:
+        found = self.browser.value(
+            "[...document.querySelectorAll('#edits li')].map(it => it.textContent)"
+        )
+        return list(found)
+
+
+class InChromium(OnPage):
+    """Of that what Chromium alone is asked."""
+
+    browser: Browser
+
+    def saved_in(self, folder: Path, selector: str) -> Path:
+        """The file that a button saves in a folder, which is empty."""
+        self.browser.call(
+            "Browser.setDownloadBehavior", behavior="allow", downloadPath=str(folder)
+        )
+        self.browser.click(selector)
+        end = time.monotonic() + WAIT
+        while time.monotonic() < end:
+            found = [it for it in folder.iterdir() if it.suffix in (".session", ".html")]
+            # a file is there before its bytes are
+            if found and found[0].stat().st_size:
+                return found[0]
+            time.sleep(0.05)
+        raise AssertionError("no file was saved")
+
+
+class PageCase(InChromium, unittest.TestCase):
     """A test with the page open at its first session. It ends without an error in the console."""
 
     maxDiff = 4000
     fragment = ""
     address: str
-    browser: Browser
 
     @classmethod
     def setUpClass(cls) -> None:
@@ -99,64 +169,9 @@ class PageCase(unittest.TestCase):
         self.addCleanup(made.cleanup)
         return Path(made.name)
 
-    def wait_text(self, selector: str, part: str) -> str:
-        """Waits until the element's text has a part; returns the text."""
-        name, wanted = json.dumps(selector), json.dumps(part)
-        self.browser.wait(f"document.querySelector({name})?.textContent.includes({wanted})")
-        return self.browser.text(selector)
-
-    def wait_still(self) -> None:
-        """Waits until the picture is drawn and nothing is under way."""
-        self.browser.wait("document.documentElement.dataset.work === 'none'")
-
-    def balance(self, wanted: str) -> None:
-        self.wait_text("#balance", wanted)
-
-    def turn(self) -> int:
-        return int(self.browser.value("document.querySelector('#turns').ariaValueNow"))
-
-    def type_line(self, line: str) -> str:
-        """Types a line and Enter; returns what the page says of it."""
-        self.fill("#line")
-        self.browser.type(line)
-        self.browser.key("Enter")
-        return self.wait_text("#reply", f"{line}: ")
-
-    def fill(self, selector: str, text: str = "") -> None:
-        """Puts the focus into a field, and types in it."""
-        name = json.dumps(selector)
-        self.browser.value(
-            f"(() => {{ const it = document.querySelector({name}); it.value = ''; it.focus(); }})()"
-        )
-        self.browser.type(text)
-
-    def give(self, *paths: Path) -> None:
-        """Opens files by the dialog's input."""
-        self.browser.value("document.querySelector('#reply').textContent = ''")
-        self.browser.give_files("#files", [str(it) for it in paths])
-        self.wait_text("#reply", "Opened: ")
-
     def saved(self, selector: str) -> Path:
         """The file that a button saves."""
-        folder = self.folder()
-        self.browser.call(
-            "Browser.setDownloadBehavior", behavior="allow", downloadPath=str(folder)
-        )
-        self.browser.click(selector)
-        end = time.monotonic() + WAIT
-        while time.monotonic() < end:
-            found = [it for it in folder.iterdir() if it.suffix in (".session", ".html")]
-            # a file is there before its bytes are
-            if found and found[0].stat().st_size:
-                return found[0]
-            time.sleep(0.05)
-        raise AssertionError("no file was saved")
-
-    def edits(self) -> list[str]:
-        found = self.browser.value(
-            "[...document.querySelectorAll('#edits li')].map(it => it.textContent)"
-        )
-        return list(found)
+        return self.saved_in(self.folder(), selector)
 
 
 class OpenCase(PageCase):

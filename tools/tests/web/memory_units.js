@@ -5,9 +5,9 @@ import {
   PlaceError, bytesOfWords, clipped, heldBefore, lineOfFind, placeNamed, placesOf, rowsOf,
   textOfWords,
 } from "/memory.js";
-import { pointsOf } from "/path.js";
+import { linesBetween, pointsOf } from "/path.js";
 import { View } from "/lanes.js";
-import { copiedBy, transferOf } from "/why.js";
+import { copiedBy, hasWritten, transfersOf } from "/transfers.js";
 
 function equal(found, wanted) {
   const [left, right] = [found, wanted].map(it => JSON.stringify(it));
@@ -100,11 +100,16 @@ export function test_lines_that_find() {
 
 /** Which word a transfer copied, also if it kept to one word of core. */
 export function test_words_that_transfers_copy() {
-  const read = transferOf("transfers 1\n30 10 read 0 0000400 002000 3 000000");
+  const [read] = transfersOf("transfers 1\n30 10 read 0 0000400 002000 3 000000").ended;
   equal(read, { turn: 30, begin: 10, name: "read", drive: 0, index: 0o400, core: 0o2000, count: 3,
     error: 0 });
-  equal(transferOf("transfers 1\n30 before write 1 0 2000 3 0").begin, null);
-  equal(transferOf("transfers 0"), null);
+  const { ended, hasMore } = transfersOf("transfers 2 or more\n30 before write 1 0 2000 3 0\n"
+    + "40 30 write 1 0 2000 3 0");
+  equal([ended.map(it => it.begin), hasMore], [[null, 30], true]);
+  equal(transfersOf("transfers 0"), { ended: [], hasMore: false });
+  const filled = at => hasWritten(ended[0], { kind: "disk", drive: 1, at });
+  equal([0, 0o377, 0o400].map(filled), [true, true, false]);
+  equal(hasWritten(ended[0], { kind: "core", drive: 0, at: 0o2000 }), false);
   const from = (it, kind, at) => copiedBy(it, { kind, drive: 0, at })?.at ?? null;
   const inCore = [0o1776, 0o2000, 0o2004, 0o2006], onDrive = [0o377, 0o400, 0o402, 0o403];
   equal(inCore.map(it => from(read, "core", it)), [null, 0o400, 0o402, null]);
@@ -121,5 +126,10 @@ export function test_points_of_a_path() {
   const lanes = [{ name: "user PC", top: 20, height: 60 }, { name: "disk", top: 80, height: 30 }];
   const steps = [{ turn: 10, lane: "disk" }, { turn: null, lane: "" }, { turn: 5, lane: "core 0" },
     { turn: 2, lane: "user PC" }];
-  equal(pointsOf(steps, lanes, view), [{ x: 100, y: 95 }, { x: 20, y: 50 }]);
+  const points = pointsOf(steps, lanes, view), [disk, , , user] = points;
+  equal(points, [{ x: 100, y: 95 }, null, null, { x: 20, y: 50 }]);
+  equal(linesBetween(steps, points), [[disk, user]]);
+  const tree = [-1, 0, 0, 0].map((above, at) => ({ ...steps[at], above }));
+  equal(linesBetween(tree, points), [[disk, user]]);
+  equal(linesBetween([tree[1], tree[3]], [null, user]), []);
 }

@@ -171,6 +171,8 @@ export function test_how_two_scripts_differ() {
   equal(difference(old, ["1 2 tick", "3 5 tick", "2 5 key 066", "4 9 tick"]), [[], [], [5]]);
   equal(difference(old, [...old, "5 9 tick"]), [[], [5], [9]]);
   equal(difference(old, []), [[1, 2, 3, 4], [], [2, 5, 9]]);
+  // what both end with is there once more
+  equal(difference(["1 5 tick", "2 9 tick"], ["3 9 tick", "2 9 tick"]), [[1], [2], [5, 9]]);
 }
 
 /** A run whose registers before a turn are these. */

@@ -1,8 +1,8 @@
 """The tests' own click: as a user, it waits until what it presses is there and can be pressed."""
 import unittest
 
-from .browser import BrowserError
 from .common import the_browser
+from .driven import BrowserError
 
 PAGE = (
     "data:text/html,<!DOCTYPE html><html data-state='ready'>"

@@ -107,7 +107,7 @@ class Examples(PageCase):
         self.assertIn("odd number", self.wait_text("#reply", "BadImage"))
         self.assertEqual(self.browser.text("#session-name"), "boot-rk0.disk")
         self.browser.give_files("#boot-file", [str(EXAMPLES / "first-run.session")])
-        self.wait_text("#reply", "is no image of a disk")
+        self.wait_text("#reply", "what begins here is one image of a disk")
 
     def test_the_page_is_small(self) -> None:
         packed = Path(packed_page().removeprefix("file://"))

@@ -10,7 +10,12 @@ EXAMPLES = ROOT / "examples"
 
 class FilesCase(PageCase):
     def drop(self, *paths: Path) -> None:
-        """Drops files on the page."""
+        """Drops files on the page, which opens them."""
+        self.drop_on("main", *paths)
+        self.wait_text("#reply", "Opened: ")
+
+    def drop_on(self, selector: str, *paths: Path) -> None:
+        """Drops files on an element."""
         held = {it.name: base64.b64encode(it.read_bytes()).decode() for it in paths}
         self.browser.value(
             "(() => { const data = new DataTransfer();"
@@ -19,9 +24,8 @@ class FilesCase(PageCase):
             "data.items.add(new File([bytes], name)); }"
             "const event = new DragEvent('drop',"
             "{dataTransfer: data, bubbles: true, cancelable: true});"
-            "document.querySelector('main').dispatchEvent(event); })()"
+            f"document.querySelector({json.dumps(selector)}).dispatchEvent(event); }})()"
         )
-        self.wait_text("#reply", "Opened: ")
 
 
 class Files(FilesCase):
@@ -71,6 +75,7 @@ class Files(FilesCase):
         self.browser.wait("document.querySelectorAll('#edits li').length === 1")
         path = self.saved("#save")
         lines = path.read_text().splitlines()
+        self.assertIn("# name disk 0 the ledger", lines)
         asked = ["regs 150000", "mem 238614 30000 4", "dsk 238614 0 1", "text 238614"]
         native = replies_of([*lines, *asked])[-4:]
         for line, reply in zip(asked, native):

@@ -132,11 +132,12 @@ class Stepping(PageCase):
         self.go(turn)
         self.browser.click("#step-over")
         self.browser.wait(f"document.querySelector('#turn').value === '{after}'")
-        self.assertIn("the first with KSP above", self.browser.text("#step-said"))
+        self.assertIn("interrupt 060 keyboard has returned", self.browser.text("#step-said"))
         self.go(turn + 3)
         self.browser.click("#step-out")
         self.browser.wait(f"document.querySelector('#turn').value === '{after}'")
-        self.assertIn("after RTI", self.wait_text("#step-said", "after"))
+        said = "after RTI, out of interrupt 060 keyboard."
+        self.assertIn(said, self.wait_text("#step-said", "after"))
 
     def test_over_what_is_no_call(self) -> None:
         self.go(126_961)

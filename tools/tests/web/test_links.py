@@ -2,6 +2,8 @@
 from .common import KEY, LOST, ROOT, SAFE, PageCase, packed_page
 
 EXAMPLES = ROOT / "examples"
+STATES = "[...document.querySelectorAll('#edits input')].map(it => it.checked)"
+KEEPS = "alter 15 127165 key 66"
 
 
 class LinksCase(PageCase):
@@ -75,6 +77,51 @@ class Links(LinksCase):
         self.wait_text("#reply", "at 7 key 103: switched on")
         self.assertIn("Your own edit ", self.follow(fragment, "was made"))
         self.assertEqual(self.browser.value(states), [False, False, True])
+
+    def test_edits_that_are_off_stay_so_in_a_link(self) -> None:
+        """Among those that are on, and one that names an event of another; each is switched on."""
+        for line in ("at 5 switches 1", "alter 28 6 switches 2", "at 7 switches 3", KEEPS):
+            self.type_line(line)
+        for number, left in ((3, 1), (1, 3)):
+            self.browser.click(f"#edits > li:nth-child({number}) input")
+            self.browser.wait(f"document.querySelectorAll('#edits li.off').length === {left}")
+        self.assertEqual(self.browser.value(STATES), [False, False, False, True])
+        link = self.link()
+        self.assertIn("1 edit, and 3 switched off: ", self.browser.text("#link"))
+        self.browser.open(link)
+        self.wait_text("#linked", "3 more are switched off in it.")
+        self.assertEqual(self.browser.value(STATES), [False, False, False, True])
+        self.balance(SAFE)
+        self.browser.reload()
+        self.assertEqual(self.browser.dialogs, [], "the link has what is here")
+        for number in (1, 2, 3):
+            self.switch_on(number)
+        events = self.type_line("events")
+        self.assertRegex(events, r"(?s) 6 switches 000002\n.* 7 switches 000003\n")
+        self.assertNotIn(" 5 switches", events)
+
+    def switch_on(self, number: int) -> None:
+        self.browser.value("document.querySelector('#reply').textContent = ''")
+        self.browser.click(f"#edits > li:nth-child({number}) input")
+        self.wait_text("#reply", "switched on")
+
+    def test_own_edits_and_those_of_a_link_keep_their_events_apart(self) -> None:
+        """Both name the event 28, each its own."""
+        for line in ("at 5 switches 1", "alter 28 6 switches 2"):
+            self.type_line(line)
+        self.browser.click("#edits > li:nth-child(2) input")
+        self.wait_text("#reply", "switched off")
+        fragment = self.link().partition("#")[2]
+        self.browser.open(self.address)
+        for line in ("at 8 switches 3", "alter 28 9 switches 4"):
+            self.type_line(line)
+        self.assertIn("Your own 2 edits", self.follow(fragment, "was made"))
+        self.assertEqual(self.browser.value(STATES), [False, False, True, False])
+        for number in (1, 2, 4):
+            self.switch_on(number)
+        events = self.type_line("events")
+        self.assertRegex(events, r"(?s) 6 switches 000002\n.* 9 switches 000004\n")
+        self.assertNotRegex(events, r" (?:5|8) switches")
 
     def test_a_broken_link_changes_nothing(self) -> None:
         self.type_line("alter 15 127165 key 66")

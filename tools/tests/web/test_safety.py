@@ -42,11 +42,11 @@ class Safety(PageCase):
 
     def test_symbols(self) -> None:
         folder = self.folder()
-        (folder / "evil.sym").write_text(f"{EVIL.replace(' ', '')} 1000\n\u202eabc 1002\n")
+        (folder / "names.sym").write_text("a&lt 1000\na\u202eabc 1002\n")
         (folder / "it.session").write_text("core 1000 5\ncore 1002 5\nregs 3\n")
-        self.give(folder / "it.session", folder / "evil.sym")
-        self.wait_text("#instructions", "<script>window.evil=1</script>")
-        self.wait_text("#instructions", "\\u202eabc")
+        self.give(folder / "it.session", folder / "names.sym")
+        self.wait_text("#instructions", "a&lt")
+        self.wait_text("#instructions", "a\\u202eabc")
         self.wait_still()
         self.no_harm()
 

@@ -7,8 +7,8 @@ import unittest
 from pathlib import Path
 from typing import Any, Callable
 
-from .browser import BrowserError
 from .common import ROOT, the_browser
+from .driven import BrowserError
 
 UNITS = tuple(sorted(Path(__file__).parent.glob("*units.js")))
 KINDS = {".js": "text/javascript", ".html": "text/html"}

@@ -4,7 +4,7 @@ import { byteOfKey } from "/console.js";
 import { marked } from "/differences.js";
 import { eventOfForm, eventsNear } from "/events.js";
 import { LanesDrawing, View, lanesOf, ticksOf } from "/lanes.js";
-import { namesOfSession } from "/names.js";
+import { linesOfNames, namesOfSession } from "/names.js";
 import { notesOf } from "/notes.js";
 import { optionLines, optionText, shellWords } from "/options.js";
 import { PAST_LINES, isEdit } from "/past.js";
@@ -17,8 +17,9 @@ import {
 } from "/replies.js";
 import { Priority, Run } from "/run.js";
 import { boundedRows, rowsOf } from "/sight.js";
-import { kindOfFile, symbolNear, symbolsOf, withFile } from "/session.js";
+import { kindOfFile, symbolNear, withFile } from "/session.js";
 import { fourthBalance, verdictOf } from "/story.js";
+import { symbolsOfSession } from "/symbols.js";
 import { runsOf, spreadTurns } from "/sweep.js";
 
 function equal(found, wanted) {
@@ -84,14 +85,22 @@ export function test_lines() {
 }
 
 export function test_symbols() {
-  const symbols = symbolsOf("START 1000\nDISK 001434 # a comment\n000000001500 T main\n");
-  equal(symbols.map(it => it.value), [0o1000, 0o1434, 0o1500]);
-  equal([symbolNear(symbols, 0o1440), symbolNear(symbols, 0o776)], ["DISK+4", ""]);
+  const list = "START 1000\nDISK 001434 # a comment\n000000001500 T main\n"
+    + "ADD 1600\nFACED 2000\n";
+  const listing = " 1 001432 000015 A: .WORD 15\n\nSymbol table\nA 001432   Y =001434\n";
+  const bytes = Object.fromEntries(Object.entries({ "kernel.sym": list, "image": "NONE 1\n",
+    "user.lst": listing, "none.sym": "" }).map(([name, it]) => [name, new TextEncoder().encode(it)]));
+  const session = { name: "", arguments: ["--core", "image"], files: bytes, lines: [] };
+  const { kernel, user } = symbolsOfSession(session);
+  equal(kernel.map(it => it.value), [0o1000, 0o1434, 0o1500, 0o1600, 0o2000]);
+  equal(kernel.slice(3).map(it => it.name), ["ADD", "FACED"]);
+  equal([symbolNear(kernel, 0o1440), symbolNear(kernel, 0o776)], ["DISK+4", ""]);
+  equal([symbolNear(user, 0o1436), user.find(it => it.name === "Y").value], ["A+4", 0o1434]);
 }
 
 export function test_files() {
-  equal(["a.RK05", "x.sym", "my.session", "b.tape", "c.args"].map(kindOfFile),
-    ["disk", "symbols", "session", "tape", "arguments"]);
+  equal(["a.RK05", "x.sym", "my.session", "b.tape", "c.args", "d.LDA", "e.lst"].map(kindOfFile),
+    ["disk", "symbols", "session", "tape", "arguments", "program", "symbols"]);
   const session = { name: "", arguments: ["--disk", "a", "--start", "2000"], files: { a: 1 } };
   equal(withFile(session, "disk", "b", 2),
     { name: "", arguments: ["--start", "2000", "--disk", "b"], files: { b: 2 } });
@@ -170,6 +179,7 @@ export function test_words_are_named_by_comments() {
     "# name core 30000 x", "#name core 5 y", "# name core 5 6 z"];
   equal([...namesOfSession({ lines })], [["core 030000", "x"], ["disk 1 0000000", "caf\u00e9"],
     ["disk 0000002", "the day\\u202e"]]);
+  equal(linesOfNames({ lines }), [...lines.slice(0, 3), lines[6], lines[8]]);
 }
 
 /** A processor that halts is drawn as halted, in the mode in which it is. */

@@ -8,11 +8,11 @@ from typing import Any
 
 import bundle
 import sessions
+from nezdrab.explore.page_file import PageSession
 from tests import under_test
 from tests.web.browser import Browser, found_browser
+from tests.web.firefox import Firefox, found_firefox
 from webassembly import files
-
-from . import firefox
 
 ROOT = files.ROOT
 PAGE = """\
@@ -64,7 +64,7 @@ def write_page(folder: Path) -> str:
     (folder / "index.html").write_text(PAGE)
     (folder / "test.js").write_text(SCRIPT)
     held = {"a.disk": b"ab" * 99}
-    session = bundle.Session("one.session", ["--units", "2"], ["regs 0"], held)
+    session = PageSession("one.session", ["--units", "2"], ["regs 0"], held)
     page = folder / "page.html"
     page.write_text(bundle.page(folder / "index.html", programs, session))
     return page.as_uri()
@@ -74,27 +74,30 @@ class InFirefox(unittest.TestCase):
     """That a page and its worker run in Firefox too."""
 
     def test_a_page_from_a_disk(self) -> None:
-        found = [it for it in map(shutil.which, firefox.NAMES) if it]
-        if not found:
+        program = found_firefox()
+        if program is None:
             raise unittest.SkipTest("firefox isn't installed")
         folder = tempfile.TemporaryDirectory()
         self.addCleanup(folder.cleanup)
         address = write_page(Path(folder.name))
-        browser = firefox.Firefox(str(found[0]))
+        browser = Firefox(program)
         self.addCleanup(browser.close)
         browser.open(address)
         lines = json.dumps([*LOOP, "at 5 key 101", "regs 4"])
-        replies = browser.value(f"self.it = new Machine(); return tried(it, {lines})")
+        browser.value("self.it = new Machine(), null")
+        replies = browser.value(f"tried(it, {lines})")
         self.assertEqual(replies[:3], ["ok\n", "ok\n", "event 1\n"])
         self.assertRegex(replies[3], "^R0 000000 R1 000002 .* run\n$")
         stopped = browser.value(
-            f"const asked = tried(it, ['{LONG}']);"
+            f"(async () => {{ const asked = tried(it, ['{LONG}']);"
             "await new Promise(resolve => setTimeout(resolve, 300));"
             "it.stop(); return [(await asked)[0], ...await tried(it, ['mem 0 1000 2', 'drop 1'])];"
+            "})()"
         )
         self.assertEqual(stopped, ["Stopped", "mem 005201 000776\n", "ok\n"])
         asked = "tried(new Machine({program: 'disassemble'}), ['1000 012700 5 0'])"
-        self.assertEqual(browser.value(f"return {asked}"), ["2 MOV #5,R0\n"])
+        self.assertEqual(browser.value(asked), ["2 MOV #5,R0\n"])
+        self.assertEqual(browser.said(), [])
 
 
 class Machines(unittest.TestCase):

@@ -11,6 +11,7 @@ from pathlib import Path
 from typing import Any
 
 import bundle
+from nezdrab.explore.page_file import EMPTY, PageSession, unpacked_bytes
 
 ROOT = Path(__file__).resolve().parents[3]
 PAGE = """\
@@ -35,7 +36,7 @@ MODULES = {
     "two.js": "export const two = 2;\n",
     "machine-worker.js": 'import { two } from "./two.js";\nself.two = two;\n',
 }
-SESSION = bundle.Session(
+SESSION = PageSession(
     "a</script><b>", ["--disk", "a.disk"], ["# \xff<!--"], {"a.disk": b"\0\1" * 9}
 )
 
@@ -53,7 +54,7 @@ class Case(unittest.TestCase):
         for name, text in texts.items():
             (self.folder / name).write_text(text)
 
-    def packed(self, session: bundle.Session = bundle.EMPTY) -> str:
+    def packed(self, session: PageSession = EMPTY) -> str:
         return bundle.page(self.folder / "index.html", {"search": b"\0asm"}, session)
 
     def element(self, text: str, name: str) -> str:
@@ -73,18 +74,26 @@ class Packed(Case):
             self.assertIn(it, self.packed())
         self.assertNotRegex(self.packed(), r"(?m)^(import|export) ")
 
+    def test_comments_alone_in_their_lines_are_left_out(self) -> None:
+        """A comment that code follows or precedes stays, and the code between two does."""
+        text = "/** two\n  * lines */\nexport const two = 2;\n/** @type {a} */ (two);\n"
+        self.write({"two.js": f"{text}// a line\nconst it = two; // stays\n/* last */\n"})
+        wanted = "const two = 2;\n/** @type {a} */ (two);\nconst it = two; // stays\nreturn {"
+        self.assertIn(wanted, self.packed())
+        self.assertNotIn("a line", self.packed())
+
     def test_the_same_bytes_each_time(self) -> None:
         self.assertEqual(self.packed(SESSION), self.packed(SESSION))
 
     def test_the_session_and_the_modules(self) -> None:
         text = self.packed(SESSION)
         session: Any = json.loads(self.element(text, "session"))
-        inside = {it: bundle.unpacked_bytes(held) for it, held in session.pop("files").items()}
+        inside = {it: unpacked_bytes(held) for it, held in session.pop("files").items()}
         self.assertEqual(inside, {"a.disk": b"\0\1" * 9})
         self.assertEqual(session["name"], SESSION.name)
         wanted = {"arguments": SESSION.arguments, "lines": SESSION.lines}
         self.assertEqual(session, {"name": SESSION.name, **wanted})
-        self.assertEqual(bundle.unpacked_bytes(self.element(text, "search.wasm")), b"\0asm")
+        self.assertEqual(unpacked_bytes(self.element(text, "search.wasm")), b"\0asm")
 
     def test_the_policy_lets_run_what_is_packed_alone(self) -> None:
         text = self.packed(SESSION)
@@ -109,7 +118,7 @@ class Packed(Case):
             'const two = await import("./two.js");\n',
             "const place = import.meta.url;\n",
             'const end = "</script>";\n',
-            "// <!--\n",
+            "first(); // <!--\n",
         ):
             with self.subTest(text), self.assertRaisesRegex(bundle.PackingError, "doesn't know"):
                 self.write({"two.js": text})
@@ -146,7 +155,7 @@ class Packed(Case):
         cut = base64.b64encode(gzip.compress(b"module")[:-4]).decode()
         for text in "%", "AAAA", cut:
             with self.subTest(text), self.assertRaises(ValueError):
-                bundle.unpacked_bytes(text)
+                unpacked_bytes(text)
 
 
 class ByTool(Case):
@@ -176,12 +185,10 @@ class ByTool(Case):
 
 
 class ByExplore(Case):
-    """The page that `explore web` writes. Its modules are no programs here."""
+    """The page that `explore web` writes: the packed one with another session."""
 
     def setUp(self) -> None:
         super().setUp()
-        for name in "search", "disassemble":
-            (self.folder / f"{name}.wasm").write_bytes(b"\0asm")
         (self.folder / "one").mkdir()
         (self.folder / "two").mkdir()
         self.write({"one/my.disk": "abcd", "two/my.disk": "efgh", "kernel.sym": "MAIN 1000\n"})
@@ -190,14 +197,14 @@ class ByExplore(Case):
 
     def web(self, *words: str, status: int = 0) -> str:
         """Runs `explore web` in the folder; returns what it says."""
-        command = [str(ROOT / "explore"), "web", "--no-open", "--programs", ".", *words]
+        command = [str(ROOT / "explore"), "web", "--no-open", *words]
         ran = subprocess.run(command, cwd=self.folder, capture_output=True, text=True)
         self.assertEqual(ran.returncode, status, ran.stderr)
         return f"{ran.stdout}{ran.stderr}"
 
     def session(self, name: str) -> Any:
         found = json.loads(self.element((self.folder / name).read_text(), "session"))
-        found["files"] = {it: bundle.unpacked_bytes(held) for it, held in found["files"].items()}
+        found["files"] = {it: unpacked_bytes(held) for it, held in found["files"].items()}
         return found
 
     def test_a_session_with_its_options_files_and_symbols(self) -> None:
@@ -213,12 +220,16 @@ class ByExplore(Case):
         self.assertEqual(self.web(), "nezdrab.html\n")
         wanted = {"name": "", "arguments": [], "lines": [], "files": {}}
         self.assertEqual(self.session("nezdrab.html"), wanted)
+        packed = (ROOT / "release" / "nezdrab.html").read_text()
+        for name in "examples", "search.wasm", "machine-worker.js":
+            text = self.element((self.folder / "nezdrab.html").read_text(), name)
+            self.assertEqual(text, self.element(packed, name))
 
     def test_the_browser_is_told_of_the_page(self) -> None:
         browser, said = self.folder / "browser", self.folder / "said"
         browser.write_text(f'#!/bin/sh\necho "$1" >{said}\n')
         browser.chmod(0o755)
-        command = [str(ROOT / "explore"), "web", "--programs", ".", "my.session"]
+        command = [str(ROOT / "explore"), "web", "my.session"]
         told = {**os.environ, "BROWSER": f"{browser} %s"}
         ran = subprocess.run(command, cwd=self.folder, env=told, capture_output=True, text=True)
         self.assertEqual((ran.returncode, ran.stdout, ran.stderr), (0, "my.html\n", ""))
@@ -237,5 +248,3 @@ class ByExplore(Case):
         self.assertIn("none.session: no such file", self.web("none.session", status=1))
         self.assertIn("none.disk: No such file", self.web("--disk", "none.disk", status=1))
         self.assertIn("can't be written", self.web("--to", "none/my.html", status=1))
-        (self.folder / "search.wasm").unlink()
-        self.assertIn("search.wasm: No such file or directory; tools/web", self.web(status=1))

@@ -1,6 +1,5 @@
 /* What the objects of the programs call of glibc and of the kit's libos_c, and musl lacks. No proof
  * covers it. tools/release-static links it, with --wrap=main. */
-#include <cpuid.h>
 #include <errno.h>
 #include <signal.h>
 #include <string.h>
@@ -42,6 +41,10 @@ ssize_t __write(int file, const void *from, size_t count) { return write(file, f
  * system, as SSE4.2 and POPCNT; so all that is there can be used. */
 struct leaf { unsigned has[4], usable[4]; };
 
+static void cpuid(unsigned leaf, unsigned part, unsigned to[4]) {
+    __asm__("cpuid" : "=a"(to[0]), "=b"(to[1]), "=c"(to[2]), "=d"(to[3]) : "a"(leaf), "c"(part));
+}
+
 const struct leaf *__x86_get_cpuid_feature_leaf(unsigned number) {
     static const unsigned asked[][2] = {
         { 1, 0 }, { 7, 0 }, { 0x80000001u, 0 }, { 0xd, 1 }, { 0x80000007u, 0 }, { 0x80000008u, 0 },
@@ -49,10 +52,19 @@ const struct leaf *__x86_get_cpuid_feature_leaf(unsigned number) {
     };
     static const struct leaf none;
     static struct leaf found[sizeof asked / sizeof *asked];
-    unsigned *has;
+    unsigned has[4];
     if (number >= sizeof asked / sizeof *asked) return &none;
-    has = found[number].has;
-    __get_cpuid_count(asked[number][0], asked[number][1], &has[0], &has[1], &has[2], &has[3]);
-    memcpy(found[number].usable, has, sizeof found[number].usable);
+    cpuid(asked[number][0] & 0x80000000u, 0, has);
+    if (has[0] < asked[number][0]) return &none;
+    cpuid(asked[number][0], asked[number][1], found[number].has);
+    memcpy(found[number].usable, found[number].has, sizeof found[number].usable);
     return &found[number];
 }
+
+/* The functions of the program come after this, which is FURTHER bytes long. */
+#define DIGITS_OF(number) #number
+#define DIGITS(number) DIGITS_OF(number)
+__asm__(".section .text.further, \"axR\", @progbits\n"
+        ".balign 256\n"
+        ".skip " DIGITS(FURTHER) "\n"
+        ".previous\n");

@@ -1,0 +1,1 @@
+"""README and the documents of docs/ as one page."""

@@ -1,0 +1,42 @@
+"""Where Python's compiled modules are kept, so that explore starts at once."""
+import subprocess
+from pathlib import Path
+
+from .common import ROOT, SECONDS, Case
+
+MODULE = "main.cpython-*.pyc"
+
+
+class Start(Case):
+    """The cache is the user's; the clone stays as it is."""
+
+    def starts(self, **environment: str) -> None:
+        ended = subprocess.run(
+            [str(ROOT / "explore"), "--version"],
+            env={"PATH": "/usr/bin:/bin", **environment},
+            capture_output=True,
+            text=True,
+            timeout=SECONDS,
+        )
+        self.assertEqual((ended.returncode, ended.stderr), (0, ""))
+
+    def kept_in(self, folder: Path) -> list[Path]:
+        return list(folder.rglob(MODULE))
+
+    def test_compiled_modules_are_in_the_cache_of_the_user(self) -> None:
+        home = self.folder / "home"
+        self.starts(HOME=str(home))
+        self.assertTrue(self.kept_in(home / ".cache" / "nezdrab" / "python"))
+
+    def test_they_are_where_the_user_wants_the_cache(self) -> None:
+        home, cache = self.folder / "home", self.folder / "elsewhere"
+        self.starts(HOME=str(home), XDG_CACHE_HOME=str(cache))
+        self.assertTrue(self.kept_in(cache / "nezdrab" / "python"))
+        self.assertFalse(home.exists())
+
+    def test_nothing_is_kept_without_a_place(self) -> None:
+        before = self.kept_in(ROOT / "src")
+        self.starts()
+        self.starts(HOME="relative")
+        self.starts(HOME="/dev/null")
+        self.assertEqual(self.kept_in(ROOT / "src"), before)

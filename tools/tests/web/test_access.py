@@ -1,0 +1,112 @@
+"""WCAG 2.2 AA, by checks of this project's own: what is drawn, in both looks. Names of controls and
+the sizes of targets are in test_looks."""
+import json
+from pathlib import Path
+from typing import Any
+
+from .common import OpenCase
+
+CHECKS = Path(__file__).with_name("access.js").read_text()
+WIDTHS = (320, 400, 640, 1280)
+# The colours of lines and marks on the canvas, by their names in the style.
+MARKS = ("ink", "counter", "cpu", "disk", "interrupt", "key", "ghost", "bad", "accent")
+# What tells the user something later than at the press of a key.
+MESSAGES = (
+    ["reply", "verdict", "find-said", "step-said", "inspect-said", "sweep-status", "sweep-chosen"]
+    + ["link", "linked", "difference", "reasons", "edits-kept", "session-kept"]
+    + ["drives-said"]
+)
+# Each check, with what makes a page of which it must say something.
+WRONG = {
+    "lowTexts()": "document.querySelector('#keys').style.color = '#aaa'",
+    "lowEdges()": "document.querySelector('#undo').disabled = false;"
+    "document.querySelector('#undo').style.borderColor = '#eee'",
+    f"lowMarks({json.dumps(MARKS)})": "document.documentElement.style"
+    ".setProperty('--cpu', '#fafafa')",
+    "headings()": "document.querySelector('main h2').outerHTML = '<h6>Lower</h6>'",
+    "pictures()": "document.body.append(document.createElement('img'))",
+    "lost()": "document.querySelector('#save').style.width = '3000px';"
+    "document.querySelector('#save').style.maxWidth = 'none'",
+    f"untold({json.dumps(MESSAGES)})": "document.querySelector('#reply').role = 'note'",
+}
+
+
+class Access(OpenCase):
+    turn_at_first = 126_967
+
+    def setUp(self) -> None:
+        self.browser.size(1280, 1000)
+        super().setUp()
+        self.browser.value(f"(() => {{ {CHECKS} }})()")
+
+    def found(self, check: str) -> Any:
+        return self.browser.value(f"access.{check}")
+
+    def test_contrast(self) -> None:
+        for is_dark in (False, True):
+            self.browser.size(1280, 1000, is_dark)
+            self.browser.wait(
+                f"(document.documentElement.dataset.look === 'dark') === {str(is_dark).lower()}"
+            )
+            self.assertEqual(self.found("lowTexts()"), [])
+            self.assertEqual(self.found("lowEdges()"), [])
+            self.assertEqual(self.found(f"lowMarks({json.dumps(MARKS)})"), [])
+
+    def test_language_headings_and_pictures(self) -> None:
+        self.assertEqual(self.browser.value("document.documentElement.lang"), "en")
+        self.assertEqual(self.found("headings()"), [])
+        self.assertEqual(self.found("pictures()"), [])
+
+    def test_nothing_is_lost_in_a_narrow_page(self) -> None:
+        """640 pixels are those of 1280 at 200 percent, 320 those at 400 percent."""
+        shown = "document.querySelector('#keys').checkVisibility()"
+        for width in WIDTHS:
+            self.browser.size(width, 800)
+            self.wait_still()
+            self.assertEqual(self.found("lost()"), [], width)
+            self.assertTrue(self.browser.value(shown), width)
+
+    def test_messages_are_told(self) -> None:
+        self.assertEqual(self.found(f"untold({json.dumps(MESSAGES)})"), [])
+
+    def test_nothing_moves_if_that_is_asked(self) -> None:
+        begin = "document.querySelector('.mark').className = 'mark wanted'"
+        count = f"({begin}, document.getAnimations().length)"
+        features = [{"name": "prefers-reduced-motion", "value": "no-preference"}]
+        self.browser.call("Emulation.setEmulatedMedia", features=features)
+        self.assertGreater(self.browser.value(count), 0)
+        features[0]["value"] = "reduce"
+        self.browser.call("Emulation.setEmulatedMedia", features=features)
+        self.assertEqual(self.browser.value(count), 0)
+
+    def test_the_keyboard_goes_through_all(self) -> None:
+        """In the order of the page, without a trap, and what has the focus is marked."""
+        self.wait_still()
+        all_of_them = int(self.found("beginFocus()"))
+        self.assertGreater(all_of_them, 60)
+        seen: list[int] = []
+        wrong: list[str] = []
+        for _ in range(all_of_them):
+            at, faults = self.found("focusNow()")
+            seen.append(at)
+            wrong += faults
+            self.browser.key("Tab")
+        self.assertEqual(seen, list(range(all_of_them)))
+        self.assertEqual(wrong, [])
+
+    def test_a_focus_that_is_not_marked_is_found(self) -> None:
+        self.found("beginFocus()")
+        self.browser.value("document.activeElement.style.outline = 'none'")
+        self.assertEqual(len(self.found("focusNow()")[1]), 1)
+        self.browser.value("document.activeElement.style.outline = ''")
+
+    def test_each_check_can_fail(self) -> None:
+        for check, change in WRONG.items():
+            with self.subTest(check=check):
+                self.browser.open(self.address)
+                self.wait_still()
+                self.browser.value(f"(() => {{ {CHECKS} }})()")
+                before = self.found(check)
+                self.browser.value(change)
+                self.assertGreater(len(self.found(check)), len(before))
+        type(self).is_open = False
