@@ -20,6 +20,9 @@
 //! - Pages can be loaded so that their last stamps of some turn and of later turns are laid over
 //!   those of the store ([`Paged::load_pages_over`], `overlays_are_flat`). A store says whether it
 //!   has the words of pages, exactly ([`Paged::has_words`], [`SharedPaging::has_words`]).
+//! - A store can keep a log of the processor's bus cycles beside its words ([`Store::note`],
+//!   [`Logging`], [`CycleLog`]): all, or the reads at one address, while there is room. [`Flat`],
+//!   [`Paged`] and [`PagedDrive`] keep none.
 //! - The stamps that a trace of accesses leaves are those of its last writes
 //!   (`traces_leave_last_writes`).
 //! - A page with one word changed has the next serial and keeps its stamps (`page_with_word`). It

@@ -6,6 +6,7 @@ ghost use Rattle.pdp_store.specs.Stored.{HasLastOfEachOrNone};
 use crate::{BusCycle, CycleLog, Stamp, Store};
 
 /// A store, and a log of the bus cycles that are noted there.
+#[derive(Drop)]
 pub struct Logging<S> {
     pub store: S,
     pub log: CycleLog,
