@@ -42,7 +42,6 @@ pub fn stamps_disturb_nothing()
 
 /// A law of turns: a turn does the same whatever log of bus cycles is kept. Its cycles are put into
 /// that log, and nothing else differs. Where none is kept, none is begun. [P]
-#[tactic(auto, using(crate::proofs::Logged::turn_keeps_no_log))]
 pub fn logs_disturb_nothing()
     ensures any { (t : ℕ) (events : List Event) (w : World) (log : KeptCycles) →
         LogsDisturbNothing t events w log }
