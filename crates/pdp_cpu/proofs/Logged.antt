@@ -2,8 +2,6 @@
 use Rattle.std.proofs.Common.{◌≡◌, ◌∙◌, ℕ, List, ap}
 use Rattle.pdp_store.specs.CycleLogs.{KeptCycles, no_log}
 use Rattle.pdp_unibus.proofs.Logged.{begun_logged}
-use Rattle.pdp_unibus.specs.Beginning.{after_beginning}
-use Rattle.pdp_unibus.specs.BusWorld.{with_log}
 use Rattle.pdp_unibus.specs.declared.event.Event.{Event}
 use Rattle.pdp_operand.proofs.Kept.{course_keeps_no_log}
 use Rattle.pdp_operand.proofs.Logged.{logged_course}

@@ -2,7 +2,7 @@
 use Rattle.std.proofs.Common.{ℕ, ◌<◌, true, false, List, [], ◌∷◌, ◌++◌, Option, None, Ok, Err, Result, length, append-nil}
 use Rattle.pdp_store.specs.TracedAccess.{TracedAccess}
 use Rattle.pdp_store.specs.declared.cycle_log.BusCycle.{BusCycle}
-use Rattle.pdp_unibus.specs.BusWorld.{BusWorld, with_io_page}
+use Rattle.pdp_unibus.specs.BusWorld.{BusWorld}
 use Rattle.pdp_unibus.specs.declared.io_page.IoPage.{IoPage}
 use Rattle.pdp_unibus.specs.Cycle.{core_read, core_stored}
 use Rattle.pdp_unibus.specs.Trace.{processor_touch}
