@@ -1,7 +1,7 @@
 //! A machine that keeps a log of the processor's bus cycles, made of one that keeps none, and back.
 
 ghost use Rattle.std.specs.Prelude.{◌≡◌};
-ghost use Rattle.pdp_store.specs.CycleLogs.{no_log};
+ghost use Rattle.pdp_store.specs.CycleLogs.{emptied, no_log};
 ghost use Rattle.pdp_cpu.specs.Turns.MachineState.{machine_with_log};
 
 use crate::machine::Machine;
@@ -31,6 +31,14 @@ impl<S: Store, D: Store> Machine<Logging<S>, D> {
         ensures { result.now ≡ self.now.state.world.bus.log.told }
     {
         self.computer.bus.cycles()
+    }
+
+    /// Drops the bus cycles that the log has kept.
+    pub fn clear_log(&mut self)
+        ensures { self.new
+            ≡ machine_with_log (emptied self.old.state.world.bus.log) self.old }
+    {
+        self.computer.bus.clear_log();
     }
 }
 

@@ -31,3 +31,7 @@ abbrev pub logged : BusCycle → KeptCycles → KeptCycles
 logged cycle log = if keeps log.reads_of cycle && nat_lt (length log.told) log.room then record log {
   told = log.told ++ cycle ∷ [];
 } else log
+
+-- the log without the cycles that it has
+abbrev pub emptied : KeptCycles → KeptCycles
+emptied log = record log { told = [] }

@@ -1,7 +1,7 @@
 //! Logs of the bus cycles that the processor makes. A store is where a log is kept: most keep none.
 
 ghost use Rattle.std.specs.Prelude.{◌≡◌, nat_lt, [], IfOk};
-ghost use Rattle.pdp_store.specs.CycleLogs.{keeps, logged};
+ghost use Rattle.pdp_store.specs.CycleLogs.{emptied, keeps, logged};
 
 use pdp_word::NoMemory;
 use std::alloc::Global;
@@ -71,6 +71,13 @@ impl CycleLog {
         ensures { result.now ≡ self.now.told }
     {
         &self.cycles
+    }
+
+    /// Drops the cycles that are kept, and has as much room again.
+    pub fn clear(&mut self)
+        ensures { self.new ≡ emptied self.old }
+    {
+        self.cycles.truncate(0);
     }
 
     // Whether the log is one of such cycles.

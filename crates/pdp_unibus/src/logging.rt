@@ -1,7 +1,7 @@
 //! A bus that keeps a log of the processor's cycles, made of one that keeps none, and back.
 
 ghost use Rattle.std.specs.Prelude.{◌≡◌};
-ghost use Rattle.pdp_store.specs.CycleLogs.{no_log};
+ghost use Rattle.pdp_store.specs.CycleLogs.{emptied, no_log};
 ghost use Rattle.pdp_unibus.specs.BusWorld.{with_log};
 
 use crate::bus::Bus;
@@ -34,6 +34,13 @@ impl<S: Store, D: Store> Bus<Logging<S>, D> {
         ensures { result.now ≡ self.now.log.told }
     {
         self.words.log.cycles()
+    }
+
+    /// Drops the cycles that the log has kept.
+    pub fn clear_log(&mut self)
+        ensures { self.new ≡ with_log self.old (emptied self.old.log) }
+    {
+        self.words.log.clear();
     }
 }
 
