@@ -23,9 +23,9 @@ begins = record {
 goes : Goes KeepsDrives
 goes = record {
   stays = λ b. refl;
-  changes = λ xs b c io_page so. so;
+  changes = λ xs b c io_page told so. so;
   looks = λ b k within. refl;
-  writes = λ b k word within. refl;
+  writes = λ b k word told within. refl;
   joins = λ xs ys b c d so also. also ∙ so;
 }
 

@@ -11,3 +11,4 @@ mod KeptTexts
 pub mod CalmDrives
 pub mod CalmTurns
 pub mod Rules
+pub mod Logged

@@ -4,6 +4,7 @@ ghost use Rattle.std.specs.Prelude.{◌≡◌, ◌<◌, ◌≤◌, ℕ, All, Lis
 ghost use Rattle.std.specs.Prelude.{map, slice_index_or};
 ghost use Rattle.pdp_unibus.specs.BusWorld.{BusWorld, is_disk_busy};
 ghost use Rattle.pdp_unibus.specs.declared.event.Event.{Event};
+ghost use Rattle.pdp_store.specs.CycleLogs.{KeptCycles, no_log};
 ghost use Rattle.pdp_store.specs.TracedAccess.{Avoids, last_write};
 ghost use Rattle.pdp_store.specs.declared.Stamp.{Stamp};
 ghost use Rattle.pdp_store.specs.declared.part.Part.{Part};
@@ -11,7 +12,8 @@ ghost use Rattle.pdp_unibus.specs.Page.{AlikeOutside};
 ghost use Rattle.pdp_unibus.specs.Touched.{IsOfTurn};
 ghost use Rattle.pdp_operand.specs.declared.processor.Processor.{Processor};
 ghost use Rattle.pdp_operand.specs.declared.processor.RunState.TheVariants.{Halted};
-ghost use Rattle.pdp_cpu.specs.Laws.TurnLaws.{NoneContinues, StampsDisturbNothing, Stays};
+ghost use Rattle.pdp_cpu.specs.Laws.TurnLaws.{LogsDisturbNothing, NoneContinues};
+ghost use Rattle.pdp_cpu.specs.Laws.TurnLaws.{StampsDisturbNothing, Stays};
 ghost use Rattle.pdp_cpu.specs.Laws.TurnLaws.{Undisturbed, WordsStay, turn_phases, world_after};
 ghost use Rattle.pdp_cpu.specs.Turns.Turn.{one_turn, turn_trace};
 ghost use Rattle.pdp_operand.specs.Phases.World.{World, world};
@@ -36,6 +38,15 @@ pub fn stamps_are_last_writes()
 pub fn stamps_disturb_nothing()
     ensures { (t : ℕ) (events : List Event) (w : World) (stamps : List (Option Stamp)) →
         StampsDisturbNothing t events w stamps }
+{}
+
+/// A law of turns: a turn does the same whatever log of bus cycles is kept. Its cycles are put into
+/// that log, and nothing else differs. Where none is kept, none is begun. [P]
+pub fn logs_disturb_nothing()
+    ensures any { (t : ℕ) (events : List Event) (w : World) (log : KeptCycles) →
+        LogsDisturbNothing t events w log }
+    ensures none { (t : ℕ) (events : List Event) (w : World) → w.bus.log ≡ no_log →
+        (one_turn t events w).bus.log ≡ no_log }
 {}
 
 /// A law of turns: every access in the trace of a turn is in that turn; one of core is of a word

@@ -21,6 +21,8 @@
 //! - Stamps are the last writes of the trace, in which are the accesses of the processor and those
 //!   of the disk (`stamps_are_last_writes`, `touches_are_of_their_turn`). A turn does the same
 //!   whatever stamps there are (`stamps_disturb_nothing`).
+//! - A machine can keep a log of the bus cycles of its processor (`Machine::logging`, `cycles`,
+//!   `unlogged`). It then does the same as without a log (`logs_disturb_nothing`).
 //! - A turn that never touches a page of core or of a drive does the same whatever the page has,
 //!   and leaves the page (`turns_leave_what_they_never_touch`).
 //! - The processor of a halted machine stays until `continue`, and so do core and the drives if
@@ -43,6 +45,7 @@ mod drives;
 mod due;
 mod kept_text;
 mod laws;
+mod logging;
 mod machine;
 mod meter;
 mod regs;
@@ -55,7 +58,7 @@ mod turn_trap;
 pub use act::Act;
 pub use kept_text::KeptByte;
 pub use laws::{
-    halted_machines_stay, stamps_are_last_writes, stamps_disturb_nothing,
+    halted_machines_stay, logs_disturb_nothing, stamps_are_last_writes, stamps_disturb_nothing,
     touches_are_of_their_turn, turns_end_within_32_phases, turns_keep_the_size_of_core,
     turns_keep_the_sizes_of_drives, turns_keep_the_tape, turns_leave_what_they_never_touch,
 };

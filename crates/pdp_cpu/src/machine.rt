@@ -6,7 +6,7 @@ ghost use Rattle.pdp_cpu.specs.KeptTexts.{without_turns};
 ghost use Rattle.pdp_cpu.specs.Turns.Due.{act_of, due_of};
 ghost use Rattle.pdp_cpu.specs.Turns.MachineState.{IsReady, powered_machine};
 ghost use Rattle.pdp_cpu.specs.Turns.MachineState.{machine_world, printed_kept, punched_kept};
-ghost use Rattle.pdp_cpu.specs.Turns.MachineState.{touched_machine, with_begun};
+ghost use Rattle.pdp_cpu.specs.Turns.MachineState.{state_with_log, touched_machine, with_begun};
 ghost use Rattle.pdp_cpu.specs.Turns.TurnRun.{RunsTouched, RunsTurn};
 ghost use Rattle.pdp_store.specs.Parts.{words_of_drive};
 ghost use Rattle.pdp_unibus.specs.Shown.{devices_of, page_registers_of};
@@ -79,8 +79,9 @@ impl<S: Store, D: Store> Machine<S, D> {
         tape: Vec<u8>,
         delays: Delays,
     ) -> Self
-        ensures state { result.state ≡ powered_machine start (S.words words) (S.stamps words)
-            (map D.words drives.items) tape.items delays }
+        ensures state { result.state ≡ state_with_log (S.log words)
+            (powered_machine start (S.words words) (S.stamps words) (map D.words drives.items)
+            tape.items delays) }
         ensures kept_text { result.kept_text ≡ [] }
         ensures kept_punched { result.kept_punched ≡ [] }
         ensures first_touches { result.first_touches

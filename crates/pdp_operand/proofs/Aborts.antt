@@ -1,5 +1,5 @@
 -- References that memory management aborts.
-use Rattle.std.proofs.Common.{◌≡◌, ℕ, Bool, true, false, Ok, Err, Result, refl, sym, ◌∙◌, ap, length}
+use Rattle.std.proofs.Common.{◌≡◌, ℕ, Bool, true, false, None, Ok, Err, Result, refl, sym, ◌∙◌, ap, length}
 use Rattle.pdp_kt11.proofs.AbortLaws.{abort_leaves_the_rest, read_only}
 use Rattle.pdp_kt11.specs.Laws.{AbortsInStatusAlone}
 use Rattle.pdp_kt11.specs.declared.kt.Kt.{Kt}
@@ -17,7 +17,7 @@ use Rattle.pdp_operand.proofs.Shape.Shape.{Apart}
 
 -- a reference that no word of core answers, and that leaves all of the I/O page but SR0
 apart_fails : (r : Reference) (b : BusWorld) (status : MappingStatus) (trap : Trap)
-    → shape_of r b ≡ Apart (with_mapping_status status b.io_page) (Err trap) → FailsWith trap r b
+    → shape_of r b ≡ Apart None (with_mapping_status status b.io_page) (Err trap) → FailsWith trap r b
 apart_fails r b status trap is = record {
   told = rw (perform_is r b, is) refl;
   core = rw (perform_is r b, is) refl;
@@ -27,6 +27,7 @@ apart_fails r b status trap is = record {
   bytes_read = rw (perform_is r b, is) refl;
   turn = rw (perform_is r b, is) refl;
   first_touches = rw (perform_is r b, is) refl;
+  log = rw (perform_is r b, is) refl;
   io_page = rw (perform_is r b, is) refl;
   touches_none = rw (touches_is r b, is) refl;
 }
@@ -37,7 +38,7 @@ unplaced_fails : (r : Reference) (b : BusWorld) → is_odd r.kind r.address ≡ 
 unfolding shape_of
 unplaced_fails r b even aborts =
     apart_fails r b (translation r b).after.status MappingAbort
-    (rw (even, aborts.aborts.1) (ap (λ (kt : Kt). Apart (record b.io_page { mapping = kt }) (Err MappingAbort)) aborts.leaves))
+    (rw (even, aborts.aborts.1) (ap (λ (kt : Kt). Apart None (record b.io_page { mapping = kt }) (Err MappingAbort)) aborts.leaves))
 
 -- what has a physical address isn't aborted
 placed_answers : (kind : Kind) (physical turn drives : ℕ) (io_page : IoPage) (slave : Slave) (b : BusWorld)

@@ -40,15 +40,15 @@ by_shape : (shape : Shape) (b : BusWorld) (notes : AccessNotes)
     → reply_by shape (with_notes b notes)
     ≡ reply_holding (reply_by shape b) (notes_after (touches_by shape b) notes)
 unfolding first_touches_after stamps_after_trace
-by_shape (Apart io_page value) b notes = refl
+by_shape (Apart cycle io_page value) b notes = refl
 by_shape (Looked io_page f k) b notes = refl
-by_shape (Wrote io_page told f k) b notes = refl
+by_shape (Wrote cycle io_page told f k) b notes = refl
 
 touches_by_shape : (shape : Shape) (b : BusWorld) (notes : AccessNotes)
     → touches_by shape (with_notes b notes) ≡ touches_by shape b
-touches_by_shape (Apart io_page value) b notes = refl
+touches_by_shape (Apart cycle io_page value) b notes = refl
 touches_by_shape (Looked io_page f k) b notes = refl
-touches_by_shape (Wrote io_page told f k) b notes = refl
+touches_by_shape (Wrote cycle io_page told f k) b notes = refl
 
 same_if : (odd : Bool) (r : Reference) (b : BusWorld) (notes : AccessNotes)
     → shape_if odd r (with_notes b notes) ≡ shape_if odd r b

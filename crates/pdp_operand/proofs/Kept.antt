@@ -1,14 +1,16 @@
 -- What every course keeps, and what its trace says.
-use Rattle.std.proofs.Common.{◌≡◌, ℕ, ◌<◌, ◌==◌, Bool, true, false, List, [], ◌∷◌, Option, None, refl, sym, ◌∙◌, All, length, slice_index_or, slice_set, if◌then◌else◌, length-set, get_or-set_same, get_or-set_other}
+use Rattle.std.proofs.Common.{◌≡◌, ℕ, ◌<◌, ◌==◌, Bool, true, false, List, [], ◌∷◌, Option, None, Some, refl, sym, ◌∙◌, All, length, slice_index_or, slice_set, if◌then◌else◌, length-set, get_or-set_same, get_or-set_other}
 use Rattle.std.proofs.lemmas.Bool.{eqb-true, eqb-false}
 use Rattle.std.proofs.lemmas.List.Elements.{All-nil, All-cons, All-append}
 use Rattle.pdp_store.specs.TracedAccess.{Avoids, TracedAccess, last_write}
+use Rattle.pdp_store.specs.CycleLogs.{no_log}
+use Rattle.pdp_store.specs.declared.cycle_log.BusCycle.{BusCycle}
 use Rattle.pdp_store.specs.declared.part.Part.{Part}
 use Rattle.pdp_store.specs.declared.part.Part.TheVariants as parts
 use Rattle.pdp_store.specs.declared.Stamp.{Stamp}
 use Rattle.pdp_unibus.proofs.Kept.{KeepsPage, KeepsStamps, keeps_page, keeps_stamps}
 use Rattle.pdp_unibus.specs.BusWorld.{BusWorld}
-use Rattle.pdp_unibus.specs.Cycle.{core_written}
+use Rattle.pdp_unibus.specs.Cycle.{core_stored}
 use Rattle.pdp_unibus.specs.Page.{SamePage}
 use Rattle.pdp_unibus.specs.Trace.{processor_touch}
 use Rattle.pdp_operand.specs.Phases.Phase.{State}
@@ -16,6 +18,7 @@ use Rattle.pdp_operand.specs.Phases.Course.{Course, follow}
 use Rattle.pdp_operand.specs.Laws.Trace.{trace_of}
 use Rattle.pdp_operand.specs.Laws.Touched.{IsByProcessor}
 use Rattle.pdp_operand.proofs.Along.{Goes, along_course}
+use Rattle.pdp_operand.proofs.Shape.{log_after}
 
 -- the turn and the number of words stay, and every touch is by the processor, of that turn and of those words
 pub record KeepsTurn (xs : List TracedAccess) (b c : BusWorld) : Type 0 where
@@ -33,9 +36,9 @@ touch_of_turn writes b k within =
 goes_turn : Goes KeepsTurn
 goes_turn = record {
   stays = λ b. record { turn = refl; words = refl; touches = All-nil (IsByProcessor b.turn (length b.core)) };
-  changes = λ xs b c io_page so. record { turn = so.turn; words = so.words; touches = so.touches };
+  changes = λ xs b c io_page told so. record { turn = so.turn; words = so.words; touches = so.touches };
   looks = λ b k within. record { turn = refl; words = refl; touches = touch_of_turn false b k within };
-  writes = λ b k word within. record { turn = refl; words = length-set _ _ _; touches = touch_of_turn true b k within };
+  writes = λ b k word told within. record { turn = refl; words = length-set _ _ _; touches = touch_of_turn true b k within };
   joins = λ xs ys b c d so also. record {
     turn = also.turn ∙ so.turn;
     words = also.words ∙ so.words;
@@ -51,9 +54,9 @@ stamped stamps j k stamp false is within = get_or-set_other stamps j k stamp Non
 goes_stamps : Goes KeepsStamps
 goes_stamps = record {
   stays = keeps_stamps.stays;
-  changes = λ xs b c io_page so. keeps_stamps.changes xs b c io_page c.bytes_read so;
+  changes = λ xs b c io_page told so. record { size = so.size; stamps = so.stamps };
   looks = λ b k within. record { size = refl; stamps = λ j below. refl };
-  writes = λ b k word within. record { size = length-set _ _ _; stamps = λ j below. stamped b.stamps k j _ (k == j) refl below };
+  writes = λ b k word told within. record { size = length-set _ _ _; stamps = λ j below. stamped b.stamps k j _ (k == j) refl below };
   joins = keeps_stamps.joins;
 }
 
@@ -61,25 +64,39 @@ goes_stamps = record {
 goes_tape : Goes (λ xs b c. c.tape ≡ b.tape)
 goes_tape = record {
   stays = λ b. refl;
-  changes = λ xs b c io_page so. so;
+  changes = λ xs b c io_page told so. so;
   looks = λ b k within. refl;
-  writes = λ b k word within. refl;
+  writes = λ b k word told within. refl;
   joins = λ xs ys b c d so also. also ∙ so;
 }
 
+-- where no log is kept none is begun
+none_after : (told : Option BusCycle) → log_after told no_log ≡ no_log
+none_after None = refl
+none_after (Some cycle) = refl
+
+goes_unlogged : Goes (λ xs b c. b.log ≡ no_log → c.log ≡ no_log)
+goes_unlogged = record {
+  stays = λ b none. none;
+  changes = λ xs b c io_page told so none. rw (so none) (none_after told);
+  looks = λ b k within none. rw none refl;
+  writes = λ b k word told within none. rw none refl;
+  joins = λ xs ys b c d so also none. also (so none);
+}
+
 -- a write leaves the pages of other words of its part, and of all other parts
-written_elsewhere : (part : Part) (page : ℕ) (b : BusWorld) (k word : ℕ) → Avoids part page (processor_touch true b k ∷ [])
-    → SamePage part page b (core_written b k word)
-written_elsewhere parts.Core page b k word avoids j inside =
+written_elsewhere : (part : Part) (page : ℕ) (b : BusWorld) (k word : ℕ) (told : BusCycle) → Avoids part page (processor_touch true b k ∷ [])
+    → SamePage part page b (core_stored b k word told)
+written_elsewhere parts.Core page b k word told avoids j inside =
     sym (get_or-set_other b.core k j word 0 (λ equal. avoids.0 refl (rw (← equal) inside)))
-written_elsewhere (parts.Drive number) page b k word avoids j inside = refl
+written_elsewhere (parts.Drive number) page b k word told avoids j inside = refl
 
 goes_page : (part : Part) (page : ℕ) → Goes (KeepsPage part page)
 goes_page part page = record {
   stays = (keeps_page part page).stays;
-  changes = λ xs b c io_page so. (keeps_page part page).changes xs b c io_page c.bytes_read so;
+  changes = λ xs b c io_page told so. so;
   looks = λ b k within avoids j inside. refl;
-  writes = λ b k word within avoids. written_elsewhere part page b k word avoids;
+  writes = λ b k word told within avoids. written_elsewhere part page b k word told avoids;
   joins = (keeps_page part page).joins;
 }
 
@@ -91,6 +108,9 @@ course_keeps_stamps = along_course KeepsStamps goes_stamps
 
 pub course_keeps_tape : (course : Course) (s : State) → (follow course s).world.bus.tape ≡ s.world.bus.tape
 course_keeps_tape = along_course (λ xs b c. c.tape ≡ b.tape) goes_tape
+
+pub course_keeps_no_log : (course : Course) (s : State) → s.world.bus.log ≡ no_log → (follow course s).world.bus.log ≡ no_log
+course_keeps_no_log = along_course (λ xs b c. b.log ≡ no_log → c.log ≡ no_log) goes_unlogged
 
 pub course_touches : (course : Course) (s : State) → All (IsByProcessor s.world.bus.turn (length s.world.bus.core)) (trace_of course s)
 course_touches course s = (course_keeps_turn course s).touches

@@ -11,3 +11,4 @@ pub mod Outside
 pub mod Aborts
 pub mod Decodings
 pub mod Rules
+pub mod Logged

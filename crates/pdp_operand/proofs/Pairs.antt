@@ -55,17 +55,17 @@ record PairedReply (part : Part) (page : ℕ) (reply other : Reply) : Type 0 whe
 paired_by_shape : (part : Part) (page : ℕ) (shape : Shape) (b : BusWorld) (ys : List ℕ) → InCore (length b.core) shape
     → AlikeWords page (words_of_part part b) ys → Avoids part page (touches_by shape b)
     → PairedReply part page (reply_by shape b) (reply_by shape (bus_with_words part ys b))
-paired_by_shape part page (Apart io_page value) b ys within alike avoids = record { words = ys; is = refl; alike = alike }
+paired_by_shape part page (Apart cycle io_page value) b ys within alike avoids = record { words = ys; is = refl; alike = alike }
 paired_by_shape parts.Core page (Looked io_page f k) b ys within alike avoids =
     record { words = ys; is = rw (alike.words k (avoids.0 refl)) refl; alike = alike }
 paired_by_shape (parts.Drive number) page (Looked io_page f k) b ys within alike avoids =
     record { words = ys; is = refl; alike = alike }
-paired_by_shape parts.Core page (Wrote io_page told f k) b ys within alike avoids = record {
+paired_by_shape parts.Core page (Wrote cycle io_page told f k) b ys within alike avoids = record {
   words = slice_set ys k (f (slice_index b.core k));
   is = rw (alike.words k (avoids.0 refl)) refl;
   alike = alike_set page b.core ys k _ within alike;
 }
-paired_by_shape (parts.Drive number) page (Wrote io_page told f k) b ys within alike avoids =
+paired_by_shape (parts.Drive number) page (Wrote cycle io_page told f k) b ys within alike avoids =
     record { words = ys; is = refl; alike = alike }
 
 paired_reply : (part : Part) (page : ℕ) (r : Reference) (b : BusWorld) (ys : List ℕ) → AlikeWords page (words_of_part part b) ys
@@ -75,9 +75,9 @@ paired_reply part page r b ys alike avoids =
     (paired_by_shape part page (shape_of r b) b ys (shape_in_core r b) alike (rw (touches_is r b) at avoids))
 
 same_by_shape : (part : Part) (shape : Shape) (b : BusWorld) (ys : List ℕ) → touches_by shape (bus_with_words part ys b) ≡ touches_by shape b
-same_by_shape part (Apart io_page value) b ys = refl
+same_by_shape part (Apart cycle io_page value) b ys = refl
 same_by_shape part (Looked io_page f k) b ys = refl
-same_by_shape part (Wrote io_page told f k) b ys = refl
+same_by_shape part (Wrote cycle io_page told f k) b ys = refl
 
 same_touches : (part : Part) (r : Reference) (b : BusWorld) (ys : List ℕ) → length ys ≡ length (words_of_part part b)
     → touches r (bus_with_words part ys b) ≡ touches r b

@@ -1,64 +1,74 @@
 -- What a reference comes to. Nothing else opens `perform` and `touches`.
-use Rattle.std.proofs.Common.{◌≡◌, ◌∙◌, ℕ, ◌<◌, ◌/◌, Bool, true, false, List, [], refl, Ok, Err, Option, None, Some, Result, length, slice_index, nat_lt, if◌then◌else◌, ltb-true, length-set}
+use Rattle.std.proofs.Common.{◌≡◌, ◌∙◌, ℕ, ◌<◌, ◌*◌, ◌/◌, Bool, true, false, List, [], refl, Ok, Err, Option, None, Some, Result, length, slice_index, nat_lt, if◌then◌else◌, ltb-true, length-set}
 use Rattle.pdp_kt11.specs.declared.place.Access.TheVariants.{Read, Write}
 use Rattle.pdp_unibus.specs.BusWorld.{BusWorld, with_io_page, with_mapping}
 use Rattle.pdp_unibus.specs.declared.io_page.IoPage.{IoPage}
-use Rattle.pdp_unibus.specs.Cycle.{Slave, Core, Device, Nobody, Answer, device_slave, slave_at, read_from, write_to, write_byte_to, core_read, core_written}
+use Rattle.pdp_unibus.specs.Cycle.{Slave, Core, Device, Nobody, Answer, device_slave, slave_at, read_from, write_to, write_byte_to, core_read, core_stored, told_read, told_write, told_byte_write}
 use Rattle.pdp_unibus.specs.Register.{register_at, value_in, after_byte, after_read, after_write, word_with_byte}
 use Rattle.pdp_unibus.specs.declared.register.Register.{Register}
 use Rattle.pdp_operand.specs.Handbook.Reference.{Kind, ReadWord, ReadByte, WriteWord, WriteByte, Reference, Reply, half_at, reply_of, at_place, perform, is_odd, translation, access_of}
 use Rattle.pdp_kt11.specs.declared.place.Abort.{Abort}
 use Rattle.pdp_operand.specs.Laws.Trace.{touch_at, touches_if_placed, touches}
+use Rattle.pdp_store.specs.CycleLogs.{KeptCycles, logged}
 use Rattle.pdp_store.specs.Parts.{core_with, drives_with}
 use Rattle.pdp_store.specs.TracedAccess.{TracedAccess}
+use Rattle.pdp_store.specs.declared.cycle_log.BusCycle.{BusCycle}
 use Rattle.pdp_store.specs.declared.part.Part.{Part}
 use Rattle.pdp_store.specs.declared.part.Part.TheVariants as parts
 use Rattle.pdp_unibus.specs.Page.{words_of_part, bus_with_words}
 use Rattle.pdp_action.specs.declared.trap.Trap.{Trap}
 use Rattle.pdp_action.specs.declared.trap.Trap.TheVariants.{BusTimeout, MappingAbort, OddAddress}
 
--- what a reference does, besides the I/O page that it leaves: no word of core answers; or a word is read, and told through
--- a function; or a word is written, from what it was
+-- what a reference does, besides the I/O page that it leaves: no word of core answers, and the log is told of a cycle if there
+-- is one; or a word is read, and told through a function; or a word is written, from what it was, which the log is told so
 pub data Shape : Type 0 where
-  Apart : IoPage → Result ℕ Trap → Shape
+  Apart : Option BusCycle → IoPage → Result ℕ Trap → Shape
   Looked : IoPage → (ℕ → ℕ) → ℕ → Shape
-  Wrote : IoPage → ℕ → (ℕ → ℕ) → ℕ → Shape
+  Wrote : BusCycle → IoPage → ℕ → (ℕ → ℕ) → ℕ → Shape
+
+-- a log after a cycle, if there is one
+abbrev pub log_after : Option BusCycle → KeptCycles → KeptCycles
+log_after None log = log
+log_after (Some cycle) log = logged cycle log
 
 abbrev pub reply_by : Shape → BusWorld → Reply
-reply_by (Apart io_page value) b = record { value = value; after = with_io_page b io_page }
+reply_by (Apart cycle io_page value) b = record { value = value; after = record b { io_page = io_page; log = log_after cycle b.log } }
 reply_by (Looked io_page f k) b = record { value = Ok (f (slice_index b.core k)); after = with_io_page (core_read b k) io_page }
-reply_by (Wrote io_page told f k) b =
-    record { value = Ok told; after = with_io_page (core_written b k (f (slice_index b.core k))) io_page }
+reply_by (Wrote cycle io_page told f k) b =
+    record { value = Ok told; after = with_io_page (core_stored b k (f (slice_index b.core k)) cycle) io_page }
 
 abbrev pub touches_by : Shape → BusWorld → List TracedAccess
-touches_by (Apart io_page value) b = []
+touches_by (Apart cycle io_page value) b = []
 touches_by (Looked io_page f k) b = touch_at Read b (Core k)
-touches_by (Wrote io_page told f k) b = touch_at Write b (Core k)
+touches_by (Wrote cycle io_page told f k) b = touch_at Write b (Core k)
 
 abbrev pub InCore : ℕ → Shape → Type 0
-InCore words (Apart io_page value) = Unit {0}
+InCore words (Apart cycle io_page value) = Unit {0}
 InCore words (Looked io_page f k) = k < words
-InCore words (Wrote io_page told f k) = k < words
+InCore words (Wrote cycle io_page told f k) = k < words
 
 -- of a bus with so many drives
 abbrev pub shape_at : Kind → ℕ → ℕ → ℕ → IoPage → Slave → Shape
 shape_at ReadWord physical turn drives io_page (Core k) = Looked io_page (λ word. word) k
 shape_at ReadByte physical turn drives io_page (Core k) = Looked io_page (half_at physical) k
-shape_at (WriteWord word) physical turn drives io_page (Core k) = Wrote io_page physical (λ _. word) k
-shape_at (WriteByte byte) physical turn drives io_page (Core k) = Wrote io_page physical (λ word. word_with_byte word physical byte) k
-shape_at ReadWord physical turn drives io_page (Device r) = Apart (after_read r io_page) (Ok (value_in r drives io_page))
-shape_at ReadByte physical turn drives io_page (Device r) = Apart (after_read r io_page) (Ok (half_at physical (value_in r drives io_page)))
-shape_at (WriteWord word) physical turn drives io_page (Device r) = Apart (after_write r word turn io_page) (Ok physical)
-shape_at (WriteByte byte) physical turn drives io_page (Device r) = Apart (after_byte r drives physical byte turn io_page) (Ok physical)
-shape_at _ physical turn drives io_page Nobody = Apart io_page (Err BusTimeout)
+shape_at (WriteWord word) physical turn drives io_page (Core k) = Wrote (told_write (k * 2) (Some word)) io_page physical (λ _. word) k
+shape_at (WriteByte byte) physical turn drives io_page (Core k) = Wrote (told_byte_write physical (Some byte)) io_page physical (λ word. word_with_byte word physical byte) k
+shape_at ReadWord physical turn drives io_page (Device r) = Apart (Some (told_read physical (Some (value_in r drives io_page)))) (after_read r io_page) (Ok (value_in r drives io_page))
+shape_at ReadByte physical turn drives io_page (Device r) = Apart (Some (told_read physical (Some (value_in r drives io_page)))) (after_read r io_page) (Ok (half_at physical (value_in r drives io_page)))
+shape_at (WriteWord word) physical turn drives io_page (Device r) = Apart (Some (told_write physical (Some word))) (after_write r word turn io_page) (Ok physical)
+shape_at (WriteByte byte) physical turn drives io_page (Device r) = Apart (Some (told_byte_write physical (Some byte))) (after_byte r drives physical byte turn io_page) (Ok physical)
+shape_at ReadWord physical turn drives io_page Nobody = Apart (Some (told_read physical None)) io_page (Err BusTimeout)
+shape_at ReadByte physical turn drives io_page Nobody = Apart (Some (told_read physical None)) io_page (Err BusTimeout)
+shape_at (WriteWord word) physical turn drives io_page Nobody = Apart (Some (told_write physical None)) io_page (Err BusTimeout)
+shape_at (WriteByte byte) physical turn drives io_page Nobody = Apart (Some (told_byte_write physical None)) io_page (Err BusTimeout)
 
 abbrev pub shape_by : Kind → ℕ → ℕ → ℕ → IoPage → Result ℕ Abort → Shape
 shape_by kind words turn drives io_page (Ok physical) = shape_at kind physical turn drives io_page (slave_at words physical)
-shape_by kind words turn drives io_page (Err abort) = Apart io_page (Err MappingAbort)
+shape_by kind words turn drives io_page (Err abort) = Apart None io_page (Err MappingAbort)
 
 -- of a reference to an odd address or not, with the I/O page that the translation leaves
 abbrev pub shape_if : Bool → Reference → BusWorld → Shape
-shape_if true r b = Apart b.io_page (Err OddAddress)
+shape_if true r b = Apart None b.io_page (Err OddAddress)
 shape_if false r b =
     shape_by r.kind (length b.core) b.turn (length b.drives) (with_mapping b (translation r b).after).io_page (translation r b).address
 
@@ -66,9 +76,9 @@ unfoldable pub shape_of : Reference → BusWorld → Shape
 shape_of r b = shape_if (is_odd r.kind r.address) r b
 
 abbrev answer_by : Kind → ℕ → BusWorld → Slave → Answer
-answer_by ReadWord physical b slave = read_from slave b
-answer_by ReadByte physical b slave = read_from slave b
-answer_by (WriteWord word) physical b slave = write_to slave word b
+answer_by ReadWord physical b slave = read_from physical slave b
+answer_by ReadByte physical b slave = read_from physical slave b
+answer_by (WriteWord word) physical b slave = write_to physical slave word b
 answer_by (WriteByte byte) physical b slave = write_byte_to slave physical byte b
 
 reply_at : (kind : Kind) (physical : ℕ) (b : BusWorld) (slave : Slave)
@@ -96,9 +106,9 @@ placed kind b (Err abort) = refl
 
 -- the I/O page of a shape is the one that it leaves: the one before counts for nothing
 on_io_page : (shape : Shape) (b : BusWorld) (io_page : IoPage) → reply_by shape (with_io_page b io_page) ≡ reply_by shape b
-on_io_page (Apart after value) b io_page = refl
+on_io_page (Apart cycle after value) b io_page = refl
 on_io_page (Looked after f k) b io_page = refl
-on_io_page (Wrote after told f k) b io_page = refl
+on_io_page (Wrote cycle after told f k) b io_page = refl
 
 performed : (odd : Bool) (r : Reference) (b : BusWorld)
     → (if odd then record { value = Err OddAddress; after = b } else at_place r.kind (with_mapping b (translation r b).after) (translation r b).address)

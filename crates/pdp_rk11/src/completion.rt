@@ -45,7 +45,8 @@ impl Rk {
     /// takes those of the words that it writes away.
     ///
     /// The words that are moved, compared or checked are touched in this turn, in core and on the
-    /// drive, and so are the words of the zero fill. A read check touches no word of core.
+    /// drive, and so are the words of the zero fill. A read check touches no word of core. None of
+    /// this goes into a log of the processor's bus cycles.
     ///
     /// PDP-11 Peripherals Handbook, RK11; that it is one act, the order of the tests, the fill, and
     /// where the registers are left [6.72] [6.80] [6.93] [6.95] [6.96].
@@ -61,6 +62,7 @@ impl Rk {
             ≡ first_touches_after (completion_touches turn
             (stored_world S.words S.stamps D.words self.old core.old drives.old))
             (stored_touches S.first_touches D.first_touches core.old drives.old) }
+        ensures log { S.log core.new ≡ S.log core.old }
     {
         if self.operation.is_under_way() {
             self.run_unless_refused(core, drives, turn);
@@ -89,6 +91,7 @@ impl Rk {
             turn
             (stored_world S.words S.stamps D.words self.old core.old drives.old))
             (stored_touches S.first_touches D.first_touches core.old drives.old) }
+        ensures log { S.log core.new ≡ S.log core.old }
     {
         match self.refusal(drives.len()) {
             Some(failure) => self.failure = Some(failure),
@@ -132,6 +135,7 @@ impl Rk {
             ≡ first_touches_after (touches_unless_refused None turn
             (stored_world S.words S.stamps D.words self.old core.old drives.old))
             (stored_touches S.first_touches D.first_touches core.old drives.old) }
+        ensures log { S.log core.new ≡ S.log core.old }
     {
         match self.function {
             Function::ControlReset => {}
@@ -167,6 +171,7 @@ impl Rk {
             ≡ first_touches_after (touches_unless_refused None turn
             (stored_world S.words S.stamps D.words self.old core.old drives.old))
             (stored_touches S.first_touches D.first_touches core.old drives.old) }
+        ensures log { S.log core.new ≡ S.log core.old }
     {
         let size = drives[self.drive()].len();
         let transfer = self.transfer_of(core.len(), size);
@@ -249,6 +254,7 @@ impl Rk {
             ≡ first_touches_after
             (transfer_touches self.now.function transfer (drive_in self.now.disk_address) turn)
             (stored_touches S.first_touches D.first_touches core.old drives.old) }
+        ensures log { S.log core.new ≡ S.log core.old }
     {
         let drive = self.drive();
         transfer.touch(self.function, core, &mut drives[drive], turn);
@@ -281,6 +287,7 @@ impl Rk {
             ≡ (is_write_check self.now.function
             && is_different transfer (S.words core.old)
             (drive_of (stored_world S.words S.stamps D.words self.now core.old drives.old))) }
+        ensures log { S.log core.new ≡ S.log core.old }
     {
         let drive = self.drive();
         match self.function {

@@ -41,6 +41,7 @@ impl Transfer {
             (S.words core.old) }
         ensures stamps { S.stamps core.new ≡ stamps_read self stamp (S.stamps core.old) }
         ensures first_touches { S.first_touches core.new ≡ S.first_touches core.old }
+        ensures log { S.log core.new ≡ S.log core.old }
     {
         if self.no_increment {
             self.read_last(core, disk, stamp);
@@ -63,6 +64,7 @@ impl Transfer {
             ≡ moved_items self.core_start self.count (λ i. Some stamp)
             (S.stamps core.old) }
         ensures first_touches { S.first_touches core.new ≡ S.first_touches core.old }
+        ensures log { S.log core.new ≡ S.log core.old }
     {
         let core_start = self.core_start as usize;
         let disk_start = self.disk_start as usize;
@@ -83,6 +85,7 @@ impl Transfer {
         ensures stamps { S.stamps core.new ≡ moved_to_one self.core_start self.count
             (λ i. Some stamp) (S.stamps core.old) }
         ensures first_touches { S.first_touches core.new ≡ S.first_touches core.old }
+        ensures log { S.log core.new ≡ S.log core.old }
     {
         if self.count > 0 {
             let last = self.disk_start as usize + (self.count - 1) as usize;
@@ -170,6 +173,7 @@ impl Transfer {
             ≡ core_after function self turn (S.first_touches core.old) }
         ensures disk_first_touches { D.first_touches disk.new
             ≡ disk_after function self turn (D.first_touches disk.old) }
+        ensures log { S.log core.new ≡ S.log core.old }
     {
         self.touch_core(function, core, turn);
         self.touch_disk(function, disk, turn);
@@ -185,6 +189,7 @@ impl Transfer {
         ensures kept { KeepsWritten S.words S.stamps core.old core.new }
         ensures first_touches { S.first_touches core.new
             ≡ core_after function self turn (S.first_touches core.old) }
+        ensures log { S.log core.new ≡ S.log core.old }
     {
         match function {
             Function::Read | Function::Write | Function::WriteCheck => {
@@ -264,6 +269,7 @@ fn touch_run<S: Store>(store: &mut S, start: usize, count: usize, turn: u32)
     ensures kept { KeepsWritten S.words S.stamps store.old store.new }
     ensures first_touches { S.first_touches store.new
         ≡ after_steps (run_touched start turn) count (S.first_touches store.old) }
+    ensures log { S.log store.new ≡ S.log store.old }
 {
     if count > 0 {
         let last = (start + count - 1) / PAGE_WORDS;

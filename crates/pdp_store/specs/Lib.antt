@@ -11,4 +11,5 @@ pub mod PageLists
 pub mod Unchanged
 pub mod LastStamps
 pub mod Stamps
+pub mod CycleLogs
 pub mod Overlays

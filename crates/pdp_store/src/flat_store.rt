@@ -1,11 +1,12 @@
 //! A store in two arrays: the words, and their stamps if there are any.
 
 ghost use Rattle.std.specs.Prelude.{◌≡◌, ◌<◌, length, IfOk};
+ghost use Rattle.pdp_store.specs.CycleLogs.{no_log};
 ghost use Rattle.pdp_store.specs.Stored.{blank_store, with_word};
 
 use crate::page::PAGE_WORDS;
 use crate::touches::StoreTouches;
-use crate::{LastStamp, Stamp, Store};
+use crate::{BusCycle, LastStamp, Stamp, Store};
 use pdp_word::NoMemory;
 use std::alloc::Global;
 use std::marker::Model;
@@ -78,6 +79,8 @@ impl Store for Flat {
 
     ghost first_touches = { λ s. s.first_touches };
 
+    ghost log = { λ s. no_log };
+
     #[inline(always)]
     fn len(&self) -> usize {
         self.words.len()
@@ -119,5 +122,13 @@ impl Store for Flat {
 
     fn forget(&mut self, turn: u32) {
         self.touches.forget(turn);
+    }
+
+    #[inline(always)]
+    fn note(&mut self, _cycle: BusCycle) {}
+
+    #[inline(always)]
+    fn is_logging(&self) -> bool {
+        false
     }
 }

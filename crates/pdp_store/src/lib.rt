@@ -20,6 +20,9 @@
 //! - Pages can be loaded so that their last stamps of some turn and of later turns are laid over
 //!   those of the store ([`Paged::load_pages_over`], `overlays_are_flat`). A store says whether it
 //!   has the words of pages, exactly ([`Paged::has_words`], [`SharedPaging::has_words`]).
+//! - A store can keep a log of the processor's bus cycles beside its words ([`Store::note`],
+//!   [`Logging`], [`CycleLog`]): all, or the reads at one address, while there is room. [`Flat`],
+//!   [`Paged`] and [`PagedDrive`] keep none.
 //! - The stamps that a trace of accesses leaves are those of its last writes
 //!   (`traces_leave_last_writes`).
 //! - A page with one word changed has the next serial and keeps its stamps (`page_with_word`). It
@@ -34,14 +37,17 @@
 #![tactic(auto)]
 
 ghost use Rattle.std.specs.Prelude.{◌≡◌, ◌<◌, ◌*◌, ◌/◌, length, map, nat_le, slice_index};
-ghost use Rattle.std.specs.Prelude.{slice_index_or, slice_set};
+ghost use Rattle.std.specs.Prelude.{slice_index_or, slice_set, nat_lt};
 ghost use Rattle.pdp_store.specs.Stored.{HasLastOfEachOrNone};
+ghost use Rattle.pdp_store.specs.CycleLogs.{logged};
 ghost use Rattle.pdp_store.specs.FirstTouches.{first_touches_before, never, first_turn, touch_page};
 
 mod base;
+mod cycle_log;
 mod flat_store;
 mod last_stamp;
 mod laws;
+mod logging;
 mod overlay;
 mod page;
 mod page_lists;
@@ -52,9 +58,11 @@ mod paging;
 mod part;
 mod touches;
 
+pub use cycle_log::{BusCycle, CycleKind, CycleLog};
 pub use flat_store::Flat;
 pub use last_stamp::LastStamp;
 pub use laws::{overlays_are_flat, serials_are_given_once, traces_leave_last_writes};
+pub use logging::Logging;
 pub use page::{PAGE_WORDS, Page, Pages};
 pub use page_lists::{page_with_word, with_page};
 pub use paged_drive::PagedDrive;
@@ -92,6 +100,7 @@ pub struct Stamp {
 pub trait Store {
     ghost use Rattle.std.specs.Prelude.{List, ℕ, Option};
     ghost use Rattle.pdp_store.specs.declared.Stamp.{Stamp};
+    ghost use Rattle.pdp_store.specs.CycleLogs.{KeptCycles};
 
     // The words, in order.
     ghost words: { Self → List ℕ };
@@ -101,6 +110,9 @@ pub trait Store {
 
     // The first touch of each page, or `never`.
     ghost first_touches: { Self → List ℕ };
+
+    // The log of bus cycles that is kept beside the words.
+    ghost log: { Self → KeptCycles };
 
     /// How many words there are.
     fn len(&self) -> usize
@@ -117,7 +129,8 @@ pub trait Store {
         requires { i < length (words self.old) }
         ensures words { words self.new ≡ slice_set (words self.old) i w }
         ensures stamps { stamps self.new ≡ slice_set (stamps self.old) i (Some stamp) }
-        ensures first_touches { first_touches self.new ≡ first_touches self.old };
+        ensures first_touches { first_touches self.new ≡ first_touches self.old }
+        ensures log { log self.new ≡ log self.old };
 
     /// The stamp of the last `write` of word `i`. `None` if there was none since the store was made
     /// or since the last `set` of the word, and if the store is without stamps.
@@ -132,7 +145,8 @@ pub trait Store {
         requires { i < length (words self.old) }
         ensures words { words self.new ≡ slice_set (words self.old) i w }
         ensures stamps { stamps self.new ≡ slice_set (stamps self.old) i None }
-        ensures first_touches { first_touches self.new ≡ first_touches self.old };
+        ensures first_touches { first_touches self.new ≡ first_touches self.old }
+        ensures log { log self.new ≡ log self.old };
 
     /// Notes an access to word `i` in turn `turn`. The page of the word keeps the earlier of `turn`
     /// and its first touch.
@@ -144,7 +158,8 @@ pub trait Store {
         ensures words { words self.new ≡ words self.old }
         ensures stamps { stamps self.new ≡ stamps self.old }
         ensures first_touches { first_touches self.new
-            ≡ touch_page (first_touches self.old) (i / 256) turn };
+            ≡ touch_page (first_touches self.old) (i / 256) turn }
+        ensures log { log self.new ≡ log self.old };
 
     /// Returns the first touch of page `page`. `None` if it has none, if every touch of it was
     /// forgotten, and if the store has no such page.
@@ -162,5 +177,17 @@ pub trait Store {
         ensures words { words self.new ≡ words self.old }
         ensures stamps { stamps self.new ≡ stamps self.old }
         ensures first_touches { first_touches self.new
-            ≡ first_touches_before turn (first_touches self.old) };
+            ≡ first_touches_before turn (first_touches self.old) }
+        ensures log { log self.new ≡ log self.old };
+
+    /// Puts a bus cycle of the processor into the log, if the log keeps such cycles and has room.
+    fn note(&mut self, cycle: BusCycle)
+        ensures words { words self.new ≡ words self.old }
+        ensures stamps { stamps self.new ≡ stamps self.old }
+        ensures first_touches { first_touches self.new ≡ first_touches self.old }
+        ensures log { log self.new ≡ logged cycle (log self.old) };
+
+    /// Whether the log has room at all, so that it may keep a cycle.
+    fn is_logging(&self) -> bool
+        ensures { result ≡ nat_lt 0 (log self.now).room };
 }

@@ -12,6 +12,7 @@ ghost use Rattle.pdp_store.specs.DriveBackings.{AreTaken, AreZeros, base_from, c
 ghost use Rattle.pdp_store.specs.DriveBackings.{drive_from_pages, own_with_copy, with_part};
 ghost use Rattle.pdp_store.specs.Bases.{IsPageOf, given_there, serial_there};
 ghost use Rattle.pdp_store.specs.Pieces.{piece};
+ghost use Rattle.pdp_store.specs.CycleLogs.{no_log};
 ghost use Rattle.pdp_store.specs.FirstTouches.{first_touches_before, touch_page};
 
 use crate::base::new_page;
@@ -19,7 +20,7 @@ use crate::page::{PAGE_WORDS, Page, Pages};
 use crate::page_runs::{are_same_words, words_in};
 use crate::paging::{Paging, SharedPaging};
 use crate::touches::StoreTouches;
-use crate::{Stamp, Store};
+use crate::{BusCycle, Stamp, Store};
 use pdp_word::NoMemory;
 use std::alloc::Global;
 use std::marker::Model;
@@ -153,6 +154,8 @@ impl Store for PagedDrive {
 
     ghost first_touches = { λ s. s.first_touches };
 
+    ghost log = { λ s. no_log };
+
     #[inline(always)]
     fn len(&self) -> usize {
         self.own.len()
@@ -225,6 +228,16 @@ impl Store for PagedDrive {
         ensures given { self.new.given ≡ self.old.given }
     {
         self.touches.forget(turn);
+    }
+
+    #[inline(always)]
+    fn note(&mut self, _cycle: BusCycle)
+        ensures { self.new ≡ self.old }
+    {}
+
+    #[inline(always)]
+    fn is_logging(&self) -> bool {
+        false
     }
 }
 

@@ -3,6 +3,7 @@
 ghost use Rattle.std.specs.Prelude.{◌≡◌, ◌<◌, ◌≤◌, ◌*◌, ◌/◌, ◌+◌, ◌↔◌, Some, None, length, map};
 ghost use Rattle.std.specs.Prelude.{min, replicate, slice_get, slice_set, slice_index_or, true, []};
 ghost use Rattle.std.specs.Prelude.{IfOk, OnErr, is_ok, if◌then◌else◌};
+ghost use Rattle.pdp_store.specs.CycleLogs.{no_log};
 ghost use Rattle.pdp_store.specs.Stored.{HasLastOfEachOrNone};
 ghost use Rattle.pdp_store.specs.FirstTouches.{first_touches_before, touch_page};
 ghost use Rattle.pdp_store.specs.Pages.{blank_paged, stamps_of, next_given, next_serial, serials};
@@ -16,7 +17,7 @@ use crate::overlay::{lay_over, put_bases_over};
 use crate::page::{PAGE_WORDS, Page};
 use crate::page_runs::{have_words, piece_at, put_bases, put_stamps, put_words};
 use crate::touches::StoreTouches;
-use crate::{LastStamp, Paging, Stamp, Store};
+use crate::{BusCycle, LastStamp, Paging, Stamp, Store};
 use pdp_word::NoMemory;
 use std::alloc::Global;
 use std::marker::Model;
@@ -150,6 +151,8 @@ impl Store for Paged {
 
     ghost first_touches = { λ s. s.first_touches };
 
+    ghost log = { λ s. no_log };
+
     #[inline(always)]
     fn len(&self) -> usize {
         self.words.len()
@@ -220,6 +223,16 @@ impl Store for Paged {
         ensures given { self.new.given ≡ self.old.given }
     {
         self.touches.forget(turn);
+    }
+
+    #[inline(always)]
+    fn note(&mut self, _cycle: BusCycle)
+        ensures { self.new ≡ self.old }
+    {}
+
+    #[inline(always)]
+    fn is_logging(&self) -> bool {
+        false
     }
 }
 

@@ -39,6 +39,7 @@ pub trait Paging: Store {
         ensures stamps { Self.stamps self.new ≡ Self.stamps self.old }
         ensures bases { bases self.new ≡ bases self.old }
         ensures first_touches { Self.first_touches self.new ≡ Self.first_touches self.old }
+        ensures log { Self.log self.new ≡ Self.log self.old }
         ensures given { given self.new ≡ (if is_ok result then next_given
             (given self.old) else given self.old) };
 
@@ -57,7 +58,8 @@ pub trait Paging: Store {
         ensures bases { bases self.new ≡ bases self.old }
         ensures given { given self.new ≡ given self.old }
         ensures first_touches { Self.first_touches self.new
-            ≡ touches_over from (Self.first_touches self.old) (first_touches_before to over.now) };
+            ≡ touches_over from (Self.first_touches self.old) (first_touches_before to over.now) }
+        ensures log { Self.log self.new ≡ Self.log self.old };
 
     /// Whether each page that has a first touch before turn `turn` in this list has one before it
     /// in the store too.
@@ -81,6 +83,7 @@ pub trait SharedPaging: Paging {
         ensures same { SameStored (Self.words self.new) (Self.words self.old)
             (Self.stamps self.new) (Self.stamps self.old) (Self.first_touches self.new)
             (Self.first_touches self.old) }
+        ensures log { Self.log self.new ≡ Self.log self.old }
         ensures pages_words { IfOk result (λ pages. words_of pages.value.items
             ≡ Self.words self.old) }
         ensures pages_stamps { IfOk result (λ pages. stamps_of pages.value.items
@@ -105,7 +108,8 @@ pub trait SharedPaging: Paging {
         ensures stamps { Self.stamps self.new ≡ stamps_of pages.now.value.items }
         ensures bases { Self.bases self.new ≡ map Some (serials pages.now.value.items) }
         ensures given { Self.given self.new ≡ Self.given self.old }
-        ensures first_touches { Self.first_touches self.new ≡ Self.first_touches self.old };
+        ensures first_touches { Self.first_touches self.new ≡ Self.first_touches self.old }
+        ensures log { Self.log self.new ≡ Self.log self.old };
 
     /// Whether the words are those of these pages, which were taken of a store of as many words.
     /// It doesn't compare their stamps.

@@ -3,9 +3,10 @@
 use Rattle.std.proofs.Common.{◌≡◌, ◌≢◌, ◌∙◌, ℕ, suc, zero, ◌+◌, ◌<◌, Bool, true, false, List, [], ◌∷◌, length, take, get_or, refl, sym, subst, ap, ap₂, add-one, arith}
 use Rattle.pdp_device.specs.Operation.{is_due, is_under_way}
 use Rattle.pdp_unibus.specs.Beginning.{Progress, after_event, after_events, at_start, before_disk, after_beginning, clock_ticked, disk_done, disk_due, in_turn, is_tick, printer_done, printer_due, punch_done, punch_due, reader_done, reader_due, tick_due, where_due}
+use Rattle.pdp_store.specs.CycleLogs.{KeptCycles}
 use Rattle.pdp_store.specs.declared.part.Part.{Part}
 use Rattle.pdp_rk11.proofs.Readiness.{completed_idle}
-use Rattle.pdp_unibus.specs.BusWorld.{BusWorld, disk_world_of, is_disk_busy, with_disk_world, with_first_touches}
+use Rattle.pdp_unibus.specs.BusWorld.{BusWorld, disk_world_of, is_disk_busy, with_disk_world, with_first_touches, with_log}
 use Rattle.pdp_rk11.proofs.FirstTouches.{not_under_way}
 use Rattle.pdp_unibus.proofs.AccessNotes.{AccessNotes, with_notes}
 use Rattle.pdp_unibus.specs.Page.{bus_with_words}
@@ -31,11 +32,16 @@ over part words p = record p { bus = bus_with_words part words p.bus }
 abbrev pub holding : Progress → AccessNotes → Progress
 holding p notes = record p { bus = with_notes p.bus notes }
 
+-- the same with another log
+abbrev pub logging : Progress → KeptCycles → Progress
+logging p log = record p { bus = with_log p.bus log }
+
 -- a step that does the same whatever core and the drives hold, and leaves them, the stamps, the turn, the program status
 -- and the mapping registers
 pub record Quiet (step : Progress → Progress) : Type 0 where
   pub commutes : (part : Part) (words : List ℕ) (p : Progress) → step (over part words p) ≡ over part words (step p)
   pub holds : (notes : AccessNotes) (p : Progress) → step (holding p notes) ≡ holding (step p) notes
+  pub logs : (log : KeptCycles) (p : Progress) → step (logging p log) ≡ logging (step p) log
   pub leaves : (p : Progress) → (step p).bus ≡ record p.bus { io_page = (step p).bus.io_page; bytes_read = (step p).bus.bytes_read }
   pub status : (p : Progress) → (step p).bus.io_page.status ≡ p.bus.io_page.status
   pub mapping : (p : Progress) → (step p).bus.io_page.mapping ≡ p.bus.io_page.mapping
@@ -46,6 +52,7 @@ event_is_quiet DiskDone other = absurd (other refl)
 event_is_quiet _ other = record {
   commutes = λ part words p. refl;
   holds = λ notes p. refl;
+  logs = λ log p. refl;
   leaves = λ p. refl;
   status = λ p. refl;
   mapping = λ p. refl;
@@ -57,6 +64,7 @@ both : (f g : Progress → Progress) → Quiet f → Quiet g → Quiet (λ p. g 
 both f g first second = record {
   commutes = λ part words p. ap g (first.commutes part words p) ∙ second.commutes part words (f p);
   holds = λ notes p. ap g (first.holds notes p) ∙ second.holds notes (f p);
+  logs = λ log p. ap g (first.logs log p) ∙ second.logs log (f p);
   leaves = λ p. second.leaves (f p) ∙ ap {A = BusWorld} (λ bus. record bus { io_page = (g (f p)).bus.io_page; bytes_read = (g (f p)).bus.bytes_read }) (first.leaves p);
   status = λ p. second.status (f p) ∙ first.status p;
   mapping = λ p. second.mapping (f p) ∙ first.mapping p;
@@ -69,6 +77,7 @@ where_due_is_quiet : (due : ℕ → IoPage → Bool) (f : Progress → Progress)
 where_due_is_quiet due f quiet = record {
   commutes = λ part words p. commuted part words p (due p.bus.turn p.bus.io_page);
   holds = λ notes p. held notes p (due p.bus.turn p.bus.io_page);
+  logs = λ log p. logged_so log p (due p.bus.turn p.bus.io_page);
   leaves = λ p. left p (due p.bus.turn p.bus.io_page);
   status = λ p. kept (λ io_page. io_page.status) p (quiet.status p) (due p.bus.turn p.bus.io_page);
   mapping = λ p. kept (λ io_page. io_page.mapping) p (quiet.mapping p) (due p.bus.turn p.bus.io_page);
@@ -82,6 +91,10 @@ where_due_is_quiet due f quiet = record {
   held : (notes : AccessNotes) (p : Progress) (holds : Bool) → where_due holds f (holding p notes) ≡ holding (where_due holds f p) notes
   held notes p true = quiet.holds notes p
   held notes p false = refl
+
+  logged_so : (log : KeptCycles) (p : Progress) (holds : Bool) → where_due holds f (logging p log) ≡ logging (where_due holds f p) log
+  logged_so log p true = quiet.logs log p
+  logged_so log p false = refl
 
   left : (p : Progress) (holds : Bool)
       → (where_due holds f p).bus ≡ record p.bus { io_page = (where_due holds f p).bus.io_page; bytes_read = (where_due holds f p).bus.bytes_read }

@@ -21,3 +21,4 @@ mod PatchedPages
 pub mod FewerDrives
 pub mod Rules
 pub mod ShownWords
+pub mod Logged

@@ -10,6 +10,7 @@ use Rattle.pdp_rk11.specs.Rk.{init_rk, rk_reset}
 use Rattle.pdp_kt11.specs.Kt.{kt_reset, powered_kt}
 use Rattle.pdp_kt11.specs.declared.kt.Kt.{Kt}
 use Rattle.pdp_kt11.specs.declared.mode.Mode.TheVariants.{Kernel}
+use Rattle.pdp_store.specs.CycleLogs.{KeptCycles, no_log}
 use Rattle.pdp_store.specs.FirstTouches.{FirstTouches, no_first_touches}
 use Rattle.pdp_store.specs.declared.Stamp.{Stamp}
 use Rattle.pdp_word.specs.declared.codes.Codes.{Codes}
@@ -37,6 +38,8 @@ pub record BusWorld : Type 0 where
   pub turn : ℕ
   -- the first touches of the pages of core and of the drives
   pub first_touches : FirstTouches
+  -- the log of the processor's cycles
+  pub log : KeptCycles
 
 -- the I/O page as of power-up: every bit of the program status word, of the mapping registers and
 -- of the switches 0, the devices as after RESET [7.2] [7.4] [7.7]
@@ -58,7 +61,8 @@ io_page_at_power_up delays = record {
   switches = 0;
 }
 
--- the bus as of power-up, over this core, these drives and this tape, with no first touches [7.8]
+-- the bus as of power-up, over this core, these drives and this tape, with no first touches and no
+-- log [7.8]
 abbrev pub bus_at_power_up : List ℕ → List (Option Stamp) → List (List ℕ) → List ℕ → Delays
     → BusWorld
 bus_at_power_up words stamps drives tape delays =
@@ -71,11 +75,16 @@ bus_at_power_up words stamps drives tape delays =
       bytes_read = 0;
       turn = 0;
       first_touches = no_first_touches;
+      log = no_log;
     }
 
 -- the bus with these first touches
 abbrev pub with_first_touches : BusWorld → FirstTouches → BusWorld
 with_first_touches w first_touches = record w { first_touches = first_touches }
+
+-- the bus with this log
+abbrev pub with_log : BusWorld → KeptCycles → BusWorld
+with_log w log = record w { log = log }
 
 -- the bus with these last stamps of core
 abbrev pub with_stamps : BusWorld → List (Option Stamp) → BusWorld

@@ -1,7 +1,8 @@
--- What is saved of a bus: all but the bytes of its tape, which no turn changes, and first touches
--- [P].
+-- What is saved of a bus: all but the bytes of its tape, which no turn changes, first touches and
+-- the log [P].
 use Rattle.std.specs.Prelude.{ℕ, ◌≡◌, ◌<◌, List, Option, length, map, slice_set}
 use Rattle.pdp_store.specs.Parts.{core_with, drives_with, words_in}
+use Rattle.pdp_store.specs.CycleLogs.{no_log}
 use Rattle.pdp_store.specs.FirstTouches.{no_first_touches}
 use Rattle.pdp_store.specs.Overlays.{stamps_over}
 use Rattle.pdp_store.specs.Pages.{SharedPage, stamps_of, words_of}
@@ -32,7 +33,7 @@ saved_bus w = record {
   turn = w.turn;
 }
 
--- the bus that was saved so, with this tape in its reader and no first touches
+-- the bus that was saved so, with this tape in its reader, no first touches and no log
 abbrev pub bus_of : List ℕ → SavedBusData → BusWorld
 bus_of tape c = record {
   io_page = c.io_page;
@@ -43,6 +44,7 @@ bus_of tape c = record {
   bytes_read = c.bytes_read;
   turn = c.turn;
   first_touches = no_first_touches;
+  log = no_log;
 }
 
 -- the saved bus with core of these words and these last stamps

@@ -1,5 +1,5 @@
 ghost use Rattle.std.specs.Prelude.{◌≡◌, ◌≤◌, Err};
-ghost use Rattle.pdp_unibus.specs.BusWorld.{BusWorld};
+ghost use Rattle.pdp_unibus.specs.BusWorld.{BusWorld, with_log};
 ghost use Rattle.pdp_unibus.specs.Cycle.{Cycle, cycle};
 ghost use Rattle.pdp_unibus.specs.Frame.{EventsLeaveOthers, UsesLeaveOthers};
 ghost use Rattle.pdp_unibus.specs.Laws.{KeysAreReadOnce, KeysWaitUntilRead};
@@ -23,12 +23,12 @@ ghost use Rattle.pdp_unibus.specs.ByteLaws.{ReadingOutlivesUses};
 ghost use Rattle.pdp_unibus.specs.declared.bus.Timeout.{Timeout};
 
 /// A law of the bus: a cycle that times out leaves core, its stamps, the drives, the I/O page, the
-/// tape and the turn as they were.
+/// tape and the turn as they were. At most the log is changed.
 ///
 /// [P]
 pub fn timeouts_change_nothing()
     ensures { (c : Cycle) (w : BusWorld) (t : Timeout) → (cycle c w).value ≡ Err t →
-        (cycle c w).after ≡ w }
+        with_log (cycle c w).after w.log ≡ w }
 {}
 
 /// A law of devices: a register that is read or written leaves every device but its own, and an

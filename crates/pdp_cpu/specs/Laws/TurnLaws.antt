@@ -4,15 +4,17 @@ use Rattle.pdp_unibus.specs.declared.event.Event.{Event}
 use Rattle.pdp_unibus.specs.declared.event.Event.TheVariants.{Continue}
 use Rattle.pdp_unibus.specs.BusWorld.{BusWorld}
 use Rattle.pdp_operand.specs.Laws.Count.{course_length}
+use Rattle.pdp_store.specs.CycleLogs.{KeptCycles}
 use Rattle.pdp_store.specs.Stamps.{stamps_after_trace}
 use Rattle.pdp_store.specs.declared.Stamp.{Stamp}
 use Rattle.pdp_store.specs.declared.part.Part.{Part}
 use Rattle.pdp_unibus.specs.Page.{AlikeOutside, SamePage}
 use Rattle.pdp_operand.specs.declared.processor.Processor.{Processor}
 use Rattle.pdp_operand.specs.Phases.World.{World, world}
-use Rattle.pdp_cpu.specs.Turns.MachineState.{world_with_stamps}
+use Rattle.pdp_cpu.specs.Turns.MachineState.{world_with_log, world_with_stamps}
 use Rattle.pdp_cpu.specs.Turns.Turn.{course_at, at_turn, one_turn, printed_in, punched_in}
 use Rattle.pdp_cpu.specs.Turns.Turn.{turn_act, turn_trace}
+use Rattle.pdp_cpu.specs.Turns.TurnDisk.{disk_begun}
 
 -- how many phases turn t runs
 unfoldable pub turn_phases : ℕ → List Event → World → ℕ
@@ -66,3 +68,15 @@ pub record StampsDisturbNothing (t : ℕ) (events : List Event) (w : World)
   pub act : turn_act t events (world_with_stamps w stamps) ≡ turn_act t events w
   pub printed : printed_in t events (world_with_stamps w stamps) ≡ printed_in t events w
   pub punched : punched_in t events (world_with_stamps w stamps) ≡ punched_in t events w
+
+-- turn t with these events in a world, and in the same world with another log: the cycles of the
+-- turn are put into it, and nothing else differs
+pub record LogsDisturbNothing (t : ℕ) (events : List Event) (w : World)
+    (log : KeptCycles) : Type 0 where
+  pub left : KeptCycles
+  pub world_is : one_turn t events (world_with_log w log) ≡ world_with_log
+      (one_turn t events w) left
+  pub act : turn_act t events (world_with_log w log) ≡ turn_act t events w
+  pub disk : disk_begun t events (world_with_log w log) ≡ disk_begun t events w
+  pub printed : printed_in t events (world_with_log w log) ≡ printed_in t events w
+  pub punched : punched_in t events (world_with_log w log) ≡ punched_in t events w

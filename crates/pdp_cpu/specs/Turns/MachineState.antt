@@ -1,9 +1,10 @@
 -- A machine as a contract sees it; its state as of power-up is [P].
 use Rattle.std.specs.Prelude.{ℕ, ◌+◌, ◌<◌, ◌++◌, List, [], Option, length}
+use Rattle.pdp_store.specs.CycleLogs.{KeptCycles}
 use Rattle.pdp_store.specs.declared.Stamp.{Stamp}
 use Rattle.pdp_unibus.specs.SavedBusData.{bus_with_tape}
 use Rattle.pdp_store.specs.FirstTouches.{FirstTouches, no_first_touches}
-use Rattle.pdp_unibus.specs.BusWorld.{bus_at_power_up, with_first_touches, with_stamps}
+use Rattle.pdp_unibus.specs.BusWorld.{bus_at_power_up, with_first_touches, with_log, with_stamps}
 use Rattle.pdp_unibus.specs.declared.delays.Delays.{Delays}
 use Rattle.pdp_unibus.specs.declared.event.Event.{Event}
 use Rattle.pdp_operand.specs.Handbook.Processor.{powered_processor}
@@ -42,6 +43,17 @@ without_first_touches w = world_with_first_touches w no_first_touches
 -- a world with these last stamps of core
 abbrev pub world_with_stamps : World → List (Option Stamp) → World
 world_with_stamps w stamps = world w.processor (with_stamps w.bus stamps)
+
+-- a world with this log, and a state with it in its world
+abbrev pub world_with_log : World → KeptCycles → World
+world_with_log w log = world w.processor (with_log w.bus log)
+
+abbrev pub state_with_log : KeptCycles → MachineState → MachineState
+state_with_log log m = record m { world = world_with_log m.world log }
+
+-- a machine with this log
+abbrev pub machine_with_log : KeptCycles → MachineWithTexts → MachineWithTexts
+machine_with_log log m = record m { state = state_with_log log m.state }
 
 -- the world of a machine with its first touches, and the machine with these in the world of its
 -- state

@@ -24,8 +24,8 @@ with_mapping_status status io_page = record io_page {
 }
 
 -- a reference fails with this trap, and leaves core, its stamps, the drives, the tape, how far it
--- is read and the turn, and all of the I/O page but SR0 of memory management; no word of core
--- answers it
+-- is read, the turn and the log, and all of the I/O page but SR0 of memory management; no word of
+-- core answers it
 pub record FailsWith (trap : Trap) (r : Reference) (b : BusWorld) : Type 0 where
   pub told : (perform r b).value ≡ Err trap
   pub core : (perform r b).after.core ≡ b.core
@@ -35,6 +35,7 @@ pub record FailsWith (trap : Trap) (r : Reference) (b : BusWorld) : Type 0 where
   pub bytes_read : (perform r b).after.bytes_read ≡ b.bytes_read
   pub turn : (perform r b).after.turn ≡ b.turn
   pub first_touches : (perform r b).after.first_touches ≡ b.first_touches
+  pub log : (perform r b).after.log ≡ b.log
   pub io_page : (perform r b).after.io_page ≡ with_mapping_status (perform r
       b).after.io_page.mapping.status b.io_page
   pub touches_none : touches r b ≡ []

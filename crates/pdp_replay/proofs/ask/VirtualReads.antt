@@ -11,9 +11,9 @@ use Rattle.pdp_replay.specs.declared.ask.virtual_words.Unreadable.{Unreadable}
 -- by who answers the physical address
 agrees_by : (slave : Slave) (physical : ℕ) (w : BusWorld) → slave_at (length w.core) physical ≡ slave
     → AgreesWithCycle (core_word_of slave w) (Ok physical) w
-agrees_by (Core number) physical w is = ap (λ s. (read_from s w).value) is
+agrees_by (Core number) physical w is = ap (λ s. (read_from physical s w).value) is
 agrees_by (Device register) physical w is = (register, is)
-agrees_by Nobody physical w is = ap (λ s. (read_from s w).value) is
+agrees_by Nobody physical w is = ap (λ s. (read_from physical s w).value) is
 
 agrees_at : (place : Result ℕ Abort) (w : BusWorld) → AgreesWithCycle (core_word_at_place place w) place w
 agrees_at (Ok physical) w = agrees_by (slave_at (length w.core) physical) physical w refl

@@ -1,10 +1,12 @@
--- The states of a run keep no first touches.
+-- The states of a run keep no first touches, and no log.
 use Rattle.std.proofs.Common.{◌≡◌, ◌∙◌, ℕ, zero, suc, List, ap, refl, sym}
+use Rattle.pdp_store.specs.CycleLogs.{no_log}
 use Rattle.pdp_store.specs.FirstTouches.{no_first_touches}
 use Rattle.pdp_store.proofs.FirstTouches.{no_first_touches_after}
 use Rattle.pdp_unibus.specs.declared.event.Event.{Event}
 use Rattle.pdp_operand.specs.Phases.World.{World}
 use Rattle.pdp_cpu.proofs.Carried.{turn_carried}
+use Rattle.pdp_cpu.proofs.Logged.{turn_keeps_no_log}
 use Rattle.pdp_cpu.specs.Turns.MachineState.{world_with_first_touches}
 use Rattle.pdp_cpu.specs.Turns.Turn.{one_turn, turn_trace}
 use Rattle.pdp_script.specs.Entries.{events_at}
@@ -21,3 +23,8 @@ pub state_is_bare : (p : Past) (n : ℕ) → (state_at p n).bus.first_touches �
 unfolding state_at power
 state_is_bare p zero = refl
 state_is_bare p (suc n) = turn_is_bare n (events_at p.script.entries n) (state_at p n) (state_is_bare p n)
+
+pub state_is_unlogged : (p : Past) (n : ℕ) → (state_at p n).bus.log ≡ no_log
+unfolding state_at power
+state_is_unlogged p zero = refl
+state_is_unlogged p (suc n) = turn_keeps_no_log n (events_at p.script.entries n) (state_at p n) (state_is_unlogged p n)

@@ -1,11 +1,11 @@
 -- A machine that is made a checkpoint of a run is in that state of the run.
-use Rattle.std.proofs.Common.{◌≡◌, ◌∙◌, ℕ, ◌≤◌, List, ap, sym, take}
+use Rattle.std.proofs.Common.{◌≡◌, ◌∙◌, ℕ, ◌≤◌, List, ap, ap₂, sym, take}
 use Rattle.pdp_cpu.specs.KeptTexts.{without_turns}
 use Rattle.pdp_cpu.specs.Saved.{CanHold, SavedMachineData, saved_machine, state_on, world_of}
-use Rattle.pdp_cpu.specs.Turns.MachineState.{MachineState, MachineWithTexts, world_with_first_touches}
+use Rattle.pdp_cpu.specs.Turns.MachineState.{MachineState, MachineWithTexts, world_with_first_touches, world_with_log}
 use Rattle.pdp_operand.specs.Phases.World.{World}
 use Rattle.pdp_replay.specs.Run.Checkpoints.{IsBuiltFrom, KeepsTexts}
-use Rattle.pdp_replay.proofs.run.Bare.{state_is_bare}
+use Rattle.pdp_replay.proofs.run.Bare.{state_is_bare, state_is_unlogged}
 use Rattle.pdp_replay.specs.Past.{Past}
 use Rattle.pdp_replay.specs.Run.States.{at, state_at, text_at}
 use Rattle.pdp_replay.proofs.run.KeptTexts.{text_shown, text_kept_reaches, punched_shown, punched_kept_reaches}
@@ -31,7 +31,8 @@ on_saved_machine p n known m le texts built =
     let tape : m.state.world.bus.tape ≡ (state_at p n).bus.tape = built.tape ∙ sym (tape_stays p n) in
     let content : SavedMachineData = saved_machine (at p n) in
     ap (λ t. state_of n (world_of t content) (without_turns (take content.text_length m.kept_text)) (without_turns (take content.punched_length m.kept_punched))) tape
-    ∙ ap (λ f. state_of n (world_with_first_touches (state_at p n) f) (without_turns (take content.text_length m.kept_text)) (without_turns (take content.punched_length m.kept_punched))) (sym (state_is_bare p n))
+    ∙ ap₂ (λ f log. state_of n (world_with_log (world_with_first_touches (state_at p n) f) log) (without_turns (take content.text_length m.kept_text)) (without_turns (take content.punched_length m.kept_punched)))
+    (sym (state_is_bare p n)) (sym (state_is_unlogged p n))
     ∙ ap (λ xs. state_of n (state_at p n) (without_turns (take content.text_length xs)) (without_turns (take content.punched_length m.kept_punched))) texts.text
     ∙ ap (λ xs. state_of n (state_at p n) xs (without_turns (take content.punched_length m.kept_punched))) (text_shown p n known le)
     ∙ ap (λ xs. state_of n (state_at p n) (text_at p n) (without_turns (take content.punched_length xs))) texts.punched

@@ -1,6 +1,7 @@
 -- What is saved of a run is taken over by a run that meets it.
 use Rattle.std.proofs.Common.{◌≡◌, ◌∙◌, ℕ, ◌+◌, ◌-◌, List, ◌++◌, sym, ap, ap₂, length, drop, length-append}
 use Rattle.std.proofs.lemmas.List.{length-drop}
+use Rattle.pdp_store.specs.CycleLogs.{no_log}
 use Rattle.pdp_store.specs.FirstTouches.{no_first_touches}
 use Rattle.pdp_unibus.specs.BusWorld.{BusWorld, with_stamps}
 use Rattle.pdp_unibus.specs.SavedBusData.{bus_of, saved_bus}
@@ -12,18 +13,19 @@ use Rattle.pdp_replay.specs.Run.Meetings.{MeetAt, world_over}
 use Rattle.pdp_replay.specs.Run.SavedMeetings.{KeptBytesAreTaken, SavedMachinesAreTaken}
 use Rattle.pdp_cpu.specs.Saved.{SavedMeet}
 use Rattle.pdp_replay.specs.Run.States.{at, punched_at, state_at, text_at}
-use Rattle.pdp_replay.proofs.run.Bare.{state_is_bare}
+use Rattle.pdp_replay.proofs.run.Bare.{state_is_bare, state_is_unlogged}
 use Rattle.pdp_replay.proofs.run.GrowingTexts.{grow_alike}
 use Rattle.pdp_replay.proofs.run.KeptTexts.{printed_of, punched_keeps, punched_of, text_keeps}
 use Rattle.pdp_replay.proofs.run.Meetings.{punched_meet, texts_meet, turns_meet, worlds_meet}
 use Rattle.pdp_replay.proofs.run.StateSizes.{tape_stays}
 
 -- a bus from what is saved of it
-rebuilt : (b : BusWorld) (tape : List ℕ) → b.tape ≡ tape → b.first_touches ≡ no_first_touches → b ≡ bus_of tape (saved_bus b)
-rebuilt b tape is none = λ i. record b { tape = is i; first_touches = none i }
+rebuilt : (b : BusWorld) (tape : List ℕ) → b.tape ≡ tape → b.first_touches ≡ no_first_touches → b.log ≡ no_log
+    → b ≡ bus_of tape (saved_bus b)
+rebuilt b tape is none unlogged = λ i. record b { tape = is i; first_touches = none i; log = unlogged i }
 
 bus_is : (p : Past) (n : ℕ) → (state_at p n).bus ≡ bus_of p.setup.tape (saved_bus (state_at p n).bus)
-bus_is p n = rebuilt (state_at p n).bus p.setup.tape (tape_stays p n) (state_is_bare p n)
+bus_is p n = rebuilt (state_at p n).bus p.setup.tape (tape_stays p n) (state_is_bare p n) (state_is_unlogged p n)
 
 pub they_meet : (p q : Past) (c : ℕ) → SameInputsFrom c p q → SavedMeet (saved_machine (at p c)) (saved_machine (at q c)) → MeetAt c p q
 they_meet p q c same meets =

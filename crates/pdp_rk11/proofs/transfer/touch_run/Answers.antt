@@ -9,6 +9,7 @@ loop-page-init g c = record {
   from = omega arith;
   words = refl;
   stamps = refl;
+  log = refl;
   first_touches = sym (run_begun c.args.start c.args.count c.args.turn (g.S.Store.first_touches c.args.store.now));
 }
 
@@ -22,6 +23,7 @@ loop-page-preserved g c =
       from = omega (arith, held.from);
       words = c.touch.ensures.words ∙ held.words;
       stamps = c.touch.ensures.stamps ∙ held.stamps;
+      log = c.touch.ensures.log ∙ held.log;
       first_touches =
           c.touch.ensures.first_touches
           ∙ ap (λ p. touch_page (g.S.Store.first_touches c.loop-page.store) p turn) same

@@ -8,5 +8,6 @@ invariant-loop-i g l = record {
   words : g.S.Store.words l.core
       ≡ moved_items l.core_start l.i (λ i. slice_index (g.D.Store.words l.disk) (l.disk_start + i)) (g.S.Store.words l.initial.core);
   stamps : g.S.Store.stamps l.core ≡ moved_items l.core_start l.i (λ i. Some l.stamp) (g.S.Store.stamps l.initial.core);
+  log : g.S.Store.log l.core ≡ g.S.Store.log l.initial.core;
   first_touches : g.S.Store.first_touches l.core ≡ g.S.Store.first_touches l.initial.core;
 }

@@ -17,4 +17,5 @@ returns-in_default g c = record {
   first_touches =
       core_untouched c.args.function c.args.self c.args.turn (g.S.Store.first_touches c.args.core.now)
       c.in_default.not-Write c.in_default.not-Read c.in_default.not-WriteCheck;
+  log = refl;
 }
