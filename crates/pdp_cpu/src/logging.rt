@@ -1,7 +1,7 @@
 //! A machine that keeps a log of the processor's bus cycles, made of one that keeps none, and back.
 
 ghost use Rattle.std.specs.Prelude.{◌≡◌};
-ghost use Rattle.pdp_store.specs.CycleLogs.{emptied, no_log};
+ghost use Rattle.pdp_store.specs.CycleLogs.{without_cycles, no_log};
 ghost use Rattle.pdp_cpu.specs.Turns.MachineState.{machine_with_log};
 
 use crate::machine::Machine;
@@ -36,7 +36,7 @@ impl<S: Store, D: Store> Machine<Logging<S>, D> {
     /// Drops the bus cycles that the log has kept.
     pub fn clear_log(&mut self)
         ensures { self.new
-            ≡ machine_with_log (emptied self.old.state.world.bus.log) self.old }
+            ≡ machine_with_log (without_cycles self.old.state.world.bus.log) self.old }
     {
         self.computer.bus.clear_log();
     }

@@ -1,6 +1,6 @@
 -- A course does the same whatever log is kept, and its cycles are put into that log.
 use Rattle.std.proofs.Common.{◌≡◌, ℕ, ◌*◌, Bool, true, false, List, [], ◌∷◌, Some, Ok, Err, Result, refl, slice_index}
-use Rattle.pdp_store.specs.CycleLogs.{KeptCycles, logged}
+use Rattle.pdp_store.specs.CycleLogs.{KeptCycles, log_with}
 use Rattle.pdp_unibus.specs.BusWorld.{BusWorld, with_log}
 use Rattle.pdp_unibus.specs.Cycle.{told_read}
 use Rattle.pdp_operand.specs.Handbook.Reference.{Reference, Reply, is_odd, perform}
@@ -34,8 +34,8 @@ record Leaves {A : Type 0} (logs : A → KeptCycles → A) (one other : A) : Typ
 -- a reference
 by_shape : (shape : Shape) (b : BusWorld) (log : KeptCycles) → Leaves reply_logging (reply_by shape b) (reply_by shape (with_log b log))
 by_shape (Apart cycle io_page value) b log = record { left = log_after cycle log; is = refl }
-by_shape (Looked io_page f k) b log = record { left = logged (told_read (k * 2) (Some (slice_index b.core k))) log; is = refl }
-by_shape (Wrote cycle io_page told f k) b log = record { left = logged cycle log; is = refl }
+by_shape (Looked io_page f k) b log = record { left = log_with (told_read (k * 2) (Some (slice_index b.core k))) log; is = refl }
+by_shape (Wrote cycle io_page told f k) b log = record { left = log_with cycle log; is = refl }
 
 same_if : (odd : Bool) (r : Reference) (b : BusWorld) (log : KeptCycles) → shape_if odd r (with_log b log) ≡ shape_if odd r b
 same_if true r b log = refl

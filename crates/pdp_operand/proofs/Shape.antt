@@ -9,7 +9,7 @@ use Rattle.pdp_unibus.specs.declared.register.Register.{Register}
 use Rattle.pdp_operand.specs.Handbook.Reference.{Kind, ReadWord, ReadByte, WriteWord, WriteByte, Reference, Reply, half_at, reply_of, at_place, perform, is_odd, translation, access_of}
 use Rattle.pdp_kt11.specs.declared.place.Abort.{Abort}
 use Rattle.pdp_operand.specs.Laws.Trace.{touch_at, touches_if_placed, touches}
-use Rattle.pdp_store.specs.CycleLogs.{KeptCycles, logged}
+use Rattle.pdp_store.specs.CycleLogs.{KeptCycles, log_with}
 use Rattle.pdp_store.specs.Parts.{core_with, drives_with}
 use Rattle.pdp_store.specs.TracedAccess.{TracedAccess}
 use Rattle.pdp_store.specs.declared.cycle_log.BusCycle.{BusCycle}
@@ -29,7 +29,7 @@ pub data Shape : Type 0 where
 -- a log after a cycle, if there is one
 abbrev pub log_after : Option BusCycle → KeptCycles → KeptCycles
 log_after None log = log
-log_after (Some cycle) log = logged cycle log
+log_after (Some cycle) log = log_with cycle log
 
 abbrev pub reply_by : Shape → BusWorld → Reply
 reply_by (Apart cycle io_page value) b = record { value = value; after = record b { io_page = io_page; log = log_after cycle b.log } }

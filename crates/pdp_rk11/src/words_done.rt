@@ -35,8 +35,9 @@ impl Rk {
 
     /// How many words a function moved or compared, from the controller before its completion
     /// (`before`) and after it (`self`). A function that didn't fail did all the words that it was
-    /// asked for. One that failed did as many as RKWC grew by. The law `words_done_are_counted`
-    /// says that this is the number of words that the completion moved or compared.
+    /// asked for. If it failed, RKWC has counted those that it did. The law
+    /// `words_done_are_counted` says that this is the number of words that the completion moved or
+    /// compared.
     ///
     /// PDP-11 Peripherals Handbook, RK11.
     pub fn words_done(&self, before: &Rk) -> u32

@@ -27,11 +27,11 @@ keeps None cycle = true
 keeps (Some address) cycle = is_read cycle.kind && cycle.address == address
 
 -- the log after this cycle: it is put at the end while there is room
-abbrev pub logged : BusCycle → KeptCycles → KeptCycles
-logged cycle log = if keeps log.reads_of cycle && nat_lt (length log.told) log.room then record log {
+abbrev pub log_with : BusCycle → KeptCycles → KeptCycles
+log_with cycle log = if keeps log.reads_of cycle && nat_lt (length log.told) log.room then record log {
   told = log.told ++ cycle ∷ [];
 } else log
 
 -- the log without the cycles that it has
-abbrev pub emptied : KeptCycles → KeptCycles
-emptied log = record log { told = [] }
+abbrev pub without_cycles : KeptCycles → KeptCycles
+without_cycles log = record log { told = [] }

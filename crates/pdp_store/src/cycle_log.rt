@@ -1,7 +1,7 @@
 //! Logs of the bus cycles that the processor makes. A store is where a log is kept: most keep none.
 
 ghost use Rattle.std.specs.Prelude.{◌≡◌, nat_lt, [], IfOk};
-ghost use Rattle.pdp_store.specs.CycleLogs.{emptied, keeps, logged};
+ghost use Rattle.pdp_store.specs.CycleLogs.{without_cycles, keeps, log_with};
 
 use pdp_word::NoMemory;
 use std::alloc::Global;
@@ -75,7 +75,7 @@ impl CycleLog {
 
     /// Drops the cycles that are kept, and has as much room again.
     pub fn clear(&mut self)
-        ensures { self.new ≡ emptied self.old }
+        ensures { self.new ≡ without_cycles self.old }
     {
         self.cycles.truncate(0);
     }
@@ -99,7 +99,7 @@ impl CycleLog {
 
     /// Keeps a cycle, if the log is one of such cycles and has room.
     pub fn note(&mut self, cycle: BusCycle)
-        ensures { self.new ≡ logged cycle self.old }
+        ensures { self.new ≡ log_with cycle self.old }
     {
         if self.keeps(cycle) && self.cycles.len() < self.room {
             // it never fails: there is room, by the invariant

@@ -39,7 +39,7 @@
 ghost use Rattle.std.specs.Prelude.{◌≡◌, ◌<◌, ◌*◌, ◌/◌, length, map, nat_le, slice_index};
 ghost use Rattle.std.specs.Prelude.{slice_index_or, slice_set, nat_lt};
 ghost use Rattle.pdp_store.specs.Stored.{HasLastOfEachOrNone};
-ghost use Rattle.pdp_store.specs.CycleLogs.{logged};
+ghost use Rattle.pdp_store.specs.CycleLogs.{log_with};
 ghost use Rattle.pdp_store.specs.FirstTouches.{first_touches_before, never, first_turn, touch_page};
 
 mod base;
@@ -185,7 +185,7 @@ pub trait Store {
         ensures words { words self.new ≡ words self.old }
         ensures stamps { stamps self.new ≡ stamps self.old }
         ensures first_touches { first_touches self.new ≡ first_touches self.old }
-        ensures log { log self.new ≡ logged cycle (log self.old) };
+        ensures log { log self.new ≡ log_with cycle (log self.old) };
 
     /// Whether the log has room at all, so that it may keep a cycle.
     fn is_logging(&self) -> bool

@@ -4,9 +4,9 @@
 ghost use Rattle.std.specs.Prelude.{◌≡◌, ◌<◌, ◌≤◌, ◌+◌, ◌*◌, ◌/◌, ◌%◌, [], Some, None, length, map};
 ghost use Rattle.std.specs.Prelude.{slice_get, slice_index, slice_index_or, slice_set, replicate};
 ghost use Rattle.std.specs.Prelude.{IfOk, IfSome, false};
-ghost use Rattle.pdp_store.specs.Pages.{blank_drive, blank_words, without_base, next_given};
-ghost use Rattle.pdp_store.specs.Pages.{next_serial, words_of, stamps_of, serials, serials_taken};
-ghost use Rattle.pdp_store.specs.Pages.{given_after};
+ghost use Rattle.pdp_store.specs.Pages.{blank_drive, blank_words, given_after, next_given};
+ghost use Rattle.pdp_store.specs.Pages.{next_serial, serials, serials_taken, stamps_of};
+ghost use Rattle.pdp_store.specs.Pages.{without_base, words_of};
 ghost use Rattle.pdp_store.specs.declared.paged_drive.Backing.TheVariants.{Shared};
 ghost use Rattle.pdp_store.specs.DriveBackings.{AreTaken, AreZeros, base_from, copied_from};
 ghost use Rattle.pdp_store.specs.DriveBackings.{drive_from_pages, own_with_copy, with_part};
@@ -16,11 +16,9 @@ ghost use Rattle.pdp_store.specs.CycleLogs.{no_log};
 ghost use Rattle.pdp_store.specs.FirstTouches.{first_touches_before, touch_page};
 
 use crate::base::new_page;
-use crate::page::{PAGE_WORDS, Page, Pages};
 use crate::page_runs::{are_same_words, words_in};
-use crate::paging::{Paging, SharedPaging};
 use crate::touches::StoreTouches;
-use crate::{BusCycle, Stamp, Store};
+use crate::{BusCycle, PAGE_WORDS, Page, Pages, Paging, SharedPaging, Stamp, Store};
 use pdp_word::NoMemory;
 use std::alloc::Global;
 use std::marker::Model;
@@ -133,9 +131,7 @@ impl PagedDrive {
     }
 }
 
-// `count` owners of one page of zeros, which has the first serial.
-//
-// Err(NoMemory) as above.
+// `count` owners of one page of zeros, which has the first serial. Err(NoMemory) as above.
 fn zero_pages(alloc: Global, count: usize) -> Result<Vec<Rc<Page>>, NoMemory>
     ensures { IfOk result (λ pages. AreZeros count pages.items) }
 {
@@ -231,9 +227,7 @@ impl Store for PagedDrive {
     }
 
     #[inline(always)]
-    fn note(&mut self, _cycle: BusCycle)
-        ensures { self.new ≡ self.old }
-    {}
+    fn note(&mut self, _cycle: BusCycle) {}
 
     #[inline(always)]
     fn is_logging(&self) -> bool {

@@ -226,9 +226,7 @@ impl Store for Paged {
     }
 
     #[inline(always)]
-    fn note(&mut self, _cycle: BusCycle)
-        ensures { self.new ≡ self.old }
-    {}
+    fn note(&mut self, _cycle: BusCycle) {}
 
     #[inline(always)]
     fn is_logging(&self) -> bool {

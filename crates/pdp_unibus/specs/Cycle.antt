@@ -6,7 +6,7 @@ use Rattle.pdp_decode.specs.Table.{instr_of_word}
 use Rattle.pdp_decode.specs.declared.instruction.Instr.{Instr}
 use Rattle.pdp_icache.specs.Meaning.{meaning}
 use Rattle.pdp_icache.specs.declared.line.Decoded.{Decoded}
-use Rattle.pdp_store.specs.CycleLogs.{logged}
+use Rattle.pdp_store.specs.CycleLogs.{log_with}
 use Rattle.pdp_store.specs.FirstTouches.{word_touched}
 use Rattle.pdp_store.specs.declared.cycle_log.BusCycle.{BusCycle}
 use Rattle.pdp_store.specs.declared.cycle_log.CycleKind.TheVariants as kind
@@ -67,13 +67,13 @@ told_byte_write address value = record {
 
 -- the bus after this cycle was told to its log
 abbrev pub telling : BusCycle → BusWorld → BusWorld
-telling told w = with_log w (logged told w.log)
+telling told w = with_log w (log_with told w.log)
 
 -- the bus after a read of word k of core: it touches the word's page [6.27] [6.28]
 abbrev pub core_read : BusWorld → ℕ → BusWorld
 core_read w k = record w {
   first_touches = word_touched part.Core k w.turn w.first_touches;
-  log = logged (told_read (k * 2) (Some (slice_index w.core k))) w.log;
+  log = log_with (told_read (k * 2) (Some (slice_index w.core k))) w.log;
 }
 
 -- and after a write by which word k is this one: it touches the page too
@@ -82,7 +82,7 @@ core_stored w k word told = record w {
   core = slice_set w.core k word;
   stamps = slice_set w.stamps k (Some (stamp_of_cycle w));
   first_touches = word_touched part.Core k w.turn w.first_touches;
-  log = logged told w.log;
+  log = log_with told w.log;
 }
 
 -- a write of the word, and of the byte at this physical address

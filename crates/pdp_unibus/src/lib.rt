@@ -55,6 +55,7 @@
 mod beginning;
 mod bits;
 mod bus;
+mod cycles;
 mod delays;
 mod device_table;
 mod direct;

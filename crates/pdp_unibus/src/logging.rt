@@ -1,7 +1,7 @@
 //! A bus that keeps a log of the processor's cycles, made of one that keeps none, and back.
 
 ghost use Rattle.std.specs.Prelude.{◌≡◌};
-ghost use Rattle.pdp_store.specs.CycleLogs.{emptied, no_log};
+ghost use Rattle.pdp_store.specs.CycleLogs.{without_cycles, no_log};
 ghost use Rattle.pdp_unibus.specs.BusWorld.{with_log};
 
 use crate::bus::Bus;
@@ -38,7 +38,7 @@ impl<S: Store, D: Store> Bus<Logging<S>, D> {
 
     /// Drops the cycles that the log has kept.
     pub fn clear_log(&mut self)
-        ensures { self.new ≡ with_log self.old (emptied self.old.log) }
+        ensures { self.new ≡ with_log self.old (without_cycles self.old.log) }
     {
         self.words.log.clear();
     }
