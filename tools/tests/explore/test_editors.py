@@ -1,6 +1,7 @@
 """What an editor is told by `explore dap`, against what explore itself says of the same turns."""
 import base64
 import random
+from typing import Any
 
 from nezdrab.explore.commands import COMMANDS, Explorer
 from nezdrab.explore.levels import Stacks
@@ -46,6 +47,13 @@ class OfEditors(OnMachine, WithEditors):
         """Goes to a turn by the console."""
         if self.turn_of(editor) != turn:
             self.assertEqual(editor.goes_by(f"show {turn}"), (turn, "goto"))
+
+    def stays(self, editor: Editor, turn: int, why: str, command: str, **arguments: Any) -> None:
+        """That a request which can't go anywhere stops where it is, and says why. It isn't refused:
+        dap-mode, once it has asked, takes it to run."""
+        self.assertEqual(editor.go(command, **arguments), (turn, "pause"))
+        self.assertIn(why, editor.text)
+        self.assertEqual(editor.complaint(), f"{editor.text}\n")
 
     def turn_of(self, editor: Editor) -> int:
         name: str = editor.ask("threads")["threads"][0]["name"]

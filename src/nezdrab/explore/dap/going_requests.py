@@ -21,8 +21,6 @@ def continue_request(client: Client, fields: Fields) -> Object:
 
 @request("reverseContinue")
 def reverse_continue(client: Client, fields: Fields) -> None:
-    if client.explorer.turn == 0:
-        raise ExploreError("turn 0 is power-up: no turn comes before it")
     client.start(running.back(client.explorer))
 
 
@@ -57,11 +55,8 @@ def pause(client: Client, fields: Fields) -> None:
 
 @request("restartFrame")
 def restart_frame(client: Client, fields: Fields) -> None:
-    """Goes to the first turn of the routine of a frame."""
     frame: Frame = client.named_as(fields.number("frameId"), Frame)
-    if frame.entered is None:
-        raise ExploreError("no call is found that entered this routine")
-    client.start(running.at_once(Stop(frame.entered.call.turn + 1, "restart")))
+    client.start(running.restart(frame))
 
 
 @request("gotoTargets")
