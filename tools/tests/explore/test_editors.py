@@ -166,6 +166,8 @@ class Shown(OfEditors):
         for reference, count, left in (("0x3dffe", 4, 2), ("0x3e000", 6, 6), ("0x1002000", 8, 8)):
             read = editor.ask("readMemory", memoryReference=reference, count=count)
             self.assertEqual(read["unreadableBytes"], left, reference)
+        far = editor.ask("readMemory", memoryReference="0x200", offset=-(10**30), count=10**31)
+        self.assertEqual(far["unreadableBytes"], 10**31)
         listed = list(COMMANDS["list"].lines(explorer, "kernel 1232 40 at 128066"))
         for moved, first, count in ((0, 0, 40), (5, 5, 9), (-7, 0, 12)):
             at = 0x29A if moved >= 0 else int(listed[7][:6], 8)

@@ -64,7 +64,7 @@ def goto_targets(client: Client, fields: Fields) -> Object:
     """The turn at which a line is reached next, and the one at which it was reached last, as far as
     they are in a million turns after the current one and before it."""
     explorer, moved = client.explorer, 1 - client.first_line
-    path, asked = fields.inside("source").text("path", ""), fields.number("line") + moved
+    path, asked = fields.inside("source").path("path", ""), fields.number("line") + moved
     line, places = client.it.sources.from_line(path, asked)
     turn, end = explorer.turn, min(explorer.turn + SEARCHED_TURNS, client.it.end)
     before = range(max(0, turn - SEARCHED_TURNS), turn)

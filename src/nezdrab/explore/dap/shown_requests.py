@@ -96,15 +96,17 @@ def evaluate(client: Client, fields: Fields) -> Optional[Object]:
     before = {it.number for it in explorer.breakpoints.points}
     turn, frame = explorer.turn, client.named.get(fields.number("frameId", 0))
     of_frame = frame.turn if isinstance(frame, Frame) else turn
+    shown, end = "", []
     try:
-        return {"result": done(client.it.prompt, text, of_frame), "variablesReference": 0}
+        shown = done(client.it.prompt, text, of_frame)
     except Ended as ended:
-        client.later.append(partial(client.terminated, ended.is_dropped))
-        return {"result": "", "variablesReference": 0}
+        end = [partial(client.terminated, ended.is_dropped)]
     finally:
         tell_of_breakpoints(client, before)
         if not tell_of_edits(client) and explorer.turn != turn:
             client.later.append(partial(client.stopped, Stop(explorer.turn, "goto")))
+    client.later += end
+    return {"result": shown, "variablesReference": 0}
 
 
 def tell_of_edits(client: Client) -> bool:
