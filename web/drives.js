@@ -44,15 +44,20 @@ async function imageIn(file) {
   return image;
 }
 
-/** The first of the user's edits, on or off, that is a patch of a drive with so many words: version
-    1 alone takes three of them, and version 2 alone four, which name the drive.
-    @param {KeptEdits} edits @param {number} count */
-function patchOfDrive({ changes, off = [] }, count) {
+/** Whether an edit is taken by version 1 alone: a patch of a drive that names none.
+    @param {string[]} words */
+const isOfVersion1 = ([first, ...rest]) => first === "disk" && rest.length === 2;
+
+/** Whether an edit is one of version 2: a patch that names the drive, or the version itself.
+    @param {string[]} words */
+const isOfVersion2 = ([first, ...rest]) =>
+  first === "version" || first === "disk" && rest.length === 3;
+
+/** The first of the user's edits, on or off, of a kind.
+    @param {KeptEdits} edits @param {(words: string[]) => boolean} isOfKind */
+function firstEdit({ changes, off = [] }, isOfKind) {
   const lines = [...changes, ...off.map(it => it.change)].flat().map(it => it.line);
-  return lines.find(it => {
-    const words = wordsOfLine(it);
-    return words[0] === "disk" && words.length === count;
-  });
+  return lines.find(it => isOfKind(wordsOfLine(it)));
 }
 
 export class Drives {
@@ -136,7 +141,7 @@ export class Drives {
 
   /** A FileError if the session can't become one of version 2, since an edit would be refused. */
   refuseVersion1() {
-    const edit = patchOfDrive(this.app.edits.kept(), 3);
+    const edit = firstEdit(this.app.edits.kept(), isOfVersion1);
     if (edit === undefined) return;
     const [, word, value] = wordsOfLine(edit);
     throw new FileError("This session is of version 1, which has drive 0 alone, and version 2 "
@@ -152,10 +157,10 @@ export class Drives {
       const { contents } = this.app.session, said = [`Drive ${drive} has no image.`];
       let session = withoutFile(contents, optionOfDrive(drive));
       if (isMadeVersion2(session)) {
-        const edit = patchOfDrive(this.app.edits.kept(), 4);
+        const edit = firstEdit(this.app.edits.kept(), isOfVersion2);
         if (edit === undefined) session = ofVersion1(session);
         said.push(edit === undefined ? "The session is of version 1 again."
-          : `The session stays one of version 2: your edit ${edit} names a drive.`);
+          : `The session stays one of version 2 by your edit ${edit}.`);
       }
       await this.open(session, said);
       part(this.rows[drive], ".choose").focus();

@@ -162,13 +162,17 @@ class Drives(DrivesCase):
         self.assertNotIn("version", self.take(1))
         self.assertIn("version 2", self.lines())
 
-    def test_an_edit_that_names_a_drive_keeps_version_2(self) -> None:
-        self.choose(3, self.image("pack.disk", WORDS), "Drive 3 has")
-        self.type_line("disk 3 0 222")
-        said = "The session stays one of version 2: your edit disk 3 0 222 names a drive."
-        self.assertIn(said, self.take(3))
-        self.assertEqual(self.edits(), ["disk 3 0 222"])
-        self.assertIn("dsk 000222 000000", self.type_line("dsk 0 3 0 2"))
+    def test_an_edit_of_version_2_keeps_it(self) -> None:
+        pack = self.image("pack.disk", WORDS)
+        for edit in "disk 3 0 222", "version 2":
+            self.choose(3, pack, "Drive 3 has")
+            self.type_line(edit)
+            said = f"The session stays one of version 2 by your edit {edit}."
+            self.assertIn(said, self.take(3))
+            self.assertEqual(self.edits(), [edit])
+            self.assertIn("dsk 000000 000111", self.type_line("dsk 0 0 0 2"))
+            self.browser.click("#undo")
+            self.wait_text("#reply", "undone")
 
     def test_what_is_chosen_at_once_is_all_there(self) -> None:
         """Each begins while what was begun before it is under way: an edit, and another image."""
