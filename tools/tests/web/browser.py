@@ -234,9 +234,13 @@ class Browser(Driven):
 
     def drag(self, selector: str, by: float, steps: int = 8, is_let_go: bool = True) -> None:
         """Drags an element sideways."""
-        x, y = self.middle(selector)
-        self.mouse("mouseMoved", x, y)
-        self.mouse("mousePressed", x, y, button="left", buttons=1, clickCount=1)
+
+        def hold(x: float, y: float) -> None:
+            self.mouse("mouseReleased", x, y, button="left")
+            self.mouse("mouseMoved", x, y)
+            self.mouse("mousePressed", x, y, button="left", buttons=1, clickCount=1)
+
+        x, y = self.press(selector, hold)
         self.drag_on(selector, by, steps)
         if is_let_go:
             self.mouse("mouseReleased", x + by, y, button="left", clickCount=1)

@@ -90,9 +90,10 @@ class OnPage:
         self.browser.wait("document.documentElement.dataset.work === 'none'")
 
     def type_line(self, line: str) -> str:
-        """Types a line and Enter; returns what the page says of it."""
-        self.fill("#line")
-        self.browser.type(line)
+        """Types a line and Enter; returns what the page says of it, and not of the same line
+        before."""
+        self.browser.value("document.querySelector('#reply').textContent = ''")
+        self.fill("#line", line)
         self.browser.key("Enter")
         return self.wait_text("#reply", f"{line}: ")
 

@@ -31,6 +31,17 @@ KEEP = """(() => {{
   keep();
 }})()"""
 
+# Twice, as the pointer comes, another button takes the place of the first one.
+MOVES = """(() => {
+  const button = document.querySelector('button'), other = button.cloneNode(true);
+  window.pressed = [];
+  button.onclick = () => window.pressed.push('button');
+  other.onclick = () => window.pressed.push('other');
+  let times = 0;
+  addEventListener('mousemove', () => times++ < 2 && (times % 2 ? button.before(other)
+    : other.remove()));
+})()"""
+
 
 class Pressing(unittest.TestCase):
     def test_a_click_waits_until_the_element_can_be_pressed(self) -> None:
@@ -45,6 +56,14 @@ class Pressing(unittest.TestCase):
                 browser.click("button")
                 browser.wait("pressed.length")
                 self.assertEqual(browser.value("pressed"), [False])
+
+    def test_a_click_that_the_page_moves_away_is_made_again(self) -> None:
+        browser = the_browser()
+        browser.open(PAGE)
+        browser.value(MOVES)
+        browser.click("button:last-of-type")
+        browser.wait("pressed.length")
+        self.assertEqual(browser.value("pressed"), ["button"])
 
     def test_what_is_not_there_is_told(self) -> None:
         browser = the_browser()

@@ -240,10 +240,10 @@ class Looking(InFirefox):
         turn = last.split()[1]
         self.fill("#why-word", f"{FIRST:o}")
         self.browser.key("Enter")
-        said = self.wait_text("#reasons", "before turn")
-        self.assertIn(f"core {FIRST:06o} is {word.split()[1]} before turn {KEY_TURN}", said)
-        self.wait_text("#reasons ol li:nth-child(2)", f"turn {turn}")
-        self.browser.click("#reasons ol li:nth-child(2) button")
+        value = f"core {FIRST:06o} before turn {KEY_TURN}: {word.split()[1]}"
+        self.wait_text("#reasons li:nth-child(1)", value)
+        self.wait_text("#reasons li:nth-child(2)", f"core {FIRST:06o} <- turn {turn}: ")
+        self.browser.click("#reasons li:nth-child(2) .link")
         self.wait_turn(int(turn))
 
     def test_a_file_is_chosen(self) -> None:
