@@ -52,6 +52,18 @@ AIM = """(element => {
   };
 })"""
 
+# What the page says of itself, for who reads that a test failed.
+SAYS = """(() => {
+  const { state, work } = document.documentElement.dataset, focus = document.activeElement;
+  const text = name => document.querySelector(name)?.textContent.trim().slice(0, 300);
+  return {
+    address: location.href.slice(-100), state, work, bar: text("#work:not([hidden])"),
+    session: text("#session-name"), turn: text("#registers-turn"), reply: text("#reply"),
+    edits: document.querySelectorAll("#edits > li").length,
+    focus: focus?.outerHTML.slice(0, 100),
+  };
+})()"""
+
 
 class BrowserError(Exception):
     """The browser doesn't do what it is told."""
@@ -90,9 +102,16 @@ class Driven(ABC):
             if found:
                 return found
             if time.monotonic() > end:
-                said = "; ".join(self.said())
-                raise BrowserError(f"this doesn't come: {expression}; messages: {said}")
+                raise BrowserError(f"this doesn't come: {expression}")
             time.sleep(0.03)
+
+    def says(self) -> str:
+        """What the page and its console say."""
+        try:
+            page = json.dumps(self.value(SAYS), ensure_ascii=False)
+            return f"{page}; its console: {'; '.join(self.said()[-5:]) or 'nothing'}"
+        except BrowserError as error:
+            return f"nothing: {error}"
 
     def text(self, selector: str) -> str:
         return str(self.value(f"document.querySelector({json.dumps(selector)}).textContent"))

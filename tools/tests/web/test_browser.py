@@ -1,5 +1,5 @@
 """The tests' own click: as a user, it waits until what it presses is there and can be pressed."""
-import unittest
+from tests import counted
 
 from .common import the_browser
 from .driven import BrowserError
@@ -43,7 +43,10 @@ MOVES = """(() => {
 })()"""
 
 
-class Pressing(unittest.TestCase):
+class Pressing(counted.InBrowser):
+    def page_says(self) -> str:
+        return the_browser().says()
+
     def test_a_click_waits_until_the_element_can_be_pressed(self) -> None:
         browser = the_browser()
         for act, told in KEPT:

@@ -9,13 +9,13 @@ import struct
 import tempfile
 import threading
 import time
-import unittest
 from pathlib import Path
 from typing import Any, Iterable
 
 from nezdrab.explore.errors import ExploreError
 from nezdrab.explore.load import loaded
 from nezdrab.explore.symbol_files import Symbol, symbol_file
+from tests import counted
 from tests.explore.media import PROGRAM, TAPE, block, program, symbol, tape, words
 from tests.explore.test_symbols import FORMATS, MAP_OF_RT11
 
@@ -50,7 +50,7 @@ def visible(text: str) -> str:
     return "".join(it if it.isprintable() else f"\\u{ord(it):04x}" for it in text)
 
 
-class ReadersCase(unittest.TestCase):
+class ReadersCase(counted.InBrowser):
     maxDiff = 4000
     server: http.server.ThreadingHTTPServer
     path: Path
@@ -67,6 +67,9 @@ class ReadersCase(unittest.TestCase):
         cls.path = Path(folder.name) / "it"
         host, port = cls.server.server_address[:2]
         browser.open(f"http://{str(host)}:{port}/")
+
+    def page_says(self) -> str:
+        return the_browser().says()
 
     def called(self, name: str, *given: object) -> Any:
         words = ", ".join(json.dumps(it) for it in given)
