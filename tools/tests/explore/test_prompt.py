@@ -124,7 +124,7 @@ class Terminal(AtTerminal):
     def test_a_long_question_shows_that_it_is_at_work(self) -> None:
         self.begin()
         self.type("regs 1000000000\n")
-        seconds = set()
+        seconds: set[int] = set()
         while len(seconds) < 2:
             self.wait_for(b"regs: at work, ")
             seconds.add(int(self.wait_for(b" s ")))

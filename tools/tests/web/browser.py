@@ -15,7 +15,7 @@ from tests import under_test
 
 from .driven import BrowserError, Driven
 
-SECONDS = 120.0
+SECONDS = 300.0
 OPTIONS = (
     "--headless=new",
     "--no-sandbox",

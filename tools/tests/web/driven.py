@@ -4,7 +4,7 @@ import time
 from abc import ABC, abstractmethod
 from typing import Any, Callable
 
-WAIT = 120.0
+WAIT = 300.0
 # The middle of an element, after it was scrolled into sight, or why it can't be pressed there now.
 PRESSED = """(async (name, take) => {
   const frame = () => new Promise(requestAnimationFrame);
