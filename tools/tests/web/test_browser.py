@@ -68,6 +68,15 @@ class Pressing(counted.InBrowser):
         browser.wait("pressed.length")
         self.assertEqual(browser.value("pressed"), ["button"])
 
+    def test_what_the_page_says_is_told(self) -> None:
+        browser = the_browser()
+        browser.open(PAGE)
+        browser.value("console.error('something'); document.querySelector('button').focus()")
+        said = browser.says()
+        for part in ('"state": "ready"', "<button", "its console: something"):
+            self.assertIn(part, said)
+        self.assertNotIn("session", said)
+
     def test_what_is_not_there_is_told(self) -> None:
         browser = the_browser()
         browser.open(PAGE)

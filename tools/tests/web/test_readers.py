@@ -187,11 +187,18 @@ class Symbols(ReadersCase):
         self.check_texts("\n".join(lines[at:]) for at in range(len(lines)))
 
     def test_long_lines_take_no_time(self) -> None:
+        """At most a minute, or on a slow computer 40 times as long as for much shorter ones."""
+        short = self.seconds_of(10_000)
+        self.assertLess(self.seconds_of(200_000), max(60, 40 * short))
+
+    def seconds_of(self, length: int) -> float:
+        """The time that lines of about this length take."""
         began = time.monotonic()
-        for line in ("A" * 200_000, "A 000001 " * 20_000 + "!", "000001 " * 30_000, "A:" * 90_000):
+        for part in ("A", "A 000001 ", "000001 ", "A:"):
+            line = part * (length // len(part)) + "!" * (part == "A 000001 ")
             heads = ("", "RT-11 LINK  Load Map\n", "Global symbols:\n", "Symbol table\n")
             self.check_texts(head + line for head in heads)
-        self.assertLess(time.monotonic() - began, 60)
+        return time.monotonic() - began
 
 
 class Kinds(ReadersCase):
