@@ -55,12 +55,13 @@ AIM = """(element => {
 # What the page says of itself, for who reads that a test failed.
 SAYS = """(() => {
   const { state, work } = document.documentElement.dataset, focus = document.activeElement;
-  const text = name => document.querySelector(name)?.textContent.trim().slice(0, 300);
+  const short = text => text?.replace(/\\s+/g, " ").trim().slice(0, 300);
+  const text = name => short(document.querySelector(name)?.textContent);
   return {
     address: location.href.slice(-100), state, work, bar: text("#work:not([hidden])"),
     session: text("#session-name"), turn: text("#registers-turn"), reply: text("#reply"),
     edits: document.querySelectorAll("#edits > li").length,
-    focus: focus?.outerHTML.slice(0, 100),
+    focus: short(focus?.cloneNode().outerHTML),
   };
 })()"""
 
