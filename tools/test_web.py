@@ -5,10 +5,11 @@ a headless Chromium, and its main parts in a headless Firefox, by the tests in t
 PROGRAM is the built search: what the page shows is compared with its replies. The page is packed
 anew of web/ and the modules in release/, or is the one at ADDRESS. FOLDER gets the screenshots of
 the tour. --only runs the tests with NAME in their name. --slow shows which of them a slow computer
-would fail: the page in Chromium has an Nth of the processor, and what it waits for comes late.
-Of the tests in a browser that fail, up to 3 are run a second time, in a fresh page. Without Chromium, Firefox or the modules
-the tests that need them are skipped, and each is named; those of style, names and widths run. The
-last line is 'N passed, M failed'."""
+would fail: the page in Chromium has an Nth of the processor, and what it waits for comes late. If
+at most 3 tests in a browser fail, each is run a second time, in a fresh page.
+
+Without Chromium, Firefox or the modules the tests that need them are skipped, and each is named;
+those of style, names and widths run. The last line is 'N passed, M failed'."""
 import argparse
 import sys
 from pathlib import Path

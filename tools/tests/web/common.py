@@ -109,7 +109,7 @@ class OnPage(counted.InBrowser):
         self.browser.type(text)
 
     def follow_fragment(self, fragment: str) -> None:
-        """Puts another fragment into the page's address, and waits until the page has heard of it."""
+        """Puts another fragment into the page's address, and waits until the page knows it."""
         self.browser.value(
             "new Promise(done => {"
             "addEventListener('hashchange', () => setTimeout(done, 0), {once: true});"

@@ -47,8 +47,7 @@ LONG_TASK, LONG_COUNTS = 50.0, 8_000_000
 
 
 def long_task(browser: Browser) -> float:
-    """The milliseconds that a task of the page may take: on a slow computer, those that an empty one
-    takes."""
+    """How many milliseconds a task of the page may take: on a slow computer as an empty one."""
     count = f"(() => {{ {COUNT.format(LONG_COUNTS)}; window.counted = sum; }})()"
 
     def act() -> None:
