@@ -8,11 +8,14 @@ import signal
 import subprocess
 import tempfile
 import time
+from pathlib import Path
 from typing import Any, Callable, Optional
+
+from tests import under_test
 
 from .driven import BrowserError, Driven
 
-SECONDS = 120.0
+SECONDS = 300.0
 OPTIONS = (
     "--headless=new",
     "--no-sandbox",
@@ -38,6 +41,10 @@ KEYS = {
 ALT, SHIFT = 1, 8
 # What is traced: the tasks of each thread, and the marks that the page makes.
 TRACED = ["disabled-by-default-devtools.timeline", "blink.user_timing"]
+# Two frames: the page has heard of another size, and is drawn in it.
+SETTLED = "new Promise(done => requestAnimationFrame(() => requestAnimationFrame(() => done())))"
+# What lets a page come late, up to so many milliseconds for each time that it is to be slower.
+LATE, MILLISECONDS = Path(__file__).with_name("late.js"), 50
 
 
 def found_browser() -> Optional[str]:
@@ -88,6 +95,13 @@ class Browser(Driven):
         for name in ("Page", "Runtime", "Log", "Network", "DOM"):
             self.call(f"{name}.enable")
         self.call("Emulation.setFocusEmulationEnabled", enabled=True)
+        if under_test.slower() > 1:
+            self._slow_down(under_test.slower())
+
+    def _slow_down(self, times: float) -> None:
+        late = LATE.read_text().replace("MOST_MILLISECONDS", str(MILLISECONDS * times))
+        self.call("Emulation.setCPUThrottlingRate", rate=times)
+        self.call("Page.addScriptToEvaluateOnNewDocument", source=late)
 
     def close(self) -> None:
         os.killpg(self.process.pid, signal.SIGKILL)
@@ -189,6 +203,8 @@ class Browser(Driven):
         )
         scheme = {"name": "prefers-color-scheme", "value": "dark" if is_dark else "light"}
         self.call("Emulation.setEmulatedMedia", features=[scheme])
+        self.wait(f"innerWidth === {width} && innerHeight === {height}")
+        self.value(SETTLED)
 
     def value(self, expression: str) -> Any:
         """The value of an expression of JavaScript; a promise is waited for."""
@@ -212,6 +228,8 @@ class Browser(Driven):
         try:
             self.value("performance.mark('traced')")
             act()
+            # a task is told once it has ended
+            self.value("new Promise(done => setTimeout(done, 0))")
         finally:
             self.call("Tracing.end")
             end = time.monotonic() + SECONDS

@@ -4,7 +4,7 @@ import time
 from abc import ABC, abstractmethod
 from typing import Any, Callable
 
-WAIT = 120.0
+WAIT = 300.0
 # The middle of an element, after it was scrolled into sight, or why it can't be pressed there now.
 PRESSED = """(async (name, take) => {
   const frame = () => new Promise(requestAnimationFrame);
@@ -52,6 +52,19 @@ AIM = """(element => {
   };
 })"""
 
+# What the page says of itself, for who reads that a test failed.
+SAYS = """(() => {
+  const { state, work } = document.documentElement.dataset, focus = document.activeElement;
+  const short = text => text?.replace(/\\s+/g, " ").trim().slice(0, 300);
+  const text = name => short(document.querySelector(name)?.textContent);
+  return {
+    address: location.href.slice(-100), state, work, bar: text("#work:not([hidden])"),
+    session: text("#session-name"), turn: text("#registers-turn"), reply: text("#reply"),
+    edits: document.querySelectorAll("#edits > li").length,
+    focus: short(focus?.cloneNode().outerHTML),
+  };
+})()"""
+
 
 class BrowserError(Exception):
     """The browser doesn't do what it is told."""
@@ -90,9 +103,16 @@ class Driven(ABC):
             if found:
                 return found
             if time.monotonic() > end:
-                said = "; ".join(self.said())
-                raise BrowserError(f"this doesn't come: {expression}; messages: {said}")
+                raise BrowserError(f"this doesn't come: {expression}")
             time.sleep(0.03)
+
+    def says(self) -> str:
+        """What the page and its console say."""
+        try:
+            page = json.dumps(self.value(SAYS), ensure_ascii=False)
+            return f"{page}; its console: {'; '.join(self.said()[-5:]) or 'nothing'}"
+        except BrowserError as error:
+            return f"nothing: {error}"
 
     def text(self, selector: str) -> str:
         return str(self.value(f"document.querySelector({json.dumps(selector)}).textContent"))

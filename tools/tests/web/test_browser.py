@@ -1,5 +1,5 @@
 """The tests' own click: as a user, it waits until what it presses is there and can be pressed."""
-import unittest
+from tests import counted
 
 from .common import the_browser
 from .driven import BrowserError
@@ -43,7 +43,10 @@ MOVES = """(() => {
 })()"""
 
 
-class Pressing(unittest.TestCase):
+class Pressing(counted.InBrowser):
+    def page_says(self) -> str:
+        return the_browser().says()
+
     def test_a_click_waits_until_the_element_can_be_pressed(self) -> None:
         browser = the_browser()
         for act, told in KEPT:
@@ -64,6 +67,15 @@ class Pressing(unittest.TestCase):
         browser.click("button:last-of-type")
         browser.wait("pressed.length")
         self.assertEqual(browser.value("pressed"), ["button"])
+
+    def test_what_the_page_says_is_told(self) -> None:
+        browser = the_browser()
+        browser.open(PAGE)
+        browser.value("console.error('something'); document.querySelector('button').focus()")
+        said = browser.says()
+        for part in ('"state": "ready"', "<button", "its console: something"):
+            self.assertIn(part, said)
+        self.assertNotIn("session", said)
 
     def test_what_is_not_there_is_told(self) -> None:
         browser = the_browser()
