@@ -18,3 +18,4 @@ pub mod FadingEdits
 pub mod PatchFadings
 pub mod VirtualReads
 pub mod WordsFound
+pub mod TurnReads

@@ -38,3 +38,4 @@ pub mod Decided
 pub mod Branches
 pub mod BranchingOff
 pub mod PatchedBranches
+pub mod LoggedTurns

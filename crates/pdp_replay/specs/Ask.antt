@@ -19,3 +19,4 @@ pub mod Watches
 pub mod Backwards
 pub mod DiskCompletions
 pub mod Fadings
+pub mod Reads

@@ -4,10 +4,12 @@ mod branch;
 mod changes;
 mod former_runs;
 mod kept_run;
+mod logged_branch;
 mod pauses;
 mod turns;
 
 pub(crate) use branch::{Branch, Likeness};
 pub(crate) use kept_run::KeptRun;
+pub(crate) use logged_branch::LoggedBranch;
 pub(crate) use pauses::{next_pause, next_taken};
 pub(crate) use turns::{quiet_until, run_part};

@@ -10,7 +10,8 @@ ghost use Rattle.pdp_replay.specs.Run.KeptRuns.{MetersWay};
 ghost use Rattle.pdp_replay.specs.Ask.Known.{LeavesPast, RunsFrom};
 ghost use Rattle.pdp_replay.specs.Ask.Searches.{search_checked, IsWithinSearch};
 ghost use Rattle.pdp_replay.specs.Ask.Told.{IsAtTurn, IsToldOf};
-ghost use Rattle.pdp_replay.specs.Ask.DiskCompletions.{completion_of, completions_end, idle_by};
+ghost use Rattle.pdp_replay.specs.Ask.DiskCompletions.{completion_of, completions_end};
+ghost use Rattle.pdp_replay.specs.Ask.DiskCompletions.{has_completion, idle_by};
 ghost use Rattle.pdp_replay.specs.Ask.DiskCompletions.{completions_in_turns, is_idle_turn};
 ghost use Rattle.pdp_replay.specs.Ask.DiskCompletions.{AreCompletionsFrom, IsDiskTurnOf};
 
@@ -57,9 +58,9 @@ pub struct CompletionsFound {
 /// The disk in one turn: its controller before the turn, and when the turn has begun.
 #[derive(Clone, Copy)]
 pub(crate) struct DiskTurn {
-    turn: u32,
-    before: Rk,
-    after: Rk,
+    pub(crate) turn: u32,
+    pub(crate) before: Rk,
+    pub(crate) after: Rk,
 }
 
 impl DiskTurn {
@@ -70,11 +71,18 @@ impl DiskTurn {
         !self.after.operation.is_under_way()
     }
 
+    /// Whether a function is completed in the turn, before its act.
+    pub(crate) fn has_completion(&self) -> bool
+        ensures { result ≡ has_completion self.now }
+    {
+        self.before.operation.is_under_way() && self.is_idle()
+    }
+
     /// The completion in the turn, if there is one, of a function that was begun in this turn.
     fn completion(&self, begun: Option<u32>) -> Option<DiskCompletion>
         ensures { result ≡ completion_of begun self.now }
     {
-        if self.before.operation.is_under_way() && self.is_idle() {
+        if self.has_completion() {
             Some(DiskCompletion {
                 turn: self.turn,
                 begun,

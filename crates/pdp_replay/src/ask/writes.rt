@@ -95,7 +95,7 @@ impl Engine {
 
 /// The number of the core word at this address, if the turns from one on and before another can be
 /// searched for writes to it.
-fn check_writes(units: u8, address: u32, from: u32, to: u32) -> Result<usize, Fault>
+pub(crate) fn check_writes(units: u8, address: u32, from: u32, to: u32) -> Result<usize, Fault>
     ensures refusal { (s : SetupData) → s.units ≡ units
         → writes_checked address from to s ≡ result_map (λ _. tt) result }
     ensures limit { OnOk result (to ≤ LAST_TURN) }

@@ -1,6 +1,6 @@
 //! Branches: a second machine, which runs on from a state of the run with another script.
 
-ghost use Rattle.std.specs.Prelude.{◌≡◌, ◌≤◌, length, map, replicate, IfOk, OnOk};
+ghost use Rattle.std.specs.Prelude.{◌≡◌, ◌+◌, ◌≤◌, length, map, min, replicate, IfOk, OnOk};
 ghost use Rattle.pdp_store.specs.Stored.{no_touch_in};
 ghost use Rattle.pdp_replay.specs.Past.{Past};
 ghost use Rattle.pdp_replay.specs.Past.Edit.{past_with_patch};
@@ -107,6 +107,8 @@ impl KeptRun {
         requires limit { turn ≤ LAST_TURN }
         ensures kept { KeepsRun script.now self.old self.new }
         ensures looked { IsLookedAt turn self.old self.new }
+        ensures bound { self.new.meter + min turn self.old.known + 1
+            ≤ self.old.meter + turn + self.old.ladder.stride }
         ensures branch { IfOk result
             (BranchesOff turn base_setup.now script.now other self.old) }
         ensures turn { IfOk result (λ b. b.machine.state.turn ≡ turn) }

@@ -1,0 +1,40 @@
+use Rattle.std.proofs.Common.{◌∙◌, ◌-◌, ◌*◌, ap, ap₂, arith, length, sym}
+use Rattle.pdp_cpu.specs.Turns.MachineState.{MachineState, state_with_log}
+use Rattle.pdp_replay.specs.Past.{Past}
+use Rattle.pdp_replay.specs.Past.Setup.{unit_words}
+use Rattle.pdp_replay.specs.Run.Branches.{IsKeptOfSize}
+use Rattle.pdp_replay.specs.Run.States.{at}
+use Rattle.pdp_replay.specs.Ask.Reads.{IsLoggedState, reads_in_turns}
+use Rattle.pdp_replay.proofs.run.Branches.{kept_metered}
+use Rattle.pdp_replay.proofs.run.CoreSizes.{core_keeps_size}
+use Rattle.pdp_replay.proofs.ask.reads.find_reads.Goals as goal
+use Rattle.pdp_replay.proofs.ask.reads.find_reads.Goals.{In_ok-branch}
+
+-- the branch is in the state of the run, with its log
+there : (c : In_ok-branch) (p : Past) → IsKeptOfSize p c.args.base_setup.now c.args.script.now c.args.run.now → IsLoggedState p c.in_ok-branch.branch.machine.state
+there c p is =
+    let here = c.in_ok-branch.ensures.state p is in
+    here
+    ∙ ap₂ (λ (s : MachineState) (n : MachineState). state_with_log s.world.bus.log (at p n.turn)) (sym here) (sym here)
+
+pub list_reads-requires-clause-within : goal.list_reads-requires-clause-within
+list_reads-requires-clause-within c =
+    let some = c.requires.run in
+    let p = some.past in
+    let here = ap (λ (s : MachineState). length s.world.bus.core) (c.in_ok-branch.ensures.state p some.is) in
+    let size = core_keeps_size p c.args.from in
+    let units = ap (λ u. u * unit_words) some.is.units in
+    let within = c.requires.within in
+    omega (arith, here, size, units, within)
+
+pub returns-in_err-reads-clause-kept : goal.returns-in_err-reads-clause-kept
+returns-in_err-reads-clause-kept c = λ p same run. kept_metered p c.logged_branch.new.self c.list_reads.new.meter (c.logged_branch.ensures.kept p same run)
+
+pub returns-clause-kept : goal.returns-clause-kept
+returns-clause-kept c = λ p same run. kept_metered p c.logged_branch.new.self c.list_reads.new.meter (c.logged_branch.ensures.kept p same run)
+
+pub returns-clause-reads : goal.returns-clause-reads
+returns-clause-reads c = λ p is.
+    let turn = ap (λ (s : MachineState). s.turn) (c.in_ok-branch.ensures.state p is) in
+    let listed = c.in_ok-reads.ensures.reads p is.same (there (goal.at.returns-clause-reads c).In_ok-branch p is) in
+    listed ∙ ap₂ (λ first now. reads_in_turns p c.args.number first (now - first)) turn (sym c.turns.ensures)
