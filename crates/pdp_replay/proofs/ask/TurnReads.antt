@@ -9,7 +9,7 @@ use Rattle.pdp_script.specs.Script.{ScriptData}
 use Rattle.pdp_replay.specs.Past.{Past}
 use Rattle.pdp_replay.specs.Run.States.{at}
 use Rattle.pdp_replay.specs.Ask.DiskCompletions.{disk_turn, disk_turn_at}
-use Rattle.pdp_replay.specs.Ask.Reads.{IsLoggedState, first_read_at, is_read_by_disk, log_of_first_read, processor_read, read_by, read_in}
+use Rattle.pdp_replay.specs.Ask.Reads.{IsLoggedState, first_read_at, is_read_by_disk, log_of_first_read, processor_read, disk_or_processor_read, read_in}
 use Rattle.pdp_replay.specs.Ask.Searches.{EndsAfter}
 use Rattle.pdp_replay.specs.declared.ask.disk_completions.DiskTurn.{DiskTurn}
 use Rattle.pdp_replay.specs.declared.ask.reads.WordRead.{WordRead}
@@ -34,11 +34,11 @@ first_there p script log address m now same here kind is =
 -- the read of the turn, by the disk or by the processor
 pub read_there : (p : Past) (number turn word : ℕ) (by : Bool) (d : DiskTurn) (first : Option BusCycle) → d ≡ disk_turn_at p turn
     → is_read_by_disk number d ≡ by → word ≡ slice_index (at p turn).world.bus.core number → first ≡ first_read_at p (number * 2) turn
-    → read_by by d.turn word first ≡ read_in p number turn
+    → disk_or_processor_read by d.turn word first ≡ read_in p number turn
 read_there p number turn word by d first is by_disk word_is first_is =
-    ap (λ b. read_by b d.turn word first) (sym by_disk)
-    ∙ ap (λ (e : DiskTurn). read_by (is_read_by_disk number e) e.turn word first) is
-    ∙ ap₂ (λ w f. read_by (is_read_by_disk number (disk_turn_at p turn)) turn w f) word_is first_is
+    ap (λ b. disk_or_processor_read b d.turn word first) (sym by_disk)
+    ∙ ap (λ (e : DiskTurn). disk_or_processor_read (is_read_by_disk number e) e.turn word first) is
+    ∙ ap₂ (λ w f. disk_or_processor_read (is_read_by_disk number (disk_turn_at p turn)) turn w f) word_is first_is
 
 -- a read is of its turn
 word_told : (t now : ℕ) (value : Option ℕ) → now ≡ t + 1

@@ -62,15 +62,15 @@ is_read_by_disk number d =
     has_completion d && (reads_core d.before.function && is_spanned number d)
 
 -- the read of the disk, with the word before the turn, or the first one of the processor
-abbrev pub read_by : Bool → ℕ → ℕ → Option BusCycle → Option WordRead
-read_by true t word cycle = Some (record { turn = t; agent = Disk; word = word })
-read_by false t word cycle = processor_read t cycle
+abbrev pub disk_or_processor_read : Bool → ℕ → ℕ → Option BusCycle → Option WordRead
+disk_or_processor_read true t word cycle = Some (record { turn = t; agent = Disk; word = word })
+disk_or_processor_read false t word cycle = processor_read t cycle
 
 -- the first read in turn t of the core word of this number: as the turn begins by the disk, or in
 -- its act by the processor
 abbrev pub read_in : Past → ℕ → ℕ → Option WordRead
 read_in p number t =
-    read_by (is_read_by_disk number (disk_turn_at p t)) t (slice_index (state_at p t).bus.core number)
+    disk_or_processor_read (is_read_by_disk number (disk_turn_at p t)) t (slice_index (state_at p t).bus.core number)
     (first_read_at p (number * 2) t)
 
 -- those of n turns from this one on, in their order
