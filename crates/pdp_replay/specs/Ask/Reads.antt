@@ -70,8 +70,8 @@ disk_or_processor_read false t word cycle = processor_read t cycle
 -- its act by the processor
 abbrev pub read_in : Past → ℕ → ℕ → Option WordRead
 read_in p number t =
-    disk_or_processor_read (is_read_by_disk number (disk_turn_at p t)) t (slice_index (state_at p t).bus.core number)
-    (first_read_at p (number * 2) t)
+    disk_or_processor_read (is_read_by_disk number (disk_turn_at p t)) t
+    (slice_index (state_at p t).bus.core number) (first_read_at p (number * 2) t)
 
 -- those of n turns from this one on, in their order
 abbrev pub reads_in_turns : Past → ℕ → ℕ → ℕ → List WordRead
