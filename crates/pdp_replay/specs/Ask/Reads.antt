@@ -1,6 +1,6 @@
 -- The reads of a word of core in some turns [P].
-use Rattle.std.specs.Prelude.{ℕ, ◌≡◌, ◌+◌, ◌-◌, ◌*◌, ◌&&◌, Bool, true, false, List, [], Option, None}
-use Rattle.std.specs.Prelude.{Some, min, nat_le, nat_lt, option_map, slice_get, slice_index}
+use Rattle.std.specs.Prelude.{ℕ, ◌≡◌, ◌+◌, ◌-◌, ◌*◌, ◌&&◌, Bool, true, false, List, [], Option}
+use Rattle.std.specs.Prelude.{None, Some, min, nat_le, nat_lt, option_map, slice_get, slice_index}
 use Rattle.std.specs.Prelude.{if◌then◌else◌}
 use Rattle.pdp_store.specs.CycleLogs.{KeptCycles}
 use Rattle.pdp_store.specs.declared.Agent.TheVariants.{Cpu, Disk}

@@ -174,7 +174,8 @@ fn find_reads(
     requires within { number < base_setup.now.units * UNIT_WORDS }
     requires order { from ≤ to }
     requires limit { to ≤ LAST_TURN }
-    ensures reads { IfOk result (λ found. (p : Past) → IsKeptOfSize p base_setup.now script.now run.old
+    ensures reads { IfOk result (λ found. (p : Past)
+        → IsKeptOfSize p base_setup.now script.now run.old
         → found.reads.items ≡ reads_in_turns p number from (found.reached - from)) }
     ensures early { IfOk result (λ found. found.reached < to
         → MOST_READS ≤ length found.reads.items) }
