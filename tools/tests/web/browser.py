@@ -181,7 +181,8 @@ class Browser(Driven):
         self.wait("document.documentElement?.dataset.state === 'ready'")
 
     def reload(self) -> None:
-        """Loads the page again, and waits until it is ready."""
+        """Loads the page again once it has kept what was done, and waits until it is ready."""
+        self.wait("document.documentElement.dataset.work === 'none'")
         self.dialogs = []
         self._load("Page.reload")
         self.wait("document.documentElement?.dataset.state === 'ready'")
