@@ -18,7 +18,7 @@ from nezdrab.sessions import *  # noqa: F403, what the checks know as sessions.N
 from nezdrab.sessions import EDITS, SEARCHES, first_word, further_lines, has_reply, is_reply
 from nezdrab.sessions import lines_of, pattern_of, without_end
 
-SECONDS = 60
+SECONDS = 300
 
 
 class Ended(NamedTuple):

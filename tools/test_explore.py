@@ -4,8 +4,8 @@ by the tests in tools/tests/explore.
 
 Each script NAME.explore there is run as lines of a pipe, with the words in NAME.args, in a folder
 that has the examples as examples/, and must write NAME.expected. What isn't installed (SIMH's
-pdp11, chromium, parallel, python3-pydevd) is skipped, and each such test is named. The last line is
-'N passed, M failed'."""
+pdp11, chromium, parallel, python3-pydevd, Emacs with dap-mode) is skipped, and each such test is
+named. The last line is 'N passed, M failed'."""
 import argparse
 import sys
 

@@ -1,5 +1,5 @@
-// What a register or a printed byte is made of, in the panel of Why: its lines, each with its turn,
-// and the path over the timeline.
+// What a word, a register or a printed byte is made of, in the panel of Why: its lines, each with
+// its turn, and the path over the timeline.
 
 import { MOST_STEPS, MadeOf, nameOfMade } from "./made.js";
 import { link, make } from "./page.js";

@@ -97,7 +97,7 @@ export class ChosenByte {
   ask() {
     const { app, chosen } = this, number = chosen === null ? null : app.text.numberOfByte(chosen);
     if (app.text.isStale()) this.say("The text is of another past: wait for the one that is now.");
-    else if (number !== null) app.reasons.askMade({ kind: "byte", number });
+    else if (number !== null) app.reasons.ask({ kind: "byte", number });
   }
 
   // Pointer and keys

@@ -146,14 +146,16 @@ export class Console {
   /** Strikes the next key, if the keyboard can take one. One undo takes back a typed line.
       @param {Running} running */
   async strikeNext(running) {
-    const [byte] = this.keys;
+    const { app, keys: [byte] } = this;
     if (byte === undefined) return false;
     const [devices] = await this.ask(running, `devices ${running.turn}`);
     if (devicesOf(devices).keyWaits) return false;
     this.keys.shift();
-    await this.app.edits.make(`at ${running.turn} key ${byte.toString(8)}`, running.isInLine);
+    const line = `at ${running.turn} key ${byte.toString(8)}`;
+    const reply = await app.edits.make(line, running.isInLine);
     running.isInLine = byte !== KEYS.get("Enter");
-    this.app.edits.show();
+    app.edits.show();
+    app.say(`${line}: ${reply}`);
     this.keepPast();
     return true;
   }

@@ -145,7 +145,7 @@ export class CursorPanels {
   registerWord(name, word) {
     if (name === "PC") return octal(word);
     const made = link(octal(word), `Why is ${name} so?`,
-      () => this.app.reasons.askMade({ kind: "register", name }));
+      () => this.app.reasons.ask({ kind: "register", name }));
     made.setAttribute("aria-label", `${name}: ${octal(word)}. Why?`);
     return made;
   }

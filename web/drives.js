@@ -16,7 +16,9 @@ import { withFile, withoutFile } from "./session.js";
  * @typedef {import("./kept.js").KeptEdits} KeptEdits
  */
 
-const VERSION_2 = "version 2", STAYS = "Nothing was changed.";
+const STAYS = "Nothing was changed.";
+// What the page adds to a session's lines with the first image of a drive but 0.
+const VERSION_2 = ["# An image of another drive than 0 was chosen on the page.", "version 2"];
 
 /** The file that is the image of a drive, or undefined.
     @param {Session} session @param {number} drive */
@@ -42,15 +44,20 @@ async function imageIn(file) {
   return image;
 }
 
-/** The first of the user's edits, on or off, that version 2 would refuse: a patch of a drive that
-    names none.
-    @param {KeptEdits} edits */
-function editOfVersion1({ changes, off = [] }) {
+/** Whether an edit is taken by version 1 alone: a patch of a drive that names none.
+    @param {string[]} words */
+const isOfVersion1 = ([first, ...rest]) => first === "disk" && rest.length === 2;
+
+/** Whether an edit is one of version 2: a patch that names the drive, or the version itself.
+    @param {string[]} words */
+const isOfVersion2 = ([first, ...rest]) =>
+  first === "version" || first === "disk" && rest.length === 3;
+
+/** The first of the user's edits, on or off, of a kind.
+    @param {KeptEdits} edits @param {(words: string[]) => boolean} isOfKind */
+function firstEdit({ changes, off = [] }, isOfKind) {
   const lines = [...changes, ...off.map(it => it.change)].flat().map(it => it.line);
-  return lines.find(it => {
-    const words = wordsOfLine(it);
-    return words[0] === "disk" && words.length === 3;
-  });
+  return lines.find(it => isOfKind(wordsOfLine(it)));
 }
 
 export class Drives {
@@ -59,6 +66,8 @@ export class Drives {
     this.app = app;
     /** The drive for which a file is chosen. */
     this.chosen = 0;
+    /** @type {Promise<void>} */
+    this.last = Promise.resolve();
     this.rows = [...Array(DRIVES).keys()].map(drive => this.row(drive));
     element("drive-list").append(...this.rows);
     const chooser = field("drive-file");
@@ -132,7 +141,7 @@ export class Drives {
 
   /** A FileError if the session can't become one of version 2, since an edit would be refused. */
   refuseVersion1() {
-    const edit = editOfVersion1(this.app.edits.kept());
+    const edit = firstEdit(this.app.edits.kept(), isOfVersion1);
     if (edit === undefined) return;
     const [, word, value] = wordsOfLine(edit);
     throw new FileError("This session is of version 1, which has drive 0 alone, and version 2 "
@@ -140,13 +149,20 @@ export class Drives {
       + `as disk 0 ${word} ${value}. ${STAYS}`);
   }
 
-  /** Takes the image of a drive away.
+  /** Takes the image of a drive away. With the last one of drives 1 to 7 goes the line that the
+      page added for the first one, unless an edit needs it.
       @param {number} drive */
   takeAway(drive) {
     return this.attempt(async () => {
-      const { contents } = this.app.session;
-      await this.open(withoutFile(contents, optionOfDrive(drive)),
-        [`Drive ${drive} has no image.`]);
+      const { contents } = this.app.session, said = [`Drive ${drive} has no image.`];
+      let session = withoutFile(contents, optionOfDrive(drive));
+      if (isMadeVersion2(session)) {
+        const edit = firstEdit(this.app.edits.kept(), isOfVersion2);
+        if (edit === undefined) session = ofVersion1(session);
+        said.push(edit === undefined ? "The session is of version 1 again."
+          : `The session stays one of version 2 by your edit ${edit}.`);
+      }
+      await this.open(session, said);
       part(this.rows[drive], ".choose").focus();
     });
   }
@@ -158,14 +174,21 @@ export class Drives {
     this.say([...said, ...more].filter(Boolean).join(" "));
   }
 
-  /** Does work, and says beside the drives why a file was refused.
+  /** Does work after all that was begun before it: each image and each edit is in what is opened
+      next. Says beside the drives why a file was refused.
       @param {() => Promise<void>} work */
   attempt(work) {
+    const { app } = this;
     this.say("");
-    return this.app.attempt(work, error => {
+    this.last = this.last.then(() => app.attempt(async () => {
+      await app.edits.last;
+      if (app.opening.run) throw new FileError(`Another session is being opened. ${STAYS}`);
+      await work();
+    }, error => {
       if (error instanceof FileError) this.say(error.message);
       return error instanceof FileError;
-    });
+    }));
+    return this.last;
   }
 
   /** @param {string} text */
@@ -177,4 +200,16 @@ export class Drives {
 /** The session as one of version 2, which begins with its last line: the lines before it keep what
     they mean.
     @param {Session} session @returns {Session} */
-const ofVersion2 = session => ({ ...session, lines: [...session.lines, VERSION_2] });
+const ofVersion2 = session => ({ ...session, lines: [...session.lines, ...VERSION_2] });
+
+/** Whether a session is of version 2 only since the page made it so, and has no image of drives 1
+    to 7.
+    @param {Session} session */
+function isMadeVersion2(session) {
+  const last = session.lines.slice(-VERSION_2.length);
+  const hasImage = [...Array(DRIVES).keys()].some(it => it > 0 && imageOf(session, it));
+  return !hasImage && VERSION_2.every((line, at) => line === last[at]);
+}
+
+/** @param {Session} session @returns {Session} */
+const ofVersion1 = session => ({ ...session, lines: session.lines.slice(0, -VERSION_2.length) });

@@ -75,10 +75,13 @@ export class Edits {
     return this.inTurn(() => this.makeShown(line));
   }
 
-  /** @param {string} line */
+  /** The reply is said once the lists and panels are those of the edit.
+      @param {string} line */
   async makeShown(line) {
-    if (isRefused(await this.make(line))) this.show();
+    const reply = await this.make(line);
+    if (isRefused(reply)) this.show();
     else await this.app.changed();
+    this.app.say(`${line}: ${reply}`);
   }
 
   /** Makes an edit. One that joins is undone with the one before it. Returns the reply.
@@ -88,7 +91,6 @@ export class Edits {
     app.pasts.keepOld();
     const reply = await run.commit(line, joins);
     await run.askPast();
-    app.say(`${line}: ${reply}`);
     return reply;
   }
 

@@ -21,6 +21,7 @@ export const USER = 3;
  * @typedef {import("./transfers.js").Transfer} Transfer
  * @typedef {import("./transfers.js").Ended} Ended
  * @typedef {{turn: number, mode: number, address: number}} Place a virtual address before a turn
+ * @typedef {import("./names.js").WatchedWord} Word
  */
 
 /** The traps that the word of an instruction alone doesn't tell. */
@@ -106,11 +107,29 @@ export class Facts {
     return wordsOf(await this.one(`mem ${turn} ${address.toString(8)} ${count}`));
   }
 
+  /** A word of a drive as lines name it.
+      @param {Word} word */
+  onDrive({ drive, at }) {
+    return `${this.past.version === 2 ? `${drive} ` : ""}${at.toString(8)}`;
+  }
+
   /** The question that has a word of core or of a drive before a turn.
-      @param {number} turn @param {import("./names.js").WatchedWord} word */
-  lineOfWord(turn, { kind, drive, at }) {
-    const named = this.past.version === 2 ? `${drive} ` : "", place = at.toString(8);
-    return kind === "core" ? `mem ${turn} ${place} 1` : `dsk ${turn} ${named}${place} 1`;
+      @param {number} turn @param {Word} word */
+  lineOfWord(turn, word) {
+    return word.kind === "core" ? `mem ${turn} ${word.at.toString(8)} 1`
+      : `dsk ${turn} ${this.onDrive(word)} 1`;
+  }
+
+  /** The first turns before `end` that change a word of a drive, at most so many.
+      @param {Word} word @param {number} end @param {number} most */
+  async changes(word, end, most) {
+    const found = [], place = this.onDrive(word);
+    for (let from = 0; from < end && found.length < most; from = found[found.length - 1] + 1) {
+      const turn = turnOf(await this.one(`change ${from} ${end} ${place}`));
+      if (turn === null) break;
+      found.push(turn);
+    }
+    return found;
   }
 
   /** Who wrote a word of core last before a turn, or null.

@@ -1,25 +1,31 @@
-// What a register or a printed byte is made of before a turn: as explore's `why` tells it, back to
-// keys, switches, the tape, patches and images. Made of is of data: what a branch decided isn't
-// followed, nor at which address a value was.
+// What a word, a register or a printed byte is made of before a turn: as explore's `why` tells it,
+// back to keys, switches, the tape, patches and images. Made of is of data: what a branch decided
+// isn't followed, nor at which address a value was.
 
 import { Account } from "./account.js";
 import {
-  ALL_CODES, REGISTER_NAMES, REST, TPB, nameOfCell, registerCells,
+  ALL_CODES, REGISTER_NAMES, REST, TPB, driveCell, nameOfCell, registerCells, wordCells,
 } from "./cells.js";
 import { Facts } from "./facts.js";
 import { FindError } from "./find.js";
+import { nameOfWord } from "./names.js";
 import { OriginSteps } from "./origin-steps.js";
 import { Kind, Origins, eventsOfGraph, eventsWithData, isWhole, isWrite } from "./origins.js";
 import { pointerOf } from "./operands.js";
-import { bytesOf, counted, octal, turnOf, turnsOf } from "./replies.js";
+import { bytesOf, counted, octal, turnOf, turnsOf, wordsOf } from "./replies.js";
+import { NotFollowed } from "./space.js";
 
 const MOST_ENDS = 6;
+// Of the changes that left nothing in a word so many are shown; none if it has changed so often.
+const [MOST_CHANGES, COUNTED_CHANGES] = [16, 64];
 /** How many steps are followed at first. */
 export const MOST_STEPS = 500;
 
 /**
- * What is asked about: a register by its name, or a byte of the console's text by its number.
- * @typedef {{kind: "register", name: string} | {kind: "byte", number: number}} MadeThing
+ * What is asked about: a word of core or of a drive, a register by its name, or a byte of the
+ * console's text by its number.
+ * @typedef {import("./names.js").WatchedWord} Word
+ * @typedef {Word | {kind: "register", name: string} | {kind: "byte", number: number}} MadeThing
  * @typedef {{name: string, cell: number, origin: import("./origins.js").Origin}} Root
  * @typedef {import("./account.js").Shown} Shown
  */
@@ -42,7 +48,14 @@ export function madeNamed(name) {
 }
 
 /** @param {MadeThing} thing */
-export const nameOfMade = thing => thing.kind === "byte" ? `byte ${thing.number}` : thing.name;
+export function nameOfMade(thing) {
+  if (thing.kind === "byte") return `byte ${thing.number}`;
+  return thing.kind === "register" ? thing.name : nameOfWord(thing);
+}
+
+/** The first cell of a word.
+    @param {Word} word */
+const cellOfWord = ({ kind, drive, at }) => kind === "core" ? at : driveCell(drive, at);
 
 /** A byte as a character in quotes, or in octal.
     @param {number} byte */
@@ -90,8 +103,14 @@ export class MadeOf {
     origins.facts = facts;
     /** @type {Root[]} */
     const roots = [];
-    for (const { name, cell, before } of named) {
-      roots.push({ name, cell, origin: await origins.before(cell, before) });
+    try {
+      for (const { name, cell, before } of named) {
+        roots.push({ name, cell, origin: await origins.before(cell, before) });
+      }
+    } catch (error) {
+      if (!(error instanceof NotFollowed)) throw error;
+      return { turn, first, lines: [], isCut: false, ends: [], left: error.message,
+        isLimited: false };
     }
     const graph = await origins.graph(roots.map(it => it.origin), most);
     const steps = new OriginSteps(origins, graph);
@@ -99,6 +118,9 @@ export class MadeOf {
     const account = new Account({ facts, steps, turnsInWords, options: this.options });
     const lines = await account.written(roots);
     const ends = await account.known(() => this.ends(account, turn));
+    if (this.thing.kind === "disk" && isWhole(graph)) {
+      ends.push(...await this.changes(account, this.thing));
+    }
     const isLimited = graph.left.size > 0 && !graph.stopped;
     return { turn, first, lines, isCut: account.isCut, ends, left: leftOf(graph, most), isLimited };
   }
@@ -106,8 +128,25 @@ export class MadeOf {
   /** What the value is, the turn before which it is, and the cells that it has.
       @param {Facts} facts */
   async begin(facts) {
-    return this.thing.kind === "byte" ? this.beginByte(facts, this.thing.number)
-      : this.beginRegister(facts, this.thing.name);
+    const { thing } = this;
+    if (thing.kind === "byte") return this.beginByte(facts, thing.number);
+    if (thing.kind === "register") return this.beginRegister(facts, thing.name);
+    return this.beginWord(facts, thing);
+  }
+
+  /** @param {Facts} facts @param {Word} word */
+  async beginWord(facts, word) {
+    const { turn, past } = this, cell = cellOfWord(word);
+    if (word.drive && past.version === 1) {
+      throw new FindError(`${nameOfWord(word)}: there is one drive`);
+    }
+    const [value] = wordsOf(await facts.one(facts.lineOfWord(turn, word)));
+    const name = nameOfCell(cell, past.version === 2);
+    return {
+      turn, roots: wordCells(cell).map(it => ({ name, cell: it, before: turn })),
+      first: { text: `${name} before turn ${turn}: ${octal(value)}`, turn,
+        lane: nameOfWord(word) },
+    };
   }
 
   /** @param {Facts} facts @param {string} register */
@@ -163,6 +202,29 @@ export class MadeOf {
     const also = shown.length ? [`and of ${shown.join("; ")}${more}`] : [];
     return [`made of ${made}${not}${limit}`, ...also];
   }
+
+  /** The changes of a word of a drive that left nothing in it, in words.
+      @param {Account} account @param {Word} word @returns {Promise<string[]>} */
+  async changes({ facts, steps }, word) {
+    const found = await facts.changes(word, this.turn, COUNTED_CHANGES), cell = cellOfWord(word);
+    const made = steps.ordered.filter(it => it.kind === Kind.MOVED && it.at === cell);
+    const gone = found.filter(turn => !made.some(it => it.turn === turn));
+    if (found.length === COUNTED_CHANGES || !gone.length) return [];
+    const shown = gone.slice(0, MOST_CHANGES);
+    const replies = await facts.ask(
+      shown.flatMap(it => [it, it + 1].map(turn => facts.lineOfWord(turn, word))));
+    const told = shown.map((it, at) => changeInWords(it, replies.slice(2 * at, 2 * at + 2)));
+    const more = gone.length > shown.length ? " .." : "";
+    return [`changes of ${nameOfCell(cell, this.past.version === 2)} that left nothing in it: `
+      + `turn${gone.length > 1 ? "s" : ""} ${told.join(", ")}${more}`];
+  }
+}
+
+/** A change in words, by the two replies that have the word before it and after it.
+    @param {number} turn @param {string[]} replies */
+function changeInWords(turn, replies) {
+  const [before, after] = replies.map(it => octal(wordsOf(it)[0]));
+  return `${turn} (${before} to ${after})`;
 }
 
 /** What of a graph wasn't followed, and why, or an empty text.

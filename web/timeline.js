@@ -20,10 +20,10 @@ const markAt = ({ target }) => target instanceof Element ? target.closest("butto
 const stepOf = isShifted => isShifted ? 64 : 1;
 
 /**
- * What the timeline tells the page. `onKey` says whether a key did something; `turnAt` is where a
- * click goes.
+ * What the timeline tells the page; `onDraw` that it will draw, and `onDrawn` that it did. `onKey`
+ * says whether a key did something; `turnAt` is where a click goes.
  * @typedef {{
- *   onCursor: (turn: number) => void, onView: () => void, onDrawn: () => void,
+ *   onCursor: (turn: number) => void, onView: () => void, onDraw: () => void, onDrawn: () => void,
  *   onDrag: (event: ScriptEvent, turn: number) => void,
  *   onDrop: (event: ScriptEvent, turn: number | null) => Promise<void>,
  *   onOpen: (event: ScriptEvent) => void, onDelete: (event: ScriptEvent) => void,
@@ -165,14 +165,16 @@ export class Timeline extends Scene {
 
   /** Draws at the next frame, however often it is called before. */
   draw() {
-    this.frame ||= requestAnimationFrame(() => {
+    if (this.frame || !this.width) return;
+    this.listener.onDraw();
+    this.frame = requestAnimationFrame(() => {
       this.frame = 0;
       this.drawNow();
+      this.listener.onDrawn();
     });
   }
 
   drawNow() {
-    if (!this.width) return;
     const { lanes, height } = lanesOf(this.words, this.sweep !== null);
     this.lanes = lanes;
     const { view, width, picture, ghost, symbols, part, same, sweep } = this;
@@ -183,7 +185,6 @@ export class Timeline extends Scene {
     this.marks.show(events);
     this.placeCursor();
     this.placeCarried();
-    this.listener.onDrawn();
   }
 
   /** Where the event is to be dropped that is taken by the pointer or has the focus, or null. */

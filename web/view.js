@@ -42,7 +42,8 @@ export class PageView {
         app.edits.preview(event, turn);
       },
       onDrop: (event, turn) => app.edits.drop(event, turn),
-      onOpen: event => app.edits.openEvent(event), onDrawn: () => this.drawn(),
+      onDraw: () => app.tasks.add(1), onDrawn: () => this.drawn(),
+      onOpen: event => app.edits.openEvent(event),
       onDelete: event => app.events.drop(event), onList: turn => app.events.open(turn),
       onKey: key => this.tips.act(key), turnAt: (x, y) => this.tips.turnAt(x, y),
     };
@@ -65,11 +66,12 @@ export class PageView {
     timeline.draw();
   }
 
-  /** The timeline was drawn: what shows it otherwise follows. */
+  /** The timeline was drawn, which was work under way: what shows it otherwise follows. */
   drawn() {
     this.sight.showLater();
     this.minimap.draw();
     this.path.draw();
+    this.app.tasks.add(-1);
   }
 
   // Turns

@@ -4,6 +4,9 @@
 (require 'dap-ui)
 (require 'treemacs) ; for the list of variables, which in Debian 12 lacks the next line
 (defvar treemacs-text-scale nil)
+(dap-mode 1)
+(dap-ui-mode 1) ; marks breakpoints and the current line
+(add-to-list 'dap-output-buffer-filter "console") ; what the adapter says, not only complaints
 (defvar nezdrab (or (getenv "NEZDRAB") default-directory) "The folder of the clone.")
 
 (defun nezdrab-file (name) "A path in the clone." (expand-file-name name nezdrab))

@@ -1,7 +1,8 @@
 """What is tested. The environment names it: TESTED_SEARCH and TESTED_DISASSEMBLE are the programs,
-TESTED_MODULES is the folder of the WebAssembly modules, TESTED_PAGE the address of the page, and
-TESTED_SHOTS the folder that gets screenshots. Otherwise tools/program finds a program, release/ has
-the modules, and the page is packed of them."""
+TESTED_MODULES is the folder of the WebAssembly modules, TESTED_PAGE the address of the page,
+TESTED_SHOTS the folder that gets screenshots, and TESTED_SLOW how many times slower the page in
+Chromium is made. Otherwise tools/program finds a program, release/ has the modules, and the page is
+packed of them."""
 import functools
 import os
 import subprocess
@@ -43,6 +44,10 @@ def modules() -> Path:
 
 def page() -> Optional[str]:
     return named("page")
+
+
+def slower() -> float:
+    return float(named("slow") or 1)
 
 
 def shots() -> Optional[Path]:

@@ -9,7 +9,7 @@ from typing import Optional
 from tests import under_test
 
 ROOT = Path(__file__).resolve().parents[3]
-SECONDS = 120
+SECONDS = 300
 
 
 class Built:

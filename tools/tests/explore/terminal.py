@@ -76,6 +76,24 @@ class AtTerminal(Case):
 
     def settle(self) -> None:
         """Lets signals that were sent have their effect, up to the prompt that is there then."""
-        while select.select([self.ours], [], [], 0.3)[0]:
-            self.read()
+        limit = time.monotonic() + SECONDS
+        while True:
+            if select.select([self.ours], [], [], 0.3)[0]:
+                self.read()
+            elif b"explore> " in self.seen.rpartition(b"\n")[2]:
+                break
+            self.assertLess(time.monotonic(), limit, f"no prompt comes after {self.seen!r}")
         self.seen = b"explore> "
+
+    def drop_line(self) -> None:
+        """Ctrl-C where a line is typed: it counts once readline waits for input."""
+        limit = time.monotonic() + SECONDS
+        next_one = 0.0
+        while b"explore> " not in self.seen:
+            self.assertLess(time.monotonic(), limit, f"no prompt comes after {self.seen!r}")
+            if time.monotonic() > next_one:
+                self.interrupt()
+                next_one = time.monotonic() + 3
+            if select.select([self.ours], [], [], 0.2)[0]:
+                self.read()
+        self.settle()

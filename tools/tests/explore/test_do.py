@@ -240,7 +240,7 @@ class AtPrompt(AtTerminal):
         self.type("do it\n")
         self.wait_for(b"explore> core 1000 777\r\nok\r\n")
         self.wait_for(b"explore> regs 1000000000\r\n")
-        self.wait_for(b"do: at work, 1 s ")
+        self.wait_for(b"do: at work, ")
         self.interrupt()
         self.wait_for(b"do: stopped; the edits are all there")
         self.type("patches\n")

@@ -47,7 +47,7 @@ class Going(OfEditors):
             ):
                 self.to(editor, turn)
                 if command == "stepOut" and stands is None:
-                    self.assertIn("no call is found", editor.refused(command, threadId=1))
+                    self.stays(editor, turn, "no call is found", command)
                     continue
                 wanted = self.goes_to(explorer, turn, line)
                 ends = wanted == turn and command != "stepBack"  # it doesn't return up to the end
@@ -55,6 +55,9 @@ class Going(OfEditors):
                 self.assertEqual(editor.go(command), found, (turn, command))
             self.to(editor, turn)
             self.assertEqual(editor.go("stepBack", granularity="instruction"), (turn - 1, "step"))
+        self.to(editor, last)
+        for command in ("stepIn", "next"):
+            self.stays(editor, last, f"turn {last} is the end", command)
         editor.ask("disconnect")
 
     def test_what_is_believed_says_so(self) -> None:
@@ -86,7 +89,7 @@ class Going(OfEditors):
             )
         self.to(editor, 2_000)
         frames = editor.ask("stackTrace", threadId=1)["stackFrames"]
-        self.assertIn("no call", editor.refused("restartFrame", frameId=frames[-1]["id"]))
+        self.stays(editor, 2_000, "no call", "restartFrame", frameId=frames[-1]["id"])
         editor.ask("disconnect")
 
     def walk(self, editor: Editor, turns: list[int], reason: str, end: int) -> None:

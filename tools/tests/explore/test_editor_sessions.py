@@ -48,6 +48,7 @@ class Order(OfEditors):
         self.assertIn("already", editor.refused("initialize", adapterID="nezdrab"))
         for command in ("threads", "stackTrace", "setBreakpoints", "configurationDone", "pause"):
             self.assertIn("launch comes first", editor.refused(command, source={}), command)
+        self.assertIn("launch comes first", editor.refused("goto", targetId=1))
         self.assertIn("not attached to", editor.refused("attach"))
         wrong: list[tuple[Object, str]] = [
             ({"session": "missing.session"}, "no such file"),
@@ -71,11 +72,12 @@ class Order(OfEditors):
         self.assertIn("is no request", editor.refused("moveMountains"))
         self.assertEqual(editor.go("configurationDone"), (0, "entry"))
         self.assertIn("came already", editor.refused("configurationDone"))
-        self.assertIn("no turn comes before", editor.refused("stepBack", threadId=1))
-        self.assertIn("no turn comes before", editor.refused("reverseContinue", threadId=1))
+        self.stays(editor, 0, "no turn comes before", "stepBack")
+        self.stays(editor, 0, "no turn comes before", "reverseContinue")
         editor.ask("terminate")
         editor.until("terminated")
         self.assertIn("has ended", editor.refused("threads"))
+        self.assertIn("has ended", editor.refused("goto", targetId=1))
         editor.ask("terminate")
         editor.ask("disconnect")
         editor.until_the_end()
@@ -245,6 +247,15 @@ class Edits(OfEditors):
         editor.until("terminated")
         editor.ask("disconnect")
         self.assertEqual(list((self.folder / "state").rglob("*.journal")), [])
+
+    def test_lines_of_which_the_last_is_quit(self) -> None:
+        """Where they went and what they changed is told first."""
+        for lines, turn in (("show 9\nquit", 9), ("core 1000 5300\nquit!", 0)):
+            editor = self.counting({})
+            editor.go("configurationDone")
+            self.assertEqual(editor.goes_by(lines), (turn, "goto"))
+            editor.until("terminated")
+            editor.ask("disconnect")
 
     def test_edits_that_were_not_saved_are_kept(self) -> None:
         """Also if the editor vanishes."""

@@ -1,6 +1,7 @@
 """What an editor is told by `explore dap`, against what explore itself says of the same turns."""
 import base64
 import random
+from typing import Any
 
 from nezdrab.explore.commands import COMMANDS, Explorer
 from nezdrab.explore.levels import Stacks
@@ -46,6 +47,13 @@ class OfEditors(OnMachine, WithEditors):
         """Goes to a turn by the console."""
         if self.turn_of(editor) != turn:
             self.assertEqual(editor.goes_by(f"show {turn}"), (turn, "goto"))
+
+    def stays(self, editor: Editor, turn: int, why: str, command: str, **arguments: Any) -> None:
+        """That a request which can't go anywhere stops where it is, and says why. It isn't refused:
+        dap-mode, once it has asked, takes it to run."""
+        self.assertEqual(editor.go(command, **arguments), (turn, "pause"))
+        self.assertIn(why, editor.text)
+        self.assertEqual(editor.complaint(), f"{editor.text}\n")
 
     def turn_of(self, editor: Editor) -> int:
         name: str = editor.ask("threads")["threads"][0]["name"]
@@ -158,6 +166,8 @@ class Shown(OfEditors):
         for reference, count, left in (("0x3dffe", 4, 2), ("0x3e000", 6, 6), ("0x1002000", 8, 8)):
             read = editor.ask("readMemory", memoryReference=reference, count=count)
             self.assertEqual(read["unreadableBytes"], left, reference)
+        far = editor.ask("readMemory", memoryReference="0x200", offset=-(10**30), count=10**31)
+        self.assertEqual(far["unreadableBytes"], 10**31)
         listed = list(COMMANDS["list"].lines(explorer, "kernel 1232 40 at 128066"))
         for moved, first, count in ((0, 0, 40), (5, 5, 9), (-7, 0, 12)):
             at = 0x29A if moved >= 0 else int(listed[7][:6], 8)

@@ -2,7 +2,6 @@
 import fcntl
 import struct
 import termios
-import time
 from typing import Optional
 
 from nezdrab.explore import pager, prompt  # noqa: F401, which adds the commands
@@ -109,8 +108,7 @@ class AtPrompt(AtTerminal):
         self.wait_for(b"help all")
         self.type_after("\n")
         self.wait_for(pager.MORE.encode())
-        time.sleep(0.5)  # a signal counts once readline waits for input
-        self.interrupt()
+        self.drop_line()
         self.type("mem 0 1000 1\n")
         self.wait_for(b"mem 000000")
         self.end()

@@ -21,8 +21,7 @@ class Interrupts(AtTerminal):
 
     def two_in_a_question(self, gap: float) -> None:
         self.type("regs 1000000000\n")
-        self.wait_for(b"regs 1000000000")
-        time.sleep(0.2)
+        self.wait_for(b"regs: at work, ")
         self.interrupt()
         time.sleep(gap)
         self.interrupt()

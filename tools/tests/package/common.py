@@ -13,7 +13,7 @@ from tests import under_test
 
 ROOT = Path(__file__).resolve().parents[3]
 EXAMPLES = ROOT / "examples"
-SECONDS = 60
+SECONDS = 300
 # A program that never replies to a line that begins with WORD: it reads on until nothing more can
 # come.
 STUCK = """\

@@ -49,8 +49,11 @@ class Stopping(Case):
             machine.ask_all(["regs 5", "trail 7 3", "regs 6"])
         with self.assertRaises(TimedOut):
             list(machine.sweep(1, [2], "trail 7 3"))
-        with machine.fork() as other, self.assertRaises(TimedOut):
-            other.trail(7, 3)
+        machine.seconds = SECONDS
+        with machine.fork() as other:
+            other.seconds = SOON
+            with self.assertRaises(TimedOut):
+                other.trail(7, 3)
         self.check(machine)
         machine.seconds = None
         self.assertEqual(len(machine.trail(8, 3)), 3)

@@ -9,7 +9,7 @@ from pathlib import Path
 from typing import Union
 
 ROOT = Path(__file__).resolve().parents[3]
-SECONDS = 60
+SECONDS = 300
 TOOLS = [
     *("pdp11", "tools/start", "tools/program", "tools/build", "tools/sources-sum"),
     *("VERSION", "CHANGELOG.md", "disassemble", "tools/portable"),

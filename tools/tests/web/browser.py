@@ -8,11 +8,14 @@ import signal
 import subprocess
 import tempfile
 import time
+from pathlib import Path
 from typing import Any, Callable, Optional
+
+from tests import under_test
 
 from .driven import BrowserError, Driven
 
-SECONDS = 120.0
+SECONDS = 300.0
 OPTIONS = (
     "--headless=new",
     "--no-sandbox",
@@ -38,6 +41,10 @@ KEYS = {
 ALT, SHIFT = 1, 8
 # What is traced: the tasks of each thread, and the marks that the page makes.
 TRACED = ["disabled-by-default-devtools.timeline", "blink.user_timing"]
+# Two frames: the page has heard of another size, and is drawn in it.
+SETTLED = "new Promise(done => requestAnimationFrame(() => requestAnimationFrame(() => done())))"
+# What lets a page come late, up to so many milliseconds for each time that it is to be slower.
+LATE, MILLISECONDS = Path(__file__).with_name("late.js"), 50
 
 
 def found_browser() -> Optional[str]:
@@ -88,6 +95,13 @@ class Browser(Driven):
         for name in ("Page", "Runtime", "Log", "Network", "DOM"):
             self.call(f"{name}.enable")
         self.call("Emulation.setFocusEmulationEnabled", enabled=True)
+        if under_test.slower() > 1:
+            self._slow_down(under_test.slower())
+
+    def _slow_down(self, times: float) -> None:
+        late = LATE.read_text().replace("MOST_MILLISECONDS", str(MILLISECONDS * times))
+        self.call("Emulation.setCPUThrottlingRate", rate=times)
+        self.call("Page.addScriptToEvaluateOnNewDocument", source=late)
 
     def close(self) -> None:
         os.killpg(self.process.pid, signal.SIGKILL)
@@ -167,7 +181,8 @@ class Browser(Driven):
         self.wait("document.documentElement?.dataset.state === 'ready'")
 
     def reload(self) -> None:
-        """Loads the page again, and waits until it is ready."""
+        """Loads the page again once it has kept what was done, and waits until it is ready."""
+        self.wait("document.documentElement.dataset.work === 'none'")
         self.dialogs = []
         self._load("Page.reload")
         self.wait("document.documentElement?.dataset.state === 'ready'")
@@ -189,6 +204,8 @@ class Browser(Driven):
         )
         scheme = {"name": "prefers-color-scheme", "value": "dark" if is_dark else "light"}
         self.call("Emulation.setEmulatedMedia", features=[scheme])
+        self.wait(f"innerWidth === {width} && innerHeight === {height}")
+        self.value(SETTLED)
 
     def value(self, expression: str) -> Any:
         """The value of an expression of JavaScript; a promise is waited for."""
@@ -212,6 +229,8 @@ class Browser(Driven):
         try:
             self.value("performance.mark('traced')")
             act()
+            # a task is told once it has ended
+            self.value("new Promise(done => setTimeout(done, 0))")
         finally:
             self.call("Tracing.end")
             end = time.monotonic() + SECONDS
@@ -234,9 +253,13 @@ class Browser(Driven):
 
     def drag(self, selector: str, by: float, steps: int = 8, is_let_go: bool = True) -> None:
         """Drags an element sideways."""
-        x, y = self.middle(selector)
-        self.mouse("mouseMoved", x, y)
-        self.mouse("mousePressed", x, y, button="left", buttons=1, clickCount=1)
+
+        def hold(x: float, y: float) -> None:
+            self.mouse("mouseReleased", x, y, button="left")
+            self.mouse("mouseMoved", x, y)
+            self.mouse("mousePressed", x, y, button="left", buttons=1, clickCount=1)
+
+        x, y = self.press(selector, hold)
         self.drag_on(selector, by, steps)
         if is_let_go:
             self.mouse("mouseReleased", x + by, y, button="left", clickCount=1)

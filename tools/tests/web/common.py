@@ -9,14 +9,14 @@ import unittest
 from pathlib import Path
 from typing import Optional
 
-from tests import under_test
+from tests import counted, under_test
 
 from .browser import Browser, found_browser
 from .driven import WAIT, Driven
 
 ROOT = Path(__file__).resolve().parents[3]
 LEDGER = ROOT / "examples" / "ledger"
-SECONDS = 60
+SECONDS = 300
 LOST, SAFE = "137", "145"
 KEY = '[data-event="15"]'
 
@@ -74,10 +74,13 @@ def ledger_lines() -> list[str]:
     return (LEDGER / "ledger.session").read_text().splitlines()
 
 
-class OnPage:
+class OnPage(counted.InBrowser):
     """What a test does with the page that is open in a browser."""
 
     browser: Driven
+
+    def page_says(self) -> str:
+        return self.browser.says()
 
     def wait_text(self, selector: str, part: str) -> str:
         """Waits until the element's text has a part; returns the text."""
@@ -90,9 +93,10 @@ class OnPage:
         self.browser.wait("document.documentElement.dataset.work === 'none'")
 
     def type_line(self, line: str) -> str:
-        """Types a line and Enter; returns what the page says of it."""
-        self.fill("#line")
-        self.browser.type(line)
+        """Types a line and Enter; returns what the page says of it, and not of the same line
+        before."""
+        self.browser.value("document.querySelector('#reply').textContent = ''")
+        self.fill("#line", line)
         self.browser.key("Enter")
         return self.wait_text("#reply", f"{line}: ")
 
@@ -103,6 +107,14 @@ class OnPage:
             f"(() => {{ const it = document.querySelector({name}); it.value = ''; it.focus(); }})()"
         )
         self.browser.type(text)
+
+    def follow_fragment(self, fragment: str) -> None:
+        """Puts another fragment into the page's address, and waits until the page knows it."""
+        self.browser.value(
+            "new Promise(done => {"
+            "addEventListener('hashchange', () => setTimeout(done, 0), {once: true});"
+            f"location.hash = {json.dumps(fragment)}; }})"
+        )
 
     def balance(self, wanted: str) -> None:
         self.wait_text("#balance", wanted)
@@ -144,8 +156,9 @@ class InChromium(OnPage):
         raise AssertionError("no file was saved")
 
 
-class PageCase(InChromium, unittest.TestCase):
-    """A test with the page open at its first session. It ends without an error in the console."""
+class PageCase(InChromium):
+    """A test with the page open at its first session, and drawn. It ends without an error in the
+    console."""
 
     maxDiff = 4000
     fragment = ""
@@ -160,6 +173,7 @@ class PageCase(InChromium, unittest.TestCase):
         self.browser.size(1280, 1000)
         self.browser.open(self.address + self.fragment)
         self.browser.wait("document.querySelector('#balance').textContent !== '..'")
+        self.wait_still()
 
     def tearDown(self) -> None:
         self.assertEqual(self.browser.messages, [])

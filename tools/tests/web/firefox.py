@@ -14,7 +14,7 @@ from typing import Any, Optional
 
 from .driven import BrowserError, Driven
 
-SECONDS = 60.0
+SECONDS = 300.0
 OPTIONS = ("--headless", "--marionette", "--no-remote", "--remote-allow-system-access")
 # The consoles of pages are written to the standard output. Firefox asks for settings of its own
 # outside: a proxy that nobody serves keeps that from the network.

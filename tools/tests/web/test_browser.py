@@ -1,5 +1,5 @@
 """The tests' own click: as a user, it waits until what it presses is there and can be pressed."""
-import unittest
+from tests import counted
 
 from .common import the_browser
 from .driven import BrowserError
@@ -31,8 +31,22 @@ KEEP = """(() => {{
   keep();
 }})()"""
 
+# Twice, as the pointer comes, another button takes the place of the first one.
+MOVES = """(() => {
+  const button = document.querySelector('button'), other = button.cloneNode(true);
+  window.pressed = [];
+  button.onclick = () => window.pressed.push('button');
+  other.onclick = () => window.pressed.push('other');
+  let times = 0;
+  addEventListener('mousemove', () => times++ < 2 && (times % 2 ? button.before(other)
+    : other.remove()));
+})()"""
 
-class Pressing(unittest.TestCase):
+
+class Pressing(counted.InBrowser):
+    def page_says(self) -> str:
+        return the_browser().says()
+
     def test_a_click_waits_until_the_element_can_be_pressed(self) -> None:
         browser = the_browser()
         for act, told in KEPT:
@@ -45,6 +59,23 @@ class Pressing(unittest.TestCase):
                 browser.click("button")
                 browser.wait("pressed.length")
                 self.assertEqual(browser.value("pressed"), [False])
+
+    def test_a_click_that_the_page_moves_away_is_made_again(self) -> None:
+        browser = the_browser()
+        browser.open(PAGE)
+        browser.value(MOVES)
+        browser.click("button:last-of-type")
+        browser.wait("pressed.length")
+        self.assertEqual(browser.value("pressed"), ["button"])
+
+    def test_what_the_page_says_is_told(self) -> None:
+        browser = the_browser()
+        browser.open(PAGE)
+        browser.value("console.error('something'); document.querySelector('button').focus()")
+        said = browser.says()
+        for part in ('"state": "ready"', "<button", "its console: something"):
+            self.assertIn(part, said)
+        self.assertNotIn("session", said)
 
     def test_what_is_not_there_is_told(self) -> None:
         browser = the_browser()

@@ -54,9 +54,9 @@ class DrivesCase(FilesCase):
         self.browser.give_files("#drive-file", [str(path)])
         return self.said(said)
 
-    def take(self, drive: int) -> None:
+    def take(self, drive: int) -> str:
         self.browser.click(f"[data-drive='{drive}'] .take")
-        self.said(f"Drive {drive} has no image.")
+        return self.said(f"Drive {drive} has no image.")
 
     def row(self, drive: int) -> str:
         return self.browser.text(f"[data-drive='{drive}'] span")
@@ -137,10 +137,55 @@ class Drives(DrivesCase):
         self.assertEqual(self.rows()[1:], ["no image"] * 7)
         focused = self.browser.value("document.activeElement.ariaLabel")
         self.assertEqual(focused, "Choose the image of drive 3")
-        self.assertIn("dsk 000000", self.type_line("dsk 0 3 0 1"))
+        self.assertIn("dsk 123456 000111", self.type_line("dsk 0 0 2"))
         self.take(0)
-        self.assertIn("dsk 000000 000111", self.type_line("dsk 0 0 0 2"))
+        self.assertIn("dsk 000000 000111", self.type_line("dsk 0 0 2"))
         self.assertFalse([it for it in self.lines() if it.startswith("#!")])
+
+
+    def test_with_the_last_image_version_2_goes(self) -> None:
+        """The page's line goes that it added; one of the session's own stays."""
+        pack = self.image("pack.disk", WORDS)
+        for drive in 3, 5:
+            self.choose(drive, pack, f"Drive {drive} has")
+        self.browser.reload()
+        self.browser.value("document.querySelector('#drives').open = true")
+        self.assertNotIn("version 1", self.take(3))
+        self.assertIn("version 2", self.lines())
+        self.assertIn("The session is of version 1 again.", self.take(5))
+        self.assertNotIn("version 2", self.lines())
+        self.assertFalse(self.browser.value("document.querySelector('#drives-version').hidden"))
+        self.assertIn("dsk 000000 000111", self.type_line("dsk 0 0 2"))
+        self.assertIn("version 2 now", self.choose(1, pack, "Drive 1 has"))
+        self.session([*PATCHED, "version 2"])
+        self.choose(1, pack, "Drive 1 has")
+        self.assertNotIn("version", self.take(1))
+        self.assertIn("version 2", self.lines())
+
+    def test_an_edit_of_version_2_keeps_it(self) -> None:
+        pack = self.image("pack.disk", WORDS)
+        for edit in "disk 3 0 222", "version 2":
+            self.choose(3, pack, "Drive 3 has")
+            self.type_line(edit)
+            said = f"The session stays one of version 2 by your edit {edit}."
+            self.assertIn(said, self.take(3))
+            self.assertEqual(self.edits(), [edit])
+            self.assertIn("dsk 000000 000111", self.type_line("dsk 0 0 0 2"))
+            self.browser.click("#undo")
+            self.wait_text("#reply", "undone")
+
+    def test_what_is_chosen_at_once_is_all_there(self) -> None:
+        """Each begins while what was begun before it is under way: an edit, and another image."""
+        self.browser.value(
+            "document.querySelector('#line').value = 'at 5 key 101';"
+            "document.querySelector('#edit-form').requestSubmit()"
+        )
+        self.drop_on("[data-drive='0']", self.image("zero.disk", WORDS[::-1]))
+        self.drop_on("[data-drive='3']", self.image("three.disk", WORDS))
+        self.said("Drive 3 has three.disk.")
+        self.assertEqual(self.rows()[0], "zero.disk, 6 bytes")
+        self.assertEqual(self.rows()[3], "three.disk, 6 bytes")
+        self.assertEqual(self.edits(), ["at 5 key 101"])
 
 
 class Refused(DrivesCase):

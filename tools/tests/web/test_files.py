@@ -11,8 +11,10 @@ EXAMPLES = ROOT / "examples"
 class FilesCase(PageCase):
     def drop(self, *paths: Path) -> None:
         """Drops files on the page, which opens them."""
+        self.browser.value("document.querySelector('#reply').textContent = ''")
         self.drop_on("main", *paths)
         self.wait_text("#reply", "Opened: ")
+        self.wait_still()
 
     def drop_on(self, selector: str, *paths: Path) -> None:
         """Drops files on an element."""

@@ -2,11 +2,13 @@
 import atexit
 import re
 import tempfile
+import time
 import unittest
 from pathlib import Path
 from typing import Any, Optional
 
 from .common import KEY, LOST, ROOT, SAFE, OnPage, ledger_lines, packed_page, replies_of
+from .driven import WAIT
 from .firefox import Firefox, found_firefox, free_port
 
 PAST = ledger_lines()[:-2]
@@ -50,7 +52,7 @@ def replies(*lines: str) -> list[str]:
     return replies_of([*PAST, *lines])[-len(lines) :]
 
 
-class FirefoxCase(OnPage, unittest.TestCase):
+class FirefoxCase(OnPage):
     """A test that has Firefox, and a folder."""
 
     maxDiff = 4000
@@ -83,10 +85,9 @@ class Noting(FirefoxCase):
         self.assertEqual((self.browser.said(), self.browser.requests()), ([], []))
 
     def wait_said(self, part: str) -> None:
-        times = 0
-        while part not in "".join(self.browser.said()) and times < 100:
-            self.browser.value("new Promise(it => setTimeout(it, 30))")
-            times += 1
+        end = time.monotonic() + WAIT
+        while part not in "".join(self.browser.said()) and time.monotonic() < end:
+            time.sleep(0.03)
         self.assertIn(part, "".join(self.browser.said()))
 
 
@@ -240,10 +241,10 @@ class Looking(InFirefox):
         turn = last.split()[1]
         self.fill("#why-word", f"{FIRST:o}")
         self.browser.key("Enter")
-        said = self.wait_text("#reasons", "before turn")
-        self.assertIn(f"core {FIRST:06o} is {word.split()[1]} before turn {KEY_TURN}", said)
-        self.wait_text("#reasons ol li:nth-child(2)", f"turn {turn}")
-        self.browser.click("#reasons ol li:nth-child(2) button")
+        value = f"core {FIRST:06o} before turn {KEY_TURN}: {word.split()[1]}"
+        self.wait_text("#reasons li:nth-child(1)", value)
+        self.wait_text("#reasons li:nth-child(2)", f"core {FIRST:06o} <- turn {turn}: ")
+        self.browser.click("#reasons li:nth-child(2) .link")
         self.wait_turn(int(turn))
 
     def test_a_file_is_chosen(self) -> None:

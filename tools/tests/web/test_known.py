@@ -175,6 +175,7 @@ class ManyEvents(PageCase):
         path, count = self.folder() / "many.session", 2_000
         path.write_text("".join(f"at {5 * it} key 101\n" for it in range(count)) + "regs 10000\n")
         self.give(path)
+        self.wait_still()
         self.wait_text(".marks", "\u00d7")
         marks = self.browser.value(
             "[...document.querySelectorAll('.marks button')].map(it => it.textContent)"
@@ -190,6 +191,7 @@ class ManyEvents(PageCase):
         path = self.folder() / "many.session"
         path.write_text("at 1000 tick\n" * 1_000 + "regs 1000\n")
         self.give(path)
+        self.wait_still()
         self.wait_text(".marks", "\u00d71000")
         right = "document.querySelector('{}').getBoundingClientRect().right"
         mark, edge = (self.browser.value(right.format(it)) for it in (".mark", "#timeline"))

@@ -65,11 +65,14 @@ class MadeCase(PageCase):
         return [str(it) for it in self.browser.value(SENTENCES)]
 
     def is_as_explored(self, explored: Explored, line: str) -> None:
-        """All that is shown is what explore shows for a line, except the first line."""
+        """All that is shown is what explore shows for a line, except the first line, and from which
+        image a word is."""
         told = explored.lines(line)
         begin = next(at for at, it in enumerate(told) if it.startswith(("made of", "  .. ")))
-        self.assertEqual(self.lines()[1:], levels_of(told[1:begin]), line)
-        self.assertEqual(self.sentences(), [sentence(it) for it in told[begin:]], line)
+        found = [(level, IMAGE.sub("", text)) for level, text in self.lines()[1:]]
+        self.assertEqual(found, levels_of(told[1:begin]), line)
+        said = [IMAGE.sub("", it) for it in self.sentences()]
+        self.assertEqual(said, [sentence(it) for it in told[begin:]], line)
 
 
 class Made(MadeCase, OpenCase):
@@ -248,12 +251,7 @@ class Ends(MadeCase):
         explored = Explored(session)
         self.addCleanup(explored.close)
         (printed,) = explored.machine.printed_in([0])
-        told = explored.lines(f"why text 1 at {printed + 1} steps {STEPS}")
-        begin = next(at for at, it in enumerate(told) if it.startswith("made of"))
-        found = [(level, IMAGE.sub("", text)) for level, text in self.lines()[1:]]
-        self.assertEqual(found, levels_of(told[1:begin]))
-        said = [IMAGE.sub("", it) for it in self.sentences()]
-        self.assertEqual(said, [sentence(it) for it in told[begin:]])
+        self.is_as_explored(explored, f"why text 1 at {printed + 1} steps {STEPS}")
 
     def test_an_image(self) -> None:
         self.asked("text-from-disk")

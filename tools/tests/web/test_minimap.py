@@ -83,7 +83,7 @@ class Views(PageCase):
         self.browser.wait(f"{LOOKED}(60000) > 0")
         samples, whole = (self.browser.value(f"{LOOKED}({it})") for it in (60_000, 127_600))
         self.assertTrue(0 < samples < whole, (samples, whole))
-        self.browser.value("location.hash = '#turn=50000&from=50000&turns=2000'")
+        self.follow_fragment("#turn=50000&from=50000&turns=2000")
         self.wait_still()
         self.type_line("at 60000 switches 1")
         self.wait_still()

@@ -98,7 +98,7 @@ class Fragments(PageCase):
         pause = "new Promise(it => setTimeout(it, 400))"
         self.wait_text("#memory", "disk, turn 127125")
         place = "#turn=127163&from=5000.25&turns=400.5&core=30000"
-        self.browser.value(f"location.hash = '{place}'")
+        self.follow_fragment(place)
         self.wait_still()
         self.browser.value(f"{zoom}; {link}.click()")
         self.browser.wait("location.hash.startsWith('#turn=127125')")
@@ -109,9 +109,5 @@ class Fragments(PageCase):
         self.assertEqual(self.browser.value("location.hash"), zoomed)
 
     def test_a_fragment_that_names_nothing(self) -> None:
-        self.browser.value(
-            "new Promise(done => {"
-            "addEventListener('hashchange', () => setTimeout(done, 0), {once: true});"
-            "location.hash = '#turn=x&from=-1&turns=99999999999&core=9'; })"
-        )
+        self.follow_fragment("#turn=x&from=-1&turns=99999999999&core=9")
         self.assertEqual(self.turn(), 127_163)

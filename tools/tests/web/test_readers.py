@@ -9,13 +9,13 @@ import struct
 import tempfile
 import threading
 import time
-import unittest
 from pathlib import Path
 from typing import Any, Iterable
 
 from nezdrab.explore.errors import ExploreError
 from nezdrab.explore.load import loaded
 from nezdrab.explore.symbol_files import Symbol, symbol_file
+from tests import counted
 from tests.explore.media import PROGRAM, TAPE, block, program, symbol, tape, words
 from tests.explore.test_symbols import FORMATS, MAP_OF_RT11
 
@@ -50,7 +50,7 @@ def visible(text: str) -> str:
     return "".join(it if it.isprintable() else f"\\u{ord(it):04x}" for it in text)
 
 
-class ReadersCase(unittest.TestCase):
+class ReadersCase(counted.InBrowser):
     maxDiff = 4000
     server: http.server.ThreadingHTTPServer
     path: Path
@@ -67,6 +67,9 @@ class ReadersCase(unittest.TestCase):
         cls.path = Path(folder.name) / "it"
         host, port = cls.server.server_address[:2]
         browser.open(f"http://{str(host)}:{port}/")
+
+    def page_says(self) -> str:
+        return the_browser().says()
 
     def called(self, name: str, *given: object) -> Any:
         words = ", ".join(json.dumps(it) for it in given)
@@ -184,11 +187,18 @@ class Symbols(ReadersCase):
         self.check_texts("\n".join(lines[at:]) for at in range(len(lines)))
 
     def test_long_lines_take_no_time(self) -> None:
+        """At most a minute, or on a slow computer 40 times as long as for much shorter ones."""
+        short = self.seconds_of(10_000)
+        self.assertLess(self.seconds_of(200_000), max(60, 40 * short))
+
+    def seconds_of(self, length: int) -> float:
+        """The time that lines of about this length take."""
         began = time.monotonic()
-        for line in ("A" * 200_000, "A 000001 " * 20_000 + "!", "000001 " * 30_000, "A:" * 90_000):
+        for part in ("A", "A 000001 ", "000001 ", "A:"):
+            line = part * (length // len(part)) + "!" * (part == "A 000001 ")
             heads = ("", "RT-11 LINK  Load Map\n", "Global symbols:\n", "Symbol table\n")
             self.check_texts(head + line for head in heads)
-        self.assertLess(time.monotonic() - began, 60)
+        return time.monotonic() - began
 
 
 class Kinds(ReadersCase):

@@ -110,7 +110,6 @@ class Target(PageCase):
 
     def test_another_edit_takes_it_away(self) -> None:
         self.type_line("delay clock 900")
-        self.balance("1")
         self.wait_still()
         self.browser.value(f"document.querySelector('{KEY}').focus()")
         self.wait_still()

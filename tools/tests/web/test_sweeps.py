@@ -61,7 +61,9 @@ class TheConsole(PageCase):
         self.browser.value("new Promise(it => setTimeout(it, 200))")
         self.assertEqual((self.turn(), self.lines()), (before, []), "Tab ran the machine")
         self.browser.click("#terminal-run")
-        self.wait_text("#terminal-status", "before turn ")
+        # (the first text is that of the turn where it begins)
+        status = "document.querySelector('#terminal-status').textContent"
+        self.browser.wait(f"{status} && !{status}.startsWith('before turn {before},')")
         self.browser.value("document.querySelector('#terminal').blur()")
         self.wait_still()
         before = self.turn()

@@ -3,9 +3,10 @@ another file of UNITS."""
 import http.server
 import re
 import threading
-import unittest
 from pathlib import Path
 from typing import Any, Callable
+
+from tests import counted
 
 from .common import ROOT, the_browser
 from .driven import BrowserError
@@ -38,7 +39,7 @@ class Handler(http.server.BaseHTTPRequestHandler):
         pass
 
 
-class Units(unittest.TestCase):
+class Units(counted.InBrowser):
     server: http.server.ThreadingHTTPServer
 
     @classmethod
@@ -53,6 +54,9 @@ class Units(unittest.TestCase):
     def tearDownClass(cls) -> None:
         cls.server.shutdown()
         cls.server.server_close()
+
+    def page_says(self) -> str:
+        return the_browser().says()
 
 
 def unit(name: str) -> Callable[[Units], None]:

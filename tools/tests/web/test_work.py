@@ -1,6 +1,8 @@
 """Edits that run nothing, long questions, many events: the page goes on."""
 from typing import Callable
 
+from tests import under_test
+
 from . import timing
 from .common import PageCase, ledger_lines
 
@@ -14,8 +16,6 @@ NOTE = """(() => {
     return post.call(this, message, ...more);
   };
 })()"""
-# the milliseconds of a processor from which on a task holds up what the user does
-LONG_TASK = 50
 # How many empty tasks the outcome of a dragged key may take, and the moves that are tried.
 MOST_EMPTY_TASKS, MOVES = 1.4, 20
 
@@ -80,7 +80,7 @@ class LongQuestions(PageCase):
         refused = [f"at {4 * it}000000 x" for it in range(1, 251)]
         path.write_text("\n".join([*loop, *refused, f"regs {LAST}", ""]))
         self.give(path)
-        self.browser.wait("!document.querySelector('#work').hidden", 10)
+        self.browser.wait("!document.querySelector('#work').hidden")
         self.go(5_000)
         self.wait_text("#instructions", "4999")
         self.assertIn("PC 001000", self.type_line("regs 5000"))
@@ -122,15 +122,15 @@ class LongQuestions(PageCase):
         self.never_hangs(self.open_many_events, self.edit_many_events)
 
     def never_hangs(self, begin: Callable[[], None], act: Callable[[], None]) -> None:
-        """The least of three tries: beside other work the processor may be slower."""
+        """The least of three tries, each beside an empty task: the processor may be slower."""
         tries = []
         for _ in range(3):
             self.browser.open(self.address)
             begin()
-            tries.append(self.browser.longest_task(act))
-            if tries[-1] < LONG_TASK:
+            tries.append((self.browser.longest_task(act), timing.long_task(self.browser)))
+            if tries[-1][0] < tries[-1][1]:
                 return
-        self.fail(f"a task of the page took {tries} milliseconds of the processor")
+        self.fail(f"tasks of the page took these milliseconds of the processor: {tries}")
 
     def look_at_far_turns(self) -> None:
         self.go(FAR)
@@ -160,6 +160,8 @@ class LongQuestions(PageCase):
 class Dragged(PageCase):
     def test_the_outcome_of_a_dragged_key_comes_soon(self) -> None:
         """The least of three tries, each beside an empty task in the same browser."""
+        if under_test.slower() > 1:
+            self.skipTest("only the page is slower, and not its worker")
         tries: list[float] = []
         while len(tries) < 3:
             self.wait_still()

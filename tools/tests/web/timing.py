@@ -26,12 +26,12 @@ FIRST = """new MutationObserver((_, it) => {
   window.firstBalance = performance.now();
   it.disconnect();
 }).observe(document, {childList: true, subtree: true, characterData: true})"""
-# A worker that counts, and replies: a task that has nothing of the page in it.
-COUNTS = 6_000_000
+# Counting is a task that has nothing of the page in it.
+COUNT = "let sum = 1; for (let at = 0; at < {}; at++) sum = Math.imul(sum, 31) + at | 0"
+# A worker that counts, and replies.
 EMPTY = f"""(() => {{
   const text = `onmessage = () => {{
-    let sum = 1;
-    for (let at = 0; at < {COUNTS}; at++) sum = Math.imul(sum, 31) + at | 0;
+    {COUNT.format(6_000_000)};
     postMessage(sum);
   }}`;
   const worker = new Worker(URL.createObjectURL(new Blob([text])));
@@ -41,6 +41,19 @@ EMPTY = f"""(() => {{
     worker.postMessage(0);
   }});
 }})()"""
+# The milliseconds of a processor from which on a task holds up what the user does, and what takes
+# about as long.
+LONG_TASK, LONG_COUNTS = 50.0, 8_000_000
+
+
+def long_task(browser: Browser) -> float:
+    """How many milliseconds a task of the page may take: on a slow computer as an empty one."""
+    count = f"(() => {{ {COUNT.format(LONG_COUNTS)}; window.counted = sum; }})()"
+
+    def act() -> None:
+        browser.value(count)
+
+    return max(LONG_TASK, browser.longest_task(act))
 
 
 def first_balance(browser: Browser, address: str) -> float:

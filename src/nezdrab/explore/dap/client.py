@@ -120,7 +120,8 @@ class Client:
     # Running
 
     def check_configured(self) -> None:
-        if self.debuggee is not None and not self.is_configured:
+        _ = self.it  # an error if nothing is debugged
+        if not self.is_configured:
             raise ExploreError("configurationDone comes first")
 
     def check_stopped(self) -> None:

@@ -31,6 +31,17 @@ class Fields:
 
     def text(self, name: str, default: Optional[str] = None) -> str:
         found: str = self._found(name, str, default)
+        try:
+            found.encode()
+        except UnicodeEncodeError:
+            raise ExploreError(f"{self.request}: '{name}' has half a surrogate pair") from None
+        return found
+
+    def path(self, name: str, default: Optional[str] = None) -> str:
+        """A text that can be a path."""
+        found = self.text(name, default)
+        if "\0" in found:
+            raise ExploreError(f"{self.request}: {name} has a NUL")
         return found
 
     def number(self, name: str, default: Optional[int] = None) -> int:

@@ -21,8 +21,6 @@ def continue_request(client: Client, fields: Fields) -> Object:
 
 @request("reverseContinue")
 def reverse_continue(client: Client, fields: Fields) -> None:
-    if client.explorer.turn == 0:
-        raise ExploreError("turn 0 is power-up: no turn comes before it")
     client.start(running.back(client.explorer))
 
 
@@ -57,11 +55,8 @@ def pause(client: Client, fields: Fields) -> None:
 
 @request("restartFrame")
 def restart_frame(client: Client, fields: Fields) -> None:
-    """Goes to the first turn of the routine of a frame."""
     frame: Frame = client.named_as(fields.number("frameId"), Frame)
-    if frame.entered is None:
-        raise ExploreError("no call is found that entered this routine")
-    client.start(running.at_once(Stop(frame.entered.call.turn + 1, "restart")))
+    client.start(running.restart(frame))
 
 
 @request("gotoTargets")
@@ -69,7 +64,7 @@ def goto_targets(client: Client, fields: Fields) -> Object:
     """The turn at which a line is reached next, and the one at which it was reached last, as far as
     they are in a million turns after the current one and before it."""
     explorer, moved = client.explorer, 1 - client.first_line
-    path, asked = fields.inside("source").text("path", ""), fields.number("line") + moved
+    path, asked = fields.inside("source").path("path", ""), fields.number("line") + moved
     line, places = client.it.sources.from_line(path, asked)
     turn, end = explorer.turn, min(explorer.turn + SEARCHED_TURNS, client.it.end)
     before = range(max(0, turn - SEARCHED_TURNS), turn)

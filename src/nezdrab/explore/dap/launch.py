@@ -49,11 +49,8 @@ class Launched:
 
 def path_of(fields: Fields, name: str) -> str:
     """The absolute path that a field names. One that isn't is in the folder `cwd`."""
-    folder = fields.text("cwd", os.getcwd())
-    path = os.path.abspath(os.path.join(folder, fields.text(name)))
-    if "\0" in path:
-        raise ExploreError(f"launch: {name} has a NUL")
-    return path
+    folder = fields.path("cwd") if fields.has("cwd") else os.getcwd()
+    return os.path.abspath(os.path.join(folder, fields.path(name)))
 
 
 def given_options(fields: Fields) -> argparse.Namespace:

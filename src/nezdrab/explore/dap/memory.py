@@ -79,7 +79,7 @@ def read(explorer: Explorer, fields: Fields) -> Object:
         if word is None:
             break
         data += word.to_bytes(2, "little")
-    found = bytes(data[address & 1 :][: len(bytes_at)])
+    found = bytes(data[address & 1 :][: bytes_at.stop - bytes_at.start])
     shown = reference(mode, max(0, address))
     body = {"address": shown, "unreadableBytes": count - len(found)}
     return {**body, "data": base64.b64encode(found).decode("ascii")} if found else body

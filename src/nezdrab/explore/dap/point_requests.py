@@ -22,14 +22,14 @@ def each_set(
         try:
             shown.append({"verified": True, **make(it)})
         except ExploreError as error:
-            line = {"line": it.values["line"]} if it.has("line") else {}
+            line = {"line": it.values["line"]} if type(it.values.get("line")) is int else {}
             shown.append({"verified": False, "message": str(error), **line})
     return {"breakpoints": shown}
 
 
 @request("setBreakpoints")
 def set_breakpoints(client: Client, fields: Fields) -> Object:
-    points, path = client.it.points, fields.inside("source").text("path", "")
+    points, path = client.it.points, fields.inside("source").path("path", "")
     moved = 1 - client.first_line
     points.clear(LINES, path)
     return each_set(
@@ -113,7 +113,7 @@ def in_words(place: Place) -> str:
 def breakpoint_locations(client: Client, fields: Fields) -> Object:
     moved, first = 1 - client.first_line, fields.number("line")
     last = fields.number("endLine", first)
-    path = fields.inside("source").text("path", "")
+    path = fields.inside("source").path("path", "")
     lines = client.it.sources.lines_between(path, first + moved, last + moved)
     return {"breakpoints": [{"line": it - moved} for it in lines]}
 

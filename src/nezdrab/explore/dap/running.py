@@ -11,12 +11,14 @@ from ..errors import ExploreError
 from ..finder import TURNS_OF_A_SEARCH, growing_parts
 from ..levels import Call, Stacks, call_in, left_in
 from ..machine import LAST_TURN
+from .frames import Frame
 
 # The first of some turns at which something is reached, such as the end of a routine.
 Goal = Callable[[range], Optional[int]]
 # Has an editor show a line.
 Say = Callable[[str], None]
 READS_TURNS = 8_192  # of a part in which reads are looked for: a fifth of a second at most
+AT_POWER_UP = "turn 0 is power-up: no turn comes before it"
 
 
 @dataclass(frozen=True)
@@ -29,7 +31,8 @@ class Stop:
     text: str = ""
 
 
-# What goes on part by part, and returns where it stops.
+# What goes on part by part, and returns where it stops. One that can't begin stops where it is, and
+# says why: its request isn't refused, since dap-mode and others hold from then on that it runs.
 Run = Generator[None, None, Stop]
 
 
@@ -101,6 +104,8 @@ def ahead(explorer: Explorer, end: int, goal: Optional[Goal] = None) -> Run:
 def back(explorer: Explorer, bottom: int = 0, reason: str = "entry") -> Run:
     """Back to the last breakpoint, or to the turn `bottom`. The last write is asked at once: it is
     found without a search."""
+    if explorer.turn == 0:
+        raise ExploreError(AT_POWER_UP)
     machine, turns = explorer.machine, range(bottom, explorer.turn)
     points = explorer.breakpoints.points
     writes = [it for it in points if it.address is not None and not it.is_read]
@@ -130,13 +135,14 @@ def to_return(explorer: Explorer, end: int, call: Call) -> Run:
 def step_in(explorer: Explorer, end: int) -> Run:
     if explorer.turn >= end:
         raise ExploreError(f"turn {end} is the end")
-    return at_once(Stop(explorer.turn + 1, "step"))
+    return (yield from at_once(Stop(explorer.turn + 1, "step")))
 
 
 def step_over(explorer: Explorer, end: int) -> Run:
     """As explore's `over`, up to a breakpoint."""
     call = call_in(explorer.machine, explorer.turn) if explorer.turn < end else None
-    return step_in(explorer, end) if call is None else to_return(explorer, end, call)
+    run = step_in(explorer, end) if call is None else to_return(explorer, end, call)
+    return (yield from run)
 
 
 def step_out(explorer: Explorer, end: int, say: Say) -> Run:
@@ -146,17 +152,24 @@ def step_out(explorer: Explorer, end: int, say: Say) -> Run:
         raise ExploreError(f"no call is found that turn {explorer.turn} stands in")
     for line in doubt_lines(level):
         say(line)
-    return to_return(explorer, end, level.call)
+    return (yield from to_return(explorer, end, level.call))
 
 
 def step_back(explorer: Explorer, is_instruction: bool, say: Say) -> Run:
     """One turn back; or as explore's `reverse-over`, down to a breakpoint."""
     turn = explorer.turn
     if turn == 0:
-        raise ExploreError("turn 0 is power-up: no turn comes before it")
+        raise ExploreError(AT_POWER_UP)
     levels = [] if is_instruction else list(ended_levels(explorer.machine, turn))
     if not levels:
-        return at_once(Stop(turn - 1, "step"))
+        return (yield from at_once(Stop(turn - 1, "step")))
     for line in (line for level in levels for line in doubt_lines(level)):
         say(line)
-    return back(explorer, levels[-1].call.turn, "step")
+    return (yield from back(explorer, levels[-1].call.turn, "step"))
+
+
+def restart(frame: Frame) -> Run:
+    """To the first turn of the routine of a frame."""
+    if frame.entered is None:
+        raise ExploreError("no call is found that entered this routine")
+    return (yield from at_once(Stop(frame.entered.call.turn + 1, "restart")))

@@ -1,6 +1,5 @@
 """Requests for what is shown at a stop, and for what is typed there."""
 from functools import partial
-from typing import Optional
 
 from ..prompt import Ended
 from . import memory
@@ -89,22 +88,24 @@ def disassemble(client: Client, fields: Fields) -> Object:
 
 
 @request("evaluate")
-def evaluate(client: Client, fields: Fields) -> Optional[Object]:
+def evaluate(client: Client, fields: Fields) -> Object:
     text, explorer = fields.text("expression"), client.explorer
     if fields.text("context", "repl") != "repl":
         return watched(explorer, text, turn_of(client, fields))
     before = {it.number for it in explorer.breakpoints.points}
     turn, frame = explorer.turn, client.named.get(fields.number("frameId", 0))
     of_frame = frame.turn if isinstance(frame, Frame) else turn
+    shown, ends = "", []
     try:
-        return {"result": done(client.it.prompt, text, of_frame), "variablesReference": 0}
+        shown = done(client.it.prompt, text, of_frame)
     except Ended as ended:
-        client.later.append(partial(client.terminated, ended.is_dropped))
-        return {"result": "", "variablesReference": 0}
+        ends = [partial(client.terminated, ended.is_dropped)]
     finally:
         tell_of_breakpoints(client, before)
         if not tell_of_edits(client) and explorer.turn != turn:
             client.later.append(partial(client.stopped, Stop(explorer.turn, "goto")))
+    client.later += ends
+    return {"result": shown, "variablesReference": 0}
 
 
 def tell_of_edits(client: Client) -> bool:
