@@ -103,6 +103,13 @@ SEARCHES = [
         "with 'or more' if turns are left",
     ),
     Line(
+        "reads N M A",
+        SEARCH,
+        "reads C",
+        "the reads of the core word at A: turn, who read and the word, of each turn the first; "
+        "after 256 it ends, with 'or more' if turns are left",
+    ),
+    Line(
         "transfers N M",
         SEARCH,
         "transfers C",

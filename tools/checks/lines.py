@@ -24,7 +24,7 @@ from checks.systems import NoReplies, System
 MOST_TURNS = 600
 FURTHER_TURNS = 8
 STRIDES = ["32"]
-WITH_SPAN = (b"first", b"latest", b"counts", b"writes", b"transfers", b"change")
+WITH_SPAN = (b"first", b"latest", b"counts", b"writes", b"reads", b"transfers", b"change")
 UNITS = 31
 PATCH = re.compile("core +([0-7]{1,10}) ")
 

@@ -17,8 +17,8 @@
 //!   drive are the first 256 that there are.
 //! - **Searches**: [`Engine::first_at`] returns the first turn of the run that is sought, by its
 //!   act, by its trap, or by conditions on the state before it, [`Engine::last_at`] the last one,
-//!   [`Engine::writes`] the writes to a word of core, [`Engine::next_change`] the first turn that
-//!   changes a word of a drive, [`Engine::disk_completions`] the functions of the disk that were
+//!   [`Engine::writes`] the writes to a word of core, [`Engine::reads`] the reads of one,
+//!   [`Engine::next_change`] the first turn that changes a word of a drive, [`Engine::disk_completions`] the functions of the disk that were
 //!   completed, and [`Engine::turn_of_byte`] the turn in which a byte was printed or punched, for
 //!   every past and whatever is kept. [`Engine::text_from`] returns what was printed or punched
 //!   before a turn, from one of its bytes on. The turns run for them are bounded: those of
@@ -65,9 +65,9 @@ mod run;
 
 pub use ask::{
     Bytes, Cause, CompletionsFound, CountedWords, DiskCompletion, FoundWords, Items, LastWrite,
-    MOST_CONDITIONS, Numbers, Quantity, Question, Relation, Sought, TextKind, Told, Trail,
-    TrailEntry, TurnCondition, TurnConditions, Unreadable, Value, VirtualWords, WantedWords,
-    WordPattern, Words, Written,
+    MOST_CONDITIONS, Numbers, Quantity, Question, ReadsFound, Relation, Sought, TextKind, Told,
+    Trail, TrailEntry, TurnCondition, TurnConditions, Unreadable, Value, VirtualWords, WantedWords,
+    WordPattern, WordRead, Words, Written,
 };
 pub use engine::Engine;
 pub use laws::{

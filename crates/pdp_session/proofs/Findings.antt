@@ -4,6 +4,7 @@ use Rattle.pdp_script.specs.Refusal.{for_memory, past_left, question_answer, res
 use Rattle.pdp_script.specs.declared.faults.Fault.{Fault}
 use Rattle.pdp_replay.specs.Ask.Answer.{answer, answer_to, question_checked}
 use Rattle.pdp_replay.specs.Ask.DiskCompletions.{completions_end}
+use Rattle.pdp_replay.specs.Ask.Reads.{reads_end}
 use Rattle.pdp_replay.specs.Ask.Writes.{turn_listed}
 use Rattle.pdp_replay.specs.Ask.Fadings.{fading, joined_by}
 use Rattle.pdp_replay.specs.Past.{Past}
@@ -12,15 +13,16 @@ use Rattle.pdp_replay.specs.declared.ask.disk_completions.DiskCompletion.{DiskCo
 use Rattle.pdp_replay.specs.declared.ask.last_write.LastWrite.{LastWrite}
 use Rattle.pdp_replay.specs.declared.ask.question.Question.{Question}
 use Rattle.pdp_replay.specs.declared.ask.question.Value.{Value}
+use Rattle.pdp_replay.specs.declared.ask.reads.WordRead.{WordRead}
 use Rattle.pdp_replay.specs.declared.ask.told.Told.{Told}
 use Rattle.pdp_replay.specs.declared.past.past_edit.PastEdit.{PastEdit}
 use Rattle.pdp_unibus.specs.LastTurn.{last_turn}
 use Rattle.pdp_script.specs.declared.faults.Fault.TheVariants.{NoMemory, TurnTooLarge}
 use Rattle.pdp_session.specs.declared.search.Finding.{Finding}
-use Rattle.pdp_session.specs.declared.search.Finding.TheVariants.{Answer as AnswerIs, Fades, Transfers, Writes}
+use Rattle.pdp_session.specs.declared.search.Finding.TheVariants.{Answer as AnswerIs, Fades, Reads, Transfers, Writes}
 use Rattle.pdp_session.specs.declared.search.Search.{Search}
 use Rattle.pdp_session.specs.declared.search.Search.TheVariants as search
-use Rattle.pdp_session.specs.Search.{finding, search_permitted, search_result, transfers_found, writes_found}
+use Rattle.pdp_session.specs.Search.{finding, reads_found, search_permitted, search_result, transfers_found, writes_found}
 
 answered : {Y : Type 0} (permitted : Result (Unit {0}) Fault) (refused : Bool) (due : Y) → Ok tt ≡ question_answer permitted refused
     → Ok due ≡ question_answer (result_map (λ _. due) permitted) refused
@@ -55,7 +57,11 @@ pub first_writes : (writes listed all : List LastWrite) (reached to : ℕ) → w
     → Writes writes (nat_lt reached to) ≡ writes_found all to
 first_writes writes listed all reached to same is ends = rw (ends, same, is) refl
 
--- and so are the completions
+-- and so are the reads, and the completions
+pub first_reads : (reads listed all : List WordRead) (reached to : ℕ) → reads ≡ listed → listed ≡ all → reached ≡ reads_end listed to
+    → Reads reads (nat_lt reached to) ≡ reads_found all to
+first_reads reads listed all reached to same is ends = rw (ends, same, is) refl
+
 pub first_transfers : (completions listed all : List DiskCompletion) (reached to : ℕ) → completions ≡ listed → listed ≡ all
     → reached ≡ completions_end listed to → Transfers completions (nat_lt reached to) ≡ transfers_found all to
 first_transfers completions listed all reached to same is ends = rw (ends, same, is) refl

@@ -5,7 +5,8 @@ use Rattle.std.proofs.lemmas.Grind.{flat_map-append}
 use Rattle.std.proofs.lemmas.List.{take_all}
 use Rattle.pdp_replay.specs.declared.ask.last_write.LastWrite.{LastWrite}
 use Rattle.pdp_session.specs.Reply.{count_line, line_at, list_text}
-use Rattle.pdp_session.specs.Search.{write_line, writes_head, writes_text}
+use Rattle.pdp_replay.specs.declared.ask.reads.WordRead.{WordRead}
+use Rattle.pdp_session.specs.Search.{read_line, reads_head, reads_text, write_line, writes_head, writes_text}
 use Rattle.pdp_session.specs.Streams.{DrainData}
 use Rattle.pdp_session.specs.Inside.Sends.{Sent, Cut}
 use Rattle.pdp_session.proofs.Pieces.{take_one_more, taken_and_left, sent_then, cut_first, cut_later}
@@ -113,3 +114,27 @@ pub writes_are_whole : (writes : List LastWrite) (more : Bool) (i : ℕ) (output
 unfolding writes_text
 writes_are_whole writes more i output output_after all lines =
     lines_are_whole (writes_head (length writes) more) write_line writes i output output_after all lines
+
+-- ---- reads, which may be more than those that are listed
+
+pub reads_cut_at_head : (reads : List WordRead) (more : Bool) (output output_after : DrainData)
+    → Cut (reads_head (length reads) more) output output_after → Cut (reads_text reads more) output output_after
+unfolding reads_text
+reads_cut_at_head reads more output output_after cut =
+    lines_cut_at_head (reads_head (length reads) more) read_line reads output output_after cut
+
+-- the head and i reads were written
+abbrev pub AreReadsTo : List WordRead → Bool → ℕ → DrainData → DrainData → Type 0
+AreReadsTo reads more i output output_after = AreLinesTo (reads_head (length reads) more) read_line reads i output output_after
+
+pub reads_cut_at_read : (reads : List WordRead) (more : Bool) (i : ℕ) (output between output_after : DrainData)
+    → AreReadsTo reads more i output between → Cut (line_at read_line reads i) between output_after → Cut (reads_text reads more) output output_after
+unfolding reads_text
+reads_cut_at_read reads more i output between output_after before cut =
+    lines_cut_at_item (reads_head (length reads) more) read_line reads i output between output_after before cut
+
+pub reads_are_whole : (reads : List WordRead) (more : Bool) (i : ℕ) (output output_after : DrainData)
+    → length reads ≤ i → AreReadsTo reads more i output output_after → Sent (reads_text reads more) output output_after
+unfolding reads_text
+reads_are_whole reads more i output output_after all lines =
+    lines_are_whole (reads_head (length reads) more) read_line reads i output output_after all lines

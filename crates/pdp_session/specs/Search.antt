@@ -11,6 +11,7 @@ use Rattle.pdp_replay.specs.Ask.Counts.{counts_checked, counts_in_turns}
 use Rattle.pdp_replay.specs.Ask.DiskChanges.{change_checked, word_changes}
 use Rattle.pdp_replay.specs.Ask.DiskCompletions.{completions_end, completions_in_turns}
 use Rattle.pdp_replay.specs.Ask.Fadings.{fading_checked, joined_by}
+use Rattle.pdp_replay.specs.Ask.Reads.{reads_end, reads_in_turns}
 use Rattle.pdp_replay.specs.Ask.Searches.{first_turn_of, search_checked}
 use Rattle.pdp_replay.specs.Ask.SoughtTurns.{is_sought_at, seek_checked}
 use Rattle.pdp_replay.specs.Ask.TextParts.{byte_checked, bytes_at, comes_out, turn_checked}
@@ -20,8 +21,10 @@ use Rattle.pdp_replay.specs.Past.Edit.{past_edit}
 use Rattle.pdp_replay.specs.Past.Setup.{setup_numbers}
 use Rattle.pdp_replay.specs.declared.ask.disk_completions.DiskCompletion.{DiskCompletion}
 use Rattle.pdp_replay.specs.declared.ask.last_write.LastWrite.{LastWrite}
+use Rattle.pdp_replay.specs.declared.ask.reads.WordRead.{WordRead}
 use Rattle.pdp_replay.specs.declared.ask.text_part.TextKind.{TextKind}
 use Rattle.pdp_replay.specs.declared.ask.text_part.TextKind.TheVariants.{Printed, Punched}
+use Rattle.pdp_store.specs.declared.Agent.{Agent}
 use Rattle.pdp_session.specs.declared.search.Finding.{Finding}
 use Rattle.pdp_session.specs.declared.search.Finding.TheVariants as found
 use Rattle.pdp_session.specs.declared.search.Search.{Search}
@@ -32,13 +35,17 @@ use Rattle.pdp_session.specs.Reply.{agent_name, bytes_line, listed_head, refusal
 use Rattle.pdp_session.specs.Reply.{word_text}
 use Rattle.pdp_session.specs.Version.{version_of}
 
--- the most writes or completions that are listed
+-- the most writes, reads or completions that are listed
 abbrev pub most_listed : ℕ
 most_listed = 256
 
 -- the first writes to the word at an address, and whether turns were left that may have more
 abbrev pub writes_found : List LastWrite → ℕ → Finding
 writes_found writes to = found.Writes writes (nat_lt (turn_listed writes to) to)
+
+-- the first reads of the word at an address, and whether turns were left that may have more
+abbrev pub reads_found : List WordRead → ℕ → Finding
+reads_found reads to = found.Reads reads (nat_lt (reads_end reads to) to)
 
 -- the first completions of the disk, and whether turns were left that may have more
 abbrev pub transfers_found : List DiskCompletion → ℕ → Finding
@@ -53,6 +60,8 @@ finding (search.Latest from to sought) past = found.Latest (last_of_turns
     (is_sought_at past sought) from (to - from))
 finding (search.Writes from to address) past = writes_found (take most_listed
     (writes_in_turns past (address / 2) from (to - from))) to
+finding (search.Reads from to address) past = reads_found (take most_listed
+    (reads_in_turns past (address / 2) from (to - from))) to
 finding (search.Transfers from to) past = transfers_found (take most_listed
     (completions_in_turns past from (to - from))) to
 finding (search.Change from to drive number) past = found.Change (first_turn_of
@@ -74,6 +83,7 @@ abbrev pub search_permitted : Search → Past → Result (Unit {0}) Fault
 search_permitted (search.First from to sought) past = seek_checked sought from to past.setup
 search_permitted (search.Latest from to sought) past = seek_checked sought from to past.setup
 search_permitted (search.Writes from to address) past = writes_checked address from to past.setup
+search_permitted (search.Reads from to address) past = writes_checked address from to past.setup
 search_permitted (search.Transfers from to) past = search_checked from to
 search_permitted (search.Change from to drive number) past = change_checked drive number from to
     past.setup
@@ -98,13 +108,28 @@ turn_line name (Some turn) = name ++ codes " " ++ decimal turn ++ codes "\n"
 abbrev pub writes_head : ℕ → Bool → List ℕ
 writes_head count more = listed_head (codes "writes") count more
 
--- a write: its turn, its agent, and the word after the turn
-abbrev pub write_line : LastWrite → List ℕ
-write_line write = decimal write.turn ++ codes " " ++ agent_name write.agent ++ word_text write.word
+-- a read or a write: its turn, its agent, and a word
+abbrev pub word_use_line : ℕ → Agent → ℕ → List ℕ
+word_use_line turn agent word = decimal turn ++ codes " " ++ agent_name agent ++ word_text word
     ++ codes "\n"
+
+-- a write, with the word after the turn
+abbrev pub write_line : LastWrite → List ℕ
+write_line write = word_use_line write.turn write.agent write.word
 
 unfoldable pub writes_text : List LastWrite → Bool → List ℕ
 writes_text writes more = writes_head (length writes) more ++ flat_map write_line writes
+
+-- how many reads are listed, and whether turns were left that may have more
+abbrev pub reads_head : ℕ → Bool → List ℕ
+reads_head count more = listed_head (codes "reads") count more
+
+-- a read, with the word that was read
+abbrev pub read_line : WordRead → List ℕ
+read_line read = word_use_line read.turn read.agent read.word
+
+unfoldable pub reads_text : List WordRead → Bool → List ℕ
+reads_text reads more = reads_head (length reads) more ++ flat_map read_line reads
 
 -- the name of a text
 abbrev pub text_name : TextKind → List ℕ
@@ -124,6 +149,7 @@ abbrev pub finding_text : Finding → List ℕ
 finding_text (found.First turn) = turn_line (codes "first") turn
 finding_text (found.Latest turn) = turn_line (codes "latest") turn
 finding_text (found.Writes writes more) = writes_text writes more
+finding_text (found.Reads reads more) = reads_text reads more
 finding_text (found.Transfers completions more) = transfers_text completions more
 finding_text (found.Change turn) = turn_line (codes "change") turn
 finding_text (found.TextFrom kind bytes) = bytes_line (text_name kind) bytes

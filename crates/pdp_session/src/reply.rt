@@ -9,6 +9,7 @@ mod counts;
 mod findings;
 mod history;
 mod past_shown;
+mod reads;
 mod states;
 mod texts;
 mod transfers;

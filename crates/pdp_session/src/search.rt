@@ -10,7 +10,7 @@ use crate::version::Version;
 pub use found_list::FoundList;
 use pdp_replay::{
     Bytes, CountedWords, DiskCompletion, Engine, Entry, Fault, LastWrite, PastEdit, Question,
-    SetupNumbers, Sought, TextKind, Value,
+    SetupNumbers, Sought, TextKind, Value, WordRead,
 };
 use std::alloc::Global;
 
@@ -32,6 +32,12 @@ pub enum Search {
     },
     // The writes to the word of core at an address.
     Writes {
+        from: u32,
+        to: u32,
+        address: u32,
+    },
+    // The reads of the word of core at an address.
+    Reads {
         from: u32,
         to: u32,
         address: u32,
@@ -84,6 +90,8 @@ pub enum Finding {
     Latest(Option<u32>),
     // The first writes, and whether turns were left that may have more.
     Writes(FoundList<LastWrite>, bool),
+    // The first reads, and whether turns were left that may have more.
+    Reads(FoundList<WordRead>, bool),
     // The first completions of the disk, and whether turns were left that may have more.
     Transfers(FoundList<DiskCompletion>, bool),
     Change(Option<u32>),
@@ -114,6 +122,11 @@ impl Search {
                 let found = engine.writes(alloc, address, from, to)?;
                 let more = found.value.reached < to;
                 Ok(Finding::Writes(FoundList::new(found.value.writes), more))
+            }
+            Search::Reads { from, to, address } => {
+                let found = engine.reads(alloc, address, from, to)?;
+                let more = found.value.reached < to;
+                Ok(Finding::Reads(FoundList::new(found.value.reads), more))
             }
             Search::Transfers { from, to } => {
                 let found = engine.disk_completions(alloc, from, to)?;

@@ -42,6 +42,9 @@ kernel or user. X is R0 to R5, KSP, USP, SP, PC, PS or core A:
   writes N M A                the writes to the core word at A: turn, who wrote
                               and the word; after 256 it ends, with 'or more' if
                               turns are left
+  reads N M A                 the reads of the core word at A: turn, who read and
+                              the word, of each turn the first; after 256 it
+                              ends, with 'or more' if turns are left
   transfers N M               the functions of the disk that are done: turn,
                               turn begun, function, drive, word, core address,
                               how many words, and RKER; after 256 it ends, with

@@ -139,6 +139,38 @@ class Patched(OfSystems):
         self.assertGreater(self.told, 0.9 * self.read)
 
 
+class AsTheProgramTells(OfSystems):
+    """The reads that explore works out are those that the program tells, which are proved."""
+
+    def compare(self, machine: Machine, turns: range, address: int) -> int:
+        """How many turns have a read, of each the first: the disk's is as the turn begins."""
+        line = f"reads {turns.start} {turns.stop} {address:o}"
+        told, first = list(machine.listed(line, turns)[0]), {}
+        found = Reads(machine, address).of(turns)
+        for it in sorted(found, key=lambda it: (it.turn, it.reader != "disk")):
+            first.setdefault(it.turn, f"{it.turn} {it.reader} {it.word:06o}")
+        self.assertEqual(told, list(first.values()), line)
+        return len(told)
+
+    def test_words_of_stored_systems(self) -> None:
+        ledger, turns = self.machine(LEDGER), range(126_900, 129_000)
+        words = (0o30000, 0o40000, 0o20000, 0o766, 0o770, 0o772, 0o776, 0o100, 0o62, 0o1110)
+        self.assertGreater(sum(self.compare(ledger, turns, it) for it in words), 300)
+        keys = self.machine(KEYS)
+        self.assertGreater(sum(self.compare(keys, range(1_000), it) for it in words), 100)
+
+    def test_words_of_random_programs(self) -> None:
+        count = 0
+        for seed in range(PROGRAMS):
+            machine = Machine(Start(BUILT.program, ["--units", "4"], self.folder))
+            self.addCleanup(machine.close)
+            list(machine.ask_all(list(program(random.Random(seed))), 1000))
+            for address in random.Random(seed).sample(range(0, TOP, 2), PROGRAMS_AT_ONCE):
+                with self.subTest(seed=seed, address=f"{address:o}"):
+                    count += self.compare(machine, range(TURNS), address)
+        self.assertGreater(count, 50)
+
+
 class Found(OfSystems):
     """What is found in many turns."""
 

@@ -12,7 +12,7 @@ use Rattle.pdp_replay.specs.declared.ask.text_part.TextKind.TheVariants.{Printed
 use Rattle.pdp_session.specs.declared.search.Search.{Search}
 use Rattle.pdp_session.specs.declared.search.Search.TheVariants.{First, Latest, Writes, Change}
 use Rattle.pdp_session.specs.declared.search.Search.TheVariants.{TextFrom, When, Fades, Ask}
-use Rattle.pdp_session.specs.declared.search.Search.TheVariants.{Transfers}
+use Rattle.pdp_session.specs.declared.search.Search.TheVariants.{Reads, Transfers}
 use Rattle.pdp_session.specs.declared.search.Search.TheVariants.{Events, Setup}
 use Rattle.pdp_session.specs.declared.version.Version.{Version}
 use Rattle.pdp_session.specs.Grammar.Arguments.{◌>>=◌, first_of, one_of, two_of, drive_first}
@@ -78,6 +78,14 @@ writes_form arguments = do
   a ← number_of 8 address
   Some (Writes n m a)
 
+-- `reads N M A`: the same
+abbrev pub reads_form : List (List ℕ) → Option Search
+reads_form arguments = do
+  (n, m, what) ← turns_first arguments
+  address ← one_of what
+  a ← number_of 8 address
+  Some (Reads n m a)
+
 -- `transfers N M`
 abbrev pub transfers_form : List (List ℕ) → Option Search
 transfers_form arguments = do
@@ -136,6 +144,7 @@ search_with version name arguments =
     if bytes_eq name (codes "first") then first_form arguments
     else if bytes_eq name (codes "latest") then latest_form arguments
     else if bytes_eq name (codes "writes") then writes_form arguments
+    else if bytes_eq name (codes "reads") then reads_form arguments
     else if bytes_eq name (codes "transfers") then transfers_form arguments
     else if bytes_eq name (codes "change") then change_form version arguments
     else if bytes_eq name (codes "text") then text_from_form Printed arguments

@@ -5,7 +5,7 @@
 ghost use Rattle.std.specs.Prelude.{◌≡◌, Err};
 ghost use Rattle.pdp_session.specs.Grammar.{line_means};
 ghost use Rattle.pdp_session.specs.Grammar.Searches.{alone, change_form, fades_form, first_form};
-ghost use Rattle.pdp_session.specs.Grammar.Searches.{latest_form, part_named, plainly_sought};
+ghost use Rattle.pdp_session.specs.Grammar.Searches.{latest_form, part_named, plainly_sought, reads_form};
 ghost use Rattle.pdp_session.specs.Grammar.Searches.{search_named, search_with};
 ghost use Rattle.pdp_session.specs.Grammar.Searches.{sought_in_any_mode, sought_in_mode};
 ghost use Rattle.pdp_session.specs.Grammar.Searches.{sought_named, text_from_form, transfers_form};
@@ -59,6 +59,8 @@ fn read_named(version: Version, name: &[u8], arguments: &[u8]) -> Option<Search>
         read_latest(arguments)
     } else if name == b"writes".as_slice() {
         read_writes(arguments)
+    } else if name == b"reads".as_slice() {
+        read_reads(arguments)
     } else if name == b"transfers".as_slice() {
         read_transfers(arguments)
     } else if name == b"change".as_slice() {
@@ -186,6 +188,15 @@ fn read_writes(arguments: &[u8]) -> Option<Search>
     let (from, to, what) = turns_first(arguments)?;
     let address = read_octal(one_word(what)?)?;
     Some(Search::Writes { from, to, address })
+}
+
+// `reads N M A`
+fn read_reads(arguments: &[u8]) -> Option<Search>
+    ensures { result ≡ reads_form (words_of_line arguments.now) }
+{
+    let (from, to, what) = turns_first(arguments)?;
+    let address = read_octal(one_word(what)?)?;
+    Some(Search::Reads { from, to, address })
 }
 
 // `transfers N M`

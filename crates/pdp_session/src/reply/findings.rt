@@ -1,13 +1,14 @@
 ghost use Rattle.std.specs.Prelude.{◌≡◌, ◌≤◌, length};
 ghost use Rattle.pdp_session.specs.Reply.{line_at, listed_head, more_mark};
 ghost use Rattle.pdp_session.specs.Search.{finding_text, found_text, text_name, turn_line};
-ghost use Rattle.pdp_session.specs.Search.{write_line, writes_head, writes_text};
+ghost use Rattle.pdp_session.specs.Search.{word_use_line, write_line, writes_head, writes_text};
 ghost use Rattle.pdp_session.specs.Inside.Sends.{Sends};
 
 use super::bytes::send_bytes;
 use super::counts::send_counts;
 use super::history::agent_name;
 use super::past_shown::{send_events, setup_text};
+use super::reads::send_reads;
 use super::send_value;
 use super::texts::{Text, add, add_word, refusal_text};
 use super::transfers::send_transfers;
@@ -15,6 +16,7 @@ use crate::search::{Finding, FoundList};
 use crate::streams::{Drain, Failed, send};
 use itoa::Buffer;
 use pdp_replay::{Fault, LastWrite, TextKind};
+use pdp_store::Agent;
 
 // Writes what a search found, or why it was refused.
 pub fn send_found<W: Drain>(found: &Result<Finding, Fault>, writer: &mut W) -> Result<(), Failed>
@@ -34,6 +36,7 @@ fn send_finding<W: Drain>(finding: &Finding, writer: &mut W) -> Result<(), Faile
         Finding::First(turn) => send(writer, turn_text("first", *turn).as_slice()),
         Finding::Latest(turn) => send(writer, turn_text("latest", *turn).as_slice()),
         Finding::Writes(writes, more) => send_writes(writes, *more, writer),
+        Finding::Reads(reads, more) => send_reads(reads, *more, writer),
         Finding::Transfers(completions, more) => send_transfers(completions, *more, writer),
         Finding::Change(turn) => send(writer, turn_text("change", *turn).as_slice()),
         Finding::TextFrom(kind, bytes) => send_bytes(text_name(*kind), bytes.items(), writer),
@@ -137,16 +140,23 @@ fn send_write<W: Drain>(
     send(writer, text.as_slice())
 }
 
-// A write: its turn, its agent, and the word after the turn.
+// A write, with the word after the turn.
 fn write_text(write: LastWrite) -> Text
     ensures { result.items ≡ write_line write }
 {
+    word_use_text(write.turn, write.agent, write.word)
+}
+
+// A read or a write: its turn, its agent, and a word.
+pub fn word_use_text(turn: u32, agent: Agent, word: u16) -> Text
+    ensures { result.items ≡ word_use_line turn agent word }
+{
     let mut text = Text::new();
     let mut buffer = Buffer::new();
-    add(&mut text, buffer.format(write.turn).as_bytes());
+    add(&mut text, buffer.format(turn).as_bytes());
     add(&mut text, b" ");
-    add(&mut text, agent_name(write.agent).as_bytes());
-    add_word(&mut text, write.word);
+    add(&mut text, agent_name(agent).as_bytes());
+    add_word(&mut text, word);
     add(&mut text, b"\n");
     text
 }

@@ -2,7 +2,7 @@ use Rattle.std.proofs.Common.{◌∙◌, ap, nat_lt, refl}
 use Rattle.std.proofs.lemmas.Result.{err_from_is_err_and}
 use Rattle.pdp_session.specs.declared.search.Finding.TheVariants as found
 use Rattle.pdp_session.specs.declared.search.Search.TheVariants as search
-use Rattle.pdp_session.proofs.Findings.{fading_answered, fading_refused, first_transfers, first_writes}
+use Rattle.pdp_session.proofs.Findings.{fading_answered, fading_refused, first_reads, first_transfers, first_writes}
 use Rattle.pdp_session.proofs.Findings.{question_answered, question_refused, search_answered, search_refused, search_short}
 use Rattle.pdp_session.proofs.search.Search.run.Goals as goal
 
@@ -20,6 +20,11 @@ pub returns-in_err-found-in-Writes-clause-finding : goal.returns-in_err-found-in
 returns-in_err-found-in-Writes-clause-finding c =
     let (fault, is, same) = err_from_is_err_and c.from_residual-in_err-found-in-Writes.result c.from_residual-in_err-found-in-Writes.ensures.1 in
     rw (c.in-Writes.is, is, same) (search_refused (search.Writes c.in-Writes.from c.in-Writes.to c.in-Writes.address) c.args.engine.now.past c.in_err-found-in-Writes.field-0.0 c.in_err-found-in-Writes.ensures.refusal)
+
+pub returns-in_err-found-in-Reads-clause-finding : goal.returns-in_err-found-in-Reads-clause-finding
+returns-in_err-found-in-Reads-clause-finding c =
+    let (fault, is, same) = err_from_is_err_and c.from_residual-in_err-found-in-Reads.result c.from_residual-in_err-found-in-Reads.ensures.1 in
+    rw (c.in-Reads.is, is, same) (search_refused (search.Reads c.in-Reads.from c.in-Reads.to c.in-Reads.address) c.args.engine.now.past c.in_err-found-in-Reads.field-0.0 c.in_err-found-in-Reads.ensures.refusal)
 
 pub returns-in_err-found-in-Transfers-clause-finding : goal.returns-in_err-found-in-Transfers-clause-finding
 returns-in_err-found-in-Transfers-clause-finding c =
@@ -76,6 +81,12 @@ returns-in_ok-found-in-Writes-clause-finding c =
     let value = c.in_ok-found-in-Writes.found.value in
     rw c.in-Writes.is (search_answered (search.Writes c.in-Writes.from c.in-Writes.to c.in-Writes.address) c.args.engine.now.past (found.Writes c.new.result (nat_lt value.reached c.in-Writes.to)) c.in_ok-found-in-Writes.ensures.refusal
     (first_writes c.new.result value.writes.items _ value.reached c.in-Writes.to c.new.ensures c.in_ok-found-in-Writes.ensures.value c.in_ok-found-in-Writes.ensures.reached))
+
+pub returns-in_ok-found-in-Reads-clause-finding : goal.returns-in_ok-found-in-Reads-clause-finding
+returns-in_ok-found-in-Reads-clause-finding c =
+    let value = c.in_ok-found-in-Reads.found.value in
+    rw c.in-Reads.is (search_answered (search.Reads c.in-Reads.from c.in-Reads.to c.in-Reads.address) c.args.engine.now.past (found.Reads c.new-in-Reads.result (nat_lt value.reached c.in-Reads.to)) c.in_ok-found-in-Reads.ensures.refusal
+    (first_reads c.new-in-Reads.result value.reads.items _ value.reached c.in-Reads.to c.new-in-Reads.ensures c.in_ok-found-in-Reads.ensures.value c.in_ok-found-in-Reads.ensures.reached))
 
 pub returns-in_ok-found-in-Transfers-clause-finding : goal.returns-in_ok-found-in-Transfers-clause-finding
 returns-in_ok-found-in-Transfers-clause-finding c =
