@@ -360,8 +360,10 @@ def is_of_language(word: str) -> bool:
 
 
 def is_own(word: str, rest: str) -> bool:
-    """Whether a line is a command of explore. A line of the language may begin with its word."""
-    if word in SEARCHES and is_decimal(rest[:1]):
+    """Whether a line is a command of explore. A line of the language may begin with its word: the
+    search `reads` has two turns there, and the command one address."""
+    turns = 2 if word == "reads" else 1
+    if word in SEARCHES and all(is_decimal(it[:1]) for it in [*rest.split(), ""][:turns]):
         return False
     if word in FORMS:
         writes = word in WRITING and re.search(r"[ \t]at[ \t]+[^ \t]+$", rest)

@@ -145,11 +145,12 @@ class AsTheProgramTells(OfSystems):
     def compare(self, machine: Machine, turns: range, address: int) -> int:
         """How many turns have a read, of each the first: the disk's is as the turn begins."""
         line = f"reads {turns.start} {turns.stop} {address:o}"
-        told, first = list(machine.listed(line, turns)[0]), {}
+        told, first = machine.listed(line, turns)[0], dict[int, str]()
         found = Reads(machine, address).of(turns)
         for it in sorted(found, key=lambda it: (it.turn, it.reader != "disk")):
             first.setdefault(it.turn, f"{it.turn} {it.reader} {it.word:06o}")
-        self.assertEqual(told, list(first.values()), line)
+        self.assertEqual(told, list(first.values())[: len(told)], line)
+        self.assertEqual(len(told), min(len(first), 256), line)
         return len(told)
 
     def test_words_of_stored_systems(self) -> None:
