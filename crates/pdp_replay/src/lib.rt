@@ -18,11 +18,12 @@
 //! - **Searches**: [`Engine::first_at`] returns the first turn of the run that is sought, by its
 //!   act, by its trap, or by conditions on the state before it, [`Engine::last_at`] the last one,
 //!   [`Engine::writes`] the writes to a word of core, [`Engine::reads`] the reads of one,
-//!   [`Engine::next_change`] the first turn that changes a word of a drive, [`Engine::disk_completions`] the functions of the disk that were
-//!   completed, and [`Engine::turn_of_byte`] the turn in which a byte was printed or punched, for
-//!   every past and whatever is kept. [`Engine::text_from`] returns what was printed or punched
-//!   before a turn, from one of its bytes on. The turns run for them are bounded: those of
-//!   `last_at` are the ones from the turn found on and two strides, where they were known.
+//!   [`Engine::next_change`] the first turn that changes a word of a drive,
+//!   [`Engine::disk_completions`] the functions of the disk that were completed, and
+//!   [`Engine::turn_of_byte`] the turn in which a byte was printed or punched, for every past and
+//!   whatever is kept. [`Engine::text_from`] returns what was printed or punched before a turn, from
+//!   one of its bytes on. The turns run for them are bounded: those of `last_at` are the ones from
+//!   the turn found on and two strides, where they were known.
 //! - **Counts**: [`Engine::counts`] returns for each of some words of virtual addresses how many
 //!   turns began an instruction there, in the mode that is given. It runs each of the turns once.
 //! - **An edit that fades**: [`Engine::fades`] returns the least turn from which on the run with an

@@ -28,9 +28,9 @@ keeps (Some address) cycle = is_read cycle.kind && cycle.address == address
 
 -- the log after this cycle: it is put at the end while there is room
 abbrev pub log_with : BusCycle → KeptCycles → KeptCycles
-log_with cycle log = if keeps log.reads_of cycle && nat_lt (length log.told) log.room then record log {
-  told = log.told ++ cycle ∷ [];
-} else log
+log_with cycle log =
+    if keeps log.reads_of cycle && nat_lt (length log.told) log.room
+    then record log { told = log.told ++ cycle ∷ [] } else log
 
 -- the log without the cycles that it has
 abbrev pub without_cycles : KeptCycles → KeptCycles
