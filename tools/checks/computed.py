@@ -6,6 +6,7 @@ from checks.places import MODES, Abort, is_register, physical
 from checks.systems import System
 from checks.transfers import transfers
 from checks.traps import may_trap, must_trap
+from checks.word_reads import first_reads
 
 MOST_LINES = 256
 LAST_ADDRESS = 0o177776
@@ -117,6 +118,16 @@ def writes(system: System, words: list[str]) -> str:
     return list_of("writes", [shown for _, shown in found], are_left)
 
 
+def reads(system: System, words: list[str]) -> str:
+    after, before = int(words[0]), int(words[1])
+    if after > before:
+        return COUNT_OUT_OF_RANGE
+    every = first_reads(system, int(words[2], 8))
+    found = [turn for turn in sorted(every) if after <= turn < before]
+    are_left = len(found) >= MOST_LINES and found[MOST_LINES - 1] + 1 < before
+    return list_of("reads", [every[turn] for turn in found], are_left)
+
+
 def list_of(command: str, found: list[str], is_cut: bool) -> str:
     shown = found[:MOST_LINES]
     return "\n".join([f"{command} {len(shown)}" + " or more" * is_cut, *shown])
@@ -204,6 +215,7 @@ def events(system: System, words: list[str]) -> str:
 COMPUTED: dict[str, Callable[[System, list[str]], str]] = {
     "counts": counts,
     "writes": writes,
+    "reads": reads,
     "change": change,
     "transfers": transfers,
     "text": lambda system, words: bytes_from("text", system, words),

@@ -6,6 +6,7 @@ from typing import Sequence, TypeVar
 from checks.places import REGISTERS_AT
 from checks.systems import WORDS_OF_PAGE, System
 from checks.traps import trap_of
+from checks.word_reads import first_reads
 
 LAST_OF_DRIVE = 0o4603777
 REGISTERS = ["R0", "R1", "R2", "R3", "R4", "R5", "KSP", "USP", "SP", "PC", "PS"]
@@ -190,6 +191,18 @@ class Picker:
         spans = [self.span(), *(f"{self.first} {end}" for end in dict.fromkeys(ends))]
         return [f"writes {span} {address:o}" for address in self.words for span in spans]
 
+    def reads(self) -> list[str]:
+        """Of a few words, and none if explore's rules don't follow each turn."""
+        lines = []
+        for address in self.some(self.words, 2):
+            try:
+                first_reads(self.system, address)
+            except LookupError:
+                return []
+            spans = f"{self.first} {self.last}", self.span()
+            lines += [f"reads {span} {address:o}" for span in spans]
+        return lines
+
     def changes(self) -> list[str]:
         on, whole = self.system.drive_word, f"{self.first} {self.last}"
         return [
@@ -293,6 +306,7 @@ class Picker:
         kinds = [self.at, self.acts, self.where, self.counts, self.writes, self.changes]
         kinds.append(self.transfers)
         kinds += [self.bytes_out, self.places, self.finds, self.finds_on_drives, self.fades]
+        kinds.append(self.reads)
         found = [line for kind in kinds for line in kind()] + ["events", "setup"]
         found = list(dict.fromkeys(found))
         self.chance.shuffle(found)
