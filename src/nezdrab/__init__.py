@@ -23,6 +23,7 @@ if TYPE_CHECKING:
     from .machine import Machine as Machine
     from .questions import Question as Question
     from .replies import Found as Found, Transfer as Transfer, Unreadable as Unreadable
+    from .replies import WordRead as WordRead
 
     __version__: str
 
@@ -47,6 +48,7 @@ PLACES = {
     "Transfer": "replies",
     "Turn": "explore.replies",
     "Unreadable": "replies",
+    "WordRead": "replies",
 }
 OTHERWISE_NAMED = {"NezdrabError": "ExploreError"}
 __all__ = [
@@ -68,6 +70,7 @@ __all__ = [
     "Transfer",
     "Turn",
     "Unreadable",
+    "WordRead",
 ]
 
 if not TYPE_CHECKING:

@@ -25,7 +25,7 @@ from .explore.replies import LastWrite, Mode
 from .explore.session_file import made_edits
 from .explore.symbols import ADDRESS, OCTAL, Symbols
 from .questions import Address, ModeName, Question, decimal, octal
-from .replies import Found, Transfer
+from .replies import Found, Transfer, WordRead
 from .words import Core, Drive
 
 Answer = TypeVar("Answer")
@@ -322,6 +322,17 @@ class Machine:
 
         def found(begin: int) -> Found[LastWrite]:
             return self.ask(questions.writes(address, since=begin, until=until))
+
+        return going_on(found, operator.index(since), lambda it: it.turn + 1)
+
+    def reads(
+        self, address: Address, *, until: SupportsIndex, since: SupportsIndex = 0
+    ) -> Iterator[WordRead]:
+        """The turns of the range that read a word of core, in their order: `.turn`, the `.reader`,
+        cpu or disk, and the `.word`; of a turn that reads it more than once the first read."""
+
+        def found(begin: int) -> Found[WordRead]:
+            return self.ask(questions.reads(address, since=begin, until=until))
 
         return going_on(found, operator.index(since), lambda it: it.turn + 1)
 

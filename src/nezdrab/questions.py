@@ -25,7 +25,7 @@ from .explore.machine import LAST_TURN, MOST_TURNS_OF_A_TRAIL, MOST_WORDS, Machi
 from .explore.past import Event, Setup
 from .explore.replies import Devices, LastWrite, Mode, Pages, Registers, Turn
 from .explore.replies import listed, text_of, turns_of, words_of
-from .replies import Found, Transfer, readable
+from .replies import Found, Transfer, WordRead, readable
 
 Answer = TypeVar("Answer")
 Address = Union[int, SupportsIndex, str]
@@ -280,6 +280,20 @@ def writes(
 
     turns = f"{decimal(since)} {decimal(until)}"
     return at_address(lambda it: f"writes {turns} {it}", address, read)
+
+
+def reads(
+    address: Address, *, until: SupportsIndex, since: SupportsIndex = 0
+) -> Question[Found[WordRead]]:
+    """The turns of the range that read a word of core, the first 256 of them or some more; of a
+    turn that reads it more than once the first read. Machine.reads gives all."""
+
+    def read(reply: str) -> Found[WordRead]:
+        lines, is_all = listed(reply)
+        return Found([WordRead.of(it) for it in lines], is_all)
+
+    turns = f"{decimal(since)} {decimal(until)}"
+    return at_address(lambda it: f"reads {turns} {it}", address, read)
 
 
 def transfers(*, until: SupportsIndex, since: SupportsIndex = 0) -> Question[Found[Transfer]]:

@@ -221,6 +221,10 @@ class Listed(Case):
         writes = list(machine.writes(0o2000, since=1, until=1001))
         self.assertEqual([it.turn for it in writes], list(range(2, 1001, 2)))
         self.assertEqual([it.word for it in writes], list(range(2, 502)))
+        reads = list(machine.reads(0o2000, since=1, until=1001))
+        self.assertEqual({it.reader for it in reads}, {"cpu"})
+        self.assertEqual([it.turn for it in reads], list(range(2, 1001, 2)))
+        self.assertEqual([it.word for it in reads], list(range(1, 501)))
         machine.core[0o4000] = [5] * 600
         found = list(machine.find(0, 0o4000, 0o6000, 5))
         self.assertEqual(found, list(range(0o4000, 0o6002, 2)))
