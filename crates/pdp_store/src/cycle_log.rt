@@ -26,8 +26,8 @@ pub struct BusCycle {
     pub value: Option<u16>,
 }
 
-/// A list of bus cycles in their order, with room for so many; once it is full, the next ones are
-/// left out. It keeps all cycles, or the reads at one physical address alone.
+/// Bus cycles in their order: the first so many as it was made for, later ones are left out. It keeps
+/// all cycles, or only the reads at one physical address.
 #[derive(Drop)]
 pub struct CycleLog {
     reads_of: Option<u32>,

@@ -36,9 +36,9 @@
 //!   leaves the bus, as its page was touched before; a write leaves what a bus cycle leaves. One
 //!   that isn't so does nothing (`Bus::core_word`, `core_index`, `core_byte`, `write_core`,
 //!   `write_core_byte`, and `write_core_pair` for two words).
-//! - Each cycle of the processor is told to the log that core keeps, if it keeps one: those of core,
-//!   of registers, and those that time out (`Bus::logging`, `cycles`, `unlogged`). A read that goes
-//!   to core changes nothing only where no log is kept.
+//! - If core keeps a log, each cycle of the processor is added to it: those of core, of registers,
+//!   and those that time out (`Bus::logging`, `cycles`, `unlogged`). A read that goes to core changes
+//!   nothing only where no log is kept.
 //! - Up to which turn the bus is calm, so that nothing comes between instructions (`calm_until`).
 //! - What is saved of a bus is all of it except the tape's bytes and the first touches; a load
 //!   makes the bus that again, with the tape and the first touches that it then has (`Bus::save`,
