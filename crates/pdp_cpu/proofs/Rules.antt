@@ -51,5 +51,5 @@ whole_turn_with_trap = Unit {0}
 
 -- opens a turn and its disk
 unfoldable pub whole_turn_with_disk : Type 0
-unfolding one_turn disk_begun printed_in punched_in
+unfolding one_turn turn_act disk_begun printed_in punched_in
 whole_turn_with_disk = Unit {0}

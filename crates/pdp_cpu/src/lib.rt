@@ -70,4 +70,5 @@ pub use pdp_quick::WordTable;
 pub use pdp_unibus::{DeviceRegisters, LAST_TURN, PageRegisters};
 pub use regs::Regs;
 pub use saved::{PagedMachine, Saved, SavedOutput};
+pub use turn_disk::ActWithDisk;
 pub use turn_trap::ActWithTrap;

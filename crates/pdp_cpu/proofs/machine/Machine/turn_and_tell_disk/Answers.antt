@@ -4,6 +4,11 @@ use Rattle.pdp_cpu.proofs.Carried.{turn_carried}
 use Rattle.pdp_cpu.proofs.TurnRuns.{turn_seen}
 use Rattle.pdp_cpu.proofs.machine.Machine.turn_and_tell_disk.Goals as goal
 
+pub returns-clause-act : goal.returns-clause-act
+returns-clause-act g c =
+    let m = c.args.self.now in
+    c.tell_disk_whole.ensures.act ∙ (turn_carried m.state.turn c.args.events.now m.state.world m.first_touches).act
+
 pub returns-clause-disk : goal.returns-clause-disk
 returns-clause-disk g c =
     let m = c.args.self.now in
