@@ -19,7 +19,9 @@ if TYPE_CHECKING:
     from .explore.past import Event as Event, Setup as Setup
     from .explore.program import TimedOut as TimedOut
     from .explore.replies import Devices as Devices, LastWrite as LastWrite, Mode as Mode
+    from .explore.replies import BusCycle as BusCycle, CycleKind as CycleKind
     from .explore.replies import Pages as Pages, Registers as Registers, Turn as Turn
+    from .explore.replies import TurnAccesses as TurnAccesses
     from .machine import Machine as Machine
     from .questions import Question as Question
     from .replies import Found as Found, Transfer as Transfer, Unreadable as Unreadable
@@ -30,6 +32,8 @@ if TYPE_CHECKING:
 # Where each name comes from. Only what is used is read: explore, which is part of the package,
 # starts without all of this.
 PLACES = {
+    "BusCycle": "explore.replies",
+    "CycleKind": "explore.replies",
     "LAST_TURN": "explore.machine",
     "Devices": "explore.replies",
     "Event": "explore.past",
@@ -47,12 +51,15 @@ PLACES = {
     "TimedOut": "explore.program",
     "Transfer": "replies",
     "Turn": "explore.replies",
+    "TurnAccesses": "explore.replies",
     "Unreadable": "replies",
     "WordRead": "replies",
 }
 OTHERWISE_NAMED = {"NezdrabError": "ExploreError"}
 __all__ = [
     "LAST_TURN",
+    "BusCycle",
+    "CycleKind",
     "Devices",
     "Event",
     "Found",
@@ -69,6 +76,7 @@ __all__ = [
     "TimedOut",
     "Transfer",
     "Turn",
+    "TurnAccesses",
     "Unreadable",
     "WordRead",
 ]

@@ -15,13 +15,13 @@ from .arguments import Key, Option, StrPath, asks, event_text, options_in_words
 from .explore.errors import ExploreError
 from .explore.in_words import counted
 from .explore.language import explanation, is_edit
-from .explore.machine import SHORT_SENT_AHEAD, Machine as Engine, Refused, Start
-from .explore.machine import is_refused
+from .explore.machine import MOST_TURNS_OF_A_TRAIL, SHORT_SENT_AHEAD, Machine as Engine
+from .explore.machine import Refused, Start, is_refused
 from .explore.options import Options, check_session, faults_of, options_of_session
 from .explore.options import words_of_options
 from .explore.past import Event
 from .explore.programs import found_program
-from .explore.replies import LastWrite, Mode
+from .explore.replies import LastWrite, Mode, TurnAccesses
 from .explore.session_file import made_edits
 from .explore.symbols import ADDRESS, OCTAL, Symbols
 from .questions import Address, ModeName, Question, decimal, octal
@@ -335,6 +335,22 @@ class Machine:
             return self.ask(questions.reads(address, since=begin, until=until))
 
         return going_on(found, operator.index(since), lambda it: it.turn + 1)
+
+    def accesses(
+        self, turn: SupportsIndex, count: SupportsIndex = 1
+    ) -> Iterator[TurnAccesses]:
+        """What the last `count` turns before this one have in them, in their order: the `.turn` as
+        `trail` gives it, the `.mode` before it, its `.events`, the bytes that are `.printed` and
+        `.punched`, the function of the disk that is `.done`, and the `.cycles` of the processor on
+        the bus, each with its `.kind`, `.address`, and `.value`, None if nothing replies."""
+        end, turns = operator.index(turn), operator.index(count)
+
+        def found(begin: int) -> Found[TurnAccesses]:
+            until = min(begin + MOST_TURNS_OF_A_TRAIL, end) if 0 < turns <= end else end
+            it = self.ask(questions.accesses(until, until - begin))
+            return Found(it.items, it.is_all and until == end)
+
+        return going_on(found, end - turns, lambda it: it.turn.turn + 1)
 
     def transfers(
         self, *, until: SupportsIndex, since: SupportsIndex = 0

@@ -23,8 +23,8 @@ from .explore.errors import ExploreError
 from .explore.language import is_edit
 from .explore.machine import LAST_TURN, MOST_TURNS_OF_A_TRAIL, MOST_WORDS, Machine as Engine
 from .explore.past import Event, Setup
-from .explore.replies import Devices, LastWrite, Mode, Pages, Registers, Turn
-from .explore.replies import listed, text_of, turns_of, words_of
+from .explore.replies import Devices, LastWrite, Mode, Pages, Registers, Turn, TurnAccesses
+from .explore.replies import accesses_of, listed, text_of, turns_of, words_of
 from .replies import Found, Transfer, WordRead, readable
 
 Answer = TypeVar("Answer")
@@ -166,6 +166,14 @@ def trail(turn: SupportsIndex, count: SupportsIndex) -> Question[list[Turn]]:
     is_long = MOST_TURNS_OF_A_TRAIL < turns <= end
     lines = Engine.trail_lines(end - turns, turns) if is_long else [f"trail {end} {turns}"]
     return Question(lambda _: lines, lambda it: [turn for reply in it for turn in turns_of(reply)])
+
+
+def accesses(turn: SupportsIndex, count: SupportsIndex = 1) -> Question[Found[TurnAccesses]]:
+    """What the last 1 to 64 turns before this one have in them, each cycle of the processor on the
+    bus too: all these turns, or the first of them that have at most 256 cycles. Machine.accesses
+    gives all."""
+    line = f"accesses {decimal(turn)} {decimal(count)}"
+    return one(line, lambda reply: Found(*accesses_of(reply)))
 
 
 def condition_in_numbers(where: str, number: Numbers) -> str:

@@ -110,6 +110,14 @@ SEARCHES = [
         "after 256 it ends, with 'or more' if turns are left",
     ),
     Line(
+        "accesses N C",
+        SEARCH,
+        "accesses C",
+        "what the C turns before turn N have in them: mode, PC and act of each, its events, what "
+        "comes out, the function of the disk that is done, and each cycle on the bus; after whole "
+        "turns with 256 cycles it ends, with 'or more' if turns are left",
+    ),
+    Line(
         "transfers N M",
         SEARCH,
         "transfers C",

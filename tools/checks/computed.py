@@ -6,6 +6,7 @@ from checks.places import MODES, Abort, is_register, physical
 from checks.systems import System
 from checks.transfers import transfers
 from checks.traps import may_trap, must_trap
+from checks.turn_accesses import accesses
 from checks.word_reads import first_reads
 
 MOST_LINES = 256
@@ -216,6 +217,7 @@ COMPUTED: dict[str, Callable[[System, list[str]], str]] = {
     "counts": counts,
     "writes": writes,
     "reads": reads,
+    "accesses": accesses,
     "change": change,
     "transfers": transfers,
     "text": lambda system, words: bytes_from("text", system, words),

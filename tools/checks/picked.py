@@ -6,6 +6,7 @@ from typing import Sequence, TypeVar
 from checks.places import REGISTERS_AT
 from checks.systems import WORDS_OF_PAGE, System
 from checks.traps import trap_of
+from checks.turn_accesses import MOST_TURNS, cycles_of
 from checks.word_reads import first_reads
 
 LAST_OF_DRIVE = 0o4603777
@@ -203,6 +204,17 @@ class Picker:
             lines += [f"reads {span} {address:o}" for span in spans]
         return lines
 
+    def accesses(self) -> list[str]:
+        """Of turns, each of whose cycles explore's rules tell."""
+        known = cycles_of(self.system)
+        lines = []
+        for turn in self.some(sorted(known), 12):
+            first = turn
+            while first in known and turn - first < MOST_TURNS:
+                first -= 1
+            lines += [f"accesses {turn + 1} {it}" for it in (1, turn - first)]
+        return [*lines, f"accesses {self.turn()} 65"]
+
     def changes(self) -> list[str]:
         on, whole = self.system.drive_word, f"{self.first} {self.last}"
         return [
@@ -306,7 +318,7 @@ class Picker:
         kinds = [self.at, self.acts, self.where, self.counts, self.writes, self.changes]
         kinds.append(self.transfers)
         kinds += [self.bytes_out, self.places, self.finds, self.finds_on_drives, self.fades]
-        kinds.append(self.reads)
+        kinds += [self.reads, self.accesses]
         found = [line for kind in kinds for line in kind()] + ["events", "setup"]
         found = list(dict.fromkeys(found))
         self.chance.shuffle(found)

@@ -19,3 +19,4 @@ pub mod PatchFadings
 pub mod VirtualReads
 pub mod WordsFound
 pub mod TurnReads
+pub mod TurnAccesses

@@ -20,3 +20,4 @@ pub mod Backwards
 pub mod DiskCompletions
 pub mod Fadings
 pub mod Reads
+pub mod Accesses

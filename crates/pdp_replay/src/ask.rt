@@ -1,6 +1,7 @@
 //! Questions about the run, and their answers: registers, words, bytes, virtual addresses, last
 //! writes and trails; and searches of the run.
 
+mod accesses;
 mod backwards;
 mod counts;
 mod disk_change;
@@ -23,9 +24,9 @@ mod virtual_words;
 mod watch;
 mod writes;
 
+pub use accesses::{AccessesFound, TurnDetail, TurnHead};
 pub use counts::CountedWords;
-pub(crate) use disk_completions::DiskTurn;
-pub use disk_completions::{CompletionsFound, DiskCompletion};
+pub use disk_completions::{CompletionsFound, DiskCompletion, DiskTurn};
 pub use find_words::{FoundWords, Numbers, WantedWords, WordPattern};
 pub use items::{Bytes, Items, Words};
 pub use last_write::LastWrite;

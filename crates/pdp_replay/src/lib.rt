@@ -22,7 +22,8 @@
 //!   [`Engine::disk_completions`] the functions of the disk that were completed, and
 //!   [`Engine::turn_of_byte`] the turn in which a byte was printed or punched, for every past and
 //!   whatever is kept. [`Engine::text_from`] returns what was printed or punched before a turn, from
-//!   one of its bytes on. The turns run for them are bounded: those of `last_at` are the ones from
+//!   one of its bytes on. [`Engine::accesses`] lists what some turns have in them, with each cycle
+//!   of the processor on the bus. The turns run for them are bounded: those of `last_at` are the ones from
 //!   the turn found on and two strides, where they were known.
 //! - **Counts**: [`Engine::counts`] returns for each of some words of virtual addresses how many
 //!   turns began an instruction there, in the mode that is given. It runs each of the turns once.
@@ -65,10 +66,10 @@ mod past;
 mod run;
 
 pub use ask::{
-    Bytes, Cause, CompletionsFound, CountedWords, DiskCompletion, FoundWords, Items, LastWrite,
-    MOST_CONDITIONS, Numbers, Quantity, Question, ReadsFound, Relation, Sought, TextKind, Told,
-    Trail, TrailEntry, TurnCondition, TurnConditions, Unreadable, Value, VirtualWords, WantedWords,
-    WordPattern, WordRead, Words, Written,
+    AccessesFound, Bytes, Cause, CompletionsFound, CountedWords, DiskCompletion, DiskTurn,
+    FoundWords, Items, LastWrite, MOST_CONDITIONS, Numbers, Quantity, Question, ReadsFound,
+    Relation, Sought, TextKind, Told, Trail, TrailEntry, TurnCondition, TurnConditions, TurnDetail,
+    TurnHead, Unreadable, Value, VirtualWords, WantedWords, WordPattern, WordRead, Words, Written,
 };
 pub use engine::Engine;
 pub use laws::{

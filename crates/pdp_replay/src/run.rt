@@ -10,6 +10,6 @@ mod turns;
 
 pub(crate) use branch::{Branch, Likeness};
 pub(crate) use kept_run::KeptRun;
-pub(crate) use logged_branch::LoggedBranch;
+pub(crate) use logged_branch::{LoggedBranch, PassedTurn};
 pub(crate) use pauses::{next_pause, next_taken};
 pub(crate) use turns::{quiet_until, run_part};

@@ -1,7 +1,8 @@
 -- A search that the engine made is answered as its definition says.
-use Rattle.std.proofs.Common.{◌≡◌, ℕ, List, Option, cond, nat_le, nat_lt, Result, Ok, Err, Bool, true, false, refl, ap, ◌∙◌}
+use Rattle.std.proofs.Common.{◌≡◌, ℕ, ◌-◌, List, Option, cond, nat_le, nat_lt, Result, Ok, Err, Bool, true, false, refl, ap, ◌∙◌}
 use Rattle.pdp_script.specs.Refusal.{for_memory, past_left, question_answer, result_map}
 use Rattle.pdp_script.specs.declared.faults.Fault.{Fault}
+use Rattle.pdp_replay.specs.Ask.Accesses.{accesses_end, details_in_turns}
 use Rattle.pdp_replay.specs.Ask.Answer.{answer, answer_to, question_checked}
 use Rattle.pdp_replay.specs.Ask.DiskCompletions.{completions_end}
 use Rattle.pdp_replay.specs.Ask.Reads.{reads_end}
@@ -9,6 +10,7 @@ use Rattle.pdp_replay.specs.Ask.Writes.{turn_listed}
 use Rattle.pdp_replay.specs.Ask.Fadings.{fading, joined_by}
 use Rattle.pdp_replay.specs.Past.{Past}
 use Rattle.pdp_replay.specs.Past.Edit.{past_edit}
+use Rattle.pdp_replay.specs.declared.ask.accesses.TurnDetail.{TurnDetail}
 use Rattle.pdp_replay.specs.declared.ask.disk_completions.DiskCompletion.{DiskCompletion}
 use Rattle.pdp_replay.specs.declared.ask.last_write.LastWrite.{LastWrite}
 use Rattle.pdp_replay.specs.declared.ask.question.Question.{Question}
@@ -19,10 +21,10 @@ use Rattle.pdp_replay.specs.declared.past.past_edit.PastEdit.{PastEdit}
 use Rattle.pdp_unibus.specs.LastTurn.{last_turn}
 use Rattle.pdp_script.specs.declared.faults.Fault.TheVariants.{NoMemory, TurnTooLarge}
 use Rattle.pdp_session.specs.declared.search.Finding.{Finding}
-use Rattle.pdp_session.specs.declared.search.Finding.TheVariants.{Answer as AnswerIs, Fades, Reads, Transfers, Writes}
+use Rattle.pdp_session.specs.declared.search.Finding.TheVariants.{Accesses, Answer as AnswerIs, Fades, Reads, Transfers, Writes}
 use Rattle.pdp_session.specs.declared.search.Search.{Search}
 use Rattle.pdp_session.specs.declared.search.Search.TheVariants as search
-use Rattle.pdp_session.specs.Search.{finding, reads_found, search_permitted, search_result, transfers_found, writes_found}
+use Rattle.pdp_session.specs.Search.{accesses_found, finding, reads_found, search_permitted, search_result, transfers_found, writes_found}
 
 answered : {Y : Type 0} (permitted : Result (Unit {0}) Fault) (refused : Bool) (due : Y) → Ok tt ≡ question_answer permitted refused
     → Ok due ≡ question_answer (result_map (λ _. due) permitted) refused
@@ -61,6 +63,12 @@ first_writes writes listed all reached to same is ends = rw (ends, same, is) ref
 pub first_reads : (reads listed all : List WordRead) (reached to : ℕ) → reads ≡ listed → listed ≡ all → reached ≡ reads_end listed to
     → Reads reads (nat_lt reached to) ≡ reads_found all to
 first_reads reads listed all reached to same is ends = rw (ends, same, is) refl
+
+-- and so are the details of turns
+pub first_accesses : (past : Past) (details listed : List TurnDetail) (first reached to : ℕ) → details ≡ listed
+    → listed ≡ details_in_turns past first (reached - first) → reached ≡ accesses_end past first to
+    → Accesses details (nat_lt reached to) ≡ accesses_found past first to
+first_accesses past details listed first reached to same is ends = rw (same, is, ends) refl
 
 pub first_transfers : (completions listed all : List DiskCompletion) (reached to : ℕ) → completions ≡ listed → listed ≡ all
     → reached ≡ completions_end listed to → Transfers completions (nat_lt reached to) ≡ transfers_found all to

@@ -5,7 +5,9 @@ use Rattle.std.proofs.lemmas.Grind.{flat_map-append}
 use Rattle.std.proofs.lemmas.List.{take_all}
 use Rattle.pdp_replay.specs.declared.ask.last_write.LastWrite.{LastWrite}
 use Rattle.pdp_session.specs.Reply.{count_line, line_at, list_text}
+use Rattle.pdp_replay.specs.declared.ask.accesses.TurnDetail.{TurnDetail}
 use Rattle.pdp_replay.specs.declared.ask.reads.WordRead.{WordRead}
+use Rattle.pdp_session.specs.Accesses.{accesses_head, accesses_text, detail_line}
 use Rattle.pdp_session.specs.Search.{read_line, reads_head, reads_text, write_line, writes_head, writes_text}
 use Rattle.pdp_session.specs.Streams.{DrainData}
 use Rattle.pdp_session.specs.Inside.Sends.{Sent, Cut}
@@ -138,3 +140,27 @@ pub reads_are_whole : (reads : List WordRead) (more : Bool) (i : ℕ) (output ou
 unfolding reads_text
 reads_are_whole reads more i output output_after all lines =
     lines_are_whole (reads_head (length reads) more) read_line reads i output output_after all lines
+
+-- ---- details of turns, of which more may be left
+
+pub accesses_cut_at_head : (details : List TurnDetail) (more : Bool) (output output_after : DrainData)
+    → Cut (accesses_head (length details) more) output output_after → Cut (accesses_text details more) output output_after
+unfolding accesses_text
+accesses_cut_at_head details more output output_after cut =
+    lines_cut_at_head (accesses_head (length details) more) detail_line details output output_after cut
+
+-- the head and i details were written
+abbrev pub AreDetailsTo : List TurnDetail → Bool → ℕ → DrainData → DrainData → Type 0
+AreDetailsTo details more i output output_after = AreLinesTo (accesses_head (length details) more) detail_line details i output output_after
+
+pub accesses_cut_at_detail : (details : List TurnDetail) (more : Bool) (i : ℕ) (output between output_after : DrainData)
+    → AreDetailsTo details more i output between → Cut (line_at detail_line details i) between output_after → Cut (accesses_text details more) output output_after
+unfolding accesses_text
+accesses_cut_at_detail details more i output between output_after before cut =
+    lines_cut_at_item (accesses_head (length details) more) detail_line details i output between output_after before cut
+
+pub accesses_are_whole : (details : List TurnDetail) (more : Bool) (i : ℕ) (output output_after : DrainData)
+    → length details ≤ i → AreDetailsTo details more i output output_after → Sent (accesses_text details more) output output_after
+unfolding accesses_text
+accesses_are_whole details more i output output_after all lines =
+    lines_are_whole (accesses_head (length details) more) detail_line details i output output_after all lines

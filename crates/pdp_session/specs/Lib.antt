@@ -7,6 +7,7 @@ pub mod Command
 pub mod Reply
 pub mod PastShown
 pub mod Transfers
+pub mod Accesses
 -- The languages: the session language, and the search language, which has searches beside it.
 pub mod Search
 pub mod Language

@@ -5,6 +5,7 @@ use Rattle.std.specs.List.{flat_map}
 use Rattle.pdp_unibus.specs.LastTurn.{last_turn}
 use Rattle.pdp_script.specs.Refusal.{past_left, result_map}
 use Rattle.pdp_script.specs.declared.faults.Fault.{Fault}
+use Rattle.pdp_replay.specs.Ask.Accesses.{accesses_end, details_in_turns}
 use Rattle.pdp_replay.specs.Ask.Answer.{answer, question_checked}
 use Rattle.pdp_replay.specs.Ask.Backwards.{last_of_turns}
 use Rattle.pdp_replay.specs.Ask.Counts.{counts_checked, counts_in_turns}
@@ -21,6 +22,7 @@ use Rattle.pdp_replay.specs.Past.Edit.{past_edit}
 use Rattle.pdp_replay.specs.Past.Setup.{setup_numbers}
 use Rattle.pdp_replay.specs.declared.ask.disk_completions.DiskCompletion.{DiskCompletion}
 use Rattle.pdp_replay.specs.declared.ask.last_write.LastWrite.{LastWrite}
+use Rattle.pdp_replay.specs.declared.ask.question.Question.TheVariants.{Trail}
 use Rattle.pdp_replay.specs.declared.ask.reads.WordRead.{WordRead}
 use Rattle.pdp_replay.specs.declared.ask.text_part.TextKind.{TextKind}
 use Rattle.pdp_replay.specs.declared.ask.text_part.TextKind.TheVariants.{Printed, Punched}
@@ -29,6 +31,7 @@ use Rattle.pdp_session.specs.declared.search.Finding.{Finding}
 use Rattle.pdp_session.specs.declared.search.Finding.TheVariants as found
 use Rattle.pdp_session.specs.declared.search.Search.{Search}
 use Rattle.pdp_session.specs.declared.search.Search.TheVariants as search
+use Rattle.pdp_session.specs.Accesses.{accesses_text}
 use Rattle.pdp_session.specs.PastShown.{events_text, setup_line}
 use Rattle.pdp_session.specs.Transfers.{transfers_text}
 use Rattle.pdp_session.specs.Reply.{agent_name, bytes_line, listed_head, refusal_text, value_text}
@@ -47,6 +50,13 @@ writes_found writes to = found.Writes writes (nat_lt (turn_listed writes to) to)
 abbrev pub reads_found : List WordRead → ℕ → Finding
 reads_found reads to = found.Reads reads (nat_lt (reads_end reads to) to)
 
+-- what the turns from one on and before another have in them, while their cycles are at most 256,
+-- and whether turns were left
+abbrev pub accesses_found : Past → ℕ → ℕ → Finding
+accesses_found past first to = found.Accesses
+    (details_in_turns past first (accesses_end past first to - first))
+    (nat_lt (accesses_end past first to) to)
+
 -- the first completions of the disk, and whether turns were left that may have more
 abbrev pub transfers_found : List DiskCompletion → ℕ → Finding
 transfers_found completions to =
@@ -62,6 +72,7 @@ finding (search.Writes from to address) past = writes_found (take most_listed
     (writes_in_turns past (address / 2) from (to - from))) to
 finding (search.Reads from to address) past = reads_found (take most_listed
     (reads_in_turns past (address / 2) from (to - from))) to
+finding (search.Accesses turn count) past = accesses_found past (turn - count) turn
 finding (search.Transfers from to) past = transfers_found (take most_listed
     (completions_in_turns past from (to - from))) to
 finding (search.Change from to drive number) past = found.Change (first_turn_of
@@ -84,6 +95,7 @@ search_permitted (search.First from to sought) past = seek_checked sought from t
 search_permitted (search.Latest from to sought) past = seek_checked sought from to past.setup
 search_permitted (search.Writes from to address) past = writes_checked address from to past.setup
 search_permitted (search.Reads from to address) past = writes_checked address from to past.setup
+search_permitted (search.Accesses turn count) past = question_checked (Trail turn count) past
 search_permitted (search.Transfers from to) past = search_checked from to
 search_permitted (search.Change from to drive number) past = change_checked drive number from to
     past.setup
@@ -150,6 +162,7 @@ finding_text (found.First turn) = turn_line (codes "first") turn
 finding_text (found.Latest turn) = turn_line (codes "latest") turn
 finding_text (found.Writes writes more) = writes_text writes more
 finding_text (found.Reads reads more) = reads_text reads more
+finding_text (found.Accesses details more) = accesses_text details more
 finding_text (found.Transfers completions more) = transfers_text completions more
 finding_text (found.Change turn) = turn_line (codes "change") turn
 finding_text (found.TextFrom kind bytes) = bytes_line (text_name kind) bytes

@@ -43,16 +43,16 @@ asked_text rk =
     ++ octal_digits 7 (first_word_of_sector rk) ++ codes " " ++ octal_digits 6 rk.address
     ++ codes " "
 
--- what was done: how many words, and RKER
-unfoldable pub done_text : DiskCompletion → List ℕ
-done_text completion =
-    decimal (words_counted completion.before completion.after)
-    ++ word_text (error_word completion.after) ++ codes "\n"
+-- what was done, by the controller before and after: how many words, and RKER
+unfoldable pub done_text : Rk → Rk → List ℕ
+done_text before after =
+    decimal (words_counted before after) ++ word_text (error_word after) ++ codes "\n"
 
 -- a completion
 abbrev pub transfer_line : DiskCompletion → List ℕ
 transfer_line completion =
-    turns_text completion ++ asked_text completion.before ++ done_text completion
+    turns_text completion ++ asked_text completion.before
+    ++ done_text completion.before completion.after
 
 -- how many completions are listed, and whether turns were left that may have more
 abbrev pub transfers_head : ℕ → Bool → List ℕ

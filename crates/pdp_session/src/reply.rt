@@ -4,6 +4,7 @@ ghost use Rattle.pdp_session.specs.Reply.{line_at, words_line};
 ghost use Rattle.pdp_session.specs.Inside.Sends.{Sends};
 ghost use Rattle.pdp_session.specs.Version.{version_of};
 
+mod accesses;
 mod bytes;
 mod counts;
 mod findings;

@@ -10,7 +10,7 @@ use crate::version::Version;
 pub use found_list::FoundList;
 use pdp_replay::{
     Bytes, CountedWords, DiskCompletion, Engine, Entry, Fault, LastWrite, PastEdit, Question,
-    SetupNumbers, Sought, TextKind, Value, WordRead,
+    SetupNumbers, Sought, TextKind, TurnDetail, Value, WordRead,
 };
 use std::alloc::Global;
 
@@ -41,6 +41,11 @@ pub enum Search {
         from: u32,
         to: u32,
         address: u32,
+    },
+    // What the last turns before a turn have in them.
+    Accesses {
+        turn: u32,
+        count: u32,
     },
     // The functions of the disk that were completed.
     Transfers {
@@ -92,6 +97,8 @@ pub enum Finding {
     Writes(FoundList<LastWrite>, bool),
     // The first reads, and whether turns were left that may have more.
     Reads(FoundList<WordRead>, bool),
+    // What the first of the turns have in them, and whether turns were left.
+    Accesses(FoundList<TurnDetail>, bool),
     // The first completions of the disk, and whether turns were left that may have more.
     Transfers(FoundList<DiskCompletion>, bool),
     Change(Option<u32>),
@@ -127,6 +134,11 @@ impl Search {
                 let found = engine.reads(alloc, address, from, to)?;
                 let more = found.value.reached < to;
                 Ok(Finding::Reads(FoundList::new(found.value.reads), more))
+            }
+            Search::Accesses { turn, count } => {
+                let found = engine.accesses(alloc, turn, count)?;
+                let more = found.value.reached < turn;
+                Ok(Finding::Accesses(FoundList::new(found.value.details), more))
             }
             Search::Transfers { from, to } => {
                 let found = engine.disk_completions(alloc, from, to)?;

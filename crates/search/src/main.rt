@@ -45,6 +45,11 @@ kernel or user. X is R0 to R5, KSP, USP, SP, PC, PS or core A:
   reads N M A                 the reads of the core word at A: turn, who read and
                               the word, of each turn the first; after 256 it
                               ends, with 'or more' if turns are left
+  accesses N C                what the C turns before turn N have in them: mode,
+                              PC and act of each, its events, what comes out,
+                              the function of the disk that is done, and each
+                              cycle on the bus; after whole turns with 256
+                              cycles it ends, with 'or more' if turns are left
   transfers N M               the functions of the disk that are done: turn,
                               turn begun, function, drive, word, core address,
                               how many words, and RKER; after 256 it ends, with

@@ -16,8 +16,8 @@ from .language import is_edit
 from .options import faults_of, options_of_words
 from .past import Event, Setup, without_zeros
 from .program import Program, TimedOut
-from .replies import SPACES, Devices, LastWrite, Mode, Pages, Registers, Turn
-from .replies import listed, text_of, turns_of, words_of
+from .replies import SPACES, Devices, LastWrite, Mode, Pages, Registers, Turn, TurnAccesses
+from .replies import accesses_of, listed, text_of, turns_of, words_of
 
 LAST_TURN = 1_000_000_000
 MOST_TURNS_OF_A_TRAIL = 64
@@ -379,6 +379,12 @@ class Machine:
         """A line for each of the first functions of the disk that were done in these turns, and the
         turns that are left."""
         return self.listed(f"transfers {turns.start} {turns.stop}", turns)
+
+    def accesses(self, turns: range) -> tuple[list[TurnAccesses], range]:
+        """What the first of these turns, at most 64, have in them, and the turns that are left."""
+        found, is_all = accesses_of(self.read(f"accesses {turns.stop} {len(turns)}"))
+        self.asked.reach(turns.stop)
+        return found, range(turns.stop if is_all else found[-1].turn.turn + 1, turns.stop)
 
     def listed(self, line: str, turns: range) -> tuple[list[str], range]:
         """The lines that a search of these turns lists, which begin with a turn each, and the turns

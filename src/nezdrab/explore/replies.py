@@ -254,6 +254,86 @@ class Turn:
         return f"interrupt {vector:03o} {INTERRUPTS.get(vector, '')}".rstrip()
 
 
+class CycleKind(Enum):
+    """What the processor asks for in a cycle on the bus: BYTE is the write of a byte."""
+
+    READ = "read"
+    WRITE = "write"
+    BYTE = "byte"
+
+
+CYCLES, TIMEOUT = {it.value for it in CycleKind}, "timeout"
+
+
+@dataclass(frozen=True)
+class BusCycle:
+    """A cycle of the processor on the bus: its `kind`, the physical `address` in bytes, whether it
+    `is_core` that has it, and the word or the byte that was read or written: the `value`, which is
+    None if nothing has the address."""
+
+    kind: CycleKind
+    address: int
+    is_core: bool
+    value: Optional[int]
+
+    @classmethod
+    def of(cls, line: str) -> "BusCycle":
+        kind, *place, address, value = line.split()
+        word = None if value == TIMEOUT else int(value, 8)
+        return cls(CycleKind(kind), int(address, 8), bool(place), word)
+
+    def line(self) -> str:
+        """The line of the reply."""
+        value = TIMEOUT if self.value is None else f"{self.value:06o}"
+        return f"{self.kind.value} {'core ' * self.is_core}{self.address:06o} {value}"
+
+
+@dataclass(frozen=True)
+class TurnAccesses:
+    """What a turn has in it, by the reply of `accesses`: the `turn` as a trail has it, the `mode`
+    before it, its `events` as lines of the script, the bytes that are `printed` and `punched`, the
+    function of the disk that is `done`, as `transfers` shows it from its name on, and the
+    `cycles` of the processor on the bus, in their order."""
+
+    turn: Turn
+    mode: Mode
+    events: list[str]
+    printed: bytes
+    punched: bytes
+    done: Optional[str]
+    cycles: list[BusCycle]
+
+    @classmethod
+    def of(cls, lines: list[str]) -> "TurnAccesses":
+        head, *others = lines
+        number, mode, rest = head.split(" ", 2)
+        rows = [it.split(" ", 1) for it in others]
+
+        def named(name: str) -> list[str]:
+            return [row for kind, row in rows if kind == name]
+
+        return cls(
+            Turn.of(f"{number} {rest}"),
+            Mode(mode),
+            named("event"),
+            bytes(int(it, 8) for it in named("printed")),
+            bytes(int(it, 8) for it in named("punched")),
+            next(iter(named("disk")), None),
+            [BusCycle.of(it) for it, (kind, _) in zip(others, rows) if kind in CYCLES],
+        )
+
+
+def accesses_of(reply: str) -> tuple[list[TurnAccesses], bool]:
+    """The turns of a reply of `accesses`, and whether they are all that were asked about."""
+    lines, is_all = listed(reply)
+    parts: list[list[str]] = []
+    for line in lines:
+        if line[0].isdigit():
+            parts.append([])
+        parts[-1].append(line)
+    return [TurnAccesses.of(it) for it in parts], is_all
+
+
 def listed(reply: str) -> tuple[list[str], bool]:
     """The lines of a reply that lists what was found, without its first line, and whether they are
     all: after 256 it says `or more`."""

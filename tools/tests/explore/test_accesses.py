@@ -1,5 +1,5 @@
-"""The cycles on the bus that `accesses` shows: the writes against the stamps of core in stored
-sessions, and what the disk does and what can't be reached by programs of a few words."""
+"""The cycles on the bus: the writes of explore's rules against the stamps of core in stored
+sessions, and what `accesses` shows of programs of a few words."""
 from pathlib import Path
 
 import sessions
@@ -79,15 +79,14 @@ class Shown(OnMachine):
         """Those of a turn of the program with these words from 1000 on."""
         lines = [f"core {0o1000 + 2 * at:o} {it}" for at, it in enumerate(words.split())]
         explorer = self.explorer("", [*lines, *edits])
-        _, _, *shown, last = COMMANDS["accesses"].lines(explorer, f"{turn + 1}")
-        self.assertEqual(last, "cycles by explore's own rules, which aren't proved")
+        _, _, *shown = COMMANDS["accesses"].lines(explorer, f"{turn + 1}")
         return [it.strip() for it in shown]
 
     def test_bytes_and_words_that_are_read_and_then_written(self) -> None:
         self.assertEqual(
             self.cycles("105237 2001", 0, "core 2000 401"),  # INCB @#2001
             ["read core 001000 105237", "read core 001002 002001"]
-            + ["read byte core 002001 001", "write byte core 002001 002"],
+            + ["read core 002000 000401", "byte core 002001 000002"],
         )
         self.assertEqual(
             self.cycles("12700 2000 62730 5", 1, "core 2000 3000", "core 3000 7"),  # ADD #5,@(R0)+
@@ -98,8 +97,8 @@ class Shown(OnMachine):
     def test_registers_timeouts_and_the_vectors_of_traps(self) -> None:
         self.assertEqual(
             self.cycles("12706 700 13737 177562 170000", 1, "core 4 2000", "core 6 340"),
-            ["read core 001004 013737", "read core 001006 177562", "read 777562 TKB"]
-            + ["read core 001010 170000", "write timeout 770000"]
+            ["read core 001004 013737", "read core 001006 177562", "read 777562 000000 TKB"]
+            + ["read core 001010 170000", "write 770000 timeout"]
             + ["read core 000004 002000", "read core 000006 000340"]
             + ["write core 000676 000000", "write core 000674 001012"],
         )
@@ -117,6 +116,23 @@ class Shown(OnMachine):
             ["disk: read of 2 words from word 0000000 of drive 0 to core 002000"]
             + ["read core 001044 013700", "read core 001046 002000", "read core 002000 000123"],
         )
+
+    def test_events_and_what_comes_out(self) -> None:
+        words = "112737 101 177566 777"  # MOVB #101,@#177566; BR to itself
+        edits = ["at 1 switches 5", "at 1 key 102", "delay punch 3"]
+        self.assertEqual(
+            self.cycles(words, 1, *edits),
+            ["event switches 000005", "event key 102", "printed 101", "read core 001006 000777"],
+        )
+
+    def test_more_turns_than_have_256_cycles(self) -> None:
+        words = "63737 2000 2002 63737 2000 2002 771"  # ADD @#2000,@#2002 twice, and BR back
+        lines = [f"core {0o1000 + 2 * at:o} {it}" for at, it in enumerate(words.split())]
+        explorer = self.explorer("", lines)
+        _, *shown = COMMANDS["accesses"].lines(explorer, "64 64")
+        turns = [it for it in shown if not it.startswith(" " * 20)]
+        self.assertEqual([int(it.split()[0]) for it in turns], list(range(64)))
+        self.assertEqual(len(shown) - len(turns), 21 * 13 + 6)
 
     def test_what_is_refused(self) -> None:
         explorer = self.explorer()

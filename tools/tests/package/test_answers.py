@@ -2,7 +2,7 @@
 from pathlib import Path
 from typing import Callable, Iterable, NamedTuple, Optional
 
-from nezdrab import Devices, Machine, Registers, Turn, Unreadable, questions
+from nezdrab import CycleKind, Devices, Machine, Refused, Registers, Turn, Unreadable, questions
 from nezdrab.questions import Question
 
 from .common import EXAMPLES, Case, replies
@@ -225,6 +225,15 @@ class Listed(Case):
         self.assertEqual({it.reader for it in reads}, {"cpu"})
         self.assertEqual([it.turn for it in reads], list(range(2, 1001, 2)))
         self.assertEqual([it.word for it in reads], list(range(1, 501)))
+        turns = list(machine.accesses(1001, 1001))
+        self.assertEqual([it.turn.turn for it in turns], list(range(1001)))
+        self.assertEqual([len(it.cycles) for it in turns], [4, 1] * 500 + [4])
+        write = turns[6].cycles[-1]
+        self.assertEqual((write.kind, write.address, write.value), (CycleKind.WRITE, 0o2000, 4))
+        self.assertEqual([it.turn.turn for it in machine.accesses(3, 2)], [1, 2])
+        for count in (0, 4, -1):
+            with self.assertRaises(Refused):
+                list(machine.accesses(3, count))
         machine.core[0o4000] = [5] * 600
         found = list(machine.find(0, 0o4000, 0o6000, 5))
         self.assertEqual(found, list(range(0o4000, 0o6002, 2)))

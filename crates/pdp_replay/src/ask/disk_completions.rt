@@ -55,12 +55,16 @@ pub struct CompletionsFound {
     pub reached: u32,
 }
 
-/// The disk in one turn: its controller before the turn, and when the turn has begun.
+/// The disk in one turn [P].
 #[derive(Clone, Copy)]
-pub(crate) struct DiskTurn {
-    pub(crate) turn: u32,
-    pub(crate) before: Rk,
-    pub(crate) after: Rk,
+pub struct DiskTurn {
+    /// The turn, counted from 0 at power-up.
+    pub turn: u32,
+    /// The disk's controller before the turn, which tells what was asked for (PDP-11 Peripherals
+    /// Handbook, RK11).
+    pub before: Rk,
+    /// The controller when the turn has begun, before its act.
+    pub after: Rk,
 }
 
 impl DiskTurn {
@@ -245,13 +249,13 @@ fn pass_turn(alloc: Global, run: &mut KeptRun, script: &Script) -> Result<DiskTu
     run.machine.ready()?;
     let turn = run.machine.turns();
     let before = run.machine.disk();
-    let after = run
+    let told = run
         .machine
         .turn_and_tell_disk(&mut run.meter, script.at(turn));
     run.settle(alloc)?;
     Ok(DiskTurn {
         turn,
         before,
-        after,
+        after: told.disk,
     })
 }

@@ -267,7 +267,7 @@ impl LoggedBranch {
             meter.old meter.new }
     {
         let word = self.machine.word(number);
-        let disk = self.pass(meter, script)?;
+        let disk = self.pass(meter, script)?.disk;
         if disk.is_read_by_disk(number) {
             return Ok(Some(WordRead {
                 turn: disk.turn,

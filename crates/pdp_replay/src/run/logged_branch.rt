@@ -3,7 +3,8 @@
 
 ghost use Rattle.std.specs.Prelude.{◌≡◌, ◌+◌, ◌-◌, ◌<◌, ◌≤◌, min, IfOk, IsErr, OnOk};
 ghost use Rattle.pdp_store.specs.CycleLogs.{without_cycles};
-ghost use Rattle.pdp_cpu.specs.Turns.MachineState.{after_turn, state_with_log};
+ghost use Rattle.pdp_cpu.specs.Turns.MachineState.{after_turn, state_with_log, world_with_log};
+ghost use Rattle.pdp_cpu.specs.Turns.Turn.{turn_act};
 ghost use Rattle.pdp_script.specs.Entries.{events_at};
 ghost use Rattle.pdp_replay.specs.Past.{Past};
 ghost use Rattle.pdp_replay.specs.Run.Branches.{IsKeptOfSize, IsLookedAt, IsRunOfSize};
@@ -14,7 +15,7 @@ ghost use Rattle.pdp_replay.specs.Ask.DiskCompletions.{disk_turn};
 use crate::ask::DiskTurn;
 use crate::past::BaseSetup;
 use crate::run::KeptRun;
-use pdp_cpu::{Machine, Meter};
+use pdp_cpu::{Act, Machine, Meter};
 use pdp_script::Script;
 use pdp_store::{CycleLog, Logging, Paged, PagedDrive};
 use pdp_unibus::LAST_TURN;
@@ -25,6 +26,15 @@ use std::alloc::Global;
 #[derive(Drop)]
 pub(crate) struct LoggedBranch {
     pub(crate) machine: Machine<Logging<Paged>, PagedDrive>,
+}
+
+/// A turn that a branch ran.
+#[derive(Clone, Copy)]
+pub(crate) struct PassedTurn {
+    /// The act of the turn.
+    pub(crate) act: Act,
+    /// The disk in it.
+    pub(crate) disk: DiskTurn,
 }
 
 impl KeptRun {
@@ -58,12 +68,20 @@ impl KeptRun {
 
 impl LoggedBranch {
     /// Runs one turn with the events of the script. The log then has its cycles alone. Tells the
-    /// disk in it.
+    /// act of the turn, and the disk in it.
     ///
     /// Err if a turn's room was refused.
-    pub(crate) fn pass(&mut self, meter: &mut Meter, script: &Script) -> Result<DiskTurn, NoMemory>
+    pub(crate) fn pass(
+        &mut self,
+        meter: &mut Meter,
+        script: &Script,
+    ) -> Result<PassedTurn, NoMemory>
         requires limit { self.old.machine.state.turn < LAST_TURN }
-        ensures disk { IfOk result (λ disk. disk ≡ disk_turn
+        ensures act { IfOk result (λ passed. passed.act ≡ turn_act self.old.machine.state.turn
+            (events_at script.now.entries self.old.machine.state.turn)
+            (world_with_log self.old.machine.state.world
+            (without_cycles self.old.machine.state.world.bus.log))) }
+        ensures disk { IfOk result (λ passed. passed.disk ≡ disk_turn
             (events_at script.now.entries self.old.machine.state.turn)
             (state_with_log (without_cycles self.old.machine.state.world.bus.log)
             self.old.machine.state)) }
@@ -81,11 +99,14 @@ impl LoggedBranch {
         self.machine.ready()?;
         let turn = self.machine.turns();
         let before = self.machine.disk();
-        let after = self.machine.turn_and_tell_disk(meter, script.at(turn));
-        Ok(DiskTurn {
-            turn,
-            before,
-            after,
+        let told = self.machine.turn_and_tell_disk(meter, script.at(turn));
+        Ok(PassedTurn {
+            act: told.act,
+            disk: DiskTurn {
+                turn,
+                before,
+                after: told.disk,
+            },
         })
     }
 }

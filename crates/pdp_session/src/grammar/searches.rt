@@ -4,7 +4,8 @@
 
 ghost use Rattle.std.specs.Prelude.{◌≡◌, Err};
 ghost use Rattle.pdp_session.specs.Grammar.{line_means};
-ghost use Rattle.pdp_session.specs.Grammar.Searches.{alone, change_form, fades_form, first_form};
+ghost use Rattle.pdp_session.specs.Grammar.Searches.{accesses_form, alone, change_form};
+ghost use Rattle.pdp_session.specs.Grammar.Searches.{fades_form, first_form};
 ghost use Rattle.pdp_session.specs.Grammar.Searches.{latest_form, part_named, plainly_sought, reads_form};
 ghost use Rattle.pdp_session.specs.Grammar.Searches.{search_named, search_with};
 ghost use Rattle.pdp_session.specs.Grammar.Searches.{sought_in_any_mode, sought_in_mode};
@@ -61,6 +62,8 @@ fn read_named(version: Version, name: &[u8], arguments: &[u8]) -> Option<Search>
         read_writes(arguments)
     } else if name == b"reads".as_slice() {
         read_reads(arguments)
+    } else if name == b"accesses".as_slice() {
+        read_accesses(arguments)
     } else if name == b"transfers".as_slice() {
         read_transfers(arguments)
     } else if name == b"change".as_slice() {
@@ -197,6 +200,16 @@ fn read_reads(arguments: &[u8]) -> Option<Search>
     let (from, to, what) = turns_first(arguments)?;
     let address = read_octal(one_word(what)?)?;
     Some(Search::Reads { from, to, address })
+}
+
+// `accesses N C`
+fn read_accesses(arguments: &[u8]) -> Option<Search>
+    ensures { result ≡ accesses_form (words_of_line arguments.now) }
+{
+    let (turn, turns) = two_words(arguments)?;
+    let turn = read_turn(turn)?;
+    let count = read_count(turns)?;
+    Some(Search::Accesses { turn, count })
 }
 
 // `transfers N M`

@@ -4,6 +4,7 @@ ghost use Rattle.pdp_session.specs.Search.{finding_text, found_text, text_name, 
 ghost use Rattle.pdp_session.specs.Search.{word_use_line, write_line, writes_head, writes_text};
 ghost use Rattle.pdp_session.specs.Inside.Sends.{Sends};
 
+use super::accesses::send_accesses;
 use super::bytes::send_bytes;
 use super::counts::send_counts;
 use super::history::agent_name;
@@ -37,6 +38,7 @@ fn send_finding<W: Drain>(finding: &Finding, writer: &mut W) -> Result<(), Faile
         Finding::Latest(turn) => send(writer, turn_text("latest", *turn).as_slice()),
         Finding::Writes(writes, more) => send_writes(writes, *more, writer),
         Finding::Reads(reads, more) => send_reads(reads, *more, writer),
+        Finding::Accesses(details, more) => send_accesses(details, *more, writer),
         Finding::Transfers(completions, more) => send_transfers(completions, *more, writer),
         Finding::Change(turn) => send(writer, turn_text("change", *turn).as_slice()),
         Finding::TextFrom(kind, bytes) => send_bytes(text_name(*kind), bytes.items(), writer),

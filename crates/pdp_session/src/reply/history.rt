@@ -77,7 +77,7 @@ fn entry_text(entry: TrailEntry) -> Text
 }
 
 // An act by its name, an interrupt with its vector.
-fn add_act(text: &mut Text, act: Act)
+pub fn add_act(text: &mut Text, act: Act)
     requires { length text.old.items + 7 ≤ LONGEST_TEXT }
     ensures act_text { text.new.items ≡ text.old.items ++ act_text act }
     ensures length { length text.new.items ≤ length text.old.items + 7 }

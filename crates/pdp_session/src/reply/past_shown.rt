@@ -55,7 +55,7 @@ fn entry_text(entry: Entry) -> Text
 }
 
 // Adds what happens, as in the line that makes the event.
-fn add_event(text: &mut Text, event: Event)
+pub fn add_event(text: &mut Text, event: Event)
     requires { length text.old.items + 15 ≤ LONGEST_TEXT }
     ensures event_text { text.new.items ≡ text.old.items ++ event_text event }
     ensures length { length text.new.items ≤ length text.old.items + 15 }

@@ -1,6 +1,6 @@
 ghost use Rattle.std.specs.Prelude.{◌≡◌, ◌+◌, ◌≤◌, ◌++◌, length};
 ghost use Rattle.pdp_session.specs.Reply.{line_at};
-ghost use Rattle.pdp_session.specs.Transfers.{asked_text, begun_text, function_name};
+ghost use Rattle.pdp_session.specs.Transfers.{asked_text, begun_text, done_text, function_name};
 ghost use Rattle.pdp_session.specs.Transfers.{transfer_line, transfers_head, transfers_text};
 ghost use Rattle.pdp_session.specs.Transfers.{turns_text};
 ghost use Rattle.pdp_session.specs.Inside.Sends.{Sends};
@@ -55,18 +55,13 @@ fn send_transfer<W: Drain>(
 }
 
 // A completion: its turns, what was asked for, and what was done.
-#[tactic(auto, unfolding(crate::specs::Transfers::done_text))]
 fn transfer_text(completion: DiskCompletion) -> Text
     ensures { result.items ≡ transfer_line completion }
 {
     let mut text = Text::new();
-    let mut buffer = Buffer::new();
     add_turns(&mut text, completion);
     add_asked(&mut text, completion.before);
-    let count = completion.after.words_done(&completion.before);
-    add(&mut text, buffer.format(count).as_bytes());
-    add_word(&mut text, completion.after.error_word());
-    add(&mut text, b"\n");
+    add_done(&mut text, completion.before, completion.after);
     text
 }
 
@@ -101,7 +96,7 @@ fn add_begun(text: &mut Text, begun: Option<u32>)
 
 // Adds what was asked for.
 #[tactic(auto, unfolding(crate::specs::Transfers::asked_text))]
-fn add_asked(text: &mut Text, asked: Rk)
+pub fn add_asked(text: &mut Text, asked: Rk)
     requires { length text.old.items + 50 ≤ LONGEST_TEXT }
     ensures text { text.new.items ≡ text.old.items ++ asked_text asked }
     ensures length { length text.new.items ≤ length text.old.items + 50 }
@@ -115,6 +110,20 @@ fn add_asked(text: &mut Text, asked: Rk)
     add(text, b" ");
     add(text, &write_octal6(asked.address));
     add(text, b" ");
+}
+
+// Adds what was done: how many words, and RKER, and ends the line.
+#[tactic(auto, unfolding(crate::specs::Transfers::done_text))]
+pub fn add_done(text: &mut Text, before: Rk, after: Rk)
+    requires { length text.old.items + 18 ≤ LONGEST_TEXT }
+    ensures text { text.new.items ≡ text.old.items ++ done_text before after }
+    ensures length { length text.new.items ≤ length text.old.items + 18 }
+{
+    let mut buffer = Buffer::new();
+    let count = after.words_done(&before);
+    add(text, buffer.format(count).as_bytes());
+    add_word(text, after.error_word());
+    add(text, b"\n");
 }
 
 // The name of a function.

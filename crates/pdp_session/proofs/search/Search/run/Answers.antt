@@ -1,8 +1,8 @@
-use Rattle.std.proofs.Common.{◌∙◌, ap, nat_lt, refl}
+use Rattle.std.proofs.Common.{◌-◌, ◌∙◌, ap, nat_lt, refl}
 use Rattle.std.proofs.lemmas.Result.{err_from_is_err_and}
 use Rattle.pdp_session.specs.declared.search.Finding.TheVariants as found
 use Rattle.pdp_session.specs.declared.search.Search.TheVariants as search
-use Rattle.pdp_session.proofs.Findings.{fading_answered, fading_refused, first_reads, first_transfers, first_writes}
+use Rattle.pdp_session.proofs.Findings.{fading_answered, fading_refused, first_accesses, first_reads, first_transfers, first_writes}
 use Rattle.pdp_session.proofs.Findings.{question_answered, question_refused, search_answered, search_refused, search_short}
 use Rattle.pdp_session.proofs.search.Search.run.Goals as goal
 
@@ -25,6 +25,11 @@ pub returns-in_err-found-in-Reads-clause-finding : goal.returns-in_err-found-in-
 returns-in_err-found-in-Reads-clause-finding c =
     let (fault, is, same) = err_from_is_err_and c.from_residual-in_err-found-in-Reads.result c.from_residual-in_err-found-in-Reads.ensures.1 in
     rw (c.in-Reads.is, is, same) (search_refused (search.Reads c.in-Reads.from c.in-Reads.to c.in-Reads.address) c.args.engine.now.past c.in_err-found-in-Reads.field-0.0 c.in_err-found-in-Reads.ensures.refusal)
+
+pub returns-in_err-found-in-Accesses-clause-finding : goal.returns-in_err-found-in-Accesses-clause-finding
+returns-in_err-found-in-Accesses-clause-finding c =
+    let (fault, is, same) = err_from_is_err_and c.from_residual-in_err-found-in-Accesses.result c.from_residual-in_err-found-in-Accesses.ensures.1 in
+    rw (c.in-Accesses.is, is, same) (search_refused (search.Accesses c.in-Accesses.turn c.in-Accesses.count) c.args.engine.now.past c.in_err-found-in-Accesses.field-0.0 c.in_err-found-in-Accesses.ensures.refusal)
 
 pub returns-in_err-found-in-Transfers-clause-finding : goal.returns-in_err-found-in-Transfers-clause-finding
 returns-in_err-found-in-Transfers-clause-finding c =
@@ -87,6 +92,13 @@ returns-in_ok-found-in-Reads-clause-finding c =
     let value = c.in_ok-found-in-Reads.found.value in
     rw c.in-Reads.is (search_answered (search.Reads c.in-Reads.from c.in-Reads.to c.in-Reads.address) c.args.engine.now.past (found.Reads c.new-in-Reads.result (nat_lt value.reached c.in-Reads.to)) c.in_ok-found-in-Reads.ensures.refusal
     (first_reads c.new-in-Reads.result value.reads.items _ value.reached c.in-Reads.to c.new-in-Reads.ensures c.in_ok-found-in-Reads.ensures.value c.in_ok-found-in-Reads.ensures.reached))
+
+pub returns-in_ok-found-in-Accesses-clause-finding : goal.returns-in_ok-found-in-Accesses-clause-finding
+returns-in_ok-found-in-Accesses-clause-finding c =
+    let value = c.in_ok-found-in-Accesses.found.value in
+    let turn = c.in-Accesses.turn in
+    rw c.in-Accesses.is (search_answered (search.Accesses turn c.in-Accesses.count) c.args.engine.now.past (found.Accesses c.new-in-Accesses.result (nat_lt value.reached turn)) c.in_ok-found-in-Accesses.ensures.refusal
+    (first_accesses c.args.engine.now.past c.new-in-Accesses.result value.details.items (turn - c.in-Accesses.count) value.reached turn c.new-in-Accesses.ensures c.in_ok-found-in-Accesses.ensures.value c.in_ok-found-in-Accesses.ensures.reached))
 
 pub returns-in_ok-found-in-Transfers-clause-finding : goal.returns-in_ok-found-in-Transfers-clause-finding
 returns-in_ok-found-in-Transfers-clause-finding c =

@@ -1,0 +1,24 @@
+use Rattle.std.proofs.Common.{◌≡◌, ◌+◌, ◌-◌, ◌≤◌}
+use Rattle.pdp_store.specs.CycleLogs.{without_cycles}
+use Rattle.pdp_replay.specs.Past.{Past}
+use Rattle.pdp_replay.specs.Run.KeptRuns.{MetersTurns}
+use Rattle.pdp_replay.specs.Ask.Accesses.{AreDetailsFrom, accesses_end, log_of_all, turns_within}
+use Rattle.pdp_replay.specs.Ask.Reads.{GoesOnLogging, IsLoggedState}
+use Rattle.pdp_replay.proofs.ask.accesses.list_accesses.Given as goal
+
+abbrev pub invariant-loop-details : goal.invariant-loop-details
+invariant-loop-details l = record {
+  way : GoesOnLogging l.script l.fn.branch.machine.state l.branch.machine.state;
+  started : l.fn.branch.machine.state.turn ≤ l.branch.machine.state.turn;
+  most : l.branch.machine.state.turn ≤ l.to;
+  ran : MetersTurns (l.branch.machine.state.turn - l.fn.branch.machine.state.turn) l.fn.meter l.meter;
+  counted : l.fn.meter ≤ l.meter;
+  log : without_cycles l.branch.machine.state.world.bus.log ≡ log_of_all;
+  listed : AreDetailsFrom l.branch.machine.state.turn l.script l.fn.branch.machine.state l.details.items;
+  ends : (p : Past) → p.script ≡ l.script → IsLoggedState p l.fn.branch.machine.state
+      → accesses_end p l.fn.branch.machine.state.turn l.to
+      ≡ l.branch.machine.state.turn + turns_within l.room p l.branch.machine.state.turn (l.to - l.branch.machine.state.turn);
+}
+
+abbrev pub decreases-loop-details : goal.decreases-loop-details
+decreases-loop-details l = l.to - l.branch.machine.state.turn
