@@ -20,10 +20,10 @@ if TYPE_CHECKING:
     from .explore.program import TimedOut as TimedOut
     from .explore.replies import Devices as Devices, LastWrite as LastWrite, Mode as Mode
     from .explore.replies import Pages as Pages, Registers as Registers, Turn as Turn
+    from .explore.replies import WordRead as WordRead
     from .machine import Machine as Machine
     from .questions import Question as Question
     from .replies import Found as Found, Transfer as Transfer, Unreadable as Unreadable
-    from .replies import WordRead as WordRead
 
     __version__: str
 
@@ -48,7 +48,7 @@ PLACES = {
     "Transfer": "replies",
     "Turn": "explore.replies",
     "Unreadable": "replies",
-    "WordRead": "replies",
+    "WordRead": "explore.replies",
 }
 OTHERWISE_NAMED = {"NezdrabError": "ExploreError"}
 __all__ = [

@@ -23,9 +23,9 @@ from .explore.errors import ExploreError
 from .explore.language import is_edit
 from .explore.machine import LAST_TURN, MOST_TURNS_OF_A_TRAIL, MOST_WORDS, Machine as Engine
 from .explore.past import Event, Setup
-from .explore.replies import Devices, LastWrite, Mode, Pages, Registers, Turn
+from .explore.replies import Devices, LastWrite, Mode, Pages, Registers, Turn, WordRead
 from .explore.replies import listed, text_of, turns_of, words_of
-from .replies import Found, Transfer, WordRead, readable
+from .replies import Found, Transfer, readable
 
 Answer = TypeVar("Answer")
 Address = Union[int, SupportsIndex, str]

@@ -9,12 +9,12 @@ from .listing import HEADING, seen
 from .machine import MOST_TURNS_OF_A_TRAIL
 from .operand_values import name_of
 from .operands import Access, Flow
-from .reads import BY_RULES
 from .replies import DiskFunction
 from .transfers import DoneFunction, functions_done
 from .turn_flow import Flows, each_flow
 
 INDENT = " " * 20
+BY_RULES = "by explore's own rules, which aren't proved"
 TIMEOUTS = (Access.READ_TIMEOUT, Access.WRITE_TIMEOUT)
 
 
