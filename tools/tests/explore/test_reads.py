@@ -254,6 +254,19 @@ class Found(OfSystems):
                 found = [it.turn for it in reads_in(machine, turns, address)]
                 self.assertEqual(found, interrupts)
 
+    def test_a_word_that_each_turn_reads(self) -> None:
+        """BR .: the search goes on after each 256 reads."""
+        found = reads_in(self.program(0o777), range(600), 0o1000)
+        self.assertEqual(found, [WordRead(turn, "cpu", 0o777) for turn in range(600)])
+
+    def test_a_search_leaves_the_machine_at_its_first_turn(self) -> None:
+        machine = self.program(0o777)
+        self.assertEqual(machine.reads(range(5, 40), 0o2000), ([], range(40, 40)))
+        self.assertEqual((machine.asked.turn, machine.asked.greatest), (5, 40))
+        lines, left = machine.reads(range(400), 0o1000)
+        self.assertEqual((len(lines), left), (256, range(256, 400)))
+        self.assertEqual((machine.asked.turn, machine.asked.greatest), (0, 256))
+
     def test_the_last_read_of_many(self) -> None:
         """MOV #3000,R0; TST @#2000; SOB R0,.-4; BR .: it is read in each odd turn up to 3071."""
         machine = self.program(0o12700, 0o3000, 0o5737, 0o2000, 0o77003, 0o777)
