@@ -21,11 +21,10 @@ if TYPE_CHECKING:
     from .explore.replies import Devices as Devices, LastWrite as LastWrite, Mode as Mode
     from .explore.replies import BusCycle as BusCycle, CycleKind as CycleKind
     from .explore.replies import Pages as Pages, Registers as Registers, Turn as Turn
-    from .explore.replies import TurnAccesses as TurnAccesses
+    from .explore.replies import TurnAccesses as TurnAccesses, WordRead as WordRead
     from .machine import Machine as Machine
     from .questions import Question as Question
     from .replies import Found as Found, Transfer as Transfer, Unreadable as Unreadable
-    from .replies import WordRead as WordRead
 
     __version__: str
 
@@ -53,7 +52,7 @@ PLACES = {
     "Turn": "explore.replies",
     "TurnAccesses": "explore.replies",
     "Unreadable": "replies",
-    "WordRead": "replies",
+    "WordRead": "explore.replies",
 }
 OTHERWISE_NAMED = {"NezdrabError": "ExploreError"}
 __all__ = [

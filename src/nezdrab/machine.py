@@ -21,11 +21,11 @@ from .explore.options import Options, check_session, faults_of, options_of_sessi
 from .explore.options import words_of_options
 from .explore.past import Event
 from .explore.programs import found_program
-from .explore.replies import LastWrite, Mode, TurnAccesses
+from .explore.replies import LastWrite, Mode, TurnAccesses, WordRead
 from .explore.session_file import made_edits
 from .explore.symbols import ADDRESS, OCTAL, Symbols
 from .questions import Address, ModeName, Question, decimal, octal
-from .replies import Found, Transfer, WordRead
+from .replies import Found, Transfer
 from .words import Core, Drive
 
 Answer = TypeVar("Answer")

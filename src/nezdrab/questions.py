@@ -24,8 +24,8 @@ from .explore.language import is_edit
 from .explore.machine import LAST_TURN, MOST_TURNS_OF_A_TRAIL, MOST_WORDS, Machine as Engine
 from .explore.past import Event, Setup
 from .explore.replies import Devices, LastWrite, Mode, Pages, Registers, Turn, TurnAccesses
-from .explore.replies import accesses_of, listed, text_of, turns_of, words_of
-from .replies import Found, Transfer, WordRead, readable
+from .explore.replies import WordRead, accesses_of, listed, text_of, turns_of, words_of
+from .replies import Found, Transfer, readable
 
 Answer = TypeVar("Answer")
 Address = Union[int, SupportsIndex, str]

@@ -39,21 +39,6 @@ class Found(Generic[Item]):
 
 
 @dataclass(frozen=True)
-class WordRead:
-    """A turn that reads a word of core: the reader is cpu or disk, and the word is what it read."""
-
-    turn: int
-    reader: str
-    word: int
-
-    @classmethod
-    def of(cls, line: str) -> "WordRead":
-        """A line of the reply of `reads`."""
-        turn, reader, word = line.split()
-        return cls(int(turn), reader, int(word, 8))
-
-
-@dataclass(frozen=True)
 class Transfer:
     """A function of the disk that was done: in which turn, and in which it was begun, None if that
     was before the turns that were searched; what it was; the drive and its word, the address of

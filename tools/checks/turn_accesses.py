@@ -1,15 +1,17 @@
 """What turns of a stored system have in them, computed for check-lines: cycles by explore's own
 rules, the rest from lines of the session language."""
 import functools
+from contextlib import closing
 from pathlib import Path
 from typing import Optional
 
+from checks.flows import each_flow, word_of
 from checks.systems import System
 from checks.transfers import Disk
 from nezdrab.explore.cells import IO_PAGE
 from nezdrab.explore.machine import Machine, Start
 from nezdrab.explore.operands import Access, Flow
-from nezdrab.explore.turn_flow import Flows, each_flow
+from nezdrab.explore.turn_flow import Flows
 
 MOST_TURNS, MOST_CYCLES = 64, 256
 MODES = ("kernel", "01", "10", "user")
@@ -27,7 +29,7 @@ def cycle_line(flows: Flows, flow: Flow, number: int) -> Optional[str]:
         kind = "byte" if is_byte else "write"
     if access in TIMEOUTS:
         return f"{kind} {place:06o} timeout"
-    word = None if place >= IO_PAGE else flows.word_of(flow, number)
+    word = None if place >= IO_PAGE else word_of(flows, flow, number)
     if word is None:
         return None
     return f"{kind} core {place:06o} {word >> 8 * (place & 1) & 0o377 if is_byte else word:06o}"
@@ -36,17 +38,15 @@ def cycle_line(flows: Flows, flow: Flow, number: int) -> Optional[str]:
 @functools.lru_cache(maxsize=1)
 def cycles_of(system: System) -> dict[int, list[str]]:
     """By the turn, the lines of its cycles: of the turns of which all can be told."""
-    machine = Machine(Start(system.program, list(system.session.args), Path(system.session.folder)))
+    start = Start(system.program, list(system.session.args), Path(system.session.folder))
     found: dict[int, list[str]] = {}
-    try:
+    with closing(Machine(start)) as machine:
         machine.edit_all(system.own)
         for flows, flow, fault in each_flow(machine, range(system.turns[0], system.turns[-1])):
             lines = [cycle_line(flows, flow, it) for it in range(len(flow.cycles))]
             told = [it for it in lines if it is not None]
             if not fault and len(told) == len(lines):
                 found[flow.turn] = told
-    finally:
-        machine.close()
     return found
 
 

@@ -9,8 +9,7 @@ from .calls import turns_ahead
 from .errors import ExploreError
 from .in_words import span
 from .listing import seen
-from .reading import Reads
-from .replies import Mode, turns_of
+from .replies import Mode, WordRead, turns_of
 from .search import word_of
 
 MOST_PARTS = 4  # of a CONDITION
@@ -81,8 +80,7 @@ def watch(explorer: Explorer, arguments: Arguments) -> Iterator[str]:
 @command("rwatch A", r"<address:address>", "a breakpoint: a read of a core word")
 def rwatch(explorer: Explorer, arguments: Arguments) -> Iterator[str]:
     """Sets a breakpoint at each turn that reads the core word at A, an address of core, as `reads`
-    lists them: the processor or the disk. Explore looks for them turn by turn, some 50000 to 200000
-    turns a second; `continue to M` ends the search at turn M, and Ctrl-C ends it anywhere."""
+    lists them: the processor or the disk."""
     address, machine = arguments.octal("address"), explorer.machine
     text = f"rwatch {address:o}"
     yield from set_lines(explorer.breakpoints.add(machine, text, "", address, is_read=True))
@@ -134,8 +132,8 @@ def reached_line(explorer: Explorer, point: Breakpoint, turn: int) -> str:
     """The breakpoint, and for a write or a read who wrote or read what."""
     (line,) = set_lines(point)
     if point.is_read and point.address is not None:
-        found = Reads(explorer.machine, point.address).of(range(turn, turn + 1))
-        return line + "".join(f": {it.reader} {it.word:06o}" for it in found)
+        lines, _ = explorer.machine.reads(range(turn, turn + 1), point.address)
+        return line + "".join(f": {it.reader} {it.word:06o}" for it in map(WordRead.of, lines))
     write = None if point.address is None else explorer.machine.last(turn + 1, point.address)
     return line if write is None else f"{line}: {write.writer} {write.word:06o}"
 

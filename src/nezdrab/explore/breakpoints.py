@@ -3,11 +3,9 @@ from dataclasses import dataclass, field
 from typing import Optional
 
 from .errors import ExploreError
-from .finder import growing_parts
-from .language import explanation
-from .machine import Machine, is_refused
-from .reading import Read, Reads
-from .replies import LastWrite
+from .finder import Finder, growing_parts
+from .machine import Machine
+from .replies import LastWrite, WordRead
 
 
 @dataclass(frozen=True)
@@ -27,7 +25,8 @@ class Breakpoint:
         if self.address is None:
             return machine.found("first", turns, self.sought)
         if self.is_read:
-            return turn_of(Reads(machine, self.address).first(turns))
+            lines, _ = machine.reads(turns, self.address)
+            return WordRead.of(lines[0]).turn if lines else None
         if self.last(machine, turns) is None:
             return None
         lines, _ = machine.writes(turns, self.address)
@@ -37,13 +36,10 @@ class Breakpoint:
         if self.address is None:
             return machine.found("latest", turns, self.sought)
         if self.is_read:
-            return turn_of(Reads(machine, self.address).last(turns))
+            read = Finder(machine).last_read(turns, self.address)
+            return read.turn if read is not None else None
         write = machine.last(turns.stop, self.address)
         return write.turn if write is not None and write.turn in turns else None
-
-
-def turn_of(read: Optional[Read]) -> Optional[int]:
-    return None if read is None else read.turn
 
 
 @dataclass(frozen=True)
@@ -70,11 +66,9 @@ class Breakpoints:
         is_read: bool = False,
     ) -> Breakpoint:
         """A new one, if the program takes the line that looks for it."""
-        line = f"first 0 0 {sought}" if address is None else f"writes 0 0 {address:o}"
-        reply = machine.ask(line)
-        if is_refused(reply):
-            why = explanation(line, reply, machine.setup.version)
-            raise ExploreError(f"{reply}{f': {why}' if why else ''}")
+        word = "reads" if is_read else "writes"
+        line = f"first 0 0 {sought}" if address is None else f"{word} 0 0 {address:o}"
+        machine.check_taken(line)
         self.count += 1
         self.points.append(Breakpoint(self.count, text, sought, address, is_read))
         return self.points[-1]

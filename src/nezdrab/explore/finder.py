@@ -1,13 +1,15 @@
 """Finds turns, by the searches of the program search."""
 from dataclasses import dataclass
-from typing import Iterator, Optional
+from typing import Callable, Iterator, Optional
 
 from .crew import Progress
 from .machine import Machine
-from .replies import LastWrite
+from .replies import LastWrite, WordRead
 
 TURNS_OF_A_SEARCH = 10_000_000  # searched at once, in a tenth of a second or more
 TURNS_AT_FIRST = 16_384  # of a search for what is usually near
+# A search that lists: lines for the first of some turns, and the turns that are left.
+Listing = Callable[[range], tuple[list[str], range]]
 
 
 def parts_of(turns: range) -> Iterator[range]:
@@ -19,12 +21,18 @@ def parts_of(turns: range) -> Iterator[range]:
             progress.step(len(part))
 
 
-def growing_parts(
-    turns: range, is_backwards: bool = False, most: int = TURNS_OF_A_SEARCH
-) -> Iterator[range]:
-    """The turns in parts that double, from the first turn on or from the last one back, and have so
-    many turns at most."""
-    size = min(TURNS_AT_FIRST, most)
+def listed_in(turns: range, listing: Listing) -> Iterator[tuple[list[str], int]]:
+    """What a search lists of these turns, some lines at a time, and the turn before which all lines
+    are there by then."""
+    for part in parts_of(turns):
+        while part:
+            lines, part = listing(part)
+            yield lines, part.start
+
+
+def growing_parts(turns: range, is_backwards: bool = False) -> Iterator[range]:
+    """The turns in parts that double, from the first turn on or from the last one back."""
+    size = TURNS_AT_FIRST
     with Progress(len(turns), "turns") as progress:
         while turns:
             if is_backwards:
@@ -33,7 +41,7 @@ def growing_parts(
                 part, turns = turns[:size], turns[size:]
             yield part
             progress.step(len(part))
-            size = min(2 * size, most)
+            size = min(2 * size, TURNS_OF_A_SEARCH)
 
 
 @dataclass(frozen=True)
@@ -62,10 +70,8 @@ class Finder:
 
     def writes(self, turns: range, address: int) -> Iterator[LastWrite]:
         """The writes to the word in these turns, in their order; of each turn the last."""
-        for part in parts_of(turns):
-            while part:
-                lines, part = self.machine.writes(part, address)
-                yield from map(LastWrite.of_line, lines)
+        for lines, _ in listed_in(turns, lambda it: self.machine.writes(it, address)):
+            yield from map(LastWrite.of_line, lines)
 
     def first_write_of(self, turns: range, address: int, word: int) -> Optional[LastWrite]:
         """The write that makes the word this value first. Before these turns it is another one."""
@@ -73,6 +79,26 @@ class Finder:
         last = self.machine.last(turns.stop if found is None else found, address)
         is_found = last is not None and last.turn >= turns.start and last.word == word
         return last if is_found else None
+
+    # The reads of a core word
+
+    def reads(self, turns: range, address: int) -> Iterator[tuple[list[WordRead], int]]:
+        """The reads of the word in these turns, in their order, of each turn the first: some at a
+        time, and the turn before which these are all."""
+        for lines, end in listed_in(turns, lambda it: self.machine.reads(it, address)):
+            yield list(map(WordRead.of, lines)), end
+
+    def last_read(self, turns: range, address: int) -> Optional[WordRead]:
+        """The last turn of these that reads the word, with its first read. What is left of turns
+        that have more reads than are listed is halved."""
+        lines, left = self.machine.reads(turns, address)
+        found = lines[-1:]
+        while left:
+            middle = left.start + len(left) // 2
+            lines, later = self.machine.reads(range(middle, left.stop), address)
+            found = lines[-1:] or found
+            left = later if lines else range(left.start, middle)
+        return WordRead.of(found[0]) if found else None
 
     # The text
 

@@ -12,7 +12,7 @@ from .children import ProgramEnded
 from .errors import ExploreError
 from .interrupts import INTERRUPTS
 from .journal import Journal
-from .language import is_edit
+from .language import explanation, is_edit
 from .options import faults_of, options_of_words
 from .past import Event, Setup, without_zeros
 from .program import Program, TimedOut
@@ -277,6 +277,13 @@ class Machine:
                 raise Refused(line, reply)
             yield reply
 
+    def check_taken(self, line: str) -> None:
+        """An error that says why, if the program refuses this question."""
+        reply = self.ask(line)
+        if is_refused(reply):
+            why = explanation(line, reply, self.setup.version)
+            raise ExploreError(f"{reply}{f': {why}' if why else ''}")
+
     # The past. What the program tells of it is kept until an edit changes it.
 
     @property
@@ -374,6 +381,13 @@ class Machine:
         """A line for each of the first writes to a core word in these turns, and the turns that are
         left."""
         return self.listed(f"writes {turns.start} {turns.stop} {address:o}", turns)
+
+    def reads(self, turns: range, address: int) -> tuple[list[str], range]:
+        """The same of the first reads. The program runs these turns apart: the machine is at the
+        first of them then."""
+        found = self.listed(f"reads {turns.start} {turns.stop} {address:o}", turns)
+        self.asked.turn = turns.start
+        return found
 
     def transfers(self, turns: range) -> tuple[list[str], range]:
         """A line for each of the first functions of the disk that were done in these turns, and the

@@ -227,6 +227,21 @@ class LastWrite:
         return cls(int(turn), writer, int(word, 8))
 
 
+@dataclass(frozen=True)
+class WordRead:
+    """A turn that reads a word of core: the reader is cpu or disk, and the word is what it read."""
+
+    turn: int
+    reader: str
+    word: int
+
+    @classmethod
+    def of(cls, line: str) -> "WordRead":
+        """A line of the reply of `reads`."""
+        turn, reader, word = line.split()
+        return cls(int(turn), reader, int(word, 8))
+
+
 INSTRUCTION, INTERRUPT = "instr", "irq"
 
 

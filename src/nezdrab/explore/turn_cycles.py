@@ -1,6 +1,5 @@
 """Where the references of a turn go: words of core, physical addresses, and which turns trap. All
-that is asked of the program for the rules of data stands here: a line of the program that lists the
-accesses of a turn could take its place."""
+that is asked of the program for the rules of data stands here."""
 import re
 from dataclasses import dataclass, field
 from typing import Iterator, NamedTuple, Optional, Sequence

@@ -34,20 +34,6 @@ def flows_with_bar(machine: Machine, turns: range) -> Iterator[Flow]:
                 progress.step(TURNS_OF_A_STEP)
 
 
-def each_flow(machine: Machine, turns: range) -> Iterator[tuple["Flows", Flow, str]]:
-    """The flow of each of these turns, with what makes it, which is at its turn. One that isn't
-    followed is there as far as it is, and why it isn't."""
-    while turns:
-        flows = Flows(machine, turns)
-        try:
-            for flow in flows:
-                yield flows, flow, ""
-            return
-        except NotFollowed as error:
-            yield flows, flows.flowing, str(error)
-            turns = range(flows.flowing.turn + 1, turns.stop)
-
-
 class Flows(Operands):
     """Makes the flows of these turns, one after the other."""
 
@@ -105,18 +91,6 @@ class Flows(Operands):
             if self.vector is None:
                 raise NotFollowed(f"turn {self.flowing.turn}: the rules don't explain it")
             self.sequence(self.vector)
-
-    # Words
-
-    def word_of(self, flow: Flow, number: int) -> Optional[int]:
-        """The word of core that this cycle of the turn reads or leaves; None if it is written again
-        in the turn, which shows the last word alone."""
-        it = flow.cycles[number]
-        before = [other.is_write_of(it.word) for other in flow.cycles[: number + 1]]
-        after = any(other.is_write_of(it.word) for other in flow.cycles[number + 1 :])
-        if not any(before):
-            return self.space.word(it.word)
-        return None if after else self.machine.word(flow.turn + 1, it.word)
 
     # Sequences
 

@@ -3,11 +3,11 @@ sessions, and what `accesses` shows of programs of a few words."""
 from pathlib import Path
 
 import sessions
+from checks.flows import each_flow
 from nezdrab.explore.cells import IO_PAGE
 from nezdrab.explore.commands import COMMANDS
 from nezdrab.explore.errors import ExploreError
 from nezdrab.explore.machine import MOST_WORDS, Machine, Start
-from nezdrab.explore.turn_flow import each_flow
 
 from .common import BUILT, ROOT
 from .machines import OnMachine

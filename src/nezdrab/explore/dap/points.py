@@ -28,10 +28,6 @@ TRAPS = {
     0o250: "memory management",
 }
 ACCESSES = {"write": ("watch",), "read": ("rwatch",), "readWrite": ("watch", "rwatch")}
-READS_SEARCHED = (
-    "reads are looked for turn by turn, by explore's own rules, which aren't proved: some 50000 to "
-    "200000 turns a second"
-)
 OPERATOR = re.compile(r"\s*(==|!=|=|<|>|&)\s*")
 
 
@@ -127,7 +123,7 @@ class Points:
                 raise ExploreError("a data breakpoint of reads takes no condition here")
             points = [self.added(f"{it} {address[1]}", DATA) for it in ACCESSES[access]]
             self.editors.update((it.number, points[0].number) for it in points)
-            return {"id": points[0].number, "message": READS_SEARCHED}
+            return {"id": points[0].number}
         sought = condition_sought(self.explorer, [as_condition(condition)]) if condition else ""
         point = self.added(f"watch {address[1]}", DATA)
         if sought:

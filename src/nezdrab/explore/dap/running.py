@@ -8,7 +8,7 @@ from ..breakpoints import Breakpoint, Breakpoints
 from ..calls import doubt_lines, ended_levels
 from ..commands import Explorer
 from ..errors import ExploreError
-from ..finder import TURNS_OF_A_SEARCH, growing_parts
+from ..finder import growing_parts
 from ..levels import Call, Stacks, call_in, left_in
 from ..machine import LAST_TURN
 from .frames import Frame
@@ -17,7 +17,6 @@ from .frames import Frame
 Goal = Callable[[range], Optional[int]]
 # Has an editor show a line.
 Say = Callable[[str], None]
-READS_TURNS = 8_192  # of a part in which reads are looked for: a fifth of a second at most
 AT_POWER_UP = "turn 0 is power-up: no turn comes before it"
 
 
@@ -59,11 +58,6 @@ def split(points: list[Breakpoint]) -> tuple[Breakpoints, Breakpoints]:
     return Breakpoints(before), Breakpoints([it for it in points if it.address is not None])
 
 
-def turns_at_once(points: list[Breakpoint]) -> int:
-    """How many turns a part has at most: reads are looked for turn by turn."""
-    return READS_TURNS if any(it.is_read for it in points) else TURNS_OF_A_SEARCH
-
-
 def first_stop(explorer: Explorer, part: range, begin: int, goal: Optional[Goal]) -> Optional[Stop]:
     """The first stop in these turns, behind the turn `begin`. A write or a read is found in its
     turn, and stops before the next one."""
@@ -89,8 +83,8 @@ def first_stop(explorer: Explorer, part: range, begin: int, goal: Optional[Goal]
 def ahead(explorer: Explorer, end: int, goal: Optional[Goal] = None) -> Run:
     """On to the first breakpoint or to the goal. Between the parts the current turn is the last one
     that was looked at."""
-    begin, most = explorer.turn, turns_at_once(explorer.breakpoints.points)
-    for part in growing_parts(range(begin, max(begin, end)), most=most):
+    begin = explorer.turn
+    for part in growing_parts(range(begin, max(begin, end))):
         yield
         stop = first_stop(explorer, part, begin, goal)
         if stop is not None:
@@ -115,7 +109,7 @@ def back(explorer: Explorer, bottom: int = 0, reason: str = "entry") -> Run:
     low = max((turn for turn, _ in lasts if turn is not None), default=bottom)
     written = [it for turn, it in lasts if turn == low]
     looked = range(low, turns.stop if sought.points else low)
-    for part in growing_parts(looked, is_backwards=True, most=turns_at_once(points)):
+    for part in growing_parts(looked, is_backwards=True):
         yield
         reached = sought.reached(machine, part, is_backwards=True)
         if reached is not None:
