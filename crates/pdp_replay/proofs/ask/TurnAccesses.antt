@@ -1,7 +1,8 @@
 -- What some turns have in them, turn by turn.
-use Rattle.std.proofs.Common.{suc, zero, ◌≡◌, ◌∙◌, ℕ, ◌+◌, ◌-◌, ◌<◌, ◌≤◌, ◌++◌, ◌∷◌, [], Bool, true, false, List, length, drop, map, take, get_or, nat_le, add-one, ap, ap₂, arith, if◌then◌else◌, refl, sym}
-use Rattle.std.proofs.Math.Seq.{take-suc}
-use Rattle.std.proofs.lemmas.List.{get_or-map, length-map}
+use Rattle.std.proofs.Common.{suc, zero, ◌≡◌, ◌∙◌, ℕ, ◌+◌, ◌-◌, ◌<◌, ◌≤◌, ◌++◌, ◌∷◌, [], Bool, true, false, List, length, drop, map, take, get_or, nat_le, add-one, ap, ap₂, arith, if◌then◌else◌, option_to_list, refl, sym}
+use Rattle.std.proofs.Math.Seq.{drop-append_seam, take-suc}
+use Rattle.std.proofs.lemmas.Bool.{le-leb, lt-leb}
+use Rattle.std.proofs.lemmas.List.{append_assoc, drop-map, get_or-map, length-drop, length-map, take_all}
 use Rattle.pdp_store.specs.CycleLogs.{KeptCycles}
 use Rattle.pdp_store.specs.declared.cycle_log.BusCycle.{BusCycle}
 use Rattle.pdp_unibus.specs.declared.event.Event.{Event}
@@ -15,21 +16,59 @@ use Rattle.pdp_script.specs.Entries.{events_at}
 use Rattle.pdp_script.specs.Script.{ScriptData}
 use Rattle.pdp_replay.specs.Past.{Past}
 use Rattle.pdp_replay.specs.Run.States.{at, state_at}
-use Rattle.pdp_replay.specs.Ask.Accesses.{accesses_end, cycles_in, details_in, details_in_turns, details_of, log_of_all, turn_head, turns_within}
+use Rattle.pdp_replay.specs.Ask.Accesses.{completion_detail_if, cycles_in, details_in, details_in_turns, details_of, log_of_all, turn_head, turns_within}
+use Rattle.pdp_replay.specs.Ask.DiskCompletions.{has_completion}
 use Rattle.pdp_replay.specs.Ask.Reads.{IsLoggedState}
 use Rattle.pdp_replay.specs.declared.ask.accesses.TurnDetail.{TurnDetail}
 use Rattle.pdp_replay.specs.declared.ask.accesses.TurnDetail.TheVariants as detail
 use Rattle.pdp_replay.specs.declared.ask.accesses.TurnHead.{TurnHead}
 use Rattle.pdp_replay.specs.declared.ask.disk_completions.DiskTurn.{DiskTurn}
 use Rattle.pdp_replay.specs.declared.ask.text_part.TextKind.{TextKind}
+use Rattle.pdp_replay.specs.declared.ask.text_part.TextKind.TheVariants.{Printed, Punched}
 use Rattle.pdp_replay.proofs.run.LoggedTurns.{events_of, logged_turn, same_with_log}
 
 -- one more of some things, each as a detail, after those that were there
 pub one_more : {A : Type 0} (as_detail : A → TurnDetail) (before : List TurnDetail) (things : List A) (i : ℕ) (d : A) → i < length things
     → (before ++ take i (map as_detail things)) ++ as_detail (get_or things i d) ∷ [] ≡ before ++ take (i + 1) (map as_detail things)
 one_more as_detail before things i d below =
-    sym (rw add-one (ap (λ ds. before ++ ds) (take-suc (map as_detail things) i (as_detail d) (rw length-map below)
+    append_assoc before (take i (map as_detail things)) (as_detail (get_or things i d) ∷ [])
+    ∙ sym (rw add-one (ap (λ ds. before ++ ds) (take-suc (map as_detail things) i (as_detail d) (rw length-map below)
     ∙ ap (λ it. take i (map as_detail things) ++ it ∷ []) (get_or-map as_detail things i d (as_detail d) below))))
+
+-- details in their parts, one part after another
+regroup : {X : Type 0} (o a b c d e : List X) (h : X) → o ++ h ∷ [] ++ a ++ b ++ c ++ d ++ e ≡ o ++ (h ∷ (a ++ b ++ c ++ d ++ e))
+regroup o a b c d e h =
+    ap (λ xs. xs ++ b ++ c ++ d ++ e) (append_assoc o (h ∷ []) a)
+    ∙ ap (λ xs. xs ++ c ++ d ++ e) (append_assoc o (h ∷ a) b)
+    ∙ ap (λ xs. xs ++ d ++ e) (append_assoc o (h ∷ (a ++ b)) c)
+    ∙ ap (λ xs. xs ++ e) (append_assoc o (h ∷ (a ++ b ++ c)) d)
+    ∙ append_assoc o (h ∷ (a ++ b ++ c ++ d)) e
+
+pub details_listed : (old d1 d2 d3 d4 d5 d6 : List TurnDetail) (head : TurnHead) (events : List Event) (printed punched : List ℕ) (disk : DiskTurn) (cycles : List BusCycle)
+    → d1 ≡ old ++ detail.Head head ∷ [] → d2 ≡ d1 ++ map detail.Event events → d3 ≡ d2 ++ map (detail.Output Printed) printed
+    → d4 ≡ d3 ++ map (detail.Output Punched) punched → d5 ≡ d4 ++ option_to_list (completion_detail_if (has_completion disk) disk)
+    → d6 ≡ d5 ++ map detail.Cycle cycles → d6 ≡ old ++ details_of head events printed punched disk cycles
+details_listed old d1 d2 d3 d4 d5 d6 head events printed punched disk cycles one two three four five six =
+    six
+    ∙ ap (λ ds. ds ++ map detail.Cycle cycles)
+    (five ∙ ap (λ ds. ds ++ option_to_list (completion_detail_if (has_completion disk) disk))
+    (four ∙ ap (λ ds. ds ++ map (detail.Output Punched) punched)
+    (three ∙ ap (λ ds. ds ++ map (detail.Output Printed) printed)
+    (two ∙ ap (λ ds. ds ++ map detail.Event events) one))))
+    ∙ regroup old (map detail.Event events) (map (detail.Output Printed) printed) (map (detail.Output Punched) punched)
+    (option_to_list (completion_detail_if (has_completion disk) disk)) (map detail.Cycle cycles) (detail.Head head)
+
+-- bytes that are kept, from one on to the end, without their turns
+pub bytes_left : (kept : List KeptByte) (n : ℕ) (text : List ℕ) → without_turns kept ≡ text
+    → without_turns (take (length kept - n) (drop n kept)) ≡ drop n text
+bytes_left kept n text is =
+    let size = length-drop n kept in
+    ap without_turns (take_all (length kept - n) (drop n kept) (omega (arith, size)))
+    ∙ sym (drop-map (λ b. b.byte) n kept)
+    ∙ ap (drop n) is
+
+pub kept_length : (kept : List KeptByte) (text : List ℕ) → without_turns kept ≡ text → length kept ≡ length text
+kept_length kept text is = rw (← is, length-map) refl
 
 -- one more byte that came out
 pub one_more_byte : (kind : TextKind) (before : List TurnDetail) (kept : List KeptByte) (i : ℕ) (d : KeptByte) → i < length kept
@@ -82,6 +121,24 @@ within_more room p turn to left fits =
     let more : to - turn ≡ suc (to - (turn + 1)) = omega (arith, left) in
     ap (turns_within room p turn) more ∙ within_suc room p turn (to - (turn + 1)) ∙ rw fits refl
 
+-- the turn before which turns are listed, with one turn more; and if there is no room for that
+pub ends_more : (room count : ℕ) (p : Past) (turn next to : ℕ) → turn < to → next ≡ turn + 1 → count ≡ length (cycles_in p turn) → count ≤ room
+    → turn + turns_within room p turn (to - turn) ≡ next + turns_within (room - count) p next (to - next)
+ends_more room count p turn next to left is same fits =
+    let ok : nat_le (length (cycles_in p turn)) room ≡ true = le-leb (length (cycles_in p turn)) room (omega (arith, same, fits)) in
+    let rest : ℕ = turns_within (room - length (cycles_in p turn)) p (turn + 1) (to - (turn + 1)) in
+    let on : turn + suc rest ≡ turn + 1 + rest = omega arith in
+    ap (λ n. turn + n) (within_more room p turn to left ok)
+    ∙ on
+    ∙ ap₂ (λ n k. n + turns_within (room - k) p n (to - n)) (sym is) (sym same)
+
+pub ends_past : (room count : ℕ) (p : Past) (turn to : ℕ) → turn < to → count ≡ length (cycles_in p turn) → room < count
+    → turn + turns_within room p turn (to - turn) ≡ turn
+ends_past room count p turn to left same over =
+    let none : turns_within room p turn (to - turn) ≡ 0
+    = within_past room p turn to left (lt-leb (length (cycles_in p turn)) room (omega (arith, same, over))) in
+    omega (arith, none)
+
 -- a state after the next turn, of a machine in a state of the run, with a log that was put into it
 pub after_there : (p : Past) (script : ScriptData) (log : KeptCycles) (m now : MachineState) → p.script ≡ script → IsLoggedState p m
     → log ≡ log_of_all → now ≡ logged_turn (events_at script.entries m.turn) log m
@@ -90,10 +147,6 @@ after_there p script log m now same here kind is =
     is ∙ ap₂ (λ es s. after_turn es s) (events_of p script m.turn same)
     (same_with_log p log m here ∙ ap (λ l. state_with_log l (at p m.turn)) kind)
 
-drop_all : {X : Type 0} (xs ys : List X) → drop (length xs) (xs ++ ys) ≡ ys
-drop_all [] ys = refl
-drop_all (x ∷ xs) ys = drop_all xs ys
-
 -- the bytes that came out in it
 pub printed_there : (p : Past) (m now : MachineState) (count : ℕ) → IsLoggedState p m → count ≡ length m.text
     → now ≡ after_turn (events_at p.script.entries m.turn) (state_with_log log_of_all (at p m.turn))
@@ -101,7 +154,7 @@ pub printed_there : (p : Past) (m now : MachineState) (count : ℕ) → IsLogged
 printed_there p m now count here is after =
     let events = events_at p.script.entries m.turn in
     ap₂ drop (is ∙ ap (λ (s : MachineState). length s.text) here) (ap (λ (s : MachineState). s.text) after)
-    ∙ drop_all (at p m.turn).text _
+    ∙ drop-append_seam (at p m.turn).text _
     ∙ (logs_disturb_nothing m.turn events (state_at p m.turn) log_of_all).printed
 
 pub punched_there : (p : Past) (m now : MachineState) (count : ℕ) → IsLoggedState p m → count ≡ length m.punched
@@ -110,7 +163,7 @@ pub punched_there : (p : Past) (m now : MachineState) (count : ℕ) → IsLogged
 punched_there p m now count here is after =
     let events = events_at p.script.entries m.turn in
     ap₂ drop (is ∙ ap (λ (s : MachineState). length s.punched) here) (ap (λ (s : MachineState). s.punched) after)
-    ∙ drop_all (at p m.turn).punched _
+    ∙ drop-append_seam (at p m.turn).punched _
     ∙ (logs_disturb_nothing m.turn events (state_at p m.turn) log_of_all).punched
 
 -- and its act

@@ -1,6 +1,6 @@
 -- What some turns have in them, with each cycle of the processor on the bus [P].
 use Rattle.std.specs.Prelude.{ℕ, zero, suc, ◌≡◌, ◌+◌, ◌-◌, ◌++◌, Bool, true, false, List, [], ◌∷◌}
-use Rattle.std.specs.Prelude.{drop, length, map, nat_le, None, if◌then◌else◌}
+use Rattle.std.specs.Prelude.{drop, length, map, nat_le, None, Option, Some, option_to_list, if◌then◌else◌}
 use Rattle.pdp_store.specs.CycleLogs.{KeptCycles}
 use Rattle.pdp_store.specs.declared.cycle_log.BusCycle.{BusCycle}
 use Rattle.pdp_unibus.specs.declared.event.Event.{Event}
@@ -42,9 +42,9 @@ turn_head t events w = record {
   act = turn_act t events w;
 }
 
-abbrev pub completion_detail_if : Bool → DiskTurn → List TurnDetail
-completion_detail_if true d = detail.Completion d ∷ []
-completion_detail_if false d = []
+abbrev pub completion_detail_if : Bool → DiskTurn → Option TurnDetail
+completion_detail_if true d = Some (detail.Completion d)
+completion_detail_if false d = None
 
 -- what a turn has in it, in its order: its events, the bytes that come out, the function of the
 -- disk that is completed, and then the cycles of its act
@@ -52,7 +52,8 @@ abbrev pub details_of : TurnHead → List Event → List ℕ → List ℕ → Di
     → List TurnDetail
 details_of head events printed punched disk cycles =
     detail.Head head ∷ map detail.Event events ++ map (detail.Output Printed) printed
-    ++ map (detail.Output Punched) punched ++ completion_detail_if (has_completion disk) disk
+    ++ map (detail.Output Punched) punched
+    ++ option_to_list (completion_detail_if (has_completion disk) disk)
     ++ map detail.Cycle cycles
 
 -- the details of turn t of the run of this past

@@ -12,14 +12,16 @@ ghost use Rattle.pdp_replay.specs.Run.KeptRuns.{KeepsRun, MetersTurns};
 ghost use Rattle.pdp_replay.specs.Ask.Answer.{question_checked};
 ghost use Rattle.pdp_replay.specs.Ask.Known.{IsWithinBound, LeavesPast};
 ghost use Rattle.pdp_replay.specs.Ask.Told.{IsToldOf};
-ghost use Rattle.pdp_replay.specs.Ask.Accesses.{accesses_end, details_in_turns, details_told};
+ghost use Rattle.pdp_replay.specs.Ask.Accesses.{accesses_end, completion_detail_if, details_in_turns};
+ghost use Rattle.pdp_replay.specs.Ask.DiskCompletions.{has_completion};
 ghost use Rattle.pdp_replay.specs.Ask.Accesses.{AreDetailsFrom, EndsAccesses, HasCyclesOf};
-ghost use Rattle.pdp_replay.specs.Ask.Accesses.{IsToldTurn, log_of_all};
+ghost use Rattle.pdp_replay.specs.Ask.Accesses.{details_told, IsToldTurn, log_of_all};
 ghost use Rattle.pdp_replay.specs.Ask.Reads.{GoesOnLogging};
 ghost use Rattle.pdp_replay.specs.declared.ask.accesses.TurnDetail.TheVariants as detail;
 ghost use Rattle.pdp_replay.specs.declared.ask.question.Question.TheVariants as question;
 
 use crate::ask::disk_completions::DiskTurn;
+use crate::ask::items::add_if_there;
 use crate::ask::{Question, TextKind, Told};
 use crate::engine::Engine;
 use crate::past::BaseSetup;
@@ -269,10 +271,20 @@ impl LoggedBranch {
         list_events(details, events)?;
         list_output(details, TextKind::Printed, &printed[told.printed..])?;
         list_output(details, TextKind::Punched, &punched[told.punched..])?;
-        if told.disk.has_completion() {
-            details.push(TurnDetail::Completion(told.disk))?;
-        }
-        list_cycles(details, self.machine.cycles())
+        add_if_there(details, completion_detail(told.disk))?;
+        list_cycles(details, self.machine.cycles())?;
+        Ok(())
+    }
+}
+
+/// The completion in a turn of the disk, if there is one.
+fn completion_detail(disk: DiskTurn) -> Option<TurnDetail>
+    ensures { result ≡ completion_detail_if (has_completion disk) disk }
+{
+    if disk.has_completion() {
+        Some(TurnDetail::Completion(disk))
+    } else {
+        None
     }
 }
 

@@ -267,7 +267,8 @@ impl LoggedBranch {
             meter.old meter.new }
     {
         let word = self.machine.word(number);
-        let disk = self.pass(meter, script)?.disk;
+        let passed = self.pass(meter, script)?;
+        let disk = passed.disk;
         if disk.is_read_by_disk(number) {
             return Ok(Some(WordRead {
                 turn: disk.turn,

@@ -6,8 +6,8 @@ use Rattle.pdp_replay.specs.Ask.Accesses.{AreDetailsFrom, accesses_end, log_of_a
 use Rattle.pdp_replay.specs.Ask.Reads.{GoesOnLogging, IsLoggedState}
 use Rattle.pdp_replay.proofs.ask.accesses.list_accesses.Given as goal
 
-abbrev pub invariant-loop-details : goal.invariant-loop-details
-invariant-loop-details l = record {
+abbrev pub invariant-loop-branch : goal.invariant-loop-branch
+invariant-loop-branch l = record {
   way : GoesOnLogging l.script l.fn.branch.machine.state l.branch.machine.state;
   started : l.fn.branch.machine.state.turn ≤ l.branch.machine.state.turn;
   most : l.branch.machine.state.turn ≤ l.to;
@@ -20,5 +20,5 @@ invariant-loop-details l = record {
       ≡ l.branch.machine.state.turn + turns_within l.room p l.branch.machine.state.turn (l.to - l.branch.machine.state.turn);
 }
 
-abbrev pub decreases-loop-details : goal.decreases-loop-details
-decreases-loop-details l = l.to - l.branch.machine.state.turn
+abbrev pub decreases-loop-branch : goal.decreases-loop-branch
+decreases-loop-branch l = l.to - l.branch.machine.state.turn

@@ -1,0 +1,37 @@
+use Rattle.std.proofs.Common.{◌≡◌, ◌∙◌, ◌-◌, ap, ap₂, arith, sym}
+use Rattle.std.proofs.lemmas.Result.{IfOk-weaker, on_ok_weaker}
+use Rattle.pdp_cpu.specs.Turns.MachineState.{MachineState, state_with_log}
+use Rattle.pdp_replay.specs.Past.{Past}
+use Rattle.pdp_replay.specs.Run.Branches.{IsKeptOfSize}
+use Rattle.pdp_replay.specs.Run.States.{at}
+use Rattle.pdp_replay.specs.Ask.Accesses.{accesses_end, details_in_turns}
+use Rattle.pdp_replay.specs.Ask.Reads.{IsLoggedState}
+use Rattle.pdp_replay.proofs.run.Branches.{kept_metered}
+use Rattle.pdp_replay.proofs.ask.accesses.find_accesses.Goals as goal
+use Rattle.pdp_replay.proofs.ask.accesses.find_accesses.Goals.{In_ok-branch}
+
+-- the branch is in the state of the run, with its log
+there : (c : In_ok-branch) (p : Past) → IsKeptOfSize p c.args.base_setup.now c.args.script.now c.args.run.now → IsLoggedState p c.in_ok-branch.branch.machine.state
+there c p is =
+    let here = c.in_ok-branch.ensures.state p is in
+    here ∙ ap₂ (λ (s : MachineState) (n : MachineState). state_with_log s.world.bus.log (at p n.turn)) (sym here) (sym here)
+
+at_first : (c : In_ok-branch) (p : Past) → IsKeptOfSize p c.args.base_setup.now c.args.script.now c.args.run.now → c.in_ok-branch.branch.machine.state.turn ≡ c.args.first
+at_first c p is = ap (λ (s : MachineState). s.turn) (c.in_ok-branch.ensures.state p is)
+
+pub returns-clause-details : goal.returns-clause-details
+returns-clause-details c =
+    let branch = (goal.at.returns-clause-details c).In_ok-branch in
+    IfOk-weaker c.list_accesses.result _ _
+    (λ found is. λ p kept. is p kept.same (there branch p kept) ∙ ap (λ first. details_in_turns p first (found.reached - first)) (at_first branch p kept))
+    c.list_accesses.ensures.details
+
+pub returns-clause-reached : goal.returns-clause-reached
+returns-clause-reached c =
+    let branch = (goal.at.returns-clause-reached c).In_ok-branch in
+    IfOk-weaker c.list_accesses.result _ _
+    (λ found is. λ p kept. is p kept.same (there branch p kept) ∙ ap (λ first. accesses_end p first c.args.to) (at_first branch p kept))
+    c.list_accesses.ensures.reached
+
+pub returns-clause-kept : goal.returns-clause-kept
+returns-clause-kept c = λ p same run. kept_metered p c.logged_branch.new.self c.list_accesses.new.meter (c.logged_branch.ensures.kept p same run)

@@ -1,0 +1,77 @@
+use Rattle.std.proofs.Common.{◌∙◌, ◌+◌, ◌-◌, ◌<◌, ◌++◌, ap, arith, length, refl, sym}
+use Rattle.pdp_script.specs.Entries.{events_at}
+use Rattle.pdp_replay.specs.Ask.Accesses.{details_in_turns, details_told}
+use Rattle.pdp_replay.proofs.ask.TurnAccesses.{details_further, details_none, ends_more, ends_past, within_none}
+use Rattle.pdp_replay.proofs.ask.accesses.list_accesses.Goals as goal
+
+pub loop-branch-init : goal.loop-branch-init
+loop-branch-init c = record {
+  way = λ p same here. here;
+  started = omega arith;
+  most = c.requires.order;
+  ran = omega arith;
+  counted = omega arith;
+  log = c.requires.log;
+  listed = λ p same here. c.new-details.ensures.items ∙ sym (details_none p c.args.branch.now.machine.state.turn _ (omega arith));
+  ends = λ p same here. refl;
+}
+
+pub loop-branch-preserved : goal.loop-branch-preserved
+loop-branch-preserved c =
+    let before = c.loop-branch.invariant in
+    let first = c.args.branch.now.machine.state.turn in
+    let m = c.loop-branch.branch.machine.state in
+    let now = c.pass_and_tell.new.self.machine.state in
+    let told = c.in_ok-told.told in
+    let next = c.in_ok-told.ensures in
+    let started = before.started in
+    let one = next.turn in
+    let ran = before.ran in
+    let more = next.ran in
+    let counted = before.counted in
+    let left : m.turn < c.args.to = omega (arith, c.loop-branch-test.true, c.turns.ensures) in
+    record {
+      way = λ p same here. next.way p same (before.way p same here);
+      started = omega (arith, one, started);
+      most = omega (arith, one, left);
+      ran = omega (arith, one, ran, more, started);
+      counted = omega (arith, counted, more);
+      log = next.log;
+      listed = λ p same here.
+          details_further p first m.turn now.turn c.loop-branch.details.items _ started one (before.listed p same here)
+          (c.in_ok-list_turn.ensures
+          ∙ ap (λ es. c.loop-branch.details.items ++ details_told es now told) (c.at.ensures.events ∙ ap (events_at c.args.script.now.entries) next.head)
+          ∙ ap (λ ds. c.loop-branch.details.items ++ ds) (next.details p same (before.way p same here)));
+      ends = λ p same here.
+          before.ends p same here
+          ∙ ends_more c.loop-branch.room (length c.cycles-cycles.result.now) p m.turn now.turn c.args.to left one
+          (ap length (c.cycles-cycles.ensures ∙ next.cycles p same (before.way p same here))) (omega (arith, c.if-cycles-room.false));
+    }
+
+pub returns-then-cycles-room-clause-details : goal.returns-then-cycles-room-clause-details
+returns-then-cycles-room-clause-details c = λ p same here.
+    let first = c.args.branch.now.machine.state.turn in
+    c.loop-branch.invariant.listed p same here
+    ∙ ap (λ turn. details_in_turns p first (turn - first)) (sym c.in_ok-told.ensures.head)
+
+pub returns-then-cycles-room-clause-reached : goal.returns-then-cycles-room-clause-reached
+returns-then-cycles-room-clause-reached c = λ p same here.
+    let before = c.loop-branch.invariant in
+    let m = c.loop-branch.branch.machine.state in
+    let left : m.turn < c.args.to = omega (arith, c.loop-branch-test.true, c.turns.ensures) in
+    c.in_ok-told.ensures.head
+    ∙ sym (before.ends p same here
+    ∙ ends_past c.loop-branch.room (length c.cycles-cycles.result.now) p m.turn c.args.to left
+    (ap length (c.cycles-cycles.ensures ∙ c.in_ok-told.ensures.cycles p same (before.way p same here))) (omega (arith, c.if-cycles-room.true)))
+
+pub returns-clause-details : goal.returns-clause-details
+returns-clause-details c = λ p same here.
+    let first = c.args.branch.now.machine.state.turn in
+    c.loop-branch.invariant.listed p same here
+    ∙ ap (λ turn. details_in_turns p first (turn - first)) (sym c.turns-2.ensures)
+
+pub returns-clause-reached : goal.returns-clause-reached
+returns-clause-reached c = λ p same here.
+    let turn = c.loop-branch.branch.machine.state.turn in
+    let none = within_none c.loop-branch.room p turn c.args.to (omega (arith, c.loop-branch-test.false, c.turns.ensures)) in
+    c.turns-2.ensures ∙ sym (c.loop-branch.invariant.ends p same here ∙ omega (arith, none))
