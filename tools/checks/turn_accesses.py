@@ -35,6 +35,12 @@ def cycle_line(flows: Flows, flow: Flow, number: int) -> Optional[str]:
     return f"{kind} core {place:06o} {word >> 8 * (place & 1) & 0o377 if is_byte else word:06o}"
 
 
+def is_red(flow: Flow) -> bool:
+    """Whether a turn ends with the red sequence. What the sequence before it pushed to registers
+    leaves no stamp, so the rules don't tell it."""
+    return [it.place for it in flow.cycles[-2:] if it.access == Access.WRITE] == [2, 0]
+
+
 @functools.lru_cache(maxsize=1)
 def cycles_of(system: System) -> dict[int, list[str]]:
     """By the turn, the lines of its cycles: of the turns of which all can be told."""
@@ -45,7 +51,7 @@ def cycles_of(system: System) -> dict[int, list[str]]:
         for flows, flow, fault in each_flow(machine, range(system.turns[0], system.turns[-1])):
             lines = [cycle_line(flows, flow, it) for it in range(len(flow.cycles))]
             told = [it for it in lines if it is not None]
-            if not fault and len(told) == len(lines):
+            if not fault and len(told) == len(lines) and not is_red(flow):
                 found[flow.turn] = told
     return found
 
