@@ -361,7 +361,10 @@ def is_of_language(word: str) -> bool:
 
 def is_own(word: str, rest: str) -> bool:
     """Whether a line is a command of explore. A line of the language may begin with its word: the
-    search `reads` has two turns there, and the command one address."""
+    search `reads` has two turns there, and the command one address. The command `accesses` has the
+    words of the line, and shows more."""
+    if word == "accesses":
+        return True
     turns = 2 if word == "reads" else 1
     if word in SEARCHES and all(is_decimal(it[:1]) for it in [*rest.split(), ""][:turns]):
         return False
