@@ -395,9 +395,11 @@ class Machine:
         return self.listed(f"transfers {turns.start} {turns.stop}", turns)
 
     def accesses(self, turns: range) -> tuple[list[TurnAccesses], range]:
-        """What the first of these turns, at most 64, have in them, and the turns that are left."""
+        """What the first of these turns, at most 64, have in them, and the turns that are left. The
+        program runs these turns apart, as for `reads`."""
         found, is_all = accesses_of(self.read(f"accesses {turns.stop} {len(turns)}"))
         self.asked.reach(turns.stop)
+        self.asked.turn = turns.start
         return found, range(turns.stop if is_all else found[-1].turn.turn + 1, turns.stop)
 
     def listed(self, line: str, turns: range) -> tuple[list[str], range]:
