@@ -26,8 +26,8 @@ pub struct BusCycle {
     pub value: Option<u16>,
 }
 
-/// Bus cycles in their order: the first so many as it was made for, later ones are left out. It keeps
-/// all cycles, or only the reads at one physical address.
+/// Bus cycles in their order: all of them, or only the reads at one physical address. Once it has
+/// as many as it was given room for, it keeps no more.
 #[derive(Drop)]
 pub struct CycleLog {
     reads_of: Option<u32>,

@@ -1,4 +1,4 @@
 pub mod Bits
 pub mod Laws
-pub mod Pc
+pub mod Pc11
 pub mod Reader

@@ -4,7 +4,7 @@
 //!
 //! # What is proved
 //!
-//! - `Pc`: for each register what a read shows and leaves and what a write leaves; what a
+//! - `Pc11`: for each register what a read shows and leaves and what a write leaves; what a
 //!   completion of the reader or of the punch and RESET do.
 //! - The reader's request appears if its condition comes to hold, and at a go that finds error and
 //!   sets enable (`reader_requests_appear_on_a_rise`).
@@ -19,12 +19,12 @@
 
 mod bits;
 mod laws;
-mod pc;
+mod pc11;
 mod reader;
 
 pub use laws::{
     a_tape_is_read_to_its_end, go_while_busy_changes_nothing_but_enable,
     reader_requests_appear_on_a_rise,
 };
-pub use pc::{Pc, PcRegister};
+pub use pc11::{Pc11, Pc11Register};
 pub use reader::Reader;

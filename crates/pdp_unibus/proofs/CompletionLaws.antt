@@ -17,7 +17,7 @@ use Rattle.pdp_unibus.specs.declared.io_page.IoPage.{IoPage}
 use Rattle.pdp_unibus.specs.Laws.{RegisterUse, Reading, Writing, io_page_after_use, io_page_after_uses}
 use Rattle.pdp_unibus.specs.Register.{after_read, after_write}
 use Rattle.pdp_console.specs.declared.kl.KlRegister.TheVariants.{KeyboardBuffer, PrinterBuffer}
-use Rattle.pdp_tape.specs.declared.pc.PcRegister.TheVariants.{ReaderStatus, ReaderBuffer, PunchBuffer}
+use Rattle.pdp_tape.specs.declared.pc11.Pc11Register.TheVariants.{ReaderStatus, ReaderBuffer, PunchBuffer}
 use Rattle.pdp_unibus.specs.declared.register.Register.TheVariants as register
 use Rattle.pdp_unibus.specs.declared.register.Register.TheVariants.{Console, PaperTape}
 use Rattle.pdp_unibus.specs.declared.event.Event.{Event}

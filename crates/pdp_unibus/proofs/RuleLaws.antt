@@ -15,7 +15,7 @@ use Rattle.pdp_rk11.specs.declared.function.Function.{Function}
 use Rattle.pdp_rk11.specs.declared.function.Function.TheVariants.{ControlReset, Write, Read, WriteCheck, Seek, ReadCheck, DriveReset, WriteLock}
 use Rattle.pdp_rk11.specs.declared.register.RkRegister.TheVariants as rk
 use Rattle.pdp_rk11.specs.declared.rk.Rk.{Rk}
-use Rattle.pdp_tape.specs.declared.pc.PcRegister.TheVariants.{ReaderBuffer, PunchStatus, PunchBuffer}
+use Rattle.pdp_tape.specs.declared.pc11.Pc11Register.TheVariants.{ReaderBuffer, PunchStatus, PunchBuffer}
 use Rattle.pdp_unibus.proofs.Frame.{event_leaves, use_leaves}
 use Rattle.pdp_unibus.specs.Beginning.{Progress, after_event}
 use Rattle.pdp_unibus.specs.BusWorld.{disk_world_of}

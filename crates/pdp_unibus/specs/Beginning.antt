@@ -4,7 +4,7 @@ use Rattle.std.specs.Prelude.{if◌then◌else◌}
 use Rattle.pdp_device.specs.Operation.{is_due}
 use Rattle.pdp_console.specs.Kl.{kl_completed, kl_printed, kl_struck}
 use Rattle.pdp_console.specs.Kw.{kw_ticked}
-use Rattle.pdp_tape.specs.Pc.{pc_punch_completed, pc_punched, pc_reader_completed}
+use Rattle.pdp_tape.specs.Pc11.{pc11_punch_completed, pc11_punched, pc11_reader_completed}
 use Rattle.pdp_tape.specs.Reader.{takes_byte}
 use Rattle.pdp_rk11.specs.Completion.{rk_completed}
 use Rattle.pdp_rk11.specs.Trace.{completion_touches}
@@ -70,7 +70,7 @@ abbrev pub reader_done : Progress → Progress
 reader_done p = record p {
   bus = record p.bus {
     io_page = record p.bus.io_page {
-      paper_tape = pc_reader_completed (next_byte p.bus.tape
+      paper_tape = pc11_reader_completed (next_byte p.bus.tape
           p.bus.bytes_read) p.bus.io_page.paper_tape;
     };
     bytes_read = if takes_byte p.bus.io_page.paper_tape.reader then read_on p.bus.tape
@@ -81,10 +81,10 @@ reader_done p = record p {
 -- the punch completes: its byte joins those punched [6.60]
 abbrev pub punch_done : Progress → Progress
 punch_done p = record (on_io_page p (record p.bus.io_page {
-  paper_tape = pc_punch_completed
+  paper_tape = pc11_punch_completed
       p.bus.io_page.paper_tape;
 })) {
-  punched = p.punched ++ option_to_list (pc_punched p.bus.io_page.paper_tape);
+  punched = p.punched ++ option_to_list (pc11_punched p.bus.io_page.paper_tape);
 }
 
 -- the switches are set

@@ -4,7 +4,7 @@ use Rattle.std.specs.Prelude.{ℕ, Bool, List, Option, false}
 use Rattle.pdp_console.specs.Kl.{kl_reset, init_kl}
 use Rattle.pdp_console.specs.Kw.{init_kw}
 use Rattle.pdp_device.specs.Operation.{is_under_way}
-use Rattle.pdp_tape.specs.Pc.{pc_reset, init_pc}
+use Rattle.pdp_tape.specs.Pc11.{pc11_reset, init_pc11}
 use Rattle.pdp_rk11.specs.Completion.{DiskWorld, disk_world}
 use Rattle.pdp_rk11.specs.Rk.{init_rk, rk_reset}
 use Rattle.pdp_kt11.specs.Kt.{kt_reset, powered_kt}
@@ -55,7 +55,7 @@ io_page_at_power_up delays = record {
   mapping = powered_kt;
   console = init_kl;
   clock = init_kw;
-  paper_tape = init_pc;
+  paper_tape = init_pc11;
   disk = init_rk;
   delays = delays;
   switches = 0;
@@ -129,6 +129,6 @@ io_page_reset b = record b {
   mapping = kt_reset b.mapping;
   console = kl_reset b.console;
   clock = init_kw;
-  paper_tape = pc_reset b.paper_tape;
+  paper_tape = pc11_reset b.paper_tape;
   disk = rk_reset b.disk;
 }

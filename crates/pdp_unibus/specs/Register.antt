@@ -7,8 +7,8 @@ use Rattle.pdp_kt11.specs.Kt.{kt_register_at, kt_value, kt_written}
 use Rattle.pdp_console.specs.Kl.{kl_read, kl_register_at, kl_value, kl_written}
 use Rattle.pdp_console.specs.Kw.{kw_value, kw_written}
 use Rattle.pdp_console.specs.declared.kl.KlRegister.TheVariants.{PrinterBuffer}
-use Rattle.pdp_tape.specs.Pc.{pc_read, pc_register_at, pc_value, pc_written}
-use Rattle.pdp_tape.specs.declared.pc.PcRegister.TheVariants.{PunchBuffer}
+use Rattle.pdp_tape.specs.Pc11.{pc11_read, pc11_register_at, pc11_value, pc11_written}
+use Rattle.pdp_tape.specs.declared.pc11.Pc11Register.TheVariants.{PunchBuffer}
 use Rattle.pdp_rk11.specs.Rk.{rk_register_at, rk_value, rk_written}
 use Rattle.pdp_unibus.specs.Status.{status_word, status_written}
 use Rattle.pdp_unibus.specs.declared.io_page.IoPage.{IoPage}
@@ -25,7 +25,7 @@ register_of_word address = (
     if nat_le 0o777400 address && nat_le address 0o777412 then option_map Disk (rk_register_at
     (address - 0o777400)) else
     if address == 0o777546 then Some Clock else
-    if nat_le 0o777550 address && nat_le address 0o777556 then option_map PaperTape (pc_register_at
+    if nat_le 0o777550 address && nat_le address 0o777556 then option_map PaperTape (pc11_register_at
     (address - 0o777550)) else
     if nat_le 0o777560 address && nat_le address 0o777566 then option_map Console (kl_register_at
     (address - 0o777560)) else
@@ -40,7 +40,7 @@ register_at address = register_of_word (address - address % 2)
 unfoldable pub value_in : Register → ℕ → IoPage → ℕ
 value_in (Console r) drives b = kl_value r b.console
 value_in Clock drives b = kw_value b.clock
-value_in (PaperTape r) drives b = pc_value r b.paper_tape
+value_in (PaperTape r) drives b = pc11_value r b.paper_tape
 value_in (Disk r) drives b = rk_value r drives b.disk
 value_in Switches drives b = b.switches
 value_in (Mapping r) drives b = kt_value r b.mapping
@@ -50,7 +50,7 @@ value_in ProgramStatus drives b = status_word b.status
 unfoldable pub after_read : Register → IoPage → IoPage
 after_read (Console r) b = record b { console = kl_read r b.console }
 after_read Clock b = b
-after_read (PaperTape r) b = record b { paper_tape = pc_read r b.paper_tape }
+after_read (PaperTape r) b = record b { paper_tape = pc11_read r b.paper_tape }
 after_read (Disk r) b = b
 after_read Switches b = b
 after_read (Mapping r) b = b
@@ -64,7 +64,7 @@ after_write (Console r) word turn b = record b {
 }
 after_write Clock word turn b = record b { clock = kw_written word b.clock }
 after_write (PaperTape r) word turn b =
-    record b { paper_tape = pc_written r word turn b.delays.reader b.delays.punch b.paper_tape }
+    record b { paper_tape = pc11_written r word turn b.delays.reader b.delays.punch b.paper_tape }
 after_write (Disk r) word turn b = record b { disk = rk_written r word turn b.delays.disk b.disk }
 after_write Switches word turn b = b
 after_write (Mapping r) word turn b = record b { mapping = kt_written r word b.mapping }

@@ -12,8 +12,8 @@ use Rattle.pdp_kt11.specs.declared.register.KtRegister.TheVariants.{Address}
 use Rattle.pdp_rk11.specs.declared.register.RkRegister.TheVariants.{DriveStatus, Error, Control}
 use Rattle.pdp_rk11.specs.declared.register.RkRegister.TheVariants.{WordCount, BusAddress}
 use Rattle.pdp_rk11.specs.declared.register.RkRegister.TheVariants.{DiskAddress}
-use Rattle.pdp_tape.specs.declared.pc.PcRegister.TheVariants.{ReaderStatus, ReaderBuffer}
-use Rattle.pdp_tape.specs.declared.pc.PcRegister.TheVariants.{PunchStatus}
+use Rattle.pdp_tape.specs.declared.pc11.Pc11Register.TheVariants.{ReaderStatus, ReaderBuffer}
+use Rattle.pdp_tape.specs.declared.pc11.Pc11Register.TheVariants.{PunchStatus}
 use Rattle.pdp_unibus.specs.BusWorld.{BusWorld}
 use Rattle.pdp_unibus.specs.Register.{value_in}
 use Rattle.pdp_unibus.specs.declared.io_page.IoPage.{IoPage}

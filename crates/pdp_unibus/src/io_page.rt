@@ -9,7 +9,7 @@ use crate::status::Status;
 use pdp_console::{Kl, KlRegister, Kw};
 use pdp_kt11::Kt;
 use pdp_rk11::Rk;
-use pdp_tape::{Pc, PcRegister};
+use pdp_tape::{Pc11, Pc11Register};
 
 /// What the bus holds besides the lists of words, the tape and the turn: the program status word,
 /// the mapping registers, the devices with their delays, and the switches.
@@ -22,7 +22,7 @@ pub struct IoPage {
     /// The line clock.
     pub clock: Kw,
     /// The paper tape reader and punch.
-    pub paper_tape: Pc,
+    pub paper_tape: Pc11,
     /// The disk's controller.
     pub disk: Rk,
     /// How long operations take.
@@ -42,7 +42,7 @@ impl IoPage {
             mapping: Kt::power(),
             console: Kl::init(),
             clock: Kw::init(),
-            paper_tape: Pc::init(),
+            paper_tape: Pc11::init(),
             disk: Rk::init(),
             delays,
             switches: 0,
@@ -185,7 +185,7 @@ fn is_byte_written(register: Register, address: u32) -> bool
 {
     match register {
         Register::Console(KlRegister::PrinterBuffer)
-        | Register::PaperTape(PcRegister::PunchBuffer) => address % 2 == 0,
+        | Register::PaperTape(Pc11Register::PunchBuffer) => address % 2 == 0,
         _ => true,
     }
 }

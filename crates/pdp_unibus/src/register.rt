@@ -5,7 +5,7 @@ use crate::device_table::DEVICES;
 use pdp_console::KlRegister;
 use pdp_kt11::KtRegister;
 use pdp_rk11::RkRegister;
-use pdp_tape::PcRegister;
+use pdp_tape::Pc11Register;
 
 /// A register on the bus, of a device, of memory management or of the processor.
 #[derive(Clone, Copy)]
@@ -15,7 +15,7 @@ pub enum Register {
     /// 777546: the line clock's.
     Clock,
     /// 777550 to 777557: the paper tape reader's and punch's.
-    PaperTape(PcRegister),
+    PaperTape(Pc11Register),
     /// 777560 to 777567: the console terminal's.
     Console(KlRegister),
     /// 777570
@@ -41,7 +41,7 @@ pub fn register_at_address(address: u32) -> Option<Register>
     } else if word == DEVICES.clock.first {
         Some(Register::Clock)
     } else if DEVICES.reader.first <= word && word <= DEVICES.punch.last {
-        PcRegister::at(word - DEVICES.reader.first).map(Register::PaperTape)
+        Pc11Register::at(word - DEVICES.reader.first).map(Register::PaperTape)
     } else if DEVICES.keyboard.first <= word && word <= DEVICES.printer.last {
         KlRegister::at(word - DEVICES.keyboard.first).map(Register::Console)
     } else if word == 0o777570 {

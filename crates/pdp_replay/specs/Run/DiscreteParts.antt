@@ -22,7 +22,7 @@ use Rattle.pdp_device.specs.declared.transmitter.Transmitter.{Transmitter}
 use Rattle.pdp_console.specs.declared.keyboard.Keyboard.{Keyboard}
 use Rattle.pdp_console.specs.declared.kl.Kl.{Kl}
 use Rattle.pdp_console.specs.declared.kw.Kw.{Kw}
-use Rattle.pdp_tape.specs.declared.pc.Pc.{Pc}
+use Rattle.pdp_tape.specs.declared.pc11.Pc11.{Pc11}
 use Rattle.pdp_tape.specs.declared.reader.Reader.{Reader}
 use Rattle.pdp_rk11.specs.Rk.{code_of, function_of}
 use Rattle.pdp_rk11.specs.declared.failure.Failure.{Failure}
@@ -171,7 +171,7 @@ readers a b = do
     operation = operation i;
   })
 
-unfoldable pub paper_tapes : Discrete Pc
+unfoldable pub paper_tapes : Discrete Pc11
 paper_tapes a b = do
   reader ← same_field (λ p. p.reader) readers a b
   punch ← same_field (λ p. p.punch) transmitters a b

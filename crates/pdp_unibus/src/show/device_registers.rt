@@ -6,7 +6,7 @@ use crate::register::Register;
 use pdp_console::KlRegister;
 use pdp_rk11::{Rk, RkRegister};
 use pdp_store::Store;
-use pdp_tape::PcRegister;
+use pdp_tape::Pc11Register;
 
 /// How many registers of the devices are shown.
 pub const SHOWN_REGISTERS: usize = 14;
@@ -24,11 +24,11 @@ const SHOWN: [(&str, Register); SHOWN_REGISTERS] = [
     // 777546
     ("LKS", Register::Clock),
     // 777550
-    ("PRS", Register::PaperTape(PcRegister::ReaderStatus)),
+    ("PRS", Register::PaperTape(Pc11Register::ReaderStatus)),
     // 777552
-    ("PRB", Register::PaperTape(PcRegister::ReaderBuffer)),
+    ("PRB", Register::PaperTape(Pc11Register::ReaderBuffer)),
     // 777554
-    ("PPS", Register::PaperTape(PcRegister::PunchStatus)),
+    ("PPS", Register::PaperTape(Pc11Register::PunchStatus)),
     // 777400
     ("RKDS", Register::Disk(RkRegister::DriveStatus)),
     // 777402

@@ -7,7 +7,7 @@ use pdp_device::{Transmitter, TransmitterRegister};
 ///
 /// PDP-11 Peripherals Handbook, PC11.
 #[derive(Clone, Copy)]
-pub enum PcRegister {
+pub enum Pc11Register {
     /// PRS: bit 15 error, bit 11 busy, bit 7 done, bit 6 enable, bit 0 go. Enable and go alone are
     /// written.
     ReaderStatus,
@@ -20,18 +20,18 @@ pub enum PcRegister {
     PunchBuffer,
 }
 
-impl PcRegister {
-    ghost use Rattle.pdp_tape.specs.Pc.{pc_register_at};
+impl Pc11Register {
+    ghost use Rattle.pdp_tape.specs.Pc11.{pc11_register_at};
 
     /// The register `offset` bytes after the first one, if there is one.
-    pub fn at(offset: u32) -> Option<PcRegister>
-        ensures { result ≡ pc_register_at offset }
+    pub fn at(offset: u32) -> Option<Pc11Register>
+        ensures { result ≡ pc11_register_at offset }
     {
         match offset {
-            0 => Some(PcRegister::ReaderStatus),
-            2 => Some(PcRegister::ReaderBuffer),
-            4 => Some(PcRegister::PunchStatus),
-            6 => Some(PcRegister::PunchBuffer),
+            0 => Some(Pc11Register::ReaderStatus),
+            2 => Some(Pc11Register::ReaderBuffer),
+            4 => Some(Pc11Register::PunchStatus),
+            6 => Some(Pc11Register::PunchBuffer),
             _ => None,
         }
     }
@@ -41,30 +41,31 @@ impl PcRegister {
 ///
 /// PDP-11 Peripherals Handbook, PC11.
 #[derive(Clone, Copy)]
-pub struct Pc {
+pub struct Pc11 {
     /// What reads the tape.
     pub reader: Reader,
     /// What punches another.
     pub punch: Transmitter,
 }
 
-impl Pc {
-    ghost use Rattle.pdp_tape.specs.Pc.{pc_punch_completed, pc_punched, pc_read};
-    ghost use Rattle.pdp_tape.specs.Pc.{pc_reader_completed, pc_reset};
-    ghost use Rattle.pdp_tape.specs.Pc.{pc_value, pc_written, punch_served, init_pc, reader_served};
+impl Pc11 {
+    ghost use Rattle.pdp_tape.specs.Pc11.{pc11_punch_completed, pc11_punched, pc11_read};
+    ghost use Rattle.pdp_tape.specs.Pc11.{pc11_reader_completed, pc11_reset};
+    ghost use Rattle.pdp_tape.specs.Pc11.{init_pc11, pc11_value, pc11_written, punch_served};
+    ghost use Rattle.pdp_tape.specs.Pc11.{reader_served};
 
     /// Whether both are the same in all.
-    pub fn is_same(&self, other: &Pc) -> bool
+    pub fn is_same(&self, other: &Pc11) -> bool
         ensures { (result ≡ true) ↔ (self.now ≡ other.now) }
     {
         self.reader.is_same(&other.reader) && self.punch.is_same(&other.punch)
     }
 
     /// Reader and punch at power-up: as after RESET, with both buffers 0 [7.7].
-    pub fn init() -> Pc
-        ensures { result ≡ init_pc }
+    pub fn init() -> Pc11
+        ensures { result ≡ init_pc11 }
     {
-        Pc {
+        Pc11 {
             reader: Reader::init(),
             punch: Transmitter::init(),
         }
@@ -72,24 +73,24 @@ impl Pc {
 
     /// What a read of the register gives, without the effect of a read.
     #[inline(always)]
-    pub fn value(&self, register: PcRegister) -> u16
-        ensures { result ≡ pc_value register self.now }
+    pub fn value(&self, register: Pc11Register) -> u16
+        ensures { result ≡ pc11_value register self.now }
     {
         match register {
-            PcRegister::ReaderStatus => self.reader.status(),
-            PcRegister::ReaderBuffer => u16::from(self.reader.byte),
-            PcRegister::PunchStatus => self.punch.value(TransmitterRegister::Status),
-            PcRegister::PunchBuffer => self.punch.value(TransmitterRegister::Buffer),
+            Pc11Register::ReaderStatus => self.reader.status(),
+            Pc11Register::ReaderBuffer => u16::from(self.reader.byte),
+            Pc11Register::PunchStatus => self.punch.value(TransmitterRegister::Status),
+            Pc11Register::PunchBuffer => self.punch.value(TransmitterRegister::Buffer),
         }
     }
 
     /// A read of the register.
-    pub fn read_reg(&mut self, register: PcRegister) -> u16
-        ensures value { result ≡ pc_value register self.old }
-        ensures after { self.new ≡ pc_read register self.old }
+    pub fn read_reg(&mut self, register: Pc11Register) -> u16
+        ensures value { result ≡ pc11_value register self.old }
+        ensures after { self.new ≡ pc11_read register self.old }
     {
         match register {
-            PcRegister::ReaderBuffer => u16::from(self.reader.read_buffer()),
+            Pc11Register::ReaderBuffer => u16::from(self.reader.read_buffer()),
             _ => self.value(register),
         }
     }
@@ -98,21 +99,21 @@ impl Pc {
     /// punched `punch_delay` turns later; with delay 0 only its event completes it [6.56].
     pub fn write_reg(
         &mut self,
-        register: PcRegister,
+        register: Pc11Register,
         word: u16,
         turn: u32,
         reader_delay: u32,
         punch_delay: u32,
     )
-        ensures { self.new ≡ pc_written register word turn reader_delay punch_delay self.old }
+        ensures { self.new ≡ pc11_written register word turn reader_delay punch_delay self.old }
     {
         match register {
-            PcRegister::ReaderStatus => self.reader.write_status(word, turn, reader_delay),
-            PcRegister::ReaderBuffer => {}
-            PcRegister::PunchStatus => self
+            Pc11Register::ReaderStatus => self.reader.write_status(word, turn, reader_delay),
+            Pc11Register::ReaderBuffer => {}
+            Pc11Register::PunchStatus => self
                 .punch
                 .write_reg(TransmitterRegister::Status, word, turn, punch_delay),
-            PcRegister::PunchBuffer => self
+            Pc11Register::PunchBuffer => self
                 .punch
                 .write_reg(TransmitterRegister::Buffer, word, turn, punch_delay),
         }
@@ -122,7 +123,7 @@ impl Pc {
     /// byte is in the buffer and done is set, else error is set. If none is under way, nothing
     /// happens [6.58].
     pub fn complete_reader(&mut self, next: Option<u8>)
-        ensures { self.new ≡ pc_reader_completed next self.old }
+        ensures { self.new ≡ pc11_reader_completed next self.old }
     {
         self.reader.complete(next);
     }
@@ -130,8 +131,8 @@ impl Pc {
     /// The byte that is being punched is out, and the punch is ready again. Gives the byte; if
     /// none is being punched, nothing happens [6.58].
     pub fn complete_punch(&mut self) -> Option<u8>
-        ensures byte { result ≡ pc_punched self.old }
-        ensures after { self.new ≡ pc_punch_completed self.old }
+        ensures byte { result ≡ pc11_punched self.old }
+        ensures after { self.new ≡ pc11_punch_completed self.old }
     {
         self.punch.complete()
     }
@@ -156,7 +157,7 @@ impl Pc {
     /// RESET: the reader has nothing set, error too, the punch is ready, neither is enabled or
     /// requests, and bytes that are being read or punched are dropped. The buffers stay [6.108].
     pub fn reset(&mut self)
-        ensures { self.new ≡ pc_reset self.old }
+        ensures { self.new ≡ pc11_reset self.old }
     {
         self.reader.reset();
         self.punch.reset();
