@@ -56,7 +56,8 @@ impl CycleLog {
     ///
     /// Err(NoMemory) if memory was refused.
     pub fn new(alloc: Global, reads_of: Option<u32>, room: usize) -> Result<CycleLog, NoMemory>
-        ensures { IfOk result (λ log. log ≡ record { reads_of = reads_of; room = room; told = [] }) }
+        ensures { IfOk result
+            (λ log. log ≡ record { reads_of = reads_of; room = room; told = [] }) }
     {
         let cycles = Vec::with_capacity(alloc, room)?;
         Ok(CycleLog {

@@ -103,8 +103,8 @@ NeverGoesWithError (c ∷ cs) p = (is_go_with_error c p ≡ false) × NeverGoesW
 abbrev pub ServedReaderRequestsStayAway : Type 0
 ServedReaderRequestsStayAway = (p : Pc11) (cs : List Pc11Use) → ReaderHoldsThroughout cs
     (reader_served p)
-    → NeverGoesWithError cs (reader_served p) → (pc11_after_uses cs (reader_served p)).reader.request
-    ≡ false
+    → NeverGoesWithError cs (reader_served p)
+    → (pc11_after_uses cs (reader_served p)).reader.request ≡ false
 
 -- while a byte is being read, a write of the status changes enable, and the request by it, and
 -- nothing else
@@ -141,7 +141,8 @@ ReadingGivesTheNextByte = (word turn reader_delay punch_delay byte : ℕ) (p : P
 
 -- no byte was left: error, and not done
 abbrev pub ReadingPastTheEndSetsError : Type 0
-ReadingPastTheEndSetsError = (word turn reader_delay punch_delay : ℕ) (p : Pc11) → BeginsToRead word p
+ReadingPastTheEndSetsError = (word turn reader_delay punch_delay : ℕ) (p : Pc11)
+    → BeginsToRead word p
     → (reader_error_bit (read_by word turn reader_delay punch_delay None p) ≡ 1)
     × (reader_done_bit (read_by word turn reader_delay punch_delay None p) ≡ 0)
     × (busy_bit (read_by word turn reader_delay punch_delay None p) ≡ 0)

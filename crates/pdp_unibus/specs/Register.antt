@@ -25,8 +25,8 @@ register_of_word address = (
     if nat_le 0o777400 address && nat_le address 0o777412 then option_map Disk (rk_register_at
     (address - 0o777400)) else
     if address == 0o777546 then Some Clock else
-    if nat_le 0o777550 address && nat_le address 0o777556 then option_map PaperTape (pc11_register_at
-    (address - 0o777550)) else
+    if nat_le 0o777550 address && nat_le address 0o777556 then option_map PaperTape
+    (pc11_register_at (address - 0o777550)) else
     if nat_le 0o777560 address && nat_le address 0o777566 then option_map Console (kl_register_at
     (address - 0o777560)) else
     if address == 0o777570 then Some Switches else
