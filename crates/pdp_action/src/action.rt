@@ -7,7 +7,7 @@ ghost use Rattle.pdp_action.specs.declared.action.Action.TheVariants.{Modify, Re
 use crate::condition::Condition;
 use crate::operation::{Combination, Comparison, Modification, Replacement};
 use crate::trap::Trap;
-use pdp_decode::{Instr, Spec};
+use pdp_decode::{Instr, Specifier};
 use pdp_word::{Codes, Size};
 
 /// What an instruction does, by the phases that it has.
@@ -18,11 +18,11 @@ pub enum Action {
     Reset,
     ReturnFromTrap,
     Jump {
-        destination: Spec,
+        destination: Specifier,
     },
     JumpToSubroutine {
         register: u8,
-        destination: Spec,
+        destination: Specifier,
     },
     ReturnFromSubroutine {
         register: u8,
@@ -45,56 +45,56 @@ pub enum Action {
         offset: i8,
     },
     Move {
-        source: Spec,
-        destination: Spec,
+        source: Specifier,
+        destination: Specifier,
     },
     MoveByte {
-        source: Spec,
-        destination: Spec,
+        source: Specifier,
+        destination: Specifier,
     },
     Compare {
         comparison: Comparison,
-        source: Spec,
-        destination: Spec,
+        source: Specifier,
+        destination: Specifier,
     },
     Combine {
         combination: Combination,
-        source: Spec,
-        destination: Spec,
+        source: Specifier,
+        destination: Specifier,
     },
     Modify {
         modification: Modification,
-        destination: Spec,
+        destination: Specifier,
     },
     Replace {
         replacement: Replacement,
-        destination: Spec,
+        destination: Specifier,
     },
     Test {
         size: Size,
-        destination: Spec,
+        destination: Specifier,
     },
     MoveFromPrevious {
-        source: Spec,
+        source: Specifier,
     },
     MoveToPrevious {
-        destination: Spec,
+        destination: Specifier,
     },
     Multiply {
         register: u8,
-        source: Spec,
+        source: Specifier,
     },
     Divide {
         register: u8,
-        source: Spec,
+        source: Specifier,
     },
     Shift {
         register: u8,
-        source: Spec,
+        source: Specifier,
     },
     ShiftPair {
         register: u8,
-        source: Spec,
+        source: Specifier,
     },
     /// Nothing but a trap.
     Raise {
@@ -197,14 +197,7 @@ pub fn action_of(instr: Instr) -> Action
         Instr::Xor {
             register,
             destination,
-        } => combine_action(
-            Combination::Xor,
-            Spec {
-                mode: 0,
-                reg: register,
-            },
-            destination,
-        ),
+        } => combine_action(Combination::Xor, Specifier::Register(register), destination),
         Instr::Mul { register, source } => Action::Multiply { register, source },
         Instr::Div { register, source } => Action::Divide { register, source },
         Instr::Ash { register, source } => Action::Shift { register, source },
@@ -274,7 +267,7 @@ fn branch_action(condition: Condition, offset: i8) -> Action
 }
 
 #[inline(always)]
-fn compare_action(comparison: Comparison, source: Spec, destination: Spec) -> Action
+fn compare_action(comparison: Comparison, source: Specifier, destination: Specifier) -> Action
     ensures { result ≡ Compare comparison source destination }
 {
     Action::Compare {
@@ -285,7 +278,7 @@ fn compare_action(comparison: Comparison, source: Spec, destination: Spec) -> Ac
 }
 
 #[inline(always)]
-fn combine_action(combination: Combination, source: Spec, destination: Spec) -> Action
+fn combine_action(combination: Combination, source: Specifier, destination: Specifier) -> Action
     ensures { result ≡ Combine combination source destination }
 {
     Action::Combine {
@@ -296,7 +289,7 @@ fn combine_action(combination: Combination, source: Spec, destination: Spec) -> 
 }
 
 #[inline(always)]
-fn modify_action(modification: Modification, destination: Spec) -> Action
+fn modify_action(modification: Modification, destination: Specifier) -> Action
     ensures { result ≡ Modify modification destination }
 {
     Action::Modify {
@@ -306,7 +299,7 @@ fn modify_action(modification: Modification, destination: Spec) -> Action
 }
 
 #[inline(always)]
-fn replace_action(replacement: Replacement, destination: Spec) -> Action
+fn replace_action(replacement: Replacement, destination: Specifier) -> Action
     ensures { result ≡ Replace replacement destination }
 {
     Action::Replace {

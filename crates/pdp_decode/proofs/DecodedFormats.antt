@@ -3,14 +3,14 @@ use Rattle.std.proofs.Common.{◌≡◌, ℕ, ℤ, ◌<◌, ◌+◌, ◌*◌, �
 use Rattle.std.specs.Int.{w8}
 use Rattle.std.specs.Int.RustNames.{FitsSigned}
 use Rattle.pdp_word.specs.declared.codes.Codes.{Codes}
-use Rattle.pdp_decode.specs.declared.instruction.Spec.{Spec}
+use Rattle.pdp_decode.specs.declared.instruction.Specifier.{Specifier}
 use Rattle.pdp_decode.specs.declared.instruction.Instr.{Instr}
 use Rattle.pdp_decode.specs.declared.instruction.Instr.TheVariants.{Rts, Mark, Sob}
-use Rattle.pdp_decode.specs.Fields.{IsSpec, operand_in}
+use Rattle.pdp_decode.specs.Fields.{RegisterFits, operand_in}
 use Rattle.pdp_decode.specs.Format.{branch_word, single_operand_word, register_operand_word, double_operand_word, code_bits}
 use Rattle.pdp_decode.specs.Table.{row, plain, branch, single_operand, register_operand, double_operand, code_operator, coded_trap, rts, mark, sob, instr_of_word}
 use Rattle.pdp_decode.proofs.Standing.{Stands}
-use Rattle.pdp_decode.proofs.Formats.{operand_in_single, register_in_word, operand_in_register, source_in_double, operand_in_double, offset_below, offset_in_branch, bits_below, codes_in_word}
+use Rattle.pdp_decode.proofs.Formats.{digits_below, operand_in_single, register_in_word, operand_in_register, source_in_double, operand_in_double, offset_below, offset_in_branch, bits_below, codes_in_word}
 
 pub plain_back : (opcode : ℕ) (instr : Instr) → Stands (row opcode opcode (plain instr)) → instr_of_word opcode ≡ instr
 plain_back opcode instr stands = stands opcode (omega arith) (omega arith)
@@ -21,23 +21,26 @@ branch_back opcode instr stands o fits =
     let b = offset_below o fits in
     stands (branch_word opcode o) (omega arith) (omega arith) ∙ ap instr (offset_in_branch opcode o fits)
 
-pub single_back : (opcode : ℕ) (instr : Spec → Instr) → Stands (row (opcode * 0o100) (opcode * 0o100 + 0o77) (single_operand instr))
-    → (s : Spec) → IsSpec s → instr_of_word (single_operand_word opcode s) ≡ instr s
+pub single_back : (opcode : ℕ) (instr : Specifier → Instr) → Stands (row (opcode * 0o100) (opcode * 0o100 + 0o77) (single_operand instr))
+    → (s : Specifier) → RegisterFits s → instr_of_word (single_operand_word opcode s) ≡ instr s
 single_back opcode instr stands s p =
+    let b = digits_below s p in
     stands (single_operand_word opcode s) (omega arith) (omega arith) ∙ ap instr (operand_in_single opcode s p)
 
-pub register_back : (opcode : ℕ) (instr : ℕ → Spec → Instr)
+pub register_back : (opcode : ℕ) (instr : ℕ → Specifier → Instr)
     → Stands (row (opcode * 0o1000) (opcode * 0o1000 + 0o777) (register_operand instr))
-    → (r : ℕ) (s : Spec) → (r < 8) × IsSpec s → instr_of_word (register_operand_word opcode r s) ≡ instr r s
+    → (r : ℕ) (s : Specifier) → (r < 8) × RegisterFits s → instr_of_word (register_operand_word opcode r s) ≡ instr r s
 register_back opcode instr stands r s (l, p) =
+    let b = digits_below s p in
     stands (register_operand_word opcode r s) (omega arith) (omega arith)
     ∙ ap (λ n. instr n (operand_in (register_operand_word opcode r s))) (register_in_word opcode r s l p)
     ∙ ap (instr r) (operand_in_register opcode r s p)
 
-pub double_back : (opcode : ℕ) (instr : Spec → Spec → Instr)
+pub double_back : (opcode : ℕ) (instr : Specifier → Specifier → Instr)
     → Stands (row (opcode * 0o10000) (opcode * 0o10000 + 0o7777) (double_operand instr))
-    → (s d : Spec) → IsSpec s × IsSpec d → instr_of_word (double_operand_word opcode s d) ≡ instr s d
+    → (s d : Specifier) → RegisterFits s × RegisterFits d → instr_of_word (double_operand_word opcode s d) ≡ instr s d
 double_back opcode instr stands s d (p, q) =
+    let b = digits_below s p in let c = digits_below d q in
     stands (double_operand_word opcode s d) (omega arith) (omega arith)
     ∙ ap (λ x. instr x (operand_in (double_operand_word opcode s d))) (source_in_double opcode s d p q)
     ∙ ap (instr s) (operand_in_double opcode s d q)

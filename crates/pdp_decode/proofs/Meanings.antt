@@ -1,7 +1,7 @@
 -- Each row's meaning has its word, section by section.
 use Rattle.std.proofs.Common.{◌≡◌, ℕ, ℤ, ◌+◌, ◌*◌, ◌%◌, inr, refl, ◌∙◌, arith}
 use Rattle.pdp_word.specs.declared.codes.Codes.{Codes}
-use Rattle.pdp_decode.specs.declared.instruction.Spec.{Spec}
+use Rattle.pdp_decode.specs.declared.instruction.Specifier.{Specifier}
 use Rattle.pdp_decode.specs.declared.instruction.Instr.{Instr}
 use Rattle.pdp_decode.specs.declared.instruction.Instr.TheVariants.{Halt, Wait, Rti, Bpt, Iot, Reset, Rtt, Jmp, Jsr, Emt, Trap, ClearCodes, SetCodes, Br, Bne, Beq, Bge, Blt, Bgt, Ble, Bpl, Bmi, Bhi, Blos, Bvc, Bvs, Bcc, Bcs, Mov, Movb, Cmp, Cmpb, Bit, Bitb, Bic, Bicb, Bis, Bisb, Add, Sub, Xor, Mul, Div, Ash, Ashc, Swab, Clr, Clrb, Com, Comb, Inc, Incb, Dec, Decb, Neg, Negb, Adc, Adcb, Sbc, Sbcb, Ror, Rorb, Rol, Rolb, Asr, Asrb, Asl, Aslb, Sxt, Tst, Tstb, Mfpi, Mtpi}
 use Rattle.pdp_decode.specs.Fields.{source_in, operand_in, register_in, offset_in, codes_in}
@@ -17,17 +17,17 @@ branch_has_word : (opcode : ℕ) (instr : ℤ → Instr) → ((o : ℤ) → enco
     → HasWord (row (opcode * 0o400) (opcode * 0o400 + 0o377) (branch instr))
 branch_has_word opcode instr e word p q = inr (e (offset_in word) ∙ branch_of_fields opcode word p q)
 
-single_has_word : (opcode : ℕ) (instr : Spec → Instr) → ((s : Spec) → encode (instr s) ≡ single_operand_word opcode s)
+single_has_word : (opcode : ℕ) (instr : Specifier → Instr) → ((s : Specifier) → encode (instr s) ≡ single_operand_word opcode s)
     → HasWord (row (opcode * 0o100) (opcode * 0o100 + 0o77) (single_operand instr))
 single_has_word opcode instr e word p q = inr (e (operand_in word) ∙ single_of_fields opcode word p q)
 
-register_has_word : (opcode : ℕ) (instr : ℕ → Spec → Instr)
-    → ((r : ℕ) (s : Spec) → encode (instr r s) ≡ register_operand_word opcode r s)
+register_has_word : (opcode : ℕ) (instr : ℕ → Specifier → Instr)
+    → ((r : ℕ) (s : Specifier) → encode (instr r s) ≡ register_operand_word opcode r s)
     → HasWord (row (opcode * 0o1000) (opcode * 0o1000 + 0o777) (register_operand instr))
 register_has_word opcode instr e word p q = inr (e (register_in word) (operand_in word) ∙ register_of_fields opcode word p q)
 
-double_has_word : (opcode : ℕ) (instr : Spec → Spec → Instr)
-    → ((s d : Spec) → encode (instr s d) ≡ double_operand_word opcode s d)
+double_has_word : (opcode : ℕ) (instr : Specifier → Specifier → Instr)
+    → ((s d : Specifier) → encode (instr s d) ≡ double_operand_word opcode s d)
     → HasWord (row (opcode * 0o10000) (opcode * 0o10000 + 0o7777) (double_operand instr))
 double_has_word opcode instr e word p q = inr (e (source_in word) (operand_in word) ∙ double_of_fields opcode word p q)
 

@@ -5,8 +5,9 @@ use Rattle.std.specs.Int.{w8, cast_unsigned}
 use Rattle.std.specs.Int.RustNames.{FitsSigned}
 use Rattle.pdp_word.specs.Bits.{bit_of}
 use Rattle.pdp_word.specs.declared.codes.Codes.{Codes}
+use Rattle.pdp_decode.specs.Fields.{mode_number, register_number}
 use Rattle.pdp_decode.specs.Instruction.{FieldsFit}
-use Rattle.pdp_decode.specs.declared.instruction.Spec.{Spec}
+use Rattle.pdp_decode.specs.declared.instruction.Specifier.{Specifier}
 use Rattle.pdp_decode.specs.declared.instruction.Instr.{Instr}
 use Rattle.pdp_decode.specs.declared.instruction.Instr.TheVariants.{Halt, Wait, Rti, Bpt, Iot}
 use Rattle.pdp_decode.specs.declared.instruction.Instr.TheVariants.{Reset, Rtt, Jmp, Rts, Jsr, Mark}
@@ -24,24 +25,24 @@ use Rattle.pdp_decode.specs.declared.instruction.Instr.TheVariants.{Asrb, Asl, A
 use Rattle.pdp_decode.specs.declared.instruction.Instr.TheVariants.{Mfpi, Mtpi, Reserved}
 
 -- the two octal digits of a specifier
-abbrev pub digits_of : Spec → ℕ
-digits_of spec = spec.mode * 8 + spec.reg
+abbrev pub digits_of : Specifier → ℕ
+digits_of specifier = mode_number specifier * 8 + register_number specifier
 
 -- a branch: the opcode in the high byte, the offset in two's complement in the low byte
 abbrev pub branch_word : ℕ → ℤ → ℕ
 branch_word opcode offset = opcode * 0o400 + cast_unsigned w8 offset
 
 -- an instruction with one operand: ooooDD or ooooSS
-abbrev pub single_operand_word : ℕ → Spec → ℕ
+abbrev pub single_operand_word : ℕ → Specifier → ℕ
 single_operand_word opcode operand = opcode * 0o100 + digits_of operand
 
 -- an instruction with a register and an operand: oooRDD or oooRSS
-abbrev pub register_operand_word : ℕ → ℕ → Spec → ℕ
+abbrev pub register_operand_word : ℕ → ℕ → Specifier → ℕ
 register_operand_word opcode register operand = opcode * 0o1000 + register * 0o100 + digits_of
     operand
 
 -- an instruction with two operands: ooSSDD
-abbrev pub double_operand_word : ℕ → Spec → Spec → ℕ
+abbrev pub double_operand_word : ℕ → Specifier → Specifier → ℕ
 double_operand_word opcode source destination =
     opcode * 0o10000 + digits_of source * 0o100 + digits_of destination
 

@@ -4,17 +4,28 @@ ghost use Rattle.pdp_decode.specs.Instruction.{mnemonic};
 
 use pdp_word::Codes;
 
-/// An operand specifier, six bits of an instruction word: the addressing mode above, the register
-/// below, each from 0 to 7.
+/// An operand specifier, six bits of an instruction word: an addressing mode and the number of its
+/// register, from 0 to 7, where 6 is the stack pointer and 7 the program counter.
 ///
 /// Source: DEC PDP-11/40 Processor Handbook (1972), Addressing modes.
 #[derive(Clone, Copy)]
-pub struct Spec {
-    /// The addressing mode: 0 register, 2 autoincrement, 4 autodecrement, 6 index; 1, 3, 5 and 7
-    /// are deferred.
-    pub mode: u8,
-    /// The register: 6 is the stack pointer, 7 the program counter.
-    pub reg: u8,
+pub enum Specifier {
+    /// R, mode 0 [3.1]: the operand is the register.
+    Register(u8),
+    /// (R), mode 1 [3.2]: the register has the operand's address.
+    Deferred(u8),
+    /// (R)+, mode 2 [3.3]: the same, and the register grows.
+    Autoincrement(u8),
+    /// @(R)+, mode 3 [3.4]: the register has the address of the operand's address, and grows.
+    AutoincrementDeferred(u8),
+    /// -(R), mode 4 [3.5]: the register shrinks, and has the operand's address then.
+    Autodecrement(u8),
+    /// @-(R), mode 5 [3.6]: the register shrinks, and has the address of the operand's address.
+    AutodecrementDeferred(u8),
+    /// X(R), mode 6 [3.7]: the operand is at the register plus the word at PC.
+    Index(u8),
+    /// @X(R), mode 7 [3.8]: the operand's address is there.
+    IndexDeferred(u8),
 }
 
 /// A decoded instruction word.
@@ -40,147 +51,304 @@ pub enum Instr {
     /// RTT, 000006 [4.51]: RTI, but no trace trap comes before the next instruction.
     Rtt,
     /// JMP, 0001DD [4.43]: PC becomes the address of the destination.
-    Jmp { destination: Spec },
+    Jmp {
+        destination: Specifier,
+    },
     /// RTS, 00020R [4.45]: PC becomes the register, and the register is popped.
-    Rts { register: u8 },
+    Rts {
+        register: u8,
+    },
     /// JSR, 004RDD [4.44]: the register is pushed and becomes PC, and PC the address of the
     /// destination.
-    Jsr { register: u8, destination: Spec },
+    Jsr {
+        register: u8,
+        destination: Specifier,
+    },
     /// MARK, 0064NN [4.46]: SP becomes PC plus that many words, PC becomes R5, and R5 is popped.
-    Mark { words: u8 },
+    Mark {
+        words: u8,
+    },
     /// SOB, 077RNN [4.47]: the register less 1; if that isn't 0, PC falls by that many words.
-    Sob { register: u8, words: u8 },
+    Sob {
+        register: u8,
+        words: u8,
+    },
     /// EMT, 104000 to 104377 [4.49]: a trap through 30; the code is left to the program.
-    Emt { code: u8 },
+    Emt {
+        code: u8,
+    },
     /// TRAP, 104400 to 104777 [4.49]: a trap through 34; the code is left to the program.
-    Trap { code: u8 },
+    Trap {
+        code: u8,
+    },
     /// 000240 to 000257, CLN, CLZ, CLV, CLC and their sums [4.65]: these condition codes are
     /// cleared.
-    ClearCodes { codes: Codes },
+    ClearCodes {
+        codes: Codes,
+    },
     /// 000260 to 000277, SEN, SEZ, SEV, SEC and their sums [4.65]: these condition codes are set.
-    SetCodes { codes: Codes },
+    SetCodes {
+        codes: Codes,
+    },
     /// BR, 000400 to 000777 [4.61]: the offset counts words from the PC that follows the
     /// instruction.
-    Br { offset: i8 },
+    Br {
+        offset: i8,
+    },
     /// BNE, 001000 to 001377 [4.62]: BR if Z is clear.
-    Bne { offset: i8 },
+    Bne {
+        offset: i8,
+    },
     /// BEQ, 001400 to 001777 [4.63]: BR if Z is set.
-    Beq { offset: i8 },
+    Beq {
+        offset: i8,
+    },
     /// BGE, 002000 to 002377 [4.64]: BR if N equals V.
-    Bge { offset: i8 },
+    Bge {
+        offset: i8,
+    },
     /// BLT, 002400 to 002777 [4.61]: BR if N differs from V.
-    Blt { offset: i8 },
+    Blt {
+        offset: i8,
+    },
     /// BGT, 003000 to 003377 [4.62]: BR if Z is clear and N equals V.
-    Bgt { offset: i8 },
+    Bgt {
+        offset: i8,
+    },
     /// BLE, 003400 to 003777 [4.63]: BR if Z is set or N differs from V.
-    Ble { offset: i8 },
+    Ble {
+        offset: i8,
+    },
     /// BPL, 100000 to 100377 [4.64]: BR if N is clear.
-    Bpl { offset: i8 },
+    Bpl {
+        offset: i8,
+    },
     /// BMI, 100400 to 100777 [4.64]: BR if N is set.
-    Bmi { offset: i8 },
+    Bmi {
+        offset: i8,
+    },
     /// BHI, 101000 to 101377 [4.61]: BR if C and Z are clear.
-    Bhi { offset: i8 },
+    Bhi {
+        offset: i8,
+    },
     /// BLOS, 101400 to 101777 [4.62]: BR if C or Z is set.
-    Blos { offset: i8 },
+    Blos {
+        offset: i8,
+    },
     /// BVC, 102000 to 102377 [4.63]: BR if V is clear.
-    Bvc { offset: i8 },
+    Bvc {
+        offset: i8,
+    },
     /// BVS, 102400 to 102777 [4.63]: BR if V is set.
-    Bvs { offset: i8 },
+    Bvs {
+        offset: i8,
+    },
     /// BCC, 103000 to 103377 [4.64]: BR if C is clear.
-    Bcc { offset: i8 },
+    Bcc {
+        offset: i8,
+    },
     /// BCS, 103400 to 103777 [4.64]: BR if C is set.
-    Bcs { offset: i8 },
+    Bcs {
+        offset: i8,
+    },
     /// MOV, 01SSDD [4.1]: the source goes to the destination.
-    Mov { source: Spec, destination: Spec },
+    Mov {
+        source: Specifier,
+        destination: Specifier,
+    },
     /// MOVB, 11SSDD [4.1]: the source byte goes to the destination.
-    Movb { source: Spec, destination: Spec },
+    Movb {
+        source: Specifier,
+        destination: Specifier,
+    },
     /// CMP, 02SSDD [4.2]: the condition codes are set by the source less the destination.
-    Cmp { source: Spec, destination: Spec },
+    Cmp {
+        source: Specifier,
+        destination: Specifier,
+    },
     /// CMPB, 12SSDD [4.2]: CMP of bytes.
-    Cmpb { source: Spec, destination: Spec },
+    Cmpb {
+        source: Specifier,
+        destination: Specifier,
+    },
     /// BIT, 03SSDD [4.3]: the condition codes are set by the bits that are set in both.
-    Bit { source: Spec, destination: Spec },
+    Bit {
+        source: Specifier,
+        destination: Specifier,
+    },
     /// BITB, 13SSDD [4.3]: BIT of bytes.
-    Bitb { source: Spec, destination: Spec },
+    Bitb {
+        source: Specifier,
+        destination: Specifier,
+    },
     /// BIC, 04SSDD [4.4]: the bits that are set in the source are cleared in the destination.
-    Bic { source: Spec, destination: Spec },
+    Bic {
+        source: Specifier,
+        destination: Specifier,
+    },
     /// BICB, 14SSDD [4.4]: BIC of bytes.
-    Bicb { source: Spec, destination: Spec },
+    Bicb {
+        source: Specifier,
+        destination: Specifier,
+    },
     /// BIS, 05SSDD [4.5]: the bits that are set in the source are set in the destination.
-    Bis { source: Spec, destination: Spec },
+    Bis {
+        source: Specifier,
+        destination: Specifier,
+    },
     /// BISB, 15SSDD [4.5]: BIS of bytes.
-    Bisb { source: Spec, destination: Spec },
+    Bisb {
+        source: Specifier,
+        destination: Specifier,
+    },
     /// ADD, 06SSDD [4.6]: the source is added to the destination.
-    Add { source: Spec, destination: Spec },
+    Add {
+        source: Specifier,
+        destination: Specifier,
+    },
     /// SUB, 16SSDD [4.7]: the source is subtracted from the destination.
-    Sub { source: Spec, destination: Spec },
+    Sub {
+        source: Specifier,
+        destination: Specifier,
+    },
     /// XOR, 074RDD [4.8]: the destination becomes its exclusive or with the register.
-    Xor { register: u8, destination: Spec },
+    Xor {
+        register: u8,
+        destination: Specifier,
+    },
     /// MUL, 070RSS [4.23]: the signed product with the source, in the register and its odd
     /// neighbour.
-    Mul { register: u8, source: Spec },
+    Mul {
+        register: u8,
+        source: Specifier,
+    },
     /// DIV, 071RSS [4.24]: the register and its odd neighbour are divided by the source.
-    Div { register: u8, source: Spec },
+    Div {
+        register: u8,
+        source: Specifier,
+    },
     /// ASH, 072RSS [4.25]: the register is shifted by the source.
-    Ash { register: u8, source: Spec },
+    Ash {
+        register: u8,
+        source: Specifier,
+    },
     /// ASHC, 073RSS [4.26]: the register and its odd neighbour are shifted by the source.
-    Ashc { register: u8, source: Spec },
+    Ashc {
+        register: u8,
+        source: Specifier,
+    },
     /// SWAB, 0003DD [4.21]: the bytes of the destination are exchanged.
-    Swab { destination: Spec },
+    Swab {
+        destination: Specifier,
+    },
     /// CLR, 0050DD [4.9]: the destination becomes 0.
-    Clr { destination: Spec },
+    Clr {
+        destination: Specifier,
+    },
     /// CLRB, 1050DD [4.9]: CLR of a byte.
-    Clrb { destination: Spec },
+    Clrb {
+        destination: Specifier,
+    },
     /// COM, 0051DD [4.10]: the destination becomes its complement.
-    Com { destination: Spec },
+    Com {
+        destination: Specifier,
+    },
     /// COMB, 1051DD [4.10]: COM of a byte.
-    Comb { destination: Spec },
+    Comb {
+        destination: Specifier,
+    },
     /// INC, 0052DD [4.11]: 1 is added to the destination.
-    Inc { destination: Spec },
+    Inc {
+        destination: Specifier,
+    },
     /// INCB, 1052DD [4.11]: INC of a byte.
-    Incb { destination: Spec },
+    Incb {
+        destination: Specifier,
+    },
     /// DEC, 0053DD [4.12]: 1 is subtracted from the destination.
-    Dec { destination: Spec },
+    Dec {
+        destination: Specifier,
+    },
     /// DECB, 1053DD [4.12]: DEC of a byte.
-    Decb { destination: Spec },
+    Decb {
+        destination: Specifier,
+    },
     /// NEG, 0054DD [4.13]: the destination is negated.
-    Neg { destination: Spec },
+    Neg {
+        destination: Specifier,
+    },
     /// NEGB, 1054DD [4.13]: NEG of a byte.
-    Negb { destination: Spec },
+    Negb {
+        destination: Specifier,
+    },
     /// ADC, 0055DD [4.14]: C is added to the destination.
-    Adc { destination: Spec },
+    Adc {
+        destination: Specifier,
+    },
     /// ADCB, 1055DD [4.14]: ADC of a byte.
-    Adcb { destination: Spec },
+    Adcb {
+        destination: Specifier,
+    },
     /// SBC, 0056DD [4.15]: C is subtracted from the destination.
-    Sbc { destination: Spec },
+    Sbc {
+        destination: Specifier,
+    },
     /// SBCB, 1056DD [4.15]: SBC of a byte.
-    Sbcb { destination: Spec },
+    Sbcb {
+        destination: Specifier,
+    },
     /// ROR, 0060DD [4.17]: the destination is rotated right through C.
-    Ror { destination: Spec },
+    Ror {
+        destination: Specifier,
+    },
     /// RORB, 1060DD [4.17]: ROR of a byte.
-    Rorb { destination: Spec },
+    Rorb {
+        destination: Specifier,
+    },
     /// ROL, 0061DD [4.18]: the destination is rotated left through C.
-    Rol { destination: Spec },
+    Rol {
+        destination: Specifier,
+    },
     /// ROLB, 1061DD [4.18]: ROL of a byte.
-    Rolb { destination: Spec },
+    Rolb {
+        destination: Specifier,
+    },
     /// ASR, 0062DD [4.19]: the destination is shifted right and keeps its sign.
-    Asr { destination: Spec },
+    Asr {
+        destination: Specifier,
+    },
     /// ASRB, 1062DD [4.19]: ASR of a byte.
-    Asrb { destination: Spec },
+    Asrb {
+        destination: Specifier,
+    },
     /// ASL, 0063DD [4.20]: the destination is shifted left.
-    Asl { destination: Spec },
+    Asl {
+        destination: Specifier,
+    },
     /// ASLB, 1063DD [4.20]: ASL of a byte.
-    Aslb { destination: Spec },
+    Aslb {
+        destination: Specifier,
+    },
     /// SXT, 0067DD [4.22]: the destination becomes 0, or 177777 if N is set.
-    Sxt { destination: Spec },
+    Sxt {
+        destination: Specifier,
+    },
     /// TST, 0057DD [4.16]: the condition codes are set by the destination.
-    Tst { destination: Spec },
+    Tst {
+        destination: Specifier,
+    },
     /// TSTB, 1057DD [4.16]: the condition codes are set by the byte.
-    Tstb { destination: Spec },
+    Tstb {
+        destination: Specifier,
+    },
     /// MFPI, 0065SS [4.33]: the source, in the space of the previous mode, is pushed.
-    Mfpi { source: Spec },
+    Mfpi {
+        source: Specifier,
+    },
     /// MTPI, 0066DD [4.34]: a word is popped to the destination, in the space of the previous mode.
-    Mtpi { destination: Spec },
+    Mtpi {
+        destination: Specifier,
+    },
     /// Any word that the table doesn't name [4.66].
     Reserved,
 }

@@ -22,7 +22,7 @@ mod instruction;
 mod laws;
 
 pub use decoding::decode;
-pub use instruction::{Instr, Spec, name_of};
+pub use instruction::{Instr, Specifier, name_of};
 pub use laws::{
     decoded_instructions_have_their_word, encoded_instructions_decode_back, rows_never_meet,
     sections_are_one_table,

@@ -4,7 +4,7 @@ use Rattle.std.specs.Int.{w8}
 use Rattle.std.specs.Int.RustNames.{FitsSigned}
 use Rattle.std.proofs.lemmas.Int.{ints}
 use Rattle.pdp_decode.specs.declared.instruction.Instr.{Instr}
-use Rattle.pdp_decode.specs.Fields.{IsSpec, source_in, operand_in, register_in, last_register_in, word_count_in, code_in, offset_in}
+use Rattle.pdp_decode.specs.Fields.{RegisterFits, source_in, operand_in, register_in, last_register_in, word_count_in, code_in, offset_in}
 use Rattle.pdp_decode.specs.Format.{IsEncodable}
 use Rattle.pdp_decode.specs.Table.{Row, Section, table, control, branches, single_operands, double_operands, register_operands, high_branches, traps, byte_single_operands, high_double_operands, instr_of_word, decoded_by, decoded_in}
 use Rattle.pdp_decode.proofs.Ascending.{choice}
@@ -40,13 +40,13 @@ sections_fit (s ∷ sections) (here, rest) word =
 nothing_to_fit : (word : ℕ) → Unit {0}
 nothing_to_fit word = tt
 
-operand_fits : (word : ℕ) → IsSpec (operand_in word)
+operand_fits : (word : ℕ) → RegisterFits (operand_in word)
 operand_fits word = record { mode = omega arith; reg = omega arith }
 
-register_and_operand_fit : (word : ℕ) → (register_in word < 8) × IsSpec (operand_in word)
+register_and_operand_fit : (word : ℕ) → (register_in word < 8) × RegisterFits (operand_in word)
 register_and_operand_fit word = (omega arith, operand_fits word)
 
-both_operands_fit : (word : ℕ) → IsSpec (source_in word) × IsSpec (operand_in word)
+both_operands_fit : (word : ℕ) → RegisterFits (source_in word) × RegisterFits (operand_in word)
 both_operands_fit word = (record { mode = omega arith; reg = omega arith }, operand_fits word)
 
 last_register_fits : (word : ℕ) → last_register_in word < 8

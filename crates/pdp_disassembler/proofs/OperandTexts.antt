@@ -7,9 +7,9 @@ use Rattle.std.proofs.lemmas.Bool.Decides.{nat_tests}
 use Rattle.std.proofs.lemmas.List.{append-nil}
 use Rattle.std.proofs.lemmas.List.Folds.{list_all-append}
 use Rattle.pdp_word.specs.Number.{is_digit, worth}
-use Rattle.pdp_decode.specs.Fields.{IsSpec}
+use Rattle.pdp_decode.specs.Fields.{RegisterFits}
 use Rattle.pdp_decode.specs.Format.{digits_of}
-use Rattle.pdp_decode.specs.declared.instruction.Spec.{Spec}
+use Rattle.pdp_decode.specs.declared.instruction.Specifier.{Specifier}
 use Rattle.pdp_disassembler.specs.Operands.{takes_word}
 use Rattle.pdp_disassembler.specs.Text.{octal_text, operand_text, register_name, relative_target}
 use Rattle.pdp_disassembler.proofs.Cutting.{front, beyond, stops, front-append, beyond-append}
@@ -156,10 +156,10 @@ below_eight P a b c d e f g h (suc (suc (suc (suc (suc (suc (suc zero))))))) l =
 below_eight P a b c d e f g h (suc (suc (suc (suc (suc (suc (suc (suc n)))))))) l = absurd (omega arith)
 
 -- an operand's word, if it has one
-abbrev pub own_words : Spec → ℕ → List ℕ
+abbrev pub own_words : Specifier → ℕ → List ℕ
 own_words operand word = if takes_word operand then word ∷ [] else []
 
-abbrev Says : ℕ → ℕ → Spec → Type 0
+abbrev Says : ℕ → ℕ → Specifier → Type 0
 Says address word operand =
     SaysOperand address (operand_text address word operand) (digits_of operand) (own_words operand word)
 
@@ -265,7 +265,7 @@ module _ (address word : ℕ) (fits : word < 0o200000) where
       (let P : ℕ → Type 0 = λ back. SaysOperand address (codes "@" ++ octal_text (relative_target address word)) 0o77 (back ∷ []) in
       subst P (relative_back address word fits) (bare_says address (relative_target address word) (relative_fits address word) (codes "@") refl refl))
 
-  pub operand_says : (operand : Spec) → IsSpec operand → Says address word operand
+  pub operand_says : (operand : Specifier) → RegisterFits operand → Says address word operand
   operand_says operand is =
       let P : ℕ → Type 0 = λ mode. (reg : ℕ) → reg < 8 → At mode reg in
       below_eight P mode_0 mode_1 mode_2 mode_3 mode_4 mode_5 mode_6 mode_7 operand.mode is.mode operand.reg is.reg

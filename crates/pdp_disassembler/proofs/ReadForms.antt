@@ -8,9 +8,9 @@ use Rattle.std.proofs.lemmas.Bool.Decides.{nat_tests}
 use Rattle.pdp_word.specs.Word.{less}
 use Rattle.pdp_word.specs.Number.{octal_digits, worth}
 use Rattle.pdp_word.proofs.Digits.{worth-octal_digits}
-use Rattle.pdp_decode.specs.Fields.{IsSpec}
+use Rattle.pdp_decode.specs.Fields.{RegisterFits}
 use Rattle.pdp_decode.specs.Format.{digits_of}
-use Rattle.pdp_decode.specs.declared.instruction.Spec.{Spec}
+use Rattle.pdp_decode.specs.declared.instruction.Specifier.{Specifier}
 use Rattle.pdp_disassembler.specs.Operands.{takes_word}
 use Rattle.pdp_disassembler.specs.Text.{branch_target, further, loop_target, octal_text, operand_text, register_name, second_text}
 use Rattle.pdp_disassembler.proofs.Assembler.{Numbered, Branching, Looping, One, Two, Swapped, Directive, after_comma, assembled, offset_back, words_back}
@@ -94,7 +94,7 @@ module _ (base address : ℕ) (first second : List ℕ) (code : ℕ) (words : Li
       ) refl
 
 -- the second of two operands
-pub second_says : (address next last : ℕ) (first second : Spec) → IsSpec second → next < 0o200000 → last < 0o200000
+pub second_says : (address next last : ℕ) (first second : Specifier) → RegisterFits second → next < 0o200000 → last < 0o200000
     → SaysOperand (further address (2 + 2 * length (own_words first next))) (second_text address next last first second)
     (digits_of second) (own_words second (if takes_word first then last else next))
 second_says address next last first second is next_fits last_fits = by_first (takes_word first)

@@ -2,12 +2,12 @@
 use Rattle.std.proofs.Common.{◌≡◌, ℕ, ◌+◌, ◌*◌, ◌<◌, inl, inr, lit<, take, Bool, true, false, List, [], ◌∷◌, ◌++◌, length, refl, sym, ap, subst, ◌∙◌, arith}
 use Rattle.std.specs.Prelude.{codes, if◌then◌else◌}
 use Rattle.std.proofs.lemmas.List.{append-nil}
-use Rattle.pdp_decode.specs.Fields.{IsSpec}
+use Rattle.pdp_decode.specs.Fields.{RegisterFits}
 use Rattle.pdp_decode.specs.Format.{IsEncodable, IsOfWord, digits_of, encode}
 use Rattle.pdp_decode.specs.Table.{instr_of_word}
 use Rattle.pdp_decode.proofs.Meanings.{decoded_has_word}
 use Rattle.pdp_disassembler.proofs.FittingFields.{decoded_fits}
-use Rattle.pdp_decode.specs.declared.instruction.Spec.{Spec}
+use Rattle.pdp_decode.specs.declared.instruction.Specifier.{Specifier}
 use Rattle.pdp_decode.specs.declared.instruction.Instr.{Instr}
 use Rattle.pdp_decode.specs.declared.instruction.Instr.TheVariants.{Halt, Wait, Rti, Bpt, Iot, Reset, Rtt, Jmp, Rts, Jsr, Mark, Sob, Emt, Trap, ClearCodes, SetCodes, Br, Bne, Beq, Bge, Blt, Bgt, Ble, Bpl, Bmi, Bhi, Blos, Bvc, Bvs, Bcc, Bcs, Mov, Movb, Cmp, Cmpb, Bit, Bitb, Bic, Bicb, Bis, Bisb, Add, Sub, Xor, Mul, Div, Ash, Ashc, Swab, Clr, Clrb, Com, Comb, Inc, Incb, Dec, Decb, Neg, Negb, Adc, Adcb, Sbc, Sbcb, Ror, Rorb, Rol, Rolb, Asr, Asrb, Asl, Aslb, Sxt, Tst, Tstb, Mfpi, Mtpi, Reserved}
 use Rattle.pdp_disassembler.specs.Operands.{operands_of, takes_word, words_that_follow}
@@ -43,13 +43,13 @@ module _ (address word next last : ℕ) (fits : word < 0o200000) (next_fits : ne
   abbrev own : ℕ
   own = further address 2
 
-  one : (base : ℕ) (operand : Spec) → IsSpec operand
+  one : (base : ℕ) (operand : Specifier) → RegisterFits operand
       → assembled One base address (operand_text own next operand) ≡ (base + digits_of operand) ∷ own_words operand next
   one base operand is =
       one_back base address (operand_text own next operand) (digits_of operand) (own_words operand next)
       (operand_says own next next_fits operand is)
 
-  two : (base : ℕ) (source destination : Spec) → IsSpec source → IsSpec destination
+  two : (base : ℕ) (source destination : Specifier) → RegisterFits source → RegisterFits destination
       → assembled Two base address
       (operand_text own next source ++ codes "," ++ second_text address next last source destination)
       ≡ (base + digits_of source * 0o100 + digits_of destination)
@@ -60,7 +60,7 @@ module _ (address word next last : ℕ) (fits : word < 0o200000) (next_fits : ne
       (digits_of destination) (own_words destination (if takes_word source then last else next))
       (second_says address next last source destination d next_fits last_fits)
 
-  first : (base register : ℕ) (operand : Spec) → register < 8 → IsSpec operand
+  first : (base register : ℕ) (operand : Specifier) → register < 8 → RegisterFits operand
       → assembled Two base address (register_name register ++ codes "," ++ operand_text own next operand)
       ≡ (base + register * 0o100 + digits_of operand) ∷ own_words operand next
   first base register operand l is =
@@ -68,7 +68,7 @@ module _ (address word next last : ℕ) (fits : word < 0o200000) (next_fits : ne
       (register_says own register l) (digits_of operand) (own_words operand next) (operand_says own next next_fits operand is)
 
   -- a register after an operand; its address plays no part
-  second : (base register : ℕ) (operand : Spec) → register < 8 → IsSpec operand
+  second : (base register : ℕ) (operand : Specifier) → register < 8 → RegisterFits operand
       → assembled Swapped base address (operand_text own next operand ++ codes "," ++ register_name register)
       ≡ (base + register * 0o100 + digits_of operand) ∷ own_words operand next
   second base register operand l is =

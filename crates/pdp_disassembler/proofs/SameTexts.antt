@@ -2,7 +2,7 @@
 use Rattle.std.proofs.Common.{◌≡◌, ℕ, zero, suc, Bool, true, false, List, [], ◌∷◌, ◌++◌, refl, ap, ◌∙◌, arith}
 use Rattle.std.specs.Prelude.{◌==◌, ◌&&◌, ◌||◌, codes, nat_le, if◌then◌else◌}
 use Rattle.std.proofs.lemmas.Bool.Decides.{nat_tests}
-use Rattle.pdp_decode.specs.declared.instruction.Spec.{Spec}
+use Rattle.pdp_decode.specs.declared.instruction.Specifier.{Specifier}
 use Rattle.pdp_disassembler.specs.Operands.{takes_word}
 use Rattle.pdp_disassembler.specs.Text.{first_text, further, moded_text, octal_text, operand_text, operands_text, register_name, relative_target, second_text}
 use Rattle.pdp_disassembler.specs.declared.operands.Operands.{Operands}
@@ -40,7 +40,7 @@ unshown address word other name true (suc (suc (suc (suc (suc (suc mode)))))) h 
 unshown address word other name false (suc (suc (suc (suc (suc (suc mode)))))) h = absurd (grind (arith, nat_tests))
 
 -- an operand whose own words are the same has the same text
-same_operand : (address word other : ℕ) (operand : Spec) → own_words operand word ≡ own_words operand other
+same_operand : (address word other : ℕ) (operand : Specifier) → own_words operand word ≡ own_words operand other
     → operand_text address word operand ≡ operand_text address other operand
 unfolding operand_text
 same_operand address word other operand same = by_taking (takes_word operand) refl same
@@ -51,7 +51,7 @@ same_operand address word other operand same = by_taking (takes_word operand) re
     by_taking true e words = let equal : word ≡ other = cc in ap (λ w. operand_text address w operand) equal
     by_taking false e words = unshown address word other (register_name operand.reg) (operand.reg == 7) operand.mode e
 
-same_second : (address next last other another : ℕ) (first second : Spec)
+same_second : (address next last other another : ℕ) (first second : Specifier)
     → own_words first next ++ own_words second (if takes_word first then last else next)
     ≡ own_words first other ++ own_words second (if takes_word first then another else other)
     → (first_text address next first ≡ first_text address other first)

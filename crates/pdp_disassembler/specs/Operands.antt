@@ -2,8 +2,8 @@
 -- (DEC PDP-11/40 Processor Handbook (1972), Instruction set and Addressing modes).
 use Rattle.std.specs.Prelude.{ℕ, Bool, ◌+◌, ◌<◌, ◌&&◌, ◌||◌, ◌==◌, not, nat_le, if◌then◌else◌}
 use Rattle.pdp_word.specs.declared.codes.Codes.{Codes}
-use Rattle.pdp_decode.specs.Fields.{IsSpec}
-use Rattle.pdp_decode.specs.declared.instruction.Spec.{Spec}
+use Rattle.pdp_decode.specs.Fields.{RegisterFits}
+use Rattle.pdp_decode.specs.declared.instruction.Specifier.{Specifier}
 use Rattle.pdp_decode.specs.declared.instruction.Instr.{Instr}
 use Rattle.pdp_decode.specs.declared.instruction.Instr.TheVariants.{Halt, Wait, Rti, Bpt, Iot}
 use Rattle.pdp_decode.specs.declared.instruction.Instr.TheVariants.{Reset, Rtt, Jmp, Rts, Jsr, Mark}
@@ -112,14 +112,14 @@ operands_of (Mtpi operand) = Single operand
 operands_of Reserved = Word
 
 -- an immediate or absolute operand: autoincrement of PC
-abbrev pub is_immediate : Spec → Bool
+abbrev pub is_immediate : Specifier → Bool
 is_immediate operand = operand.reg == 7 && (operand.mode == 2 || operand.mode == 3)
 
 -- an operand has a word of its own: an index, an immediate value or an absolute address
-abbrev pub takes_word : Spec → Bool
+abbrev pub takes_word : Specifier → Bool
 takes_word operand = nat_le 6 operand.mode || is_immediate operand
 
-abbrev pub words_of_operand : Spec → ℕ
+abbrev pub words_of_operand : Specifier → ℕ
 words_of_operand operand = if takes_word operand then 1 else 0
 
 -- how many words of the operands follow the instruction word
@@ -135,8 +135,8 @@ words_that_follow _ = 0
 abbrev pub OperandsFit : Operands → Type 0
 OperandsFit (Register register) = register < 8
 OperandsFit (Loop register words) = register < 8
-OperandsFit (Single operand) = IsSpec operand
-OperandsFit (RegisterFirst register operand) = (register < 8) × IsSpec operand
-OperandsFit (RegisterLast operand register) = IsSpec operand × (register < 8)
-OperandsFit (Double source destination) = IsSpec source × IsSpec destination
+OperandsFit (Single operand) = RegisterFits operand
+OperandsFit (RegisterFirst register operand) = (register < 8) × RegisterFits operand
+OperandsFit (RegisterLast operand register) = RegisterFits operand × (register < 8)
+OperandsFit (Double source destination) = RegisterFits source × RegisterFits destination
 OperandsFit _ = Unit {0}

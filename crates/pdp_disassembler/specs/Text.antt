@@ -9,7 +9,7 @@ use Rattle.pdp_word.specs.Word.{less}
 use Rattle.pdp_word.specs.declared.codes.Codes.{Codes}
 use Rattle.pdp_decode.specs.Instruction.{mnemonic}
 use Rattle.pdp_decode.specs.Table.{instr_of_word}
-use Rattle.pdp_decode.specs.declared.instruction.Spec.{Spec}
+use Rattle.pdp_decode.specs.declared.instruction.Specifier.{Specifier}
 use Rattle.pdp_decode.specs.declared.instruction.Instr.{Instr}
 use Rattle.pdp_decode.specs.declared.instruction.Instr.TheVariants.{ClearCodes, SetCodes, Reserved}
 use Rattle.pdp_disassembler.specs.Operands.{is_of_no_code, operands_of, takes_word}
@@ -62,7 +62,7 @@ abbrev pub relative_target : ℕ → ℕ → ℕ
 relative_target address word = further (address + 2) word
 
 -- an operand; its word, if it has one, is at this address
-unfoldable pub operand_text : ℕ → ℕ → Spec → List ℕ
+unfoldable pub operand_text : ℕ → ℕ → Specifier → List ℕ
 operand_text address word operand =
     if operand.reg == 7 && operand.mode == 2 then codes "#" ++ octal_text word
     else if operand.reg == 7 && operand.mode == 3 then codes "@#" ++ octal_text word
@@ -72,11 +72,11 @@ operand_text address word operand =
     else moded_text operand.mode word (register_name operand.reg)
 
 -- an instruction's only or first operand: its word comes after the instruction word
-abbrev pub first_text : ℕ → ℕ → Spec → List ℕ
+abbrev pub first_text : ℕ → ℕ → Specifier → List ℕ
 first_text address next operand = operand_text (further address 2) next operand
 
 -- an instruction's second operand: its word comes after that of the first, if that has one
-abbrev pub second_text : ℕ → ℕ → ℕ → Spec → Spec → List ℕ
+abbrev pub second_text : ℕ → ℕ → ℕ → Specifier → Specifier → List ℕ
 second_text address next last first second =
     if takes_word first then operand_text (further address 4) last second
     else first_text address next second

@@ -1,6 +1,6 @@
 // The instruction at an address.
 ghost use Rattle.std.specs.Prelude.{◌≡◌, ◌+◌, ◌≤◌, ◌++◌, length, slice_index};
-ghost use Rattle.pdp_decode.specs.Fields.{IsSpec};
+ghost use Rattle.pdp_decode.specs.Fields.{RegisterFits};
 ghost use Rattle.pdp_disassembler.specs.Operands.{OperandsFit};
 ghost use Rattle.pdp_disassembler.specs.Text.{branch_target, instruction_text, loop_target};
 ghost use Rattle.pdp_disassembler.specs.Text.{operands_text, second_text, word_count};
@@ -8,7 +8,7 @@ ghost use Rattle.pdp_disassembler.specs.Text.{operands_text, second_text, word_c
 use crate::operands::{Operands, operands_of, takes_word};
 use crate::operators::operator_of;
 use crate::texts::{InstructionText, LONGEST_TEXT, add, add_octal, add_operand, add_register};
-use pdp_decode::{Spec, decode};
+use pdp_decode::{Specifier, decode};
 use pdp_word::write_octal6;
 
 /// An instruction as text.
@@ -97,8 +97,8 @@ fn add_operands(text: &mut InstructionText, address: u16, words: [u16; 3], opera
 }
 
 // Adds the second operand. The words are the two that follow the instruction word.
-fn add_second(text: &mut InstructionText, address: u16, words: [u16; 2], first: Spec, second: Spec)
-    requires valid { IsSpec second }
+fn add_second(text: &mut InstructionText, address: u16, words: [u16; 2], first: Specifier, second: Specifier)
+    requires valid { RegisterFits second }
     requires room { length text.old.items + 11 ≤ LONGEST_TEXT }
     ensures { text.new.items ≡ text.old.items
         ++ second_text address (slice_index words 0) (slice_index words 1) first second }

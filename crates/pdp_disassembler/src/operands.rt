@@ -4,7 +4,7 @@ ghost use Rattle.pdp_decode.specs.Instruction.{FieldsFit};
 ghost use Rattle.pdp_disassembler.specs.Operands.{OperandsFit, is_immediate, operands_of};
 ghost use Rattle.pdp_disassembler.specs.Operands.{takes_word, words_of_operand, words_that_follow};
 
-use pdp_decode::{Instr, Spec};
+use pdp_decode::{Instr, Specifier};
 use pdp_word::Codes;
 
 /// The operands of an instruction, in the order of its text.
@@ -23,13 +23,13 @@ pub enum Operands {
     /// SOB: its register, and how many words its target is before that PC.
     Loop { register: u8, words: u8 },
     /// One operand with a mode.
-    Single(Spec),
+    Single(Specifier),
     /// A register, and an operand with a mode.
-    RegisterFirst { register: u8, operand: Spec },
+    RegisterFirst { register: u8, operand: Specifier },
     /// An operand with a mode, and a register.
-    RegisterLast { operand: Spec, register: u8 },
+    RegisterLast { operand: Specifier, register: u8 },
     /// Two operands with modes.
-    Double { source: Spec, destination: Spec },
+    Double { source: Specifier, destination: Specifier },
     /// The instruction word itself, for `.WORD`.
     Word,
 }
@@ -198,7 +198,7 @@ impl Operands {
 }
 
 /// How many words an operand has of its own.
-pub fn words_of(operand: Spec) -> usize
+pub fn words_of(operand: Specifier) -> usize
     ensures { result ≡ words_of_operand operand }
 {
     if takes_word(operand) { 1 } else { 0 }
@@ -206,14 +206,14 @@ pub fn words_of(operand: Spec) -> usize
 
 /// Whether an operand has a word of its own. The index modes do, of which the relative ones are a
 /// case, and so do immediate and absolute operands.
-pub fn takes_word(operand: Spec) -> bool
+pub fn takes_word(operand: Specifier) -> bool
     ensures { result ≡ takes_word operand }
 {
     operand.mode >= 6 || is_immediate(operand)
 }
 
 // Whether an operand is immediate or absolute: autoincrement of PC.
-fn is_immediate(operand: Spec) -> bool
+fn is_immediate(operand: Specifier) -> bool
     ensures { result ≡ is_immediate operand }
 {
     operand.reg == 7 && (operand.mode == 2 || operand.mode == 3)

@@ -1,11 +1,11 @@
 // The pieces of a text.
 ghost use Rattle.std.specs.Prelude.{◌≡◌, ◌+◌, ◌≤◌, ◌<◌, ◌++◌, length};
-ghost use Rattle.pdp_decode.specs.Fields.{IsSpec};
+ghost use Rattle.pdp_decode.specs.Fields.{RegisterFits};
 ghost use Rattle.pdp_disassembler.specs.Text.{moded_text, octal_text, operand_text, register_name};
 ghost use Rattle.pdp_disassembler.specs.Text.{relative_target};
 
 use arrayvec::ArrayVec;
-use pdp_decode::Spec;
+use pdp_decode::Specifier;
 use pdp_word::write_octal6;
 
 /// The most bytes that a text has room for.
@@ -58,8 +58,8 @@ pub fn add_register(text: &mut InstructionText, register: u8)
 
 /// Adds an operand, whose own word, if it has one, is `word` at `address`.
 #[tactic(auto, unfolding(crate::specs::Text::operand_text))]
-pub fn add_operand(text: &mut InstructionText, address: u16, word: u16, operand: Spec)
-    requires valid { IsSpec operand }
+pub fn add_operand(text: &mut InstructionText, address: u16, word: u16, operand: Specifier)
+    requires valid { RegisterFits operand }
     requires room { length text.old.items + 11 ≤ LONGEST_TEXT }
     ensures operand_text { text.new.items ≡ text.old.items ++ operand_text address word operand }
     ensures length { length text.new.items ≤ length text.old.items + 11 }

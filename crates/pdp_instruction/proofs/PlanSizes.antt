@@ -1,7 +1,7 @@
 -- How many phases the plan of each action has.
 use Rattle.std.proofs.Common.{ℕ, ◌≤◌, arith, Bool, true, false, if◌then◌else◌}
 use Rattle.pdp_decode.specs.declared.instruction.Instr.{Instr}
-use Rattle.pdp_decode.specs.declared.instruction.Spec.{Spec}
+use Rattle.pdp_decode.specs.declared.instruction.Specifier.{Specifier}
 use Rattle.pdp_word.specs.declared.size.Size.{Size}
 use Rattle.pdp_word.specs.declared.size.Size.TheVariants.{Word, Byte}
 use Rattle.pdp_operand.specs.Phases.Plan.{Plan}
@@ -32,46 +32,46 @@ size_when : (late : Bool) (a b : Plan) (n : ℕ) → size_of a ≤ n → size_of
 size_when true a b n first second = first
 size_when false a b n first second = second
 
-size_of_operands : (size : Size) (source destination : Spec) → size_of (operands_plan size source destination) ≤ 8
+size_of_operands : (size : Size) (source destination : Specifier) → size_of (operands_plan size source destination) ≤ 8
 unfolding operands_plan source_first place_first
 size_of_operands size source destination =
     size_when (is_late source destination) _ _ 8
     (omega (arith, size_of_find size destination))
     (omega (arith, size_of_find size source, size_of_find size destination))
 
-size_of_mov : (source destination : Spec) → size_of (mov_plan source destination) ≤ 12
+size_of_mov : (source destination : Specifier) → size_of (mov_plan source destination) ≤ 12
 unfolding mov_plan finish_plan
 size_of_mov source destination = omega (arith, size_of_operands Word source destination)
 
-size_of_movb : (source destination : Spec) → size_of (movb_plan source destination) ≤ 12
+size_of_movb : (source destination : Specifier) → size_of (movb_plan source destination) ≤ 12
 unfolding movb_plan finish_plan
 size_of_movb source destination = omega (arith, size_of_operands Byte source destination)
 
-size_of_compare : (c : Comparison) (source destination : Spec) → size_of (compare_plan c source destination) ≤ 12
+size_of_compare : (c : Comparison) (source destination : Specifier) → size_of (compare_plan c source destination) ≤ 12
 unfolding compare_plan
 size_of_compare c source destination = omega (arith, size_of_operands (size_of_comparison c) source destination)
 
-size_of_combine : (c : Combination) (source destination : Spec) → size_of (combine_plan c source destination) ≤ 12
+size_of_combine : (c : Combination) (source destination : Specifier) → size_of (combine_plan c source destination) ≤ 12
 unfolding combine_plan finish_plan
 size_of_combine c source destination = omega (arith, size_of_operands (size_of_combination c) source destination)
 
-size_of_modify : (m : Modification) (destination : Spec) → size_of (modify_plan m destination) ≤ 12
+size_of_modify : (m : Modification) (destination : Specifier) → size_of (modify_plan m destination) ≤ 12
 unfolding modify_plan finish_plan
 size_of_modify m destination = omega (arith, size_of_find (size_of_modification m) destination)
 
-size_of_replace : (r : Replacement) (destination : Spec) → size_of (replace_plan r destination) ≤ 12
+size_of_replace : (r : Replacement) (destination : Specifier) → size_of (replace_plan r destination) ≤ 12
 unfolding replace_plan finish_plan
 size_of_replace r destination = omega (arith, size_of_find (size_of_replacement r) destination)
 
-size_of_tst : (size : Size) (destination : Spec) → size_of (tst_plan size destination) ≤ 12
+size_of_tst : (size : Size) (destination : Specifier) → size_of (tst_plan size destination) ≤ 12
 unfolding tst_plan
 size_of_tst size destination = omega (arith, size_of_find size destination)
 
-size_of_jmp : (destination : Spec) → size_of (jmp_plan destination) ≤ 12
+size_of_jmp : (destination : Specifier) → size_of (jmp_plan destination) ≤ 12
 unfolding jmp_plan
 size_of_jmp destination = omega (arith, size_of_find Word destination)
 
-size_of_jsr : (register : ℕ) (destination : Spec) → size_of (jsr_plan register destination) ≤ 12
+size_of_jsr : (register : ℕ) (destination : Specifier) → size_of (jsr_plan register destination) ≤ 12
 unfolding jsr_plan
 size_of_jsr register destination = omega (arith, size_of_find Word destination, size_of_find Word push)
 
@@ -83,19 +83,19 @@ size_of_mark : (words : ℕ) → size_of (mark_plan words) ≤ 12
 unfolding mark_plan pop_register
 size_of_mark words = omega (arith, size_of_find Word pop)
 
-size_of_mul : (register : ℕ) (source : Spec) → size_of (mul_plan register source) ≤ 12
+size_of_mul : (register : ℕ) (source : Specifier) → size_of (mul_plan register source) ≤ 12
 unfolding mul_plan
 size_of_mul register source = omega (arith, size_of_find Word source)
 
-size_of_div : (register : ℕ) (source : Spec) → size_of (div_plan register source) ≤ 12
+size_of_div : (register : ℕ) (source : Specifier) → size_of (div_plan register source) ≤ 12
 unfolding div_plan
 size_of_div register source = omega (arith, size_of_find Word source)
 
-size_of_ash : (register : ℕ) (source : Spec) → size_of (ash_plan register source) ≤ 12
+size_of_ash : (register : ℕ) (source : Specifier) → size_of (ash_plan register source) ≤ 12
 unfolding ash_plan
 size_of_ash register source = omega (arith, size_of_find Word source)
 
-size_of_ashc : (register : ℕ) (source : Spec) → size_of (ashc_plan register source) ≤ 12
+size_of_ashc : (register : ℕ) (source : Specifier) → size_of (ashc_plan register source) ≤ 12
 unfolding ashc_plan
 size_of_ashc register source = omega (arith, size_of_find Word source)
 
@@ -103,11 +103,11 @@ size_of_return : size_of return_plan ≤ 12
 unfolding return_plan
 size_of_return = omega (arith, size_of_find Word pop)
 
-size_of_mfpi : (source : Spec) → size_of (mfpi_plan source) ≤ 12
+size_of_mfpi : (source : Specifier) → size_of (mfpi_plan source) ≤ 12
 unfolding mfpi_plan finish_plan
 size_of_mfpi source = omega (arith, size_of_find Word source, size_of_find Word push)
 
-size_of_mtpi : (destination : Spec) → size_of (mtpi_plan destination) ≤ 12
+size_of_mtpi : (destination : Specifier) → size_of (mtpi_plan destination) ≤ 12
 unfolding mtpi_plan finish_plan
 size_of_mtpi destination = omega (arith, size_of_find Word pop, size_of_find Word destination)
 

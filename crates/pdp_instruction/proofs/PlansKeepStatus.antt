@@ -2,7 +2,7 @@
 -- comes last.
 use Rattle.std.proofs.Common.{◌≡◌, ℕ, refl, Err, Result}
 use Rattle.pdp_decode.specs.declared.instruction.Instr.{Instr}
-use Rattle.pdp_decode.specs.declared.instruction.Spec.{Spec}
+use Rattle.pdp_decode.specs.declared.instruction.Specifier.{Specifier}
 use Rattle.pdp_word.specs.declared.size.Size.{Size}
 use Rattle.pdp_word.specs.declared.size.Size.TheVariants.{Word, Byte}
 use Rattle.pdp_unibus.specs.declared.status.Status.{Status}
@@ -42,7 +42,7 @@ safe_finish : (how : Fill) → Safe (finish_plan how)
 unfolding finish_plan
 safe_finish how = safe_sure _ _ (phase_safe _) sure_codes
 
-steady_operands : (size : Size) (source destination : Spec) → Steady (operands_plan size source destination)
+steady_operands : (size : Size) (source destination : Specifier) → Steady (operands_plan size source destination)
 unfolding operands_plan source_first place_first keep_source take_register
 steady_operands size source destination =
     steady_if _ _ _ (steady_steady _ _ (steady_find size destination) (phase_steady _ (λ i. tt) (λ i value. refl)))
@@ -50,43 +50,43 @@ steady_operands size source destination =
     (steady_steady _ _ (steady_read size)
     (steady_steady _ _ (phase_steady _ (λ i. tt) (λ i value. refl)) (steady_find size destination))))
 
-safe_mov : (source destination : Spec) → Safe (mov_plan source destination)
+safe_mov : (source destination : Specifier) → Safe (mov_plan source destination)
 unfolding mov_plan execute_mov
 safe_mov source destination =
     steady_safe _ _ (steady_operands Word source destination)
     (steady_safe _ _ (phase_steady _ (λ i. tt) (λ i value. refl)) (safe_finish _))
 
-safe_movb : (source destination : Spec) → Safe (movb_plan source destination)
+safe_movb : (source destination : Specifier) → Safe (movb_plan source destination)
 unfolding movb_plan execute_mov
 safe_movb source destination =
     steady_safe _ _ (steady_operands Byte source destination)
     (steady_safe _ _ (phase_steady _ (λ i. tt) (λ i value. refl)) (safe_finish _))
 
-safe_compare : (c : Comparison) (source destination : Spec) → Safe (compare_plan c source destination)
+safe_compare : (c : Comparison) (source destination : Specifier) → Safe (compare_plan c source destination)
 unfolding compare_plan execute_comparison
 safe_compare c source destination =
     steady_safe _ _ (steady_operands _ source destination)
     (steady_safe _ _ (steady_read _) (steady_safe _ _ (phase_steady _ (λ i. tt) (λ i value. refl)) (phase_safe _)))
 
-safe_combine : (c : Combination) (source destination : Spec) → Safe (combine_plan c source destination)
+safe_combine : (c : Combination) (source destination : Specifier) → Safe (combine_plan c source destination)
 unfolding combine_plan execute_combination
 safe_combine c source destination =
     steady_safe _ _ (steady_operands _ source destination)
     (steady_safe _ _ (steady_read_before_write _) (steady_safe _ _ (phase_steady _ (λ i. tt) (λ i value. refl)) (safe_finish _)))
 
-safe_modify : (m : Modification) (destination : Spec) → Safe (modify_plan m destination)
+safe_modify : (m : Modification) (destination : Specifier) → Safe (modify_plan m destination)
 unfolding modify_plan execute_modification
 safe_modify m destination =
     steady_safe _ _ (steady_find _ destination)
     (steady_safe _ _ (steady_read_before_write _) (steady_safe _ _ (phase_steady _ (λ i. tt) (λ i value. refl)) (safe_finish _)))
 
-safe_replace : (r : Replacement) (destination : Spec) → Safe (replace_plan r destination)
+safe_replace : (r : Replacement) (destination : Specifier) → Safe (replace_plan r destination)
 unfolding replace_plan execute_replacement
 safe_replace r destination =
     steady_safe _ _ (steady_find _ destination)
     (steady_safe _ _ (phase_steady _ (λ i. tt) (λ i value. refl)) (safe_finish _))
 
-safe_tst : (size : Size) (destination : Spec) → Safe (tst_plan size destination)
+safe_tst : (size : Size) (destination : Specifier) → Safe (tst_plan size destination)
 unfolding tst_plan execute_tst
 safe_tst size destination =
     steady_safe _ _ (steady_find _ destination)
@@ -100,11 +100,11 @@ steady_aim : Steady (one aim)
 unfolding aim
 steady_aim = phase_steady _ (λ i. jump_reads i.latch.place) (λ i value. refl)
 
-safe_jmp : (destination : Spec) → Safe (jmp_plan destination)
+safe_jmp : (destination : Specifier) → Safe (jmp_plan destination)
 unfolding jmp_plan
 safe_jmp destination = steady_safe _ _ (steady_find Word destination) (steady_safe _ _ steady_aim (phase_safe _))
 
-safe_jsr : (r : ℕ) (destination : Spec) → Safe (jsr_plan r destination)
+safe_jsr : (r : ℕ) (destination : Specifier) → Safe (jsr_plan r destination)
 unfolding jsr_plan take_link link
 safe_jsr r destination =
     steady_safe _ _ (steady_find Word destination)
@@ -124,25 +124,25 @@ safe_mark : (words : ℕ) → Safe (mark_plan words)
 unfolding mark_plan take_mark
 safe_mark words = steady_safe _ _ (phase_steady _ (λ i. tt) (λ i value. refl)) (safe_pop 5)
 
-safe_mul : (r : ℕ) (source : Spec) → Safe (mul_plan r source)
+safe_mul : (r : ℕ) (source : Specifier) → Safe (mul_plan r source)
 unfolding mul_plan multiply
 safe_mul r source =
     steady_safe _ _ (steady_find Word source)
     (steady_safe _ _ (steady_read Word) (steady_safe _ _ (phase_steady _ (λ i. tt) (λ i value. refl)) (phase_safe _)))
 
-safe_div : (r : ℕ) (source : Spec) → Safe (div_plan r source)
+safe_div : (r : ℕ) (source : Specifier) → Safe (div_plan r source)
 unfolding div_plan divide
 safe_div r source =
     steady_safe _ _ (steady_find Word source)
     (steady_safe _ _ (steady_read Word) (steady_safe _ _ (phase_steady _ (λ i. tt) (λ i value. refl)) (phase_safe _)))
 
-safe_ash : (r : ℕ) (source : Spec) → Safe (ash_plan r source)
+safe_ash : (r : ℕ) (source : Specifier) → Safe (ash_plan r source)
 unfolding ash_plan shift
 safe_ash r source =
     steady_safe _ _ (steady_find Word source)
     (steady_safe _ _ (steady_read Word) (steady_safe _ _ (phase_steady _ (λ i. tt) (λ i value. refl)) (phase_safe _)))
 
-safe_ashc : (r : ℕ) (source : Spec) → Safe (ashc_plan r source)
+safe_ashc : (r : ℕ) (source : Specifier) → Safe (ashc_plan r source)
 unfolding ashc_plan shift_pair
 safe_ashc r source =
     steady_safe _ _ (steady_find Word source)
@@ -152,7 +152,7 @@ steady_cross : Steady (one cross)
 unfolding cross
 steady_cross = phase_steady _ (λ i. tt) (λ i value. refl)
 
-safe_mfpi : (source : Spec) → Safe (mfpi_plan source)
+safe_mfpi : (source : Specifier) → Safe (mfpi_plan source)
 unfolding mfpi_plan keep_source execute_mov
 safe_mfpi source =
     steady_safe _ _ (steady_find Word source)
@@ -162,7 +162,7 @@ safe_mfpi source =
     (steady_safe _ _ (steady_find Word _)
     (steady_safe _ _ (phase_steady _ (λ i. tt) (λ i value. refl)) (safe_finish _))))))
 
-safe_mtpi : (destination : Spec) → Safe (mtpi_plan destination)
+safe_mtpi : (destination : Specifier) → Safe (mtpi_plan destination)
 unfolding mtpi_plan keep_source execute_mov
 safe_mtpi destination =
     steady_safe _ _ (steady_find Word _)

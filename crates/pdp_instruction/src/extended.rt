@@ -6,7 +6,7 @@ ghost use Rattle.pdp_instruction.specs.Handbook.Extended.{mul_plan, with_quotien
 
 use crate::pair::Pair;
 use pdp_alu::{Div, ash, ashc, div, mul};
-use pdp_decode::Spec;
+use pdp_decode::Specifier;
 use pdp_operand::{Processor, RegisterId, Trap, address, fetch};
 use pdp_store::Store;
 use pdp_unibus::Bus;
@@ -19,7 +19,7 @@ pub fn multiply<S: Store, D: Store>(
     processor: &mut Processor,
     bus: &mut Bus<S, D>,
     register: u8,
-    source: Spec,
+    source: Specifier,
 ) -> Result<(), Trap>
     ensures runs { Runs (mul_plan register source) processor.old bus.old result processor.new
         bus.new }
@@ -40,7 +40,7 @@ pub fn divide<S: Store, D: Store>(
     processor: &mut Processor,
     bus: &mut Bus<S, D>,
     register: u8,
-    source: Spec,
+    source: Specifier,
 ) -> Result<(), Trap>
     ensures runs { Runs (div_plan register source) processor.old bus.old result processor.new
         bus.new }
@@ -75,7 +75,7 @@ pub fn shift<S: Store, D: Store>(
     processor: &mut Processor,
     bus: &mut Bus<S, D>,
     register: u8,
-    source: Spec,
+    source: Specifier,
 ) -> Result<(), Trap>
     ensures runs { Runs (ash_plan register source) processor.old bus.old result processor.new
         bus.new }
@@ -96,7 +96,7 @@ pub fn shift_pair<S: Store, D: Store>(
     processor: &mut Processor,
     bus: &mut Bus<S, D>,
     register: u8,
-    source: Spec,
+    source: Specifier,
 ) -> Result<(), Trap>
     ensures runs { Runs (ashc_plan register source) processor.old bus.old result processor.new
         bus.new }

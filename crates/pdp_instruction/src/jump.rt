@@ -7,17 +7,17 @@ ghost use Rattle.pdp_instruction.specs.Handbook.Jump.{rts_plan, mark_plan};
 ghost use Rattle.pdp_instruction.specs.Handbook.Jump.{pop_register as pop_plan, processor_linked};
 ghost use Rattle.pdp_instruction.specs.Handbook.Jump.{after_mark};
 
-use pdp_decode::Spec;
+use pdp_decode::Specifier;
 use pdp_operand::{Fill, Place, Processor, RegisterId, Trap, address, fetch, store};
 use pdp_store::Store;
 use pdp_unibus::Bus;
 use pdp_word::Size;
 
 // Where a word is pushed: -(SP).
-pub const PUSH: Spec = Spec { mode: 4, reg: 6 };
+pub const PUSH: Specifier = Specifier::Autodecrement(6);
 
 // Where a word is popped: (SP)+.
-pub const POP: Spec = Spec { mode: 2, reg: 6 };
+pub const POP: Specifier = Specifier::Autoincrement(6);
 
 /// The address that a jump goes to, which is that of its operand. In the yellow zone of the
 /// kernel's stack it leaves a stack trap pending.
@@ -44,7 +44,7 @@ fn aim(processor: &mut Processor, place: Place) -> Result<u16, Trap>
 pub fn jump<S: Store, D: Store>(
     processor: &mut Processor,
     bus: &mut Bus<S, D>,
-    destination: Spec,
+    destination: Specifier,
 ) -> Result<(), Trap>
     ensures runs { Runs (jmp_plan destination) processor.old bus.old result processor.new bus.new }
 {
@@ -61,7 +61,7 @@ pub fn jump_to_subroutine<S: Store, D: Store>(
     processor: &mut Processor,
     bus: &mut Bus<S, D>,
     register: u8,
-    destination: Spec,
+    destination: Specifier,
 ) -> Result<(), Trap>
     ensures runs { Runs (jsr_plan register destination) processor.old bus.old result processor.new
         bus.new }

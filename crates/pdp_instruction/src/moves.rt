@@ -4,7 +4,7 @@ ghost use Rattle.pdp_instruction.specs.Handbook.Moves.{mov_plan, movb_plan};
 use crate::finish::finish;
 use crate::operands::operands;
 use pdp_alu::mov;
-use pdp_decode::Spec;
+use pdp_decode::Specifier;
 use pdp_operand::{Fill, Processor, Trap};
 use pdp_store::Store;
 use pdp_unibus::Bus;
@@ -16,8 +16,8 @@ use pdp_word::Size;
 pub fn mov_word<S: Store, D: Store>(
     processor: &mut Processor,
     bus: &mut Bus<S, D>,
-    source: Spec,
-    destination: Spec,
+    source: Specifier,
+    destination: Specifier,
 ) -> Result<(), Trap>
     ensures runs { Runs (mov_plan source destination) processor.old bus.old result processor.new
         bus.new }
@@ -33,8 +33,8 @@ pub fn mov_word<S: Store, D: Store>(
 pub fn mov_byte<S: Store, D: Store>(
     processor: &mut Processor,
     bus: &mut Bus<S, D>,
-    source: Spec,
-    destination: Spec,
+    source: Specifier,
+    destination: Specifier,
 ) -> Result<(), Trap>
     ensures runs { Runs (movb_plan source destination) processor.old bus.old result processor.new
         bus.new }

@@ -5,7 +5,7 @@ ghost use Rattle.pdp_instruction.specs.Handbook.OneOperand.{tst_plan, modify_pla
 use crate::finish::finish;
 use pdp_action::{Modification, Replacement};
 use pdp_alu::tst;
-use pdp_decode::Spec;
+use pdp_decode::Specifier;
 use pdp_operand::{Fill, Processor, Trap, address, fetch, fetch_before_store};
 use pdp_store::Store;
 use pdp_unibus::Bus;
@@ -17,7 +17,7 @@ use pdp_word::Size;
 pub fn test<S: Store, D: Store>(
     processor: &mut Processor,
     bus: &mut Bus<S, D>,
-    destination: Spec,
+    destination: Specifier,
     size: Size,
 ) -> Result<(), Trap>
     ensures runs { Runs (tst_plan size destination) processor.old bus.old result processor.new
@@ -36,7 +36,7 @@ pub fn modify<S: Store, D: Store>(
     processor: &mut Processor,
     bus: &mut Bus<S, D>,
     modification: Modification,
-    destination: Spec,
+    destination: Specifier,
 ) -> Result<(), Trap>
     ensures runs { Runs (modify_plan modification destination) processor.old bus.old result
         processor.new bus.new }
@@ -55,7 +55,7 @@ pub fn replace<S: Store, D: Store>(
     processor: &mut Processor,
     bus: &mut Bus<S, D>,
     replacement: Replacement,
-    destination: Spec,
+    destination: Specifier,
 ) -> Result<(), Trap>
     ensures runs { Runs (replace_plan replacement destination) processor.old bus.old result
         processor.new bus.new }

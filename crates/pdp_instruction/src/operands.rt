@@ -1,11 +1,12 @@
 ghost use Rattle.std.specs.Prelude.{◌≡◌, ◌%◌, Ok};
 ghost use Rattle.pdp_word.specs.Size.{span};
 ghost use Rattle.pdp_operand.specs.Contract.{Gives};
+ghost use Rattle.pdp_decode.specs.declared.instruction.Specifier.TheVariants.{Register};
 ghost use Rattle.pdp_instruction.specs.Handbook.Operands.{operands_plan, source_first, place_first};
 ghost use Rattle.pdp_instruction.specs.KeptAnswers.{in_operands};
 
 use pdp_alu::cut;
-use pdp_decode::Spec;
+use pdp_decode::Specifier;
 use pdp_operand::{Place, Processor, RegisterId, Trap, address, fetch};
 use pdp_store::Store;
 use pdp_unibus::Bus;
@@ -18,20 +19,19 @@ use pdp_word::Size;
 pub fn operands<S: Store, D: Store>(
     processor: &mut Processor,
     bus: &mut Bus<S, D>,
-    source: Spec,
-    destination: Spec,
+    source: Specifier,
+    destination: Specifier,
     size: Size,
 ) -> Result<(u16, Place), Trap>
     ensures gives { Gives in_operands (operands_plan size source destination)
         processor.old bus.old result processor.new bus.new }
 {
-    let is_late = source.mode == 0 && destination.mode != 0;
-    if is_late {
-        read_late(processor, bus, source, destination, size)
-    } else if source.mode == 0 {
-        Ok(read_registers(processor, bus, source, destination, size))
-    } else {
-        read_first(processor, bus, source, destination, size)
+    match (source, destination) {
+        (Specifier::Register(from), Specifier::Register(to)) => {
+            Ok(read_registers(processor, bus, from, to, size))
+        }
+        (Specifier::Register(from), _) => read_late(processor, bus, from, destination, size),
+        _ => read_first(processor, bus, source, destination, size),
     }
 }
 
@@ -41,17 +41,16 @@ pub fn operands<S: Store, D: Store>(
 fn read_registers<S: Store, D: Store>(
     processor: &Processor,
     bus: &Bus<S, D>,
-    source: Spec,
-    destination: Spec,
+    from: u8,
+    to: u8,
     size: Size,
 ) -> (u16, Place)
-    requires registers { (source.mode ≡ 0) × (destination.mode ≡ 0) }
-    ensures gives { Gives in_operands (source_first size source destination)
+    ensures gives { Gives in_operands (source_first size (Register from) (Register to))
         processor.now bus.now (Ok result) processor.now bus.now }
 {
-    let from = RegisterId::of(bus.status().mode, source.reg);
-    let to = RegisterId::of(bus.status().mode, destination.reg);
-    (cut(size, processor.register(from)), Place::Reg(to))
+    let mode = bus.status().mode;
+    let word = processor.register(RegisterId::of(mode, from));
+    (cut(size, word), Place::Reg(RegisterId::of(mode, to)))
 }
 
 #[inline(never)]
@@ -59,8 +58,8 @@ fn read_registers<S: Store, D: Store>(
 fn read_first<S: Store, D: Store>(
     processor: &mut Processor,
     bus: &mut Bus<S, D>,
-    source: Spec,
-    destination: Spec,
+    source: Specifier,
+    destination: Specifier,
     size: Size,
 ) -> Result<(u16, Place), Trap>
     ensures gives { Gives in_operands (source_first size source destination)
@@ -77,15 +76,15 @@ fn read_first<S: Store, D: Store>(
 fn read_late<S: Store, D: Store>(
     processor: &mut Processor,
     bus: &mut Bus<S, D>,
-    source: Spec,
-    destination: Spec,
+    from: u8,
+    destination: Specifier,
     size: Size,
 ) -> Result<(u16, Place), Trap>
-    ensures gives { Gives in_operands (place_first size source destination)
+    ensures gives { Gives in_operands (place_first size (Register from) destination)
         processor.old bus.old result processor.new bus.new }
 {
     let place = address(processor, bus, destination, size)?;
-    let id = RegisterId::of(bus.status().mode, source.reg);
+    let id = RegisterId::of(bus.status().mode, from);
     let value = cut(size, processor.register(id));
     Ok((value, place))
 }

@@ -6,7 +6,7 @@ ghost use Rattle.pdp_instruction.specs.Handbook.PreviousMode.{register_id_in};
 use crate::finish::finish;
 use crate::jump::{POP, PUSH};
 use pdp_alu::mov;
-use pdp_decode::Spec;
+use pdp_decode::Specifier;
 use pdp_kt11::Mode;
 use pdp_operand::{Cell, Fill, Place, Processor, RegisterId, Trap, address, fetch};
 use pdp_store::Store;
@@ -25,7 +25,7 @@ use pdp_word::Size;
 pub fn move_from_previous<S: Store, D: Store>(
     processor: &mut Processor,
     bus: &mut Bus<S, D>,
-    source: Spec,
+    source: Specifier,
 ) -> Result<(), Trap>
     ensures runs { Runs (mfpi_plan source) processor.old bus.old result processor.new bus.new }
 {
@@ -51,7 +51,7 @@ pub fn move_from_previous<S: Store, D: Store>(
 pub fn move_to_previous<S: Store, D: Store>(
     processor: &mut Processor,
     bus: &mut Bus<S, D>,
-    destination: Spec,
+    destination: Specifier,
 ) -> Result<(), Trap>
     ensures runs { Runs (mtpi_plan destination) processor.old bus.old result processor.new bus.new }
 {

@@ -5,7 +5,7 @@ ghost use Rattle.pdp_instruction.specs.Handbook.TwoOperands.{compare_plan, combi
 use crate::finish::finish;
 use crate::operands::operands;
 use pdp_action::{Combination, Comparison};
-use pdp_decode::Spec;
+use pdp_decode::Specifier;
 use pdp_operand::{Fill, Processor, Trap, fetch, fetch_before_store};
 use pdp_store::Store;
 use pdp_unibus::Bus;
@@ -17,8 +17,8 @@ pub fn compare<S: Store, D: Store>(
     processor: &mut Processor,
     bus: &mut Bus<S, D>,
     comparison: Comparison,
-    source: Spec,
-    destination: Spec,
+    source: Specifier,
+    destination: Specifier,
 ) -> Result<(), Trap>
     ensures runs { Runs (compare_plan comparison source destination)
         processor.old bus.old result processor.new bus.new }
@@ -38,8 +38,8 @@ pub fn combine<S: Store, D: Store>(
     processor: &mut Processor,
     bus: &mut Bus<S, D>,
     combination: Combination,
-    source: Spec,
-    destination: Spec,
+    source: Specifier,
+    destination: Specifier,
 ) -> Result<(), Trap>
     ensures runs { Runs (combine_plan combination source destination)
         processor.old bus.old result processor.new bus.new }

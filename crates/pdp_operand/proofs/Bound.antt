@@ -1,7 +1,8 @@
 -- How many phases a course can run at most.
 use Rattle.std.proofs.Common.{◌≡◌, ℕ, ◌+◌, ◌≤◌, List, [], ◌∷◌, refl, Ok, Err, Result, length, length-append, arith}
 use Rattle.pdp_word.specs.declared.size.Size.{Size}
-use Rattle.pdp_decode.specs.declared.instruction.Spec.{Spec}
+use Rattle.pdp_decode.specs.declared.instruction.Specifier.{Specifier}
+use Rattle.pdp_decode.specs.declared.instruction.Specifier.TheVariants.{Register, Deferred, Autoincrement, AutoincrementDeferred, Autodecrement, AutodecrementDeferred, Index, IndexDeferred}
 use Rattle.pdp_operand.specs.Phases.Phase.{Phase, Inner, State, Stop, Latch, step, inner_of}
 use Rattle.pdp_operand.specs.Phases.Plan.{Plan, Do, ◌▸◌, phases_of, run_plan}
 use Rattle.pdp_operand.specs.Phases.Course.{Course, End, Go, caught_in}
@@ -54,6 +55,13 @@ course_length_le (Go plan next caught) n s bound =
     omega (arith, first, size, rest, bound.1)
 
 -- finding an operand takes at most three phases
-pub size_of_find : (size : Size) (spec : Spec) → size_of (find size spec) ≤ 3
+pub size_of_find : (size : Size) (spec : Specifier) → size_of (find size spec) ≤ 3
 unfolding find
-size_of_find size spec = grind arith
+size_of_find size (Register r) = omega arith
+size_of_find size (Deferred r) = omega arith
+size_of_find size (Autoincrement r) = omega arith
+size_of_find size (AutoincrementDeferred r) = omega arith
+size_of_find size (Autodecrement r) = omega arith
+size_of_find size (AutodecrementDeferred r) = omega arith
+size_of_find size (Index r) = omega arith
+size_of_find size (IndexDeferred r) = omega arith

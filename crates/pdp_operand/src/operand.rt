@@ -16,7 +16,7 @@ use crate::place::{Cell, Fill, Place};
 use crate::processor::{Processor, RegisterId};
 use crate::reference::{read_byte, read_word, write_byte, write_word};
 use pdp_action::Trap;
-use pdp_decode::Spec;
+use pdp_decode::Specifier;
 use pdp_kt11::Mode;
 use pdp_store::Store;
 use pdp_unibus::Bus;
@@ -175,29 +175,27 @@ fn step(size: Size, register: u8) -> u16
 pub fn address<S: Store, D: Store>(
     processor: &mut Processor,
     bus: &mut Bus<S, D>,
-    operand: Spec,
+    operand: Specifier,
     size: Size,
 ) -> Result<Place, Trap>
     ensures gives { Gives in_place (find size operand) processor.old bus.old result processor.new
         bus.new }
 {
-    let register = operand.reg;
-    let cell = match operand.mode {
-        0 => return Ok(Place::Reg(register_id(bus, register))),
-        1 => return Ok(Place::Mem(pointed(processor, bus, register))),
-        2 => return Ok(Place::Mem(grown(processor, bus, register, step(size, register)))),
-        3 => grown(processor, bus, register, 2),
-        4 => return Ok(Place::Mem(shrunk(processor, bus, register, step(size, register))?)),
-        5 => shrunk(processor, bus, register, 2)?,
-        mode => {
-            let cell = indexed(processor, bus, register)?;
-            if mode == 6 {
-                return Ok(Place::Mem(cell));
-            }
-            cell
+    let pointer = match operand {
+        Specifier::Register(r) => return Ok(Place::Reg(register_id(bus, r))),
+        Specifier::Deferred(r) => return Ok(Place::Mem(pointed(processor, bus, r))),
+        Specifier::Autoincrement(r) => {
+            return Ok(Place::Mem(grown(processor, bus, r, step(size, r))));
         }
+        Specifier::AutoincrementDeferred(r) => grown(processor, bus, r, 2),
+        Specifier::Autodecrement(r) => {
+            return Ok(Place::Mem(shrunk(processor, bus, r, step(size, r))?));
+        }
+        Specifier::AutodecrementDeferred(r) => shrunk(processor, bus, r, 2)?,
+        Specifier::Index(r) => return Ok(Place::Mem(indexed(processor, bus, r)?)),
+        Specifier::IndexDeferred(r) => indexed(processor, bus, r)?,
     };
-    let cell = deferred(processor, bus, cell)?;
+    let cell = deferred(processor, bus, pointer)?;
     Ok(Place::Mem(cell))
 }
 

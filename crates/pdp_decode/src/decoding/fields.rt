@@ -1,29 +1,37 @@
 // The fields of an instruction word.
 ghost use Rattle.std.specs.Prelude.{◌≡◌, ◌<◌};
-ghost use Rattle.pdp_decode.specs.Fields.{IsSpec, offset_in, source_in, operand_in, register_in};
+ghost use Rattle.pdp_decode.specs.Fields.{RegisterFits, offset_in, source_in, operand_in};
+ghost use Rattle.pdp_decode.specs.Fields.{register_in};
 ghost use Rattle.pdp_decode.specs.Fields.{last_register_in, word_count_in, code_in, codes_in};
 
-use crate::instruction::Spec;
+use crate::instruction::Specifier;
 use pdp_word::Codes;
 
 // SS of an instruction with two operands.
 #[inline(always)]
-pub(crate) const fn source(word: u16) -> Spec
+pub(crate) const fn source(word: u16) -> Specifier
     ensures value { result ≡ source_in word }
-    ensures valid { IsSpec result }
+    ensures valid { RegisterFits result }
 {
     operand(word >> 6)
 }
 
 // The low six bits: DD, or SS if the source is the one operand.
 #[inline(always)]
-pub(crate) const fn operand(word: u16) -> Spec
+pub(crate) const fn operand(word: u16) -> Specifier
     ensures value { result ≡ operand_in word }
-    ensures valid { IsSpec result }
+    ensures valid { RegisterFits result }
 {
-    Spec {
-        mode: (word >> 3 & 7) as u8,
-        reg: (word & 7) as u8,
+    let register = last_register(word);
+    match word >> 3 & 7 {
+        0 => Specifier::Register(register),
+        1 => Specifier::Deferred(register),
+        2 => Specifier::Autoincrement(register),
+        3 => Specifier::AutoincrementDeferred(register),
+        4 => Specifier::Autodecrement(register),
+        5 => Specifier::AutodecrementDeferred(register),
+        6 => Specifier::Index(register),
+        _ => Specifier::IndexDeferred(register),
     }
 }
 
