@@ -1,10 +1,10 @@
 -- What the opcode table decodes has a word: its fields fit.
-use Rattle.std.proofs.Common.{ℕ, ◌<◌, inl, inr, sym, subst, List, [], ◌∷◌, arith}
+use Rattle.std.proofs.Common.{ℕ, zero, suc, ◌≡◌, refl, ◌/◌, ◌%◌, ◌<◌, inl, inr, sym, subst, List, [], ◌∷◌, arith}
 use Rattle.std.specs.Int.{w8}
 use Rattle.std.specs.Int.RustNames.{FitsSigned}
 use Rattle.std.proofs.lemmas.Int.{ints}
 use Rattle.pdp_decode.specs.declared.instruction.Instr.{Instr}
-use Rattle.pdp_decode.specs.Fields.{RegisterFits, source_in, operand_in, register_in, last_register_in, word_count_in, code_in, offset_in}
+use Rattle.pdp_decode.specs.Fields.{RegisterFits, register_number, specifier_of, source_in, operand_in, register_in, last_register_in, word_count_in, code_in, offset_in}
 use Rattle.pdp_decode.specs.Format.{IsEncodable}
 use Rattle.pdp_decode.specs.Table.{Row, Section, table, control, branches, single_operands, double_operands, register_operands, high_branches, traps, byte_single_operands, high_double_operands, instr_of_word, decoded_by, decoded_in}
 use Rattle.pdp_decode.proofs.Ascending.{choice}
@@ -40,14 +40,26 @@ sections_fit (s ∷ sections) (here, rest) word =
 nothing_to_fit : (word : ℕ) → Unit {0}
 nothing_to_fit word = tt
 
+-- the register of a specifier is the one that it was made of
+specified_register : (mode register : ℕ) → mode < 8 → register_number (specifier_of mode register) ≡ register
+specified_register zero register l = refl
+specified_register (suc zero) register l = refl
+specified_register (suc (suc zero)) register l = refl
+specified_register (suc (suc (suc zero))) register l = refl
+specified_register (suc (suc (suc (suc zero)))) register l = refl
+specified_register (suc (suc (suc (suc (suc zero))))) register l = refl
+specified_register (suc (suc (suc (suc (suc (suc zero)))))) register l = refl
+specified_register (suc (suc (suc (suc (suc (suc (suc zero))))))) register l = refl
+specified_register (suc (suc (suc (suc (suc (suc (suc (suc mode)))))))) register l = absurd (omega arith)
+
 operand_fits : (word : ℕ) → RegisterFits (operand_in word)
-operand_fits word = record { mode = omega arith; reg = omega arith }
+operand_fits word = let e = specified_register (word / 8 % 8) (word % 8) (omega arith) in omega arith
 
 register_and_operand_fit : (word : ℕ) → (register_in word < 8) × RegisterFits (operand_in word)
 register_and_operand_fit word = (omega arith, operand_fits word)
 
 both_operands_fit : (word : ℕ) → RegisterFits (source_in word) × RegisterFits (operand_in word)
-both_operands_fit word = (record { mode = omega arith; reg = omega arith }, operand_fits word)
+both_operands_fit word = (operand_fits (word / 0o100), operand_fits word)
 
 last_register_fits : (word : ℕ) → last_register_in word < 8
 last_register_fits word = omega arith

@@ -7,9 +7,10 @@ use Rattle.std.proofs.lemmas.Bool.Decides.{nat_tests}
 use Rattle.std.proofs.lemmas.List.{append-nil}
 use Rattle.std.proofs.lemmas.List.Folds.{list_all-append}
 use Rattle.pdp_word.specs.Number.{is_digit, worth}
-use Rattle.pdp_decode.specs.Fields.{RegisterFits}
+use Rattle.pdp_decode.specs.Fields.{RegisterFits, specifier_of}
 use Rattle.pdp_decode.specs.Format.{digits_of}
 use Rattle.pdp_decode.specs.declared.instruction.Specifier.{Specifier}
+use Rattle.pdp_decode.specs.declared.instruction.Specifier.TheVariants as specifier
 use Rattle.pdp_disassembler.specs.Operands.{takes_word}
 use Rattle.pdp_disassembler.specs.Text.{octal_text, operand_text, register_name, relative_target}
 use Rattle.pdp_disassembler.proofs.Cutting.{front, beyond, stops, front-append, beyond-append}
@@ -165,7 +166,7 @@ Says address word operand =
 
 module _ (address word : ℕ) (fits : word < 0o200000) where
   abbrev At : ℕ → ℕ → Type 0
-  At mode reg = Says address word (record { mode = mode; reg = reg })
+  At mode reg = Says address word (specifier_of mode reg)
 
   mode_0 : (reg : ℕ) → reg < 8 → At 0 reg
   unfolding operand_text register_name operand_read
@@ -266,6 +267,11 @@ module _ (address word : ℕ) (fits : word < 0o200000) where
       subst P (relative_back address word fits) (bare_says address (relative_target address word) (relative_fits address word) (codes "@") refl refl))
 
   pub operand_says : (operand : Specifier) → RegisterFits operand → Says address word operand
-  operand_says operand is =
-      let P : ℕ → Type 0 = λ mode. (reg : ℕ) → reg < 8 → At mode reg in
-      below_eight P mode_0 mode_1 mode_2 mode_3 mode_4 mode_5 mode_6 mode_7 operand.mode is.mode operand.reg is.reg
+  operand_says (specifier.Register r) is = mode_0 r is
+  operand_says (specifier.Deferred r) is = mode_1 r is
+  operand_says (specifier.Autoincrement r) is = mode_2 r is
+  operand_says (specifier.AutoincrementDeferred r) is = mode_3 r is
+  operand_says (specifier.Autodecrement r) is = mode_4 r is
+  operand_says (specifier.AutodecrementDeferred r) is = mode_5 r is
+  operand_says (specifier.Index r) is = mode_6 r is
+  operand_says (specifier.IndexDeferred r) is = mode_7 r is

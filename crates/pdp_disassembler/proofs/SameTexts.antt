@@ -3,41 +3,23 @@ use Rattle.std.proofs.Common.{◌≡◌, ℕ, zero, suc, Bool, true, false, List
 use Rattle.std.specs.Prelude.{◌==◌, ◌&&◌, ◌||◌, codes, nat_le, if◌then◌else◌}
 use Rattle.std.proofs.lemmas.Bool.Decides.{nat_tests}
 use Rattle.pdp_decode.specs.declared.instruction.Specifier.{Specifier}
+use Rattle.pdp_decode.specs.declared.instruction.Specifier.TheVariants as specifier
 use Rattle.pdp_disassembler.specs.Operands.{takes_word}
-use Rattle.pdp_disassembler.specs.Text.{first_text, further, moded_text, octal_text, operand_text, operands_text, register_name, relative_target, second_text}
+use Rattle.pdp_disassembler.specs.Text.{first_text, further, operand_text, operands_text, register_name, second_text}
 use Rattle.pdp_disassembler.specs.declared.operands.Operands.{Operands}
 use Rattle.pdp_disassembler.specs.declared.operands.Operands.TheVariants.{Single, RegisterFirst, RegisterLast, Double}
 use Rattle.pdp_disassembler.proofs.OperandTexts.{own_words}
 use Rattle.pdp_disassembler.proofs.ReadTexts.{following}
 
--- an operand, by whether its register is PC
-abbrev text_by : Bool → ℕ → ℕ → ℕ → List ℕ → List ℕ
-text_by is_pc mode address word name =
-    if is_pc && mode == 2 then codes "#" ++ octal_text word
-    else if is_pc && mode == 3 then codes "@#" ++ octal_text word
-    else if is_pc && mode == 6 then octal_text (relative_target address word)
-    else if is_pc && mode == 7 then codes "@" ++ octal_text (relative_target address word)
-    else moded_text mode word name
-
-abbrev takes_by : Bool → ℕ → Bool
-takes_by is_pc mode = nat_le 6 mode || is_pc && (mode == 2 || mode == 3)
-
-unshown : (address word other : ℕ) (name : List ℕ) (is_pc : Bool) (mode : ℕ) → takes_by is_pc mode ≡ false
-    → text_by is_pc mode address word name ≡ text_by is_pc mode address other name
-unshown address word other name true zero h = refl
-unshown address word other name false zero h = refl
-unshown address word other name true (suc zero) h = refl
-unshown address word other name false (suc zero) h = refl
-unshown address word other name true (suc (suc zero)) h = cc
-unshown address word other name false (suc (suc zero)) h = refl
-unshown address word other name true (suc (suc (suc zero))) h = cc
-unshown address word other name false (suc (suc (suc zero))) h = refl
-unshown address word other name true (suc (suc (suc (suc zero)))) h = refl
-unshown address word other name false (suc (suc (suc (suc zero)))) h = refl
-unshown address word other name true (suc (suc (suc (suc (suc zero))))) h = refl
-unshown address word other name false (suc (suc (suc (suc (suc zero))))) h = refl
-unshown address word other name true (suc (suc (suc (suc (suc (suc mode)))))) h = absurd (grind (arith, nat_tests))
-unshown address word other name false (suc (suc (suc (suc (suc (suc mode)))))) h = absurd (grind (arith, nat_tests))
+-- an operand that takes no word shows none
+unshown : (address word other : ℕ) (operand : Specifier) → takes_word operand ≡ false
+    → operand_text address word operand ≡ operand_text address other operand
+unfolding operand_text
+unshown address word other (specifier.Autoincrement r) h = rw h refl
+unshown address word other (specifier.AutoincrementDeferred r) h = rw h refl
+unshown address word other (specifier.Index r) h = cc
+unshown address word other (specifier.IndexDeferred r) h = cc
+unshown address word other _ h = refl
 
 -- an operand whose own words are the same has the same text
 same_operand : (address word other : ℕ) (operand : Specifier) → own_words operand word ≡ own_words operand other
@@ -49,7 +31,7 @@ same_operand address word other operand same = by_taking (takes_word operand) re
         → (if takes then word ∷ [] else []) ≡ (if takes then other ∷ [] else [])
         → operand_text address word operand ≡ operand_text address other operand
     by_taking true e words = let equal : word ≡ other = cc in ap (λ w. operand_text address w operand) equal
-    by_taking false e words = unshown address word other (register_name operand.reg) (operand.reg == 7) operand.mode e
+    by_taking false e words = unshown address word other operand e
 
 same_second : (address next last other another : ℕ) (first second : Specifier)
     → own_words first next ++ own_words second (if takes_word first then last else next)

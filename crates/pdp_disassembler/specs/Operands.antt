@@ -1,9 +1,11 @@
 -- The operands of an instruction as its text has them, and how many words they take
 -- (DEC PDP-11/40 Processor Handbook (1972), Instruction set and Addressing modes).
-use Rattle.std.specs.Prelude.{ℕ, Bool, ◌+◌, ◌<◌, ◌&&◌, ◌||◌, ◌==◌, not, nat_le, if◌then◌else◌}
+use Rattle.std.specs.Prelude.{ℕ, Bool, true, false, ◌+◌, ◌<◌, ◌&&◌, ◌||◌, ◌==◌, not}
+use Rattle.std.specs.Prelude.{if◌then◌else◌}
 use Rattle.pdp_word.specs.declared.codes.Codes.{Codes}
 use Rattle.pdp_decode.specs.Fields.{RegisterFits}
 use Rattle.pdp_decode.specs.declared.instruction.Specifier.{Specifier}
+use Rattle.pdp_decode.specs.declared.instruction.Specifier.TheVariants as specifier
 use Rattle.pdp_decode.specs.declared.instruction.Instr.{Instr}
 use Rattle.pdp_decode.specs.declared.instruction.Instr.TheVariants.{Halt, Wait, Rti, Bpt, Iot}
 use Rattle.pdp_decode.specs.declared.instruction.Instr.TheVariants.{Reset, Rtt, Jmp, Rts, Jsr, Mark}
@@ -113,11 +115,15 @@ operands_of Reserved = Word
 
 -- an immediate or absolute operand: autoincrement of PC
 abbrev pub is_immediate : Specifier → Bool
-is_immediate operand = operand.reg == 7 && (operand.mode == 2 || operand.mode == 3)
+is_immediate (specifier.Autoincrement r) = r == 7
+is_immediate (specifier.AutoincrementDeferred r) = r == 7
+is_immediate other = false
 
 -- an operand has a word of its own: an index, an immediate value or an absolute address
 abbrev pub takes_word : Specifier → Bool
-takes_word operand = nat_le 6 operand.mode || is_immediate operand
+takes_word (specifier.Index r) = true
+takes_word (specifier.IndexDeferred r) = true
+takes_word other = is_immediate other
 
 abbrev pub words_of_operand : Specifier → ℕ
 words_of_operand operand = if takes_word operand then 1 else 0
@@ -131,7 +137,7 @@ words_that_follow (Double source destination) =
     words_of_operand source + words_of_operand destination
 words_that_follow _ = 0
 
--- modes and registers are below 8
+-- registers are below 8
 abbrev pub OperandsFit : Operands → Type 0
 OperandsFit (Register register) = register < 8
 OperandsFit (Loop register words) = register < 8

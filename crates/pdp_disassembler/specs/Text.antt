@@ -10,6 +10,7 @@ use Rattle.pdp_word.specs.declared.codes.Codes.{Codes}
 use Rattle.pdp_decode.specs.Instruction.{mnemonic}
 use Rattle.pdp_decode.specs.Table.{instr_of_word}
 use Rattle.pdp_decode.specs.declared.instruction.Specifier.{Specifier}
+use Rattle.pdp_decode.specs.declared.instruction.Specifier.TheVariants as specifier
 use Rattle.pdp_decode.specs.declared.instruction.Instr.{Instr}
 use Rattle.pdp_decode.specs.declared.instruction.Instr.TheVariants.{ClearCodes, SetCodes, Reserved}
 use Rattle.pdp_disassembler.specs.Operands.{is_of_no_code, operands_of, takes_word}
@@ -41,18 +42,6 @@ register_name register =
     else if register == 7 then codes "PC"
     else codes "R" ++ (48 + register) ∷ []
 
--- an operand whose register has this name; the word is that of the index modes
-abbrev pub moded_text : ℕ → ℕ → List ℕ → List ℕ
-moded_text mode word name =
-    if mode == 0 then name
-    else if mode == 1 then codes "(" ++ name ++ codes ")"
-    else if mode == 2 then codes "(" ++ name ++ codes ")+"
-    else if mode == 3 then codes "@(" ++ name ++ codes ")+"
-    else if mode == 4 then codes "-(" ++ name ++ codes ")"
-    else if mode == 5 then codes "@-(" ++ name ++ codes ")"
-    else if mode == 6 then octal_text word ++ codes "(" ++ name ++ codes ")"
-    else codes "@" ++ octal_text word ++ codes "(" ++ name ++ codes ")"
-
 -- an address so many bytes on, modulo 200000
 abbrev pub further : ℕ → ℕ → ℕ
 further address count = (address + count) % 0o200000
@@ -61,15 +50,25 @@ further address count = (address + count) % 0o200000
 abbrev pub relative_target : ℕ → ℕ → ℕ
 relative_target address word = further (address + 2) word
 
+-- an index and its register; by PC, the address that they name
+abbrev pub index_text : ℕ → ℕ → ℕ → List ℕ
+index_text address word r =
+    if r == 7 then octal_text (relative_target address word)
+    else octal_text word ++ codes "(" ++ register_name r ++ codes ")"
+
 -- an operand; its word, if it has one, is at this address
 unfoldable pub operand_text : ℕ → ℕ → Specifier → List ℕ
-operand_text address word operand =
-    if operand.reg == 7 && operand.mode == 2 then codes "#" ++ octal_text word
-    else if operand.reg == 7 && operand.mode == 3 then codes "@#" ++ octal_text word
-    else if operand.reg == 7 && operand.mode == 6 then octal_text (relative_target address word)
-    else if operand.reg == 7 && operand.mode == 7
-    then codes "@" ++ octal_text (relative_target address word)
-    else moded_text operand.mode word (register_name operand.reg)
+operand_text address word (specifier.Register r) = register_name r
+operand_text address word (specifier.Deferred r) = codes "(" ++ register_name r ++ codes ")"
+operand_text address word (specifier.Autoincrement r) =
+    if r == 7 then codes "#" ++ octal_text word else codes "(" ++ register_name r ++ codes ")+"
+operand_text address word (specifier.AutoincrementDeferred r) =
+    if r == 7 then codes "@#" ++ octal_text word else codes "@(" ++ register_name r ++ codes ")+"
+operand_text address word (specifier.Autodecrement r) = codes "-(" ++ register_name r ++ codes ")"
+operand_text address word (specifier.AutodecrementDeferred r) =
+    codes "@-(" ++ register_name r ++ codes ")"
+operand_text address word (specifier.Index r) = index_text address word r
+operand_text address word (specifier.IndexDeferred r) = codes "@" ++ index_text address word r
 
 -- an instruction's only or first operand: its word comes after the instruction word
 abbrev pub first_text : ℕ → ℕ → Specifier → List ℕ

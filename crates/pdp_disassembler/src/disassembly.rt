@@ -97,7 +97,13 @@ fn add_operands(text: &mut InstructionText, address: u16, words: [u16; 3], opera
 }
 
 // Adds the second operand. The words are the two that follow the instruction word.
-fn add_second(text: &mut InstructionText, address: u16, words: [u16; 2], first: Specifier, second: Specifier)
+fn add_second(
+    text: &mut InstructionText,
+    address: u16,
+    words: [u16; 2],
+    first: Specifier,
+    second: Specifier,
+)
     requires valid { RegisterFits second }
     requires room { length text.old.items + 11 ≤ LONGEST_TEXT }
     ensures { text.new.items ≡ text.old.items

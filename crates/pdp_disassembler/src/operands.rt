@@ -21,15 +21,27 @@ pub enum Operands {
     /// The target of a branch: its offset, in words, from the PC that follows the instruction.
     Branch(i8),
     /// SOB: its register, and how many words its target is before that PC.
-    Loop { register: u8, words: u8 },
+    Loop {
+        register: u8,
+        words: u8,
+    },
     /// One operand with a mode.
     Single(Specifier),
     /// A register, and an operand with a mode.
-    RegisterFirst { register: u8, operand: Specifier },
+    RegisterFirst {
+        register: u8,
+        operand: Specifier,
+    },
     /// An operand with a mode, and a register.
-    RegisterLast { operand: Specifier, register: u8 },
+    RegisterLast {
+        operand: Specifier,
+        register: u8,
+    },
     /// Two operands with modes.
-    Double { source: Specifier, destination: Specifier },
+    Double {
+        source: Specifier,
+        destination: Specifier,
+    },
     /// The instruction word itself, for `.WORD`.
     Word,
 }
@@ -209,12 +221,20 @@ pub fn words_of(operand: Specifier) -> usize
 pub fn takes_word(operand: Specifier) -> bool
     ensures { result ≡ takes_word operand }
 {
-    operand.mode >= 6 || is_immediate(operand)
+    match operand {
+        Specifier::Index(_) | Specifier::IndexDeferred(_) => true,
+        _ => is_immediate(operand),
+    }
 }
 
 // Whether an operand is immediate or absolute: autoincrement of PC.
 fn is_immediate(operand: Specifier) -> bool
     ensures { result ≡ is_immediate operand }
 {
-    operand.reg == 7 && (operand.mode == 2 || operand.mode == 3)
+    match operand {
+        Specifier::Autoincrement(register) | Specifier::AutoincrementDeferred(register) => {
+            register == 7
+        }
+        _ => false,
+    }
 }

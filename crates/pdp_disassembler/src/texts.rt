@@ -1,7 +1,7 @@
 // The pieces of a text.
 ghost use Rattle.std.specs.Prelude.{◌≡◌, ◌+◌, ◌≤◌, ◌<◌, ◌++◌, length};
 ghost use Rattle.pdp_decode.specs.Fields.{RegisterFits};
-ghost use Rattle.pdp_disassembler.specs.Text.{moded_text, octal_text, operand_text, register_name};
+ghost use Rattle.pdp_disassembler.specs.Text.{index_text, octal_text, operand_text, register_name};
 ghost use Rattle.pdp_disassembler.specs.Text.{relative_target};
 
 use arrayvec::ArrayVec;
@@ -64,53 +64,55 @@ pub fn add_operand(text: &mut InstructionText, address: u16, word: u16, operand:
     ensures operand_text { text.new.items ≡ text.old.items ++ operand_text address word operand }
     ensures length { length text.new.items ≤ length text.old.items + 11 }
 {
-    match (operand.mode, operand.reg) {
-        (2, 7) => {
+    match operand {
+        Specifier::Register(register) => add_register(text, register),
+        Specifier::Deferred(register) => add_within(text, b"(", register, b")"),
+        Specifier::Autoincrement(7) => {
             add(text, b"#");
             add_octal(text, word);
         }
-        (3, 7) => {
+        Specifier::Autoincrement(register) => add_within(text, b"(", register, b")+"),
+        Specifier::AutoincrementDeferred(7) => {
             add(text, b"@#");
             add_octal(text, word);
         }
-        (6, 7) => add_octal(text, relative_target(address, word)),
-        (7, 7) => {
+        Specifier::AutoincrementDeferred(register) => add_within(text, b"@(", register, b")+"),
+        Specifier::Autodecrement(register) => add_within(text, b"-(", register, b")"),
+        Specifier::AutodecrementDeferred(register) => add_within(text, b"@-(", register, b")"),
+        Specifier::Index(register) => add_index(text, address, word, register),
+        Specifier::IndexDeferred(register) => {
             add(text, b"@");
-            add_octal(text, relative_target(address, word));
+            add_index(text, address, word, register);
         }
-        (mode, register) => add_moded(text, mode, word, register),
     }
 }
 
-// Adds an operand of a mode that is the same for all registers.
-fn add_moded(text: &mut InstructionText, mode: u8, word: u16, register: u8)
+// Adds a register between what stands before and after it.
+fn add_within(text: &mut InstructionText, before: &[u8], register: u8, after: &[u8])
     requires register { register < 8 }
-    requires room { length text.old.items + 11 ≤ LONGEST_TEXT }
-    ensures moded_text { text.new.items
-        ≡ text.old.items ++ moded_text mode word (register_name register) }
-    ensures length { length text.new.items ≤ length text.old.items + 11 }
+    requires room { length text.old.items + length before.now + 2 + length after.now ≤ LONGEST_TEXT }
+    ensures texts { text.new.items
+        ≡ text.old.items ++ (before.now ++ register_name register ++ after.now) }
+    ensures length { length text.new.items
+        ≤ length text.old.items + length before.now + 2 + length after.now }
 {
-    match mode {
-        0 => {}
-        1 | 2 => add(text, b"("),
-        3 => add(text, b"@("),
-        4 => add(text, b"-("),
-        5 => add(text, b"@-("),
-        6 => {
-            add_octal(text, word);
-            add(text, b"(");
-        }
-        _ => {
-            add(text, b"@");
-            add_octal(text, word);
-            add(text, b"(");
-        }
-    }
+    add(text, before);
     add_register(text, register);
-    match mode {
-        0 => {}
-        2 | 3 => add(text, b")+"),
-        _ => add(text, b")"),
+    add(text, after);
+}
+
+// Adds an index, whose word is at `address`, and its register; by PC, the address that they name.
+fn add_index(text: &mut InstructionText, address: u16, word: u16, register: u8)
+    requires register { register < 8 }
+    requires room { length text.old.items + 10 ≤ LONGEST_TEXT }
+    ensures index_text { text.new.items ≡ text.old.items ++ index_text address word register }
+    ensures length { length text.new.items ≤ length text.old.items + 10 }
+{
+    if register == 7 {
+        add_octal(text, relative_target(address, word));
+    } else {
+        add_octal(text, word);
+        add_within(text, b"(", register, b")");
     }
 }
 

@@ -177,10 +177,10 @@ impl<S: Store, D: Store> Bus<S, D> {
         ensures single { StaysSingle self.old.io_page self.new.io_page }
     {
         self.watch = Watch::unknown();
-        self.direct = 0;
+        self.direct_words = 0;
         self.io_page
             .disk
-            .complete(&mut self.words, &mut self.drives, self.turn);
+            .complete(&mut self.core, &mut self.drives, self.turn);
         self.lines.clear();
     }
 

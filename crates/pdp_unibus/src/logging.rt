@@ -14,9 +14,9 @@ impl<S: Store, D: Store> Bus<S, D> {
     {
         Bus {
             turn: self.turn,
-            direct: self.direct,
-            words: Logging {
-                store: self.words,
+            direct_words: self.direct_words,
+            core: Logging {
+                store: self.core,
                 log,
             },
             drives: self.drives,
@@ -33,14 +33,14 @@ impl<S: Store, D: Store> Bus<Logging<S>, D> {
     pub fn cycles(&self) -> &[BusCycle]
         ensures { result.now ≡ self.now.log.told }
     {
-        self.words.log.cycles()
+        self.core.log.cycles()
     }
 
     /// Drops the cycles that the log has kept.
     pub fn clear_log(&mut self)
         ensures { self.new ≡ with_log self.old (without_cycles self.old.log) }
     {
-        self.words.log.clear();
+        self.core.log.clear();
     }
 }
 
@@ -49,11 +49,11 @@ impl Bus<Logging<Paged>, PagedDrive> {
     pub fn unlogged(self) -> Bus<Paged, PagedDrive>
         ensures { result ≡ with_log self no_log }
     {
-        let words = self.words;
+        let core = self.core;
         Bus {
             turn: self.turn,
-            direct: self.direct,
-            words: words.store,
+            direct_words: self.direct_words,
+            core: core.store,
             drives: self.drives,
             io_page: self.io_page,
             tape: self.tape,

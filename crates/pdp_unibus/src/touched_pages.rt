@@ -17,7 +17,7 @@ impl<S: Store, D: Store> Bus<S, D> {
             (slice_index_or (first_touches_in part self.now.first_touches) page never) }
     {
         match part {
-            Part::Core => self.words.first(page),
+            Part::Core => self.core.first(page),
             Part::Drive(number) => first_of(&self.drives, number, page),
         }
     }
@@ -27,7 +27,7 @@ impl<S: Store, D: Store> Bus<S, D> {
         ensures { self.new
             ≡ with_first_touches self.old (all_first_touches_before turn self.old.first_touches) }
     {
-        self.words.forget(turn);
+        self.core.forget(turn);
         forget_each(&mut self.drives, turn);
     }
 }

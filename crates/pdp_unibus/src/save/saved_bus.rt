@@ -80,8 +80,8 @@ impl Bus<Paged, PagedDrive> {
         ensures taken { IfOk result (λ pages. IsCoreOf pages.items self.old) }
     {
         // This read gives the prover how many words core has.
-        let _words = self.words.len();
-        self.words.take_pages(alloc)
+        let _words = self.core.len();
+        self.core.take_pages(alloc)
     }
 
     /// Makes core the one of these pages, with their last stamps. Takes no memory.
@@ -89,7 +89,7 @@ impl Bus<Paged, PagedDrive> {
         requires { IsCoreOfSize pages.now self.old }
         ensures { self.new ≡ with_core_of pages.now self.old }
     {
-        self.words.load_pages(pages);
+        self.core.load_pages(pages);
         self.lines.clear();
     }
 
@@ -132,7 +132,7 @@ impl Bus<Paged, PagedDrive> {
     {
         load_each(&mut self.drives, &saved.drives);
         self.watch = Watch::unknown();
-        self.direct = 0;
+        self.direct_words = 0;
         self.io_page = saved.io_page.copy();
         self.tape.go_to(saved.bytes_read);
         self.turn = saved.turn;

@@ -38,7 +38,7 @@ impl Bus<Paged, PagedDrive> {
     pub fn save_touches(&self, alloc: Global) -> Result<SavedTouches, NoMemory>
         ensures { IfOk result (λ touches. touches ≡ self.now.first_touches) }
     {
-        let core = self.words.touches().to_vec(alloc)?;
+        let core = self.core.touches().to_vec(alloc)?;
         let drives = touches_of_each(alloc, &self.drives)?;
         Ok(SavedTouches { core, drives })
     }
@@ -51,7 +51,7 @@ impl Bus<Paged, PagedDrive> {
         ensures { self.new ≡ with_first_touches self.old (first_touches_over from
             self.old.first_touches (all_first_touches_before to over.now)) }
     {
-        self.words.lay_touches(&over.core, from, to);
+        self.core.lay_touches(&over.core, from, to);
         lay_each(&mut self.drives, &over.drives, from, to);
     }
 
@@ -62,7 +62,7 @@ impl Bus<Paged, PagedDrive> {
         ensures { (result ≡ true) ↔ (first_touches_over turn self.now.first_touches
             (all_first_touches_before turn over.now) ≡ self.now.first_touches) }
     {
-        if !self.words.has_touches_of(&over.core, turn) {
+        if !self.core.has_touches_of(&over.core, turn) {
             return false;
         }
         each_has_touches(&self.drives, &over.drives, turn)

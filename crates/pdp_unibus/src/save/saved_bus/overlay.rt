@@ -22,7 +22,7 @@ impl Bus<Paged, PagedDrive> {
         if !self.io_page.is_same(&saved.io_page) {
             return false;
         }
-        if !self.words.has_words(&saved.core) {
+        if !self.core.has_words(&saved.core) {
             return false;
         }
         each_has_words(&self.drives, &saved.drives)
@@ -46,7 +46,7 @@ impl Bus<Paged, PagedDrive> {
         requires { HasSizesOf saved.now self.old }
         ensures { self.new ≡ with_core_over turn saved.now self.old }
     {
-        self.words.load_pages_over(&saved.core, turn);
+        self.core.load_pages_over(&saved.core, turn);
         self.lines.clear();
     }
 }

@@ -83,10 +83,10 @@ impl SavedBus {
             (saved_words at.part self.now) (saved_stamps at.part self.now) page) }
     {
         match at.part {
-            Part::Core => self.page_of_core(alloc, &mut bus.words, at.number, value),
+            Part::Core => self.page_of_core(alloc, &mut bus.core, at.number, value),
             Part::Drive(number) => {
                 let (number, drives) = (usize::from(number), &mut bus.drives);
-                self.page_of_drive(alloc, &mut bus.words, drives, number, at.number, value)
+                self.page_of_drive(alloc, &mut bus.core, drives, number, at.number, value)
             }
         }
     }
