@@ -5,11 +5,11 @@ use Rattle.std.proofs.Math.Nat.{lt-div-mul-add, div-mul-le_self, mul-le-mul_righ
 use Rattle.std.proofs.lemmas.Bool.{cases_lt, lt-ltb, le-ltb}
 use Rattle.std.proofs.lemmas.List.{length-take}
 use Rattle.std.proofs.lemmas.List.Elements.{All-push, All-filter}
-use Rattle.pdp_cpu.specs.Turns.MachineState.{MachineState}
+use Rattle.pdp_cpu.specs.Handbook.MachineState.{MachineState}
 use Rattle.pdp_cpu.specs.Saved.{SavedMachineData, saved_machine}
 use Rattle.pdp_checkpoint.specs.declared.checkpoint.Checkpoint.{Checkpoint}
 use Rattle.pdp_checkpoint.specs.Formers.{FormerData}
-use Rattle.pdp_unibus.specs.LastTurn.{last_turn}
+use Rattle.pdp_unibus.specs.Handbook.LastTurn.{last_turn}
 use Rattle.pdp_checkpoint.specs.Ladder.{most_kept, LadderData, checkpoint_of, next_of, best_of, AreCheckpoints, at_multiples, with_last, ladder_doubled, kept_with}
 use Rattle.pdp_checkpoint.proofs.Steps.{AreSteps, AreHalved, from_parts, no_steps, steps_at, steps_push, steps_take, steps_below, steps_halved_from_zero}
 

@@ -1,9 +1,10 @@
-ghost use Rattle.std.specs.Prelude.{◌≡◌, ◌+◌, ◌-◌, ◌*◌, ◌/◌, ◌<◌, ◌≤◌, ◌++◌, min, nat_le, Some, [], ◌∷◌};
+ghost use Rattle.std.specs.Prelude.{◌≡◌, ◌+◌, ◌-◌, ◌*◌, ◌/◌, ◌<◌, ◌≤◌, ◌++◌, min, nat_le, Some, []};
+ghost use Rattle.std.specs.Prelude.{◌∷◌};
 ghost use Rattle.std.specs.Prelude.{length, map, slice_get, IfOk, OnOk, OnErr};
 ghost use Rattle.std.specs.List.{All, filter};
 ghost use Rattle.std.specs.Option.{option_map};
 ghost use Rattle.pdp_store.specs.Parts.{part_of, word_at};
-ghost use Rattle.pdp_unibus.specs.LastTurn.{last_turn};
+ghost use Rattle.pdp_unibus.specs.Handbook.LastTurn.{last_turn};
 ghost use Rattle.pdp_checkpoint.specs.Delayed.{ladder_with_delays};
 ghost use Rattle.pdp_checkpoint.specs.Patched.{HavePageAlike, patched_to};
 ghost use Rattle.pdp_cpu.specs.Saved.{HasWord};

@@ -6,7 +6,7 @@ use Rattle.pdp_store.specs.declared.Stamp.{Stamp}
 use Rattle.pdp_store.proofs.FirstTouches.{no_first_touches_after}
 use Rattle.pdp_unibus.proofs.AccessNotes.{AccessNotes, access_notes, notes_after, notes_after-append, notes_of, with_notes}
 use Rattle.pdp_unibus.proofs.Carried.{begun_carried}
-use Rattle.pdp_unibus.specs.BusWorld.{BusWorld}
+use Rattle.pdp_unibus.specs.Handbook.BusWorld.{BusWorld}
 use Rattle.pdp_unibus.specs.Trace.{begun_touches}
 use Rattle.pdp_unibus.specs.declared.event.Event.{Event}
 use Rattle.pdp_operand.proofs.Carried.{carried_course}
@@ -17,14 +17,14 @@ use Rattle.pdp_operand.specs.Phases.World.{World, world}
 use Rattle.pdp_operand.specs.declared.processor.Processor.{Processor}
 use Rattle.pdp_cpu.specs.declared.due.Due.{Due}
 use Rattle.pdp_cpu.specs.Laws.TurnLaws.{StampsDisturbNothing}
-use Rattle.pdp_cpu.specs.Turns.Due.{act_of, course_of, due_now, due_of}
-use Rattle.pdp_cpu.specs.Turns.MachineState.{MachineState, after_turn, without_first_touches}
-use Rattle.pdp_cpu.specs.Turns.MachineState.{world_with_first_touches}
-use Rattle.pdp_cpu.specs.Turns.Turn.{act_end, beginning, clear_latch, course_at, one_turn}
-use Rattle.pdp_cpu.specs.Turns.Turn.{printed_in, processor_after_events, punched_in, initial_state}
-use Rattle.pdp_cpu.specs.Turns.Turn.{turn_act, turn_trace}
-use Rattle.pdp_cpu.specs.Turns.TurnDisk.{disk_begun}
-use Rattle.pdp_cpu.specs.Turns.TurnTrap.{trap_of_due, turn_trap}
+use Rattle.pdp_cpu.specs.Handbook.Due.{act_of, course_of, due_now, due_of}
+use Rattle.pdp_cpu.specs.Handbook.MachineState.{MachineState, after_turn, without_first_touches}
+use Rattle.pdp_cpu.specs.Handbook.MachineState.{world_with_first_touches}
+use Rattle.pdp_cpu.specs.Handbook.Turn.{act_end, beginning, clear_latch, course_at, one_turn}
+use Rattle.pdp_cpu.specs.Handbook.Turn.{printed_in, processor_after_events, punched_in, initial_state}
+use Rattle.pdp_cpu.specs.Handbook.Turn.{turn_act, turn_trace}
+use Rattle.pdp_cpu.specs.Handbook.TurnDisk.{disk_begun}
+use Rattle.pdp_cpu.specs.Handbook.TurnTrap.{trap_of_due, turn_trap}
 use Rattle.pdp_cpu.proofs.CarriedTraps.{trap_carried}
 
 -- the same world with other notes of accesses

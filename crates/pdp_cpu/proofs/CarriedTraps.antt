@@ -10,7 +10,7 @@ use Rattle.pdp_action.specs.declared.trap.Trap.{Trap}
 use Rattle.pdp_instruction.specs.Handbook.Action.{plan_of}
 use Rattle.pdp_instruction.specs.Handbook.Instruction.{fetch_instruction, instruction_trap, trap_left}
 use Rattle.pdp_instruction.specs.Handbook.TrapSequence.{trap_vector}
-use Rattle.pdp_cpu.specs.Turns.TurnTrap.{trap_of_due}
+use Rattle.pdp_cpu.specs.Handbook.TurnTrap.{trap_of_due}
 use Rattle.pdp_cpu.specs.declared.due.Due.{Due}
 use Rattle.pdp_cpu.specs.declared.due.Due.TheVariants as due
 

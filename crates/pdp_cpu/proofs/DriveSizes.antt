@@ -2,11 +2,11 @@
 use Rattle.std.proofs.Common.{◌≡◌, ◌∙◌, ℕ, List, length, map, refl}
 use Rattle.pdp_store.specs.TracedAccess.{TracedAccess}
 use Rattle.pdp_unibus.proofs.Kept.{Begins, along_begun, disk_keeps_drives}
-use Rattle.pdp_unibus.specs.BusWorld.{BusWorld}
+use Rattle.pdp_unibus.specs.Handbook.BusWorld.{BusWorld}
 use Rattle.pdp_unibus.specs.declared.event.Event.{Event}
 use Rattle.pdp_operand.proofs.Along.{Goes, along_course}
 use Rattle.pdp_operand.specs.Phases.World.{World}
-use Rattle.pdp_cpu.specs.Turns.Turn.{at_turn, course_at, one_turn}
+use Rattle.pdp_cpu.specs.Handbook.Turn.{at_turn, course_at, one_turn}
 
 -- each drive keeps its length
 abbrev KeepsDrives : List TracedAccess → BusWorld → BusWorld → Type 0

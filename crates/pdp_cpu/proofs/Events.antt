@@ -2,7 +2,7 @@
 use Rattle.std.proofs.Common.{◌≡◌, ℕ, zero, suc, ◌+◌, ◌<◌, List, [], ◌∷◌, length, take, get_or, refl, add-one, arith}
 use Rattle.pdp_unibus.specs.declared.event.Event.{Event}
 use Rattle.pdp_operand.specs.declared.processor.Processor.{Processor}
-use Rattle.pdp_cpu.specs.Turns.Turn.{processor_after, processor_after_events}
+use Rattle.pdp_cpu.specs.Handbook.Turn.{processor_after, processor_after_events}
 
 one_more : (es : List Event) (i : ℕ) (d : Event) (p : Processor) → i < length es
     → processor_after_events (take (suc i) es) p ≡ processor_after (get_or es i d) (processor_after_events (take i es) p)

@@ -1,7 +1,7 @@
 -- A halted machine stays.
 use Rattle.std.proofs.Common.{◌≡◌, ◌≢◌, ◌∙◌, ℕ, zero, suc, ◌+◌, false, List, [], ◌∷◌, ap, arith, refl}
 use Rattle.pdp_unibus.proofs.Beginnings.{begun_idles, begun_is_settled, still_idle}
-use Rattle.pdp_unibus.specs.BusWorld.{is_disk_busy}
+use Rattle.pdp_unibus.specs.Handbook.BusWorld.{is_disk_busy}
 use Rattle.pdp_unibus.specs.declared.event.Event.{Event}
 use Rattle.pdp_unibus.specs.declared.event.Event.TheVariants.{Key, Tick, PrinterDone, ReaderDone, PunchDone, DiskDone, Switches, Continue}
 use Rattle.pdp_operand.specs.Phases.Course.{follow}
@@ -9,7 +9,7 @@ use Rattle.pdp_operand.specs.Phases.World.{World}
 use Rattle.pdp_operand.specs.declared.processor.Processor.{Processor}
 use Rattle.pdp_operand.specs.declared.processor.RunState.TheVariants.{Halted}
 use Rattle.pdp_cpu.specs.Laws.TurnLaws.{NoneContinues, Stays, WordsStay, world_after}
-use Rattle.pdp_cpu.specs.Turns.Turn.{act_end, beginning, one_turn, processor_after, processor_after_events}
+use Rattle.pdp_cpu.specs.Handbook.Turn.{act_end, beginning, one_turn, processor_after, processor_after_events}
 
 event_stays : (e : Event) (p : Processor) → e ≢ Continue → processor_after e p ≡ p
 event_stays Continue p other = absurd (other refl)

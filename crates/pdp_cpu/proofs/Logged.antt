@@ -8,11 +8,11 @@ use Rattle.pdp_operand.proofs.Logged.{logged_course}
 use Rattle.pdp_operand.specs.Phases.Phase.{inner_of}
 use Rattle.pdp_operand.specs.Phases.World.{World, world}
 use Rattle.pdp_cpu.specs.Laws.TurnLaws.{LogsDisturbNothing}
-use Rattle.pdp_cpu.specs.Turns.Due.{act_of, due_of}
-use Rattle.pdp_cpu.specs.Turns.MachineState.{world_with_log}
-use Rattle.pdp_cpu.specs.Turns.Turn.{act_end, beginning, course_at, initial_state, one_turn}
-use Rattle.pdp_cpu.specs.Turns.Turn.{printed_in, processor_after_events, punched_in, turn_act}
-use Rattle.pdp_cpu.specs.Turns.TurnDisk.{disk_begun}
+use Rattle.pdp_cpu.specs.Handbook.Due.{act_of, due_of}
+use Rattle.pdp_cpu.specs.Handbook.MachineState.{world_with_log}
+use Rattle.pdp_cpu.specs.Handbook.Turn.{act_end, beginning, course_at, initial_state, one_turn}
+use Rattle.pdp_cpu.specs.Handbook.Turn.{printed_in, processor_after_events, punched_in, turn_act}
+use Rattle.pdp_cpu.specs.Handbook.TurnDisk.{disk_begun}
 
 pub logs_disturb_nothing : (t : ℕ) (events : List Event) (w : World) (log : KeptCycles) → LogsDisturbNothing t events w log
 unfolding one_turn turn_act disk_begun printed_in punched_in

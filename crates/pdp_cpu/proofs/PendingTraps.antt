@@ -1,6 +1,6 @@
 -- The sequence of a trap that was pending when the turn began.
 use Rattle.std.proofs.Common.{◌≡◌, ℕ, Bool, true, false, sym, subst}
-use Rattle.pdp_unibus.specs.BusWorld.{BusWorld}
+use Rattle.pdp_unibus.specs.Handbook.BusWorld.{BusWorld}
 use Rattle.pdp_operand.specs.Phases.World.{world}
 use Rattle.pdp_operand.specs.Phases.Phase.{run, state_of}
 use Rattle.pdp_operand.specs.Phases.Course.{Course, follow}
@@ -8,7 +8,7 @@ use Rattle.pdp_operand.specs.Contract.{Follows}
 use Rattle.pdp_operand.specs.declared.processor.Processor.{Processor}
 use Rattle.pdp_instruction.specs.Handbook.TrapSequence.{context, sequence}
 use Rattle.pdp_instruction.specs.declared.saved_context.SavedContext.{SavedContext}
-use Rattle.pdp_cpu.specs.Turns.Due.{serving, take_stack, take_trace, without_stack_trap, without_trace_trap}
+use Rattle.pdp_cpu.specs.Handbook.Due.{serving, take_stack, take_trace, without_stack_trap, without_trace_trap}
 
 -- the sequence of the trace trap, and that of the stack trap, once it is no longer pending
 abbrev Serves : (Processor → Processor) → Bool → ℕ → Course → Type 0

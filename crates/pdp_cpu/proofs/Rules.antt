@@ -6,10 +6,10 @@ use Rattle.pdp_cpu.proofs.CalmDrives.{drives_stay_none}
 use Rattle.pdp_cpu.proofs.CalmTurns.{calm_later, calm_start, instructs_next, stamp_stays_next, value_stays_next, word_stays}
 use Rattle.pdp_cpu.proofs.KeptTexts.{kept_one, length_before, text_and_one, text_before}
 use Rattle.pdp_cpu.proofs.TurnLaws.{turn_keeps_stamps, turn_keeps_words}
-use Rattle.pdp_cpu.specs.Turns.Due.{serve, serving, take_stack, take_trace}
-use Rattle.pdp_cpu.specs.Turns.Turn.{one_turn, printed_in, punched_in, turn_act}
-use Rattle.pdp_cpu.specs.Turns.TurnDisk.{disk_begun}
-use Rattle.pdp_cpu.specs.Turns.TurnTrap.{turn_trap}
+use Rattle.pdp_cpu.specs.Handbook.Due.{serve, serving, take_stack, take_trace}
+use Rattle.pdp_cpu.specs.Handbook.Turn.{one_turn, printed_in, punched_in, turn_act}
+use Rattle.pdp_cpu.specs.Handbook.TurnDisk.{disk_begun}
+use Rattle.pdp_cpu.specs.Handbook.TurnTrap.{turn_trap}
 
 -- for goals on a burst, before its first turn and after each
 pub ruleset bursts = (calm_start, calm_later)

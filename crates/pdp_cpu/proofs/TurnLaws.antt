@@ -1,14 +1,14 @@
 -- The laws of turns, as instances of those of courses.
 use Rattle.std.proofs.Common.{◌≡◌, ◌∙◌, ◌++◌, ℕ, ◌<◌, ◌≤◌, None, All, List, ap, ap₂, subst, sym, Bool, true, false, arith, length, slice_index_or}
 use Rattle.std.proofs.lemmas.List.Elements.{All-append}
-use Rattle.pdp_unibus.specs.BusWorld.{BusWorld}
+use Rattle.pdp_unibus.specs.Handbook.BusWorld.{BusWorld}
 use Rattle.pdp_store.proofs.Traces.{Avoids-first, Avoids-second}
 use Rattle.pdp_store.specs.Parts.{AlikeWords}
 use Rattle.pdp_store.specs.TracedAccess.{Avoids, TracedAccess, is_core, last_write}
 use Rattle.pdp_store.specs.declared.part.Part.{Part}
 use Rattle.pdp_unibus.proofs.Kept.{KeepsStamps, begun_keeps_page, begun_keeps_stamps, begun_keeps_tape, begun_keeps_turn, keeps_stamps}
 use Rattle.pdp_unibus.proofs.Pairs.{begun_alike}
-use Rattle.pdp_unibus.specs.Beginning.{after_beginning, in_turn}
+use Rattle.pdp_unibus.specs.Handbook.Beginning.{after_beginning, in_turn}
 use Rattle.pdp_unibus.specs.Page.{AlikeOutside, SamePage, words_of_part, bus_with_words}
 use Rattle.pdp_unibus.specs.Touched.{IsOfTurn}
 use Rattle.pdp_unibus.specs.Trace.{begun_touches}
@@ -24,9 +24,9 @@ use Rattle.pdp_operand.proofs.Kept.{course_touches, course_keeps_tape, course_ke
 use Rattle.pdp_operand.proofs.Outside.{course_undisturbed}
 use Rattle.pdp_instruction.specs.Handbook.Instruction.{instruction_course, instruction, trace_note_course}
 use Rattle.pdp_instruction.specs.Handbook.TrapSequence.{trap_course, saved_context_of, push_plan, red, red_plan, sequence, trap_plan}
-use Rattle.pdp_cpu.specs.Turns.Due.{course_of, due_of, serve, serving, take_stack, take_trace}
+use Rattle.pdp_cpu.specs.Handbook.Due.{course_of, due_of, serve, serving, take_stack, take_trace}
 use Rattle.pdp_operand.specs.Phases.World.{World, world}
-use Rattle.pdp_cpu.specs.Turns.Turn.{beginning, clear_latch, course_at, initial_state, act_end, at_turn, one_turn, printed_in, punched_in, turn_trace}
+use Rattle.pdp_cpu.specs.Handbook.Turn.{beginning, clear_latch, course_at, initial_state, act_end, at_turn, one_turn, printed_in, punched_in, turn_trace}
 use Rattle.pdp_cpu.specs.Laws.TurnLaws.{turn_phases, Undisturbed}
 use Rattle.pdp_cpu.specs.declared.due.Due.{Due}
 use Rattle.pdp_cpu.specs.declared.due.Due.TheVariants as due
@@ -34,7 +34,7 @@ use Rattle.pdp_instruction.specs.declared.saved_context.SavedContext.{SavedConte
 use Rattle.pdp_decode.specs.declared.instruction.Instr.{Instr}
 use Rattle.pdp_operand.specs.Phases.Course.{Course, End, Go, ends, follow}
 use Rattle.pdp_action.specs.declared.trap.Trap.TheVariants.{OddAddress, MappingAbort, BusTimeout, Reserved, JumpToRegister, StackLimit, Breakpoint, InputOutput, Emulator, TrapInstruction}
-use Rattle.pdp_unibus.specs.Source.{vector_of}
+use Rattle.pdp_unibus.specs.Handbook.Source.{vector_of}
 
 ends_at_most : (n : ℕ) → (i : Inner) → AtMost (ends i) n
 ends_at_most n i = tt

@@ -3,7 +3,7 @@ use Rattle.std.proofs.Common.{◌≡◌, ℕ, List, ◌∙◌, ap, length}
 use Rattle.pdp_store.specs.FirstTouches.{no_first_touches}
 use Rattle.pdp_unibus.specs.declared.event.Event.{Event}
 use Rattle.pdp_cpu.specs.KeptTexts.{kept_over}
-use Rattle.pdp_cpu.specs.Turns.MachineState.{MachineState, MachineWithTexts}
+use Rattle.pdp_cpu.specs.Handbook.MachineState.{MachineState, MachineWithTexts}
 use Rattle.pdp_cpu.specs.Turns.TurnRun.{RunsTouched, RunsTurn}
 use Rattle.pdp_cpu.proofs.Carried.{first_touches_seen, state_seen, turn_carried}
 

@@ -2,8 +2,8 @@
 use Rattle.std.specs.Prelude.{ℕ, List}
 use Rattle.pdp_operand.specs.Phases.World.{world}
 use Rattle.pdp_store.specs.FirstTouches.{first_touches_of}
-use Rattle.pdp_unibus.specs.Drives.{with_drives}
-use Rattle.pdp_cpu.specs.Turns.MachineState.{MachineState, MachineWithTexts}
+use Rattle.pdp_unibus.specs.Handbook.Drives.{with_drives}
+use Rattle.pdp_cpu.specs.Handbook.MachineState.{MachineState, MachineWithTexts}
 
 -- the state with drives of these words
 abbrev pub state_with_drives : List (List ℕ) → MachineState → MachineState

@@ -1,6 +1,7 @@
 pub mod KeptTexts
 -- what a meter of turns counts
 pub mod Meters
+pub mod Handbook
 pub mod Turns
 pub mod Saved
 pub mod SavedOutput

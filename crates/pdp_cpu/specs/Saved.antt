@@ -11,7 +11,7 @@ use Rattle.pdp_unibus.specs.SavedBusData.{saved_bus_with_stamps as bus_with_stam
 use Rattle.pdp_unibus.specs.SavedBusData.{saved_bus_over as bus_over}
 use Rattle.pdp_unibus.specs.declared.delays.Delays.{Delays}
 use Rattle.pdp_cpu.specs.KeptTexts.{without_turns}
-use Rattle.pdp_cpu.specs.Turns.MachineState.{MachineState, MachineWithTexts}
+use Rattle.pdp_cpu.specs.Handbook.MachineState.{MachineState, MachineWithTexts}
 
 -- the turns that the machine has run, its processor, its saved bus, and how many bytes were printed
 -- and punched

@@ -4,7 +4,7 @@ use Rattle.pdp_store.specs.FirstTouches.{FirstTouches, all_first_touches_before}
 use Rattle.pdp_store.specs.Overlays.{first_touches_over}
 use Rattle.pdp_cpu.specs.KeptTexts.{kept_before}
 use Rattle.pdp_cpu.specs.Saved.{SavedMachineData}
-use Rattle.pdp_cpu.specs.Turns.MachineState.{MachineWithTexts}
+use Rattle.pdp_cpu.specs.Handbook.MachineState.{MachineWithTexts}
 use Rattle.pdp_cpu.specs.declared.kept_text.KeptByte.{KeptByte}
 
 -- the printed and the punched bytes after the first `text_from` and `punched_from`, and all first

@@ -1,6 +1,6 @@
 ghost use Rattle.std.specs.Prelude.{◌≡◌, true};
 ghost use Rattle.pdp_cpu.specs.declared.due.Due.TheVariants.{Instruction};
-ghost use Rattle.pdp_cpu.specs.Turns.Due.{act_of, due_now};
+ghost use Rattle.pdp_cpu.specs.Handbook.Due.{act_of, due_now};
 
 use crate::act::Act;
 use pdp_operand::{Processor, RunState};

@@ -2,7 +2,7 @@
 
 ghost use Rattle.std.specs.Prelude.{◌≡◌, ◌<◌, ◌≤◌, ℕ, All, List, None, Option, false, length};
 ghost use Rattle.std.specs.Prelude.{map, slice_index_or};
-ghost use Rattle.pdp_unibus.specs.BusWorld.{BusWorld, is_disk_busy};
+ghost use Rattle.pdp_unibus.specs.Handbook.BusWorld.{BusWorld, is_disk_busy};
 ghost use Rattle.pdp_unibus.specs.declared.event.Event.{Event};
 ghost use Rattle.pdp_store.specs.CycleLogs.{KeptCycles, no_log};
 ghost use Rattle.pdp_store.specs.TracedAccess.{Avoids, last_write};
@@ -15,7 +15,7 @@ ghost use Rattle.pdp_operand.specs.declared.processor.RunState.TheVariants.{Halt
 ghost use Rattle.pdp_cpu.specs.Laws.TurnLaws.{LogsDisturbNothing, NoneContinues};
 ghost use Rattle.pdp_cpu.specs.Laws.TurnLaws.{StampsDisturbNothing, Stays};
 ghost use Rattle.pdp_cpu.specs.Laws.TurnLaws.{Undisturbed, WordsStay, turn_phases, world_after};
-ghost use Rattle.pdp_cpu.specs.Turns.Turn.{one_turn, turn_trace};
+ghost use Rattle.pdp_cpu.specs.Handbook.Turn.{one_turn, turn_trace};
 ghost use Rattle.pdp_operand.specs.Phases.World.{World, world};
 
 /// A law of turns: a turn runs at most 32 phases, one that faults counted too.

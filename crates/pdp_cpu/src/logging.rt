@@ -2,7 +2,7 @@
 
 ghost use Rattle.std.specs.Prelude.{◌≡◌};
 ghost use Rattle.pdp_store.specs.CycleLogs.{without_cycles, no_log};
-ghost use Rattle.pdp_cpu.specs.Turns.MachineState.{machine_with_log};
+ghost use Rattle.pdp_cpu.specs.Handbook.MachineState.{machine_with_log};
 
 use crate::machine::Machine;
 use pdp_quick::Computer;

@@ -3,15 +3,15 @@ ghost use Rattle.std.specs.Prelude.{slice_index, slice_index_or, take, [], None,
 ghost use Rattle.pdp_store.specs.FirstTouches.{first_touches_of, no_first_touches};
 ghost use Rattle.pdp_operand.specs.Phases.Phase.{inner_of};
 ghost use Rattle.pdp_cpu.specs.KeptTexts.{without_turns};
-ghost use Rattle.pdp_cpu.specs.Turns.Due.{act_of, due_of};
-ghost use Rattle.pdp_cpu.specs.Turns.MachineState.{IsReady, powered_machine};
-ghost use Rattle.pdp_cpu.specs.Turns.MachineState.{machine_world, printed_kept, punched_kept};
-ghost use Rattle.pdp_cpu.specs.Turns.MachineState.{state_with_log, touched_machine, with_begun};
+ghost use Rattle.pdp_cpu.specs.Handbook.Due.{act_of, due_of};
+ghost use Rattle.pdp_cpu.specs.Handbook.MachineState.{IsReady, powered_machine};
+ghost use Rattle.pdp_cpu.specs.Handbook.MachineState.{machine_world, printed_kept, punched_kept};
+ghost use Rattle.pdp_cpu.specs.Handbook.MachineState.{state_with_log, touched_machine, with_begun};
 ghost use Rattle.pdp_cpu.specs.Turns.TurnRun.{RunsTouched, RunsTurn};
 ghost use Rattle.pdp_store.specs.Parts.{words_of_drive};
-ghost use Rattle.pdp_unibus.specs.Shown.{devices_of, page_registers_of};
-ghost use Rattle.pdp_cpu.specs.Turns.Regs.{regs_of};
-ghost use Rattle.pdp_cpu.specs.Turns.Turn.{act_end, initial_state, turn_act};
+ghost use Rattle.pdp_unibus.specs.Handbook.Shown.{devices_of, page_registers_of};
+ghost use Rattle.pdp_cpu.specs.Handbook.Regs.{regs_of};
+ghost use Rattle.pdp_cpu.specs.Handbook.Turn.{act_end, initial_state, turn_act};
 
 use crate::act::Act;
 use crate::due::nothing_is_pending;
@@ -45,7 +45,7 @@ pub struct Machine<S: Store, D: Store> {
 }
 
 impl<S: Store, D: Store> Model for Machine<S, D> {
-    ghost use Rattle.pdp_cpu.specs.Turns.MachineState.{MachineWithTexts, without_first_touches};
+    ghost use Rattle.pdp_cpu.specs.Handbook.MachineState.{MachineWithTexts, without_first_touches};
     ghost use Rattle.pdp_operand.specs.Phases.World.{world};
 
     ghost Value = { MachineWithTexts };
@@ -323,7 +323,7 @@ impl<S: Store, D: Store> Machine<S, D> {
 
     /// The registers of the devices as reads would give them, without the effect of a read (PDP-11
     /// Peripherals Handbook, KL11, KW11-L, PC11 and RK11).
-    #[tactic(auto, unfolding(pdp_unibus::specs::Shown::devices_of))]
+    #[tactic(auto, unfolding(pdp_unibus::specs::Handbook::Shown::devices_of))]
     pub fn devices(&self) -> DeviceRegisters
         ensures { result ≡ devices_of self.now.state.world.bus }
     {
@@ -339,7 +339,7 @@ impl<S: Store, D: Store> Machine<S, D> {
 
     /// The registers of memory management as reads would give them (DEC PDP-11/40 Processor
     /// Handbook (1972), Memory management).
-    #[tactic(auto, unfolding(pdp_unibus::specs::Shown::page_registers_of))]
+    #[tactic(auto, unfolding(pdp_unibus::specs::Handbook::Shown::page_registers_of))]
     pub fn pages(&self) -> PageRegisters
         ensures { result ≡ page_registers_of self.now.state.world.bus }
     {
@@ -374,7 +374,7 @@ impl<S: Store, D: Store> Machine<S, D> {
     }
 }
 
-ghost use Rattle.pdp_cpu.specs.Turns.Turn.{processor_after, processor_after_events};
+ghost use Rattle.pdp_cpu.specs.Handbook.Turn.{processor_after, processor_after_events};
 
 /// What events do to the processor, in their order.
 #[tactic(auto, using(crate::proofs::Events::after_more_events))]

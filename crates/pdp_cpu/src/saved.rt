@@ -4,7 +4,7 @@ ghost use Rattle.std.specs.Prelude.{◌≡◌, ◌≤◌, length, IfOk};
 ghost use Rattle.pdp_cpu.specs.KeptTexts.{kept_before};
 ghost use Rattle.pdp_cpu.specs.Saved.{CanHold, saved_machine_with_delays, saved_machine, state_cut};
 ghost use Rattle.pdp_cpu.specs.Saved.{state_on};
-ghost use Rattle.pdp_cpu.specs.Turns.MachineState.{state_with_tape};
+ghost use Rattle.pdp_cpu.specs.Handbook.MachineState.{state_with_tape};
 
 use crate::machine::Machine;
 use pdp_operand::Processor;

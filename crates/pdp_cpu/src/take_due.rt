@@ -5,11 +5,11 @@ ghost use Rattle.pdp_operand.specs.Contract.{Follows};
 ghost use Rattle.pdp_operand.specs.Phases.Phase.{Latch, state_of};
 ghost use Rattle.pdp_instruction.specs.Handbook.Instruction.{instruction, instruction_trap};
 ghost use Rattle.pdp_instruction.specs.Handbook.TrapSequence.{trap_vector};
-ghost use Rattle.pdp_cpu.specs.Turns.Due.{act_of, course_of, due_now, serve, serving};
-ghost use Rattle.pdp_cpu.specs.Turns.Due.{take_stack as stack_taken, take_trace as trace_taken};
-ghost use Rattle.pdp_cpu.specs.Turns.Due.{without_stack_trap, without_trace_trap};
-ghost use Rattle.pdp_cpu.specs.Turns.TurnTrap.{trap_of_due};
-ghost use Rattle.pdp_unibus.specs.Source.{vector_of};
+ghost use Rattle.pdp_cpu.specs.Handbook.Due.{act_of, course_of, due_now, serve, serving};
+ghost use Rattle.pdp_cpu.specs.Handbook.Due.{take_stack as stack_taken, take_trace as trace_taken};
+ghost use Rattle.pdp_cpu.specs.Handbook.Due.{without_stack_trap, without_trace_trap};
+ghost use Rattle.pdp_cpu.specs.Handbook.TurnTrap.{trap_of_due};
+ghost use Rattle.pdp_unibus.specs.Handbook.Source.{vector_of};
 
 use crate::act::Act;
 use crate::due::Due;

@@ -1,9 +1,9 @@
 //! A turn, and the disk's controller in it.
 
 ghost use Rattle.std.specs.Prelude.{◌≡◌, ◌<◌};
-ghost use Rattle.pdp_cpu.specs.Turns.MachineState.{IsReady, machine_world};
-ghost use Rattle.pdp_cpu.specs.Turns.Turn.{turn_act};
-ghost use Rattle.pdp_cpu.specs.Turns.TurnDisk.{disk_begun};
+ghost use Rattle.pdp_cpu.specs.Handbook.MachineState.{IsReady, machine_world};
+ghost use Rattle.pdp_cpu.specs.Handbook.Turn.{turn_act};
+ghost use Rattle.pdp_cpu.specs.Handbook.TurnDisk.{disk_begun};
 ghost use Rattle.pdp_cpu.specs.Turns.TurnRun.{RunsTouched, RunsTurn};
 
 use crate::act::Act;

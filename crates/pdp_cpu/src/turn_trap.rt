@@ -3,11 +3,11 @@
 ghost use Rattle.std.specs.Prelude.{◌≡◌, ◌<◌};
 ghost use Rattle.pdp_store.specs.FirstTouches.{no_first_touches};
 ghost use Rattle.pdp_operand.specs.Phases.Phase.{inner_of};
-ghost use Rattle.pdp_cpu.specs.Turns.Due.{act_of, due_of};
-ghost use Rattle.pdp_cpu.specs.Turns.MachineState.{IsReady, machine_world};
+ghost use Rattle.pdp_cpu.specs.Handbook.Due.{act_of, due_of};
+ghost use Rattle.pdp_cpu.specs.Handbook.MachineState.{IsReady, machine_world};
 ghost use Rattle.pdp_cpu.specs.Turns.TurnRun.{RunsTouched, RunsTurn};
-ghost use Rattle.pdp_cpu.specs.Turns.Turn.{act_end, initial_state, turn_act};
-ghost use Rattle.pdp_cpu.specs.Turns.TurnTrap.{trap_of_due, turn_trap};
+ghost use Rattle.pdp_cpu.specs.Handbook.Turn.{act_end, initial_state, turn_act};
+ghost use Rattle.pdp_cpu.specs.Handbook.TurnTrap.{trap_of_due, turn_trap};
 
 use crate::act::Act;
 use crate::machine::Machine;

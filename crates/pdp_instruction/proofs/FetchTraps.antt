@@ -1,6 +1,6 @@
 -- The trap of an instruction, by how its fetch ended.
 use Rattle.std.proofs.Common.{◌≡◌, refl, Ok, Err, Some}
-use Rattle.pdp_unibus.specs.BusWorld.{BusWorld}
+use Rattle.pdp_unibus.specs.Handbook.BusWorld.{BusWorld}
 use Rattle.pdp_icache.specs.declared.line.Decoded.{Decoded}
 use Rattle.pdp_action.specs.declared.trap.Trap.{Trap}
 use Rattle.pdp_operand.specs.Contract.{outcome}

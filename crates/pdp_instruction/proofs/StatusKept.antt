@@ -2,10 +2,10 @@
 use Rattle.std.proofs.Common.{◌≡◌, ℕ, Bool, true, false, [], refl, ◌∙◌, subst, Ok, Err, Result, length, if◌then◌else◌}
 use Rattle.pdp_kt11.specs.declared.place.Access.TheVariants.{Read}
 use Rattle.pdp_unibus.proofs.Frame.{use_leaves}
-use Rattle.pdp_unibus.specs.BusWorld.{BusWorld, with_mapping}
-use Rattle.pdp_unibus.specs.Cycle.{Slave, Core, Device, Nobody, slave_at}
+use Rattle.pdp_unibus.specs.Handbook.BusWorld.{BusWorld, with_mapping}
+use Rattle.pdp_unibus.specs.Handbook.Cycle.{Slave, Core, Device, Nobody, slave_at}
 use Rattle.pdp_unibus.specs.Laws.{Reading}
-use Rattle.pdp_unibus.specs.Register.{after_read}
+use Rattle.pdp_unibus.specs.Handbook.Register.{after_read}
 use Rattle.pdp_unibus.specs.declared.io_page.IoPage.{IoPage}
 use Rattle.pdp_unibus.specs.declared.register.Register.{Register}
 use Rattle.pdp_unibus.specs.declared.register.Register.TheVariants as register

@@ -2,7 +2,7 @@ ghost use Rattle.std.specs.Prelude.{◌≡◌, Ok};
 ghost use Rattle.pdp_operand.specs.Contract.{Runs};
 ghost use Rattle.pdp_operand.specs.declared.processor.Processor.{Processor};
 ghost use Rattle.pdp_instruction.specs.Handbook.Control.{halt_plan, reset_plan, wait_plan};
-ghost use Rattle.pdp_unibus.specs.BusWorld.{BusWorld};
+ghost use Rattle.pdp_unibus.specs.Handbook.BusWorld.{BusWorld};
 
 use pdp_kt11::Mode;
 use pdp_operand::{Processor, RunState, Trap};

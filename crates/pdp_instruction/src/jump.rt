@@ -1,5 +1,5 @@
 ghost use Rattle.std.specs.Prelude.{◌≡◌};
-ghost use Rattle.pdp_unibus.specs.BusWorld.{BusWorld};
+ghost use Rattle.pdp_unibus.specs.Handbook.BusWorld.{BusWorld};
 ghost use Rattle.pdp_operand.specs.Contract.{GivesWhere, IsAt, in_value, Runs};
 ghost use Rattle.pdp_operand.specs.Phases.Plan.{one};
 ghost use Rattle.pdp_instruction.specs.Handbook.Jump.{aim as aim_phase, jmp_plan, jsr_plan};

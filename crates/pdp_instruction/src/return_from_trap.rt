@@ -1,5 +1,5 @@
 ghost use Rattle.std.specs.Prelude.{◌≡◌};
-ghost use Rattle.pdp_kt11.specs.Mode.{mode_bits};
+ghost use Rattle.pdp_kt11.specs.Handbook.Mode.{mode_bits};
 ghost use Rattle.pdp_operand.specs.Contract.{Runs};
 ghost use Rattle.pdp_instruction.specs.Handbook.ReturnFromTrap.{either_mode};
 ghost use Rattle.pdp_instruction.specs.Handbook.ReturnFromTrap.{returned_status as returned_status};
@@ -13,7 +13,7 @@ use pdp_unibus::{Bus, Status};
 use pdp_word::Size;
 
 /// The mode that has the bits of either.
-#[tactic(auto, unfolding(pdp_kt11::specs::Mode::mode_of))]
+#[tactic(auto, unfolding(pdp_kt11::specs::Handbook::Mode::mode_of))]
 fn either(one: Mode, other: Mode) -> Mode
     ensures { result ≡ either_mode one other }
 {

@@ -1,7 +1,7 @@
 //! The sequence of a trap, and the red sequence.
 
 ghost use Rattle.std.specs.Prelude.{◌≡◌, ◌<◌, Ok};
-ghost use Rattle.pdp_unibus.specs.BusWorld.{BusWorld};
+ghost use Rattle.pdp_unibus.specs.Handbook.BusWorld.{BusWorld};
 ghost use Rattle.pdp_operand.specs.Contract.{Follows, Gives, GivesWhere, Runs, RunsWhere, in_cell};
 ghost use Rattle.pdp_operand.specs.Contract.{nowhere};
 ghost use Rattle.pdp_operand.specs.Phases.Plan.{one};

@@ -1,12 +1,12 @@
 -- Mapping off, writes to read-only pages, and what SR0 tells of aborts.
 use Rattle.std.proofs.Common.{◌≡◌, ℕ, zero, suc, ◌+◌, ◌*◌, ◌/◌, ◌<◌, ◌||◌, Bool, true, false, Option, Some, None, Ok, Err, refl, sym, ◌∙◌, ap, arith}
 use Rattle.std.proofs.lemmas.Bool.{or_parts}
-use Rattle.pdp_kt11.specs.Kt.{kt_fetched, page_at, with_page}
+use Rattle.pdp_kt11.specs.Handbook.Kt.{kt_fetched, page_at, with_page}
 use Rattle.pdp_kt11.specs.Laws.{AbortsInStatusAlone, AbortsLeaveThePages, FetchesAreFollowedUntilAnAbort, LaterAbortsAreNotTold, MappingOffIsTheOldRule, PassesLeaveStatus, ReadOnlyPagesAreNeverWritten, TheFirstAbortIsTold, abort_flag, page_through, place_of}
-use Rattle.pdp_kt11.specs.Mode.{mode_bits}
-use Rattle.pdp_kt11.specs.Apr.{numbered_page, page_number, space_of}
-use Rattle.pdp_kt11.specs.Status.{abort_told, with_abort_flag, mapping_status_word, tells_abort}
-use Rattle.pdp_kt11.specs.Translation.{Translation, aborted_translation, abort_in, block_of, checked_translation, is_within_length, mapped_translation, mapped_in, page_of, with_w_bit, translate}
+use Rattle.pdp_kt11.specs.Handbook.Mode.{mode_bits}
+use Rattle.pdp_kt11.specs.Handbook.Apr.{numbered_page, page_number, space_of}
+use Rattle.pdp_kt11.specs.Handbook.Status.{abort_told, with_abort_flag, mapping_status_word, tells_abort}
+use Rattle.pdp_kt11.specs.Handbook.Translation.{Translation, aborted_translation, abort_in, block_of, checked_translation, is_within_length, mapped_translation, mapped_in, page_of, with_w_bit, translate}
 use Rattle.pdp_kt11.specs.declared.registers.MappingRegisters.{MappingRegisters}
 use Rattle.pdp_kt11.specs.declared.mode.Mode.{Mode}
 use Rattle.pdp_kt11.specs.declared.apr.AccessControl.TheVariants as control

@@ -2,10 +2,10 @@
 use Rattle.std.proofs.Common.{◌≡◌, ◌≢◌, ℕ, ◌+◌, ◌*◌, ◌/◌, ◌%◌, ◌<◌, ◌≤◌, Bool, true, false, Option, Some, None, Ok, inl, inr, refl, arith}
 use Rattle.std.proofs.lemmas.Bool.{leb-true}
 use Rattle.pdp_kt11.proofs.AbortLaws.{while_on}
-use Rattle.pdp_kt11.specs.Kt.{page_at}
+use Rattle.pdp_kt11.specs.Handbook.Kt.{page_at}
 use Rattle.pdp_kt11.specs.Laws.{AreDisjoint, DisjointPagesNeverMeet, FitsIn18Bits, first_block, first_grown, last_block, last_grown, page_through, place_of}
-use Rattle.pdp_kt11.specs.Apr.{space_of}
-use Rattle.pdp_kt11.specs.Translation.{abort_in, block_of, checked_translation, is_resident, is_within_length, mapped_address, mapped_in, page_of}
+use Rattle.pdp_kt11.specs.Handbook.Apr.{space_of}
+use Rattle.pdp_kt11.specs.Handbook.Translation.{abort_in, block_of, checked_translation, is_resident, is_within_length, mapped_address, mapped_in, page_of}
 use Rattle.pdp_kt11.specs.declared.registers.MappingRegisters.{MappingRegisters}
 use Rattle.pdp_kt11.specs.declared.mode.Mode.{Mode}
 use Rattle.pdp_kt11.specs.declared.apr.Expansion.{Expansion}

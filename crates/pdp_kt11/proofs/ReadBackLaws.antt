@@ -2,13 +2,13 @@
 use Rattle.std.proofs.Common.{◌≡◌, ℕ, zero, suc, ◌+◌, ◌*◌, ◌/◌, ◌%◌, ◌<◌, ◌==◌, Bool, true, false, [], ◌∷◌, Option, Some, None, if◌then◌else◌, refl, ◌∙◌, ap, arith}
 use Rattle.pdp_kt11.proofs.AbortLaws.{mapping_off, while_on}
 use Rattle.pdp_kt11.proofs.WrittenLaws.{fetch_apart, number_below, page_changed, powered_page, status_apart, use_keeps_pages}
-use Rattle.pdp_kt11.specs.Kt.{kt_fetched, kt_value, kt_written, page_at, with_page}
+use Rattle.pdp_kt11.specs.Handbook.Kt.{kt_fetched, kt_value, kt_written, page_at, with_page}
 use Rattle.pdp_kt11.specs.Laws.{HasBitsInRange, HasEightPages, OtherBitsReadZero, PagesAreInRange, PowerGivesPagesInRange, KtUse, UsesKeepPagesInRange, WrittenAddressReadsBack, WrittenDescriptorReadsBack, WrittenStatus0ReadsBack, kt_after_use, is_same_page}
 use Rattle.pdp_kt11.specs.Laws.KtUse.{Accessing, Writing, Fetching, Resetting}
-use Rattle.pdp_kt11.specs.Mode.{mode_bits}
-use Rattle.pdp_kt11.specs.Apr.{access_bits, access_control_of, address_written, descriptor_word, descriptor_written, empty_page, expansion_bit, expansion_of, page_number, space_of}
-use Rattle.pdp_kt11.specs.Status.{mapping_status_word, mapping_status_written}
-use Rattle.pdp_kt11.specs.Translation.{abort_in, block_of, checked_translation, mapped_in, page_of, with_w_bit, translate}
+use Rattle.pdp_kt11.specs.Handbook.Mode.{mode_bits}
+use Rattle.pdp_kt11.specs.Handbook.Apr.{access_bits, access_control_of, address_written, descriptor_word, descriptor_written, empty_page, expansion_bit, expansion_of, page_number, space_of}
+use Rattle.pdp_kt11.specs.Handbook.Status.{mapping_status_word, mapping_status_written}
+use Rattle.pdp_kt11.specs.Handbook.Translation.{abort_in, block_of, checked_translation, mapped_in, page_of, with_w_bit, translate}
 use Rattle.pdp_kt11.specs.declared.registers.MappingRegisters.{MappingRegisters}
 use Rattle.pdp_kt11.specs.declared.mode.Mode.{Mode}
 use Rattle.pdp_kt11.specs.declared.mode.Mode.TheVariants as mode

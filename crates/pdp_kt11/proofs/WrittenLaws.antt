@@ -2,10 +2,10 @@
 use Rattle.std.proofs.Common.{◌≡◌, ℕ, ◌<◌, ◌==◌, Bool, true, false, not, ◌&&◌, ◌||◌, List, [], ◌∷◌, length, slice_index_or, slice_set, if◌then◌else◌, Option, Some, None, is_ok, refl, ◌∙◌, ap, arith, length-set, get_or-set_same, get_or-set_other}
 use Rattle.std.proofs.lemmas.Bool.{eqb-true, eqb-false}
 use Rattle.pdp_kt11.proofs.AbortLaws.{mapping_off, while_on}
-use Rattle.pdp_kt11.specs.Kt.{kt_fetched, kt_written, page_at, powered_kt, with_page}
+use Rattle.pdp_kt11.specs.Handbook.Kt.{kt_fetched, kt_written, page_at, powered_kt, with_page}
 use Rattle.pdp_kt11.specs.Laws.{HasEightPages, PowerClearsWrittenBits, PowerGivesEightPages, KtUse, UsesKeepEightPages, WrittenBitsTellTheTruth, kt_after_use, is_address_in, is_same_page, place_of, told_by, told_after, writes_through}
-use Rattle.pdp_kt11.specs.Apr.{address_written, descriptor_written, empty_page, page_number, space_of}
-use Rattle.pdp_kt11.specs.Translation.{abort_in, block_of, checked_translation, mapped_in, page_of, with_w_bit, translate}
+use Rattle.pdp_kt11.specs.Handbook.Apr.{address_written, descriptor_written, empty_page, page_number, space_of}
+use Rattle.pdp_kt11.specs.Handbook.Translation.{abort_in, block_of, checked_translation, mapped_in, page_of, with_w_bit, translate}
 use Rattle.pdp_kt11.specs.declared.registers.MappingRegisters.{MappingRegisters}
 use Rattle.pdp_kt11.specs.declared.mode.Mode.{Mode}
 use Rattle.pdp_kt11.specs.declared.apr.Apr.{Apr}

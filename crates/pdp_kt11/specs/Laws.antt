@@ -5,15 +5,17 @@
 use Rattle.std.specs.Prelude.{◌≡◌, ◌≢◌, ◌⊎◌, ℕ, ◌+◌, ◌-◌, ◌*◌, ◌/◌, ◌%◌, ◌<◌, ◌==◌, Bool, true}
 use Rattle.std.specs.Prelude.{false, not, ◌&&◌, ◌||◌, List, [], ◌∷◌, length, Option, Some, None}
 use Rattle.std.specs.Prelude.{Result, Ok, Err, is_ok}
-use Rattle.pdp_kt11.specs.Bits.{blocks_of_page, page_bytes, sr0_enable, sr0_length, sr0_mode}
-use Rattle.pdp_kt11.specs.Bits.{sr0_non_resident}
-use Rattle.pdp_kt11.specs.Bits.{sr0_page, sr0_read_only}
-use Rattle.pdp_kt11.specs.Kt.{kt_fetched, kt_reset, kt_value, kt_written, page_at, powered_kt}
-use Rattle.pdp_kt11.specs.Mode.{mode_bits}
-use Rattle.pdp_kt11.specs.Apr.{page_number, space_of}
-use Rattle.pdp_kt11.specs.Place.{unmapped_address}
-use Rattle.pdp_kt11.specs.Status.{mapping_status_word, tells_abort}
-use Rattle.pdp_kt11.specs.Translation.{page_of, translate}
+use Rattle.pdp_kt11.specs.Handbook.Bits.{blocks_of_page, page_bytes, sr0_enable, sr0_length}
+use Rattle.pdp_kt11.specs.Handbook.Bits.{sr0_mode}
+use Rattle.pdp_kt11.specs.Handbook.Bits.{sr0_non_resident}
+use Rattle.pdp_kt11.specs.Handbook.Bits.{sr0_page, sr0_read_only}
+use Rattle.pdp_kt11.specs.Handbook.Kt.{kt_fetched, kt_reset, kt_value, kt_written, page_at}
+use Rattle.pdp_kt11.specs.Handbook.Kt.{powered_kt}
+use Rattle.pdp_kt11.specs.Handbook.Mode.{mode_bits}
+use Rattle.pdp_kt11.specs.Handbook.Apr.{page_number, space_of}
+use Rattle.pdp_kt11.specs.Handbook.Place.{unmapped_address}
+use Rattle.pdp_kt11.specs.Handbook.Status.{mapping_status_word, tells_abort}
+use Rattle.pdp_kt11.specs.Handbook.Translation.{page_of, translate}
 use Rattle.pdp_kt11.specs.declared.registers.MappingRegisters.{MappingRegisters}
 use Rattle.pdp_kt11.specs.declared.mode.Mode.{Mode}
 use Rattle.pdp_kt11.specs.declared.apr.AccessControl.TheVariants as control

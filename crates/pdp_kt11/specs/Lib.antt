@@ -1,9 +1,6 @@
-pub mod Bits
+pub mod Handbook
 pub mod KeptTranslation
-pub mod Kt
 pub mod Laws
-pub mod Mode
-pub mod Apr
-pub mod Place
-pub mod Status
-pub mod Translation
+-- what attributes open, by a shorter path
+unfoldable pub use Rattle.pdp_kt11.specs.Handbook.Kt.{page_at, with_page}
+unfoldable pub use Rattle.pdp_kt11.specs.Handbook.Translation.{translate}

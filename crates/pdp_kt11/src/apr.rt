@@ -1,10 +1,11 @@
 ghost use Rattle.std.specs.Prelude.{◌≡◌, ◌<◌};
-ghost use Rattle.pdp_kt11.specs.Bits.{physical_addresses};
-ghost use Rattle.pdp_kt11.specs.Apr.{access_bits, access_control_of, address_written};
-ghost use Rattle.pdp_kt11.specs.Apr.{descriptor_word, descriptor_written, empty_page};
-ghost use Rattle.pdp_kt11.specs.Apr.{expansion_bit, expansion_of, numbered_page, page_number};
-ghost use Rattle.pdp_kt11.specs.Apr.{space_of};
-ghost use Rattle.pdp_kt11.specs.Translation.{abort_in, block_of, mapped_address, page_of};
+ghost use Rattle.pdp_kt11.specs.Handbook.Bits.{physical_addresses};
+ghost use Rattle.pdp_kt11.specs.Handbook.Apr.{access_bits, access_control_of, address_written};
+ghost use Rattle.pdp_kt11.specs.Handbook.Apr.{descriptor_word, descriptor_written, empty_page};
+ghost use Rattle.pdp_kt11.specs.Handbook.Apr.{expansion_bit, expansion_of, numbered_page};
+ghost use Rattle.pdp_kt11.specs.Handbook.Apr.{page_number};
+ghost use Rattle.pdp_kt11.specs.Handbook.Apr.{space_of};
+ghost use Rattle.pdp_kt11.specs.Handbook.Translation.{abort_in, block_of, mapped_address, page_of};
 
 use crate::bits::{
     BLOCK_BYTES, BLOCKS_OF_PAGE, PAGE_BYTES, PDR_ACCESS, PDR_DOWNWARD, PDR_LENGTH, PDR_WRITTEN,
@@ -55,7 +56,7 @@ pub enum PageNumber {
 impl PageNumber {
     /// The page of a number, 0 to 7; a number above 7 names page 7 too.
     #[inline(always)]
-    #[tactic(auto, unfolding(crate::specs::Apr::numbered_page))]
+    #[tactic(auto, unfolding(crate::specs::Handbook::Apr::numbered_page))]
     pub fn numbered(number: u32) -> PageNumber
         ensures { result ≡ numbered_page number }
     {
@@ -106,7 +107,7 @@ pub enum AccessControl {
 
 impl AccessControl {
     /// The field of two bits, 0 to 3; a number above 3 is 3 too.
-    #[tactic(auto, unfolding(crate::specs::Apr::access_control_of))]
+    #[tactic(auto, unfolding(crate::specs::Handbook::Apr::access_control_of))]
     fn of_bits(bits: u16) -> AccessControl
         ensures { result ≡ access_control_of bits }
     {
@@ -188,7 +189,7 @@ pub struct Apr {
 
 impl Apr {
     /// A page as of power-up: every bit of both registers 0 [7.4].
-    #[tactic(auto, unfolding(crate::specs::Apr::empty_page))]
+    #[tactic(auto, unfolding(crate::specs::Handbook::Apr::empty_page))]
     pub const fn empty() -> Apr
         ensures { result ≡ empty_page }
     {
@@ -214,7 +215,7 @@ impl Apr {
 
     /// The page after its descriptor register was written: length, direction and access are the
     /// word's, and W is clear.
-    #[tactic(auto, unfolding(crate::specs::Apr::descriptor_written))]
+    #[tactic(auto, unfolding(crate::specs::Handbook::Apr::descriptor_written))]
     pub fn with_descriptor(self, word: u16) -> Apr
         ensures { result ≡ descriptor_written word self }
     {
@@ -229,7 +230,7 @@ impl Apr {
 
     /// The page after its address register was written: bits 11-0 of the word are its frame, and W
     /// is clear.
-    #[tactic(auto, unfolding(crate::specs::Apr::address_written))]
+    #[tactic(auto, unfolding(crate::specs::Handbook::Apr::address_written))]
     pub fn with_address(mut self, word: u16) -> Apr
         ensures { result ≡ address_written word self }
     {

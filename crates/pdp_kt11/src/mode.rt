@@ -19,11 +19,11 @@ pub enum Mode {
 }
 
 impl Mode {
-    ghost use Rattle.pdp_kt11.specs.Mode.{mode_bits, mode_of};
+    ghost use Rattle.pdp_kt11.specs.Handbook.Mode.{mode_bits, mode_of};
 
     /// The mode of two bits of the program status word, 0 to 3.
     #[inline]
-    #[tactic(auto, unfolding(crate::specs::Mode::mode_of))]
+    #[tactic(auto, unfolding(crate::specs::Handbook::Mode::mode_of))]
     pub fn of_bits(bits: u16) -> Mode
         requires { bits < 4 }
         ensures mode { result ≡ mode_of bits }

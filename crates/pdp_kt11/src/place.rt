@@ -1,5 +1,5 @@
 ghost use Rattle.std.specs.Prelude.{◌≡◌, ◌<◌, ◌^◌};
-ghost use Rattle.pdp_kt11.specs.Place.{unmapped_address};
+ghost use Rattle.pdp_kt11.specs.Handbook.Place.{unmapped_address};
 
 use crate::bits::{IO_PAGE, IO_PAGE_HIGHER};
 
@@ -29,7 +29,7 @@ pub enum Abort {
 ///
 /// DEC PDP-11/40 Processor Handbook (1972), Memory management.
 #[inline(always)]
-#[tactic(auto, unfolding(crate::specs::Place::unmapped_address))]
+#[tactic(auto, unfolding(crate::specs::Handbook::Place::unmapped_address))]
 pub fn unmapped(address: u16) -> u32
     ensures place { result ≡ unmapped_address address }
     ensures fits { result < 2 ^ 18 }

@@ -1,5 +1,5 @@
 ghost use Rattle.std.specs.Prelude.{◌≡◌, ◌≤◌};
-ghost use Rattle.pdp_kt11.specs.Kt.{kt_register_at, page_from};
+ghost use Rattle.pdp_kt11.specs.Handbook.Kt.{kt_register_at, page_from};
 
 use crate::apr::{PageNumber, Space};
 
@@ -23,7 +23,7 @@ pub enum KtRegister {
 
 impl KtRegister {
     /// The register at this physical address (bytes), if there is one; none is at an odd address.
-    #[tactic(auto, unfolding(crate::specs::Kt::kt_register_at))]
+    #[tactic(auto, unfolding(crate::specs::Handbook::Kt::kt_register_at))]
     pub fn at(address: u32) -> Option<KtRegister>
         ensures { result ≡ kt_register_at address }
     {

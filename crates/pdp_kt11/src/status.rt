@@ -1,6 +1,6 @@
 ghost use Rattle.std.specs.Prelude.{◌≡◌, ◌↔◌, true};
-ghost use Rattle.pdp_kt11.specs.Status.{abort_told, clear_status, mapping_status_word};
-ghost use Rattle.pdp_kt11.specs.Status.{mapping_status_written, tells_abort};
+ghost use Rattle.pdp_kt11.specs.Handbook.Status.{abort_told, clear_status, mapping_status_word};
+ghost use Rattle.pdp_kt11.specs.Handbook.Status.{mapping_status_written, tells_abort};
 
 use crate::apr::PageNumber;
 use crate::bits::{SR0_ENABLE, SR0_LENGTH, SR0_MODE, SR0_NON_RESIDENT, SR0_PAGE, SR0_READ_ONLY};
@@ -42,7 +42,7 @@ impl MappingStatus {
     }
 
     /// All bits 0, as of power-up and after RESET.
-    #[tactic(auto, unfolding(crate::specs::Status::clear_status))]
+    #[tactic(auto, unfolding(crate::specs::Handbook::Status::clear_status))]
     pub const fn clear() -> MappingStatus
         ensures { result ≡ clear_status }
     {
@@ -82,7 +82,7 @@ impl MappingStatus {
 
     /// SR0 after a word was written to it: bits 15-13 and 0 are the word's, mode and page stay
     /// [6.25].
-    #[tactic(auto, unfolding(crate::specs::Status::mapping_status_written))]
+    #[tactic(auto, unfolding(crate::specs::Handbook::Status::mapping_status_written))]
     pub fn written(self, word: u16) -> MappingStatus
         ensures { result ≡ mapping_status_written word self }
     {
@@ -97,7 +97,7 @@ impl MappingStatus {
 
     /// SR0 after an abort at this page of the mode: its flag, the mode and the page, if it tells of
     /// none yet. Else it stays [6.23].
-    #[tactic(auto, unfolding(crate::specs::Status::abort_told))]
+    #[tactic(auto, unfolding(crate::specs::Handbook::Status::abort_told))]
     pub fn with_abort(self, abort: Abort, mode: Mode, page: PageNumber) -> MappingStatus
         ensures { result ≡ abort_told abort mode page self }
     {

@@ -2,9 +2,9 @@
 use Rattle.std.proofs.Common.{ℕ, ◌<◌, true, false, List, [], ◌∷◌, ◌++◌, Option, None, Ok, Err, Result, length, append-nil}
 use Rattle.pdp_store.specs.TracedAccess.{TracedAccess}
 use Rattle.pdp_store.specs.declared.cycle_log.BusCycle.{BusCycle}
-use Rattle.pdp_unibus.specs.BusWorld.{BusWorld}
+use Rattle.pdp_unibus.specs.Handbook.BusWorld.{BusWorld}
 use Rattle.pdp_unibus.specs.declared.io_page.IoPage.{IoPage}
-use Rattle.pdp_unibus.specs.Cycle.{core_read, core_stored}
+use Rattle.pdp_unibus.specs.Handbook.Cycle.{core_read, core_stored}
 use Rattle.pdp_unibus.specs.Trace.{processor_touch}
 use Rattle.pdp_operand.specs.Handbook.Reference.{Reference, perform}
 use Rattle.pdp_operand.specs.Phases.Phase.{Phase, Inner, State, Stop, Request, Nothing, Ask, Raise, Latch, run, step, and_then, by_request, after_answer, inner_of, state_of}

@@ -5,7 +5,7 @@ use Rattle.pdp_store.specs.FirstTouches.{first_touches_after}
 use Rattle.pdp_store.specs.Stamps.{stamps_after_trace}
 use Rattle.pdp_store.specs.TracedAccess.{TracedAccess}
 use Rattle.pdp_unibus.proofs.AccessNotes.{AccessNotes, notes_after, notes_after-append, with_notes}
-use Rattle.pdp_unibus.specs.BusWorld.{BusWorld}
+use Rattle.pdp_unibus.specs.Handbook.BusWorld.{BusWorld}
 use Rattle.pdp_operand.specs.Handbook.Reference.{Reference, Reply, is_odd, perform}
 use Rattle.pdp_operand.specs.Phases.Phase.{Phase, Inner, State, Stop, Request, Nothing, Ask, Raise}
 use Rattle.pdp_operand.specs.Phases.Phase.{Latch, run, step, and_then, by_request, after_reply}

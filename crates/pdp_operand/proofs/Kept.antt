@@ -9,8 +9,8 @@ use Rattle.pdp_store.specs.declared.part.Part.{Part}
 use Rattle.pdp_store.specs.declared.part.Part.TheVariants as parts
 use Rattle.pdp_store.specs.declared.Stamp.{Stamp}
 use Rattle.pdp_unibus.proofs.Kept.{KeepsPage, KeepsStamps, keeps_page, keeps_stamps}
-use Rattle.pdp_unibus.specs.BusWorld.{BusWorld}
-use Rattle.pdp_unibus.specs.Cycle.{core_stored}
+use Rattle.pdp_unibus.specs.Handbook.BusWorld.{BusWorld}
+use Rattle.pdp_unibus.specs.Handbook.Cycle.{core_stored}
 use Rattle.pdp_unibus.specs.Page.{SamePage}
 use Rattle.pdp_unibus.specs.Trace.{processor_touch}
 use Rattle.pdp_operand.specs.Phases.Phase.{State}

@@ -1,8 +1,8 @@
 -- A course does the same whatever log is kept, and its cycles are put into that log.
 use Rattle.std.proofs.Common.{◌≡◌, ℕ, ◌*◌, Bool, true, false, List, [], ◌∷◌, Some, Ok, Err, Result, refl, slice_index}
 use Rattle.pdp_store.specs.CycleLogs.{KeptCycles, log_with}
-use Rattle.pdp_unibus.specs.BusWorld.{BusWorld, with_log}
-use Rattle.pdp_unibus.specs.Cycle.{told_read}
+use Rattle.pdp_unibus.specs.Handbook.BusWorld.{BusWorld, with_log}
+use Rattle.pdp_unibus.specs.Handbook.Cycle.{told_read}
 use Rattle.pdp_operand.specs.Handbook.Reference.{Reference, Reply, is_odd, perform}
 use Rattle.pdp_operand.specs.Phases.Phase.{Phase, Inner, State, Stop, Request, Nothing, Ask, Raise}
 use Rattle.pdp_operand.specs.Phases.Phase.{Latch, run, step, and_then, by_request, after_reply}

@@ -3,7 +3,7 @@ use Rattle.std.proofs.Common.{ℕ, List, sym, ap, subst}
 use Rattle.pdp_store.specs.Parts.{AlikeWords}
 use Rattle.pdp_store.specs.TracedAccess.{Avoids}
 use Rattle.pdp_store.specs.declared.part.Part.{Part}
-use Rattle.pdp_unibus.specs.BusWorld.{BusWorld}
+use Rattle.pdp_unibus.specs.Handbook.BusWorld.{BusWorld}
 use Rattle.pdp_unibus.specs.Page.{AlikeOutside, words_of_part, bus_with_words}
 use Rattle.pdp_operand.specs.Phases.Phase.{State}
 use Rattle.pdp_operand.specs.Phases.Course.{Course}

@@ -6,7 +6,7 @@ use Rattle.pdp_store.specs.Parts.{AlikeWords}
 use Rattle.pdp_store.specs.TracedAccess.{Avoids, TracedAccess}
 use Rattle.pdp_store.specs.declared.part.Part.{Part}
 use Rattle.pdp_store.specs.declared.part.Part.TheVariants as parts
-use Rattle.pdp_unibus.specs.BusWorld.{BusWorld}
+use Rattle.pdp_unibus.specs.Handbook.BusWorld.{BusWorld}
 use Rattle.pdp_unibus.specs.Page.{words_of_part, bus_with_words}
 use Rattle.pdp_operand.specs.Handbook.Reference.{Reference, Reply, perform}
 use Rattle.pdp_operand.specs.Phases.Phase.{Phase, Inner, State, Stop, Request, Nothing, Ask, Raise, Latch, run, step, and_then, by_request, after_reply, inner_of, state_of, stop_at}

@@ -1,7 +1,7 @@
 ghost use Rattle.std.specs.Prelude.{◌≡◌, ◌<◌, ℕ, All, None, length, slice_index_or};
 ghost use Rattle.pdp_store.specs.TracedAccess.{Avoids, last_write};
 ghost use Rattle.pdp_store.specs.declared.part.Part.{Part};
-ghost use Rattle.pdp_unibus.specs.BusWorld.{BusWorld};
+ghost use Rattle.pdp_unibus.specs.Handbook.BusWorld.{BusWorld};
 ghost use Rattle.pdp_unibus.specs.Page.{AlikeOutside};
 ghost use Rattle.pdp_operand.specs.Laws.Aborted.{AbortsLeaveCore, ReadOnlyPagesKeepTheirWords};
 ghost use Rattle.pdp_operand.specs.Laws.Aborted.{ToldAbortsLeaveCore};

@@ -2,7 +2,7 @@
 use Rattle.std.specs.Prelude.{ℕ, ◌/◌, ◌≤◌, ◌&&◌, Bool, true, false, List, min, nat_le, unwrap_or}
 use Rattle.std.specs.Prelude.{Result, Ok, Err}
 use Rattle.pdp_script.specs.Refusal.{past_left}
-use Rattle.pdp_unibus.specs.LastTurn.{last_turn}
+use Rattle.pdp_unibus.specs.Handbook.LastTurn.{last_turn}
 use Rattle.pdp_script.specs.declared.faults.Fault.{Fault}
 use Rattle.pdp_unibus.specs.declared.delays.DelayedDevice.{DelayedDevice}
 use Rattle.pdp_unibus.specs.declared.event.Event.{Event}

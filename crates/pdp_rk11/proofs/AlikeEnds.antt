@@ -6,11 +6,11 @@ use Rattle.pdp_store.specs.TracedAccess.{Avoids}
 use Rattle.pdp_store.specs.declared.part.Part.{Part}
 use Rattle.pdp_store.specs.declared.part.Part.TheVariants.{Core, Drive}
 use Rattle.pdp_store.proofs.Traces.{Avoids-first}
-use Rattle.pdp_rk11.specs.Completion.{DiskWorld, drive_of, is_write_check, lists_after}
-use Rattle.pdp_rk11.specs.Geometry.{drive_in}
+use Rattle.pdp_rk11.specs.Handbook.Completion.{DiskWorld, drive_of, is_write_check, lists_after}
+use Rattle.pdp_rk11.specs.Handbook.Geometry.{drive_in}
 use Rattle.pdp_rk11.specs.Moves.{moved_items}
 use Rattle.pdp_rk11.specs.Trace.{fill_touches, joined_lists, move_touches, transfer_touches, disk_world_with_words}
-use Rattle.pdp_rk11.specs.Transfer.{core_after_read, core_word, disk_word, disk_written, is_different, moved_to_disk, rest_of_sector}
+use Rattle.pdp_rk11.specs.Handbook.Transfer.{core_after_read, core_word, disk_word, disk_written, is_different, moved_to_disk, rest_of_sector}
 use Rattle.pdp_rk11.specs.declared.function.Function.{Function}
 use Rattle.pdp_rk11.specs.declared.function.Function.TheVariants.{Write, Read, WriteCheck}
 use Rattle.pdp_rk11.specs.declared.transfer.Transfer.{Transfer}

@@ -8,7 +8,7 @@ use Rattle.pdp_store.specs.declared.part.Part.{Part}
 use Rattle.pdp_store.proofs.Traces.{Avoids-first, Avoids-second}
 use Rattle.pdp_rk11.specs.Moves.{any_below, moved_items, moved_to_one}
 use Rattle.pdp_rk11.specs.Trace.{joined_lists}
-use Rattle.pdp_rk11.specs.Transfer.{moved_to_core}
+use Rattle.pdp_rk11.specs.Handbook.Transfer.{moved_to_core}
 use Rattle.pdp_rk11.specs.declared.transfer.Transfer.{Transfer}
 use Rattle.pdp_rk11.proofs.Fronts.{moved_one_more}
 use Rattle.pdp_rk11.proofs.Moves.{moved_none}

@@ -7,11 +7,11 @@ use Rattle.pdp_store.specs.TracedAccess.{Avoids, TracedAccess}
 use Rattle.pdp_store.specs.declared.part.Part.{Part}
 use Rattle.pdp_store.specs.declared.part.Part.TheVariants.{Core, Drive}
 use Rattle.pdp_store.proofs.Traces.{Avoids-first, Avoids-second}
-use Rattle.pdp_rk11.specs.Completion.{DiskWorld, rk_completed, drive_of, lists_after}
-use Rattle.pdp_rk11.specs.Geometry.{drive_in}
+use Rattle.pdp_rk11.specs.Handbook.Completion.{DiskWorld, rk_completed, drive_of, lists_after}
+use Rattle.pdp_rk11.specs.Handbook.Geometry.{drive_in}
 use Rattle.pdp_rk11.specs.Moves.{moved_items}
 use Rattle.pdp_rk11.specs.Trace.{completion_touches, fill_touches, joined_lists, move_touches, transfer_touches, written_by_disk}
-use Rattle.pdp_rk11.specs.Transfer.{core_word, disk_word, disk_written, moved_to_core, moved_to_disk, rest_of_sector}
+use Rattle.pdp_rk11.specs.Handbook.Transfer.{core_word, disk_word, disk_written, moved_to_core, moved_to_disk, rest_of_sector}
 use Rattle.pdp_rk11.specs.declared.function.Function.{Function}
 use Rattle.pdp_rk11.specs.declared.function.Function.TheVariants.{Write, Read}
 use Rattle.pdp_rk11.specs.declared.transfer.Transfer.{Transfer}

@@ -7,8 +7,8 @@ use Rattle.pdp_store.specs.Parts.{AlikeWords, core_with, drives_with, words_in}
 use Rattle.pdp_store.specs.TracedAccess.{Avoids, TracedAccess}
 use Rattle.pdp_store.specs.declared.part.Part.{Part}
 use Rattle.pdp_store.specs.declared.part.Part.TheVariants.{Core, Drive}
-use Rattle.pdp_rk11.specs.Completion.{DiskWorld, rk_completed, drive_of, rk_finished, world_finished, lists_after, run_unless_refused, refusal, registers_after, transfer_of, rk_transferred, with_rk, run_function}
-use Rattle.pdp_rk11.specs.Geometry.{drive_in}
+use Rattle.pdp_rk11.specs.Handbook.Completion.{DiskWorld, rk_completed, drive_of, rk_finished, world_finished, lists_after, run_unless_refused, refusal, registers_after, transfer_of, rk_transferred, with_rk, run_function}
+use Rattle.pdp_rk11.specs.Handbook.Geometry.{drive_in}
 use Rattle.pdp_rk11.specs.Trace.{AlikeCompletions, completion_touches, touches_unless_refused, transfer_touches, disk_world_with_words}
 use Rattle.pdp_rk11.specs.declared.failure.Failure.{Failure}
 use Rattle.pdp_rk11.specs.declared.function.Function.{Function}

@@ -2,10 +2,10 @@
 use Rattle.std.proofs.Common.{◌≡◌, ℕ, List, [], refl, sym, ◌∙◌, ap, length, map, slice_index_or, slice_set}
 use Rattle.std.proofs.lemmas.List.{length-map, map-set, set-get_or}
 use Rattle.pdp_store.specs.TracedAccess.{TracedAccess}
-use Rattle.pdp_rk11.specs.Completion.{DiskWorld, rk_completed, drive_of, lists_after}
-use Rattle.pdp_rk11.specs.Geometry.{drive_in}
+use Rattle.pdp_rk11.specs.Handbook.Completion.{DiskWorld, rk_completed, drive_of, lists_after}
+use Rattle.pdp_rk11.specs.Handbook.Geometry.{drive_in}
 use Rattle.pdp_rk11.specs.Trace.{SameSizes}
-use Rattle.pdp_rk11.specs.Transfer.{disk_word, disk_written, moved_to_disk, rest_of_sector}
+use Rattle.pdp_rk11.specs.Handbook.Transfer.{disk_word, disk_written, moved_to_disk, rest_of_sector}
 use Rattle.pdp_rk11.specs.declared.function.Function.{Function}
 use Rattle.pdp_rk11.specs.declared.function.Function.TheVariants.{ControlReset, Write, Read, WriteCheck, Seek, ReadCheck, DriveReset, WriteLock}
 use Rattle.pdp_rk11.specs.declared.transfer.Transfer.{Transfer}

@@ -4,10 +4,10 @@ use Rattle.std.proofs.lemmas.Bool.{eqb-false, eqb-true}
 use Rattle.pdp_store.specs.TracedAccess.{TracedAccess, last_write}
 use Rattle.pdp_store.specs.declared.Stamp.{Stamp}
 use Rattle.pdp_store.proofs.Traces.{last_write-append}
-use Rattle.pdp_rk11.specs.Completion.{DiskWorld, rk_completed, lists_after, stamp_of_disk}
-use Rattle.pdp_rk11.specs.Geometry.{drive_in}
+use Rattle.pdp_rk11.specs.Handbook.Completion.{DiskWorld, rk_completed, lists_after, stamp_of_disk}
+use Rattle.pdp_rk11.specs.Handbook.Geometry.{drive_in}
 use Rattle.pdp_rk11.specs.Trace.{completion_touches, fill_touches, joined_lists, move_touches, transfer_touches}
-use Rattle.pdp_rk11.specs.Transfer.{core_word, moved_to_core, rest_of_sector}
+use Rattle.pdp_rk11.specs.Handbook.Transfer.{core_word, moved_to_core, rest_of_sector}
 use Rattle.pdp_rk11.specs.declared.function.Function.{Function}
 use Rattle.pdp_rk11.specs.declared.function.Function.TheVariants.{ControlReset, Write, Read, WriteCheck, Seek, ReadCheck, DriveReset, WriteLock}
 use Rattle.pdp_rk11.specs.declared.transfer.Transfer.{Transfer}

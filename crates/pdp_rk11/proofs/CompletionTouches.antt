@@ -5,10 +5,10 @@ use Rattle.std.proofs.lemmas.List.Elements.{All-nil, All-cons, All-append}
 use Rattle.std.specs.Prelude.{min, nat_lt}
 use Rattle.pdp_store.specs.TracedAccess.{TracedAccess}
 use Rattle.pdp_store.specs.declared.part.Part.TheVariants.{Core, Drive}
-use Rattle.pdp_rk11.specs.Completion.{DiskWorld, core_word_of_bus_address, first_word_of_sector, is_read_check, transfer_of, within_core, words_asked}
-use Rattle.pdp_rk11.specs.Geometry.{drive_in}
+use Rattle.pdp_rk11.specs.Handbook.Completion.{DiskWorld, core_word_of_bus_address, first_word_of_sector, is_read_check, transfer_of, within_core, words_asked}
+use Rattle.pdp_rk11.specs.Handbook.Geometry.{drive_in}
 use Rattle.pdp_rk11.specs.Trace.{IsOfCompletion, completion_touches, fill_touches, joined_lists, move_touches, read_by_disk, transfer_touches, written_by_disk}
-use Rattle.pdp_rk11.specs.Transfer.{core_word, disk_word, rest_of_sector}
+use Rattle.pdp_rk11.specs.Handbook.Transfer.{core_word, disk_word, rest_of_sector}
 use Rattle.pdp_rk11.specs.declared.function.Function.{Function}
 use Rattle.pdp_rk11.specs.declared.function.Function.TheVariants.{ControlReset, Write, Read, WriteCheck, Seek, ReadCheck, DriveReset, WriteLock}
 use Rattle.pdp_rk11.specs.declared.rk.Rk.{Rk}

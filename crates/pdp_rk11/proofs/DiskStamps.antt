@@ -3,10 +3,10 @@ use Rattle.std.proofs.Common.{◌≡◌, ◌∙◌, ◌&&◌, ℕ, zero, suc, Bo
 use Rattle.pdp_device.specs.Operation.{is_under_way}
 use Rattle.pdp_store.specs.TracedAccess.{TracedAccess}
 use Rattle.pdp_store.specs.declared.Stamp.{Stamp}
-use Rattle.pdp_rk11.specs.Completion.{DiskWorld, rk_completed, drive_of, lists_after, stamp_of_disk, world_finished, run_unless_refused, refusal, rk_transferred, registers_after, with_rk, run_function, is_write_check}
-use Rattle.pdp_rk11.specs.Geometry.{drive_in}
+use Rattle.pdp_rk11.specs.Handbook.Completion.{DiskWorld, rk_completed, drive_of, lists_after, stamp_of_disk, world_finished, run_unless_refused, refusal, rk_transferred, registers_after, with_rk, run_function, is_write_check}
+use Rattle.pdp_rk11.specs.Handbook.Geometry.{drive_in}
 use Rattle.pdp_rk11.specs.Trace.{StampsDisturbNoCompletion, completion_touches, disk_world_with_stamps, fill_touches, joined_lists, move_touches, transfer_touches, touches_unless_refused}
-use Rattle.pdp_rk11.specs.Transfer.{core_word, is_different, moved_to_core, rest_of_sector, stamps_read}
+use Rattle.pdp_rk11.specs.Handbook.Transfer.{core_word, is_different, moved_to_core, rest_of_sector, stamps_read}
 use Rattle.pdp_rk11.specs.declared.failure.Failure.{Failure}
 use Rattle.pdp_rk11.specs.declared.function.Function.{Function}
 use Rattle.pdp_rk11.specs.declared.function.Function.TheVariants.{ControlReset, Write, Read, WriteCheck, Seek, ReadCheck, DriveReset, WriteLock}

@@ -2,8 +2,8 @@
 use Rattle.std.proofs.Common.{◌≡◌, ℕ, Bool, true, false, List, [], Option, Some, None, refl, length, if◌then◌else◌}
 use Rattle.pdp_device.specs.Operation.{is_under_way}
 use Rattle.pdp_store.specs.TracedAccess.{TracedAccess}
-use Rattle.pdp_rk11.specs.Completion.{DiskWorld, rk_completed, drive_of, world_finished, lists_after, run_unless_refused, refusal, transfer_of, rk_transferred, with_rk, run_function}
-use Rattle.pdp_rk11.specs.Geometry.{drive_in}
+use Rattle.pdp_rk11.specs.Handbook.Completion.{DiskWorld, rk_completed, drive_of, world_finished, lists_after, run_unless_refused, refusal, transfer_of, rk_transferred, with_rk, run_function}
+use Rattle.pdp_rk11.specs.Handbook.Geometry.{drive_in}
 use Rattle.pdp_rk11.specs.Trace.{completion_touches, touches_unless_refused, transfer_touches}
 use Rattle.pdp_rk11.specs.declared.failure.Failure.{Failure}
 use Rattle.pdp_rk11.specs.declared.function.Function.{Function}

@@ -6,12 +6,12 @@ use Rattle.pdp_store.specs.declared.part.Part.TheVariants.{Drive}
 use Rattle.pdp_store.specs.FirstTouches.{FirstTouches, first_touches_after, first_touches_of, touch_page}
 use Rattle.pdp_store.proofs.FirstTouches.{first_touches_after-append}
 use Rattle.pdp_device.specs.Operation.{is_under_way}
-use Rattle.pdp_rk11.specs.Completion.{DiskWorld, drive_of, refusal, transfer_of}
-use Rattle.pdp_rk11.specs.Geometry.{drive_in}
+use Rattle.pdp_rk11.specs.Handbook.Completion.{DiskWorld, drive_of, refusal, transfer_of}
+use Rattle.pdp_rk11.specs.Handbook.Geometry.{drive_in}
 use Rattle.pdp_rk11.specs.declared.failure.Failure.{Failure}
 use Rattle.pdp_rk11.specs.Touched.{core_after, core_touched, disk_after, disk_touched, fill_touched, fill_first_touches, after_steps}
 use Rattle.pdp_rk11.specs.Trace.{completion_touches, fill_touches, joined_lists, move_touches, touches_unless_refused, transfer_touches, written_by_disk}
-use Rattle.pdp_rk11.specs.Transfer.{core_word, disk_word, rest_of_sector}
+use Rattle.pdp_rk11.specs.Handbook.Transfer.{core_word, disk_word, rest_of_sector}
 use Rattle.pdp_rk11.specs.declared.function.Function.{Function}
 use Rattle.pdp_rk11.specs.declared.function.Function.TheVariants.{ControlReset, Write, Read, WriteCheck, Seek, ReadCheck, DriveReset, WriteLock}
 use Rattle.pdp_rk11.specs.declared.transfer.Transfer.{Transfer}

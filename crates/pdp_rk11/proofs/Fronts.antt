@@ -3,7 +3,7 @@ use Rattle.std.proofs.Common.{◌≡◌, ℕ, zero, suc, ◌+◌, Bool, true, fa
 use Rattle.std.proofs.Math.Numerals.{add-one}
 use Rattle.std.proofs.lemmas.List.{set-set}
 use Rattle.pdp_rk11.specs.Moves.{moved_items, moved_to_one}
-use Rattle.pdp_rk11.specs.Transfer.{core_word, moved_to_core}
+use Rattle.pdp_rk11.specs.Handbook.Transfer.{core_word, moved_to_core}
 use Rattle.pdp_rk11.specs.declared.transfer.Transfer.{Transfer}
 use Rattle.pdp_rk11.proofs.Moves.{length-moved, length-moved_to_one, moved_more, moved_none}
 

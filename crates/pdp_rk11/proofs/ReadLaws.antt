@@ -2,10 +2,10 @@
 use Rattle.std.proofs.Common.{◌≡◌, ◌≢◌, ℕ, zero, suc, ◌+◌, ◌-◌, ◌<◌, ◌≤◌, ◌||◌, ◌⊎◌, Bool, true, false, List, Option, refl, sym, ◌∙◌, ap, subst, arith, inl, inr, if◌then◌else◌, length, slice_index, slice_set, get_or-set_same, get_or-set_other}
 use Rattle.std.proofs.lemmas.Bool.{cases_lt}
 use Rattle.std.proofs.lemmas.List.{get_or_past}
-use Rattle.pdp_rk11.specs.Completion.{DiskWorld, rk_completed, drive_of, world_finished, is_read_check, is_write_check, lists_after, run_unless_refused, rk_transferred, run_function}
+use Rattle.pdp_rk11.specs.Handbook.Completion.{DiskWorld, rk_completed, drive_of, world_finished, is_read_check, is_write_check, lists_after, run_unless_refused, rk_transferred, run_function}
 use Rattle.pdp_rk11.specs.Laws.{CanBeDone, ChecksChangeNoWord, ReadsLeaveTheLastMove, transfer_in}
 use Rattle.pdp_rk11.specs.Moves.{item_after, moved_items, moved_to_one}
-use Rattle.pdp_rk11.specs.Transfer.{core_after_read, core_word, disk_word}
+use Rattle.pdp_rk11.specs.Handbook.Transfer.{core_after_read, core_word, disk_word}
 use Rattle.pdp_rk11.specs.declared.failure.Failure.{Failure}
 use Rattle.pdp_rk11.specs.declared.function.Function.{Function}
 use Rattle.pdp_rk11.specs.declared.function.Function.TheVariants.{ControlReset, Write, Read, WriteCheck, Seek, ReadCheck, DriveReset, WriteLock}

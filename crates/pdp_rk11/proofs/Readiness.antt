@@ -3,7 +3,7 @@ use Rattle.std.proofs.Common.{◌≡◌, ℕ, true, false, Option, Some, None, l
 use Rattle.pdp_device.specs.ReadyEnable.{with_ready}
 use Rattle.pdp_device.specs.Operation.{is_under_way}
 use Rattle.pdp_device.specs.declared.operation.Operation.TheVariants.{Idle}
-use Rattle.pdp_rk11.specs.Completion.{DiskWorld, rk_completed, run_unless_refused, refusal, registers_after, rk_transferred, run_function}
+use Rattle.pdp_rk11.specs.Handbook.Completion.{DiskWorld, rk_completed, run_unless_refused, refusal, registers_after, rk_transferred, run_function}
 use Rattle.pdp_rk11.specs.declared.failure.Failure.{Failure}
 use Rattle.pdp_rk11.specs.declared.function.Function.{Function}
 use Rattle.pdp_rk11.specs.declared.function.Function.TheVariants.{ControlReset, Write, Read, WriteCheck, Seek, ReadCheck, DriveReset, WriteLock}

@@ -2,7 +2,7 @@
 -- `unfolding` of a name opens all that stands on the name's own line.
 use Rattle.pdp_rk11.proofs.Moves.{moved_none, moved_more, moved_to_one_none, moved_to_one_last}
 use Rattle.pdp_rk11.proofs.Names.{map_length, map_get, map_with, moved_length}
-use Rattle.pdp_rk11.specs.Completion.{rk_completed, stamps_completed}
+use Rattle.pdp_rk11.specs.Handbook.Completion.{rk_completed, stamps_completed}
 
 -- for goals on what is seen of a list of drives, one by one
 pub ruleset maps = (map_length, map_get, map_with)

@@ -1,9 +1,9 @@
 -- How RKCS tells the end of a function.
 use Rattle.std.proofs.Common.{◌≡◌, ◌≢◌, ℕ, ◌+◌, ◌*◌, ◌/◌, ◌%◌, ◌<◌, ◌≤◌, ◌||◌, ◌↔◌, Bool, true, false, Option, Some, None, refl, ◌∙◌, ap, arith}
 use Rattle.pdp_word.specs.Bits.{bit_of, field}
-use Rattle.pdp_rk11.specs.Completion.{rk_completed}
+use Rattle.pdp_rk11.specs.Handbook.Completion.{rk_completed}
 use Rattle.pdp_rk11.specs.Laws.{CompletionsSetReady, ErrorsAreTold, HardErrorsAreTold}
-use Rattle.pdp_rk11.specs.Rk.{code_of, control_word, failure_bit, failure_bits, has_failed}
+use Rattle.pdp_rk11.specs.Handbook.Rk.{code_of, control_word, failure_bit, failure_bits, has_failed}
 use Rattle.pdp_rk11.specs.declared.failure.Failure.{Failure}
 use Rattle.pdp_rk11.specs.declared.failure.Failure.TheVariants.{NoDrive, NoCylinder, NoSector, NoMemory, WriteLocked, Overrun}
 use Rattle.pdp_rk11.specs.declared.function.Function.{Function}

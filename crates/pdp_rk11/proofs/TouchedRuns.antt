@@ -2,7 +2,7 @@
 use Rattle.std.proofs.Common.{◌≡◌, ◌≢◌, ◌⊎◌, inl, inr, ℕ, zero, suc, ◌+◌, ◌-◌, ◌*◌, ◌/◌, ◌<◌, ◌≤◌, List, [], ◌∷◌, true, false, Bool, refl, ap, sym, ◌∙◌, min, arith}
 use Rattle.pdp_store.specs.FirstTouches.{touch_page}
 use Rattle.pdp_rk11.specs.Touched.{core_after, words_named, disk_touched, run_touched, after_steps}
-use Rattle.pdp_rk11.specs.Transfer.{core_word}
+use Rattle.pdp_rk11.specs.Handbook.Transfer.{core_word}
 use Rattle.pdp_rk11.specs.declared.function.Function.{Function}
 use Rattle.pdp_rk11.specs.declared.function.Function.TheVariants.{ControlReset, Write, Read, WriteCheck, Seek, ReadCheck, DriveReset, WriteLock}
 use Rattle.pdp_rk11.specs.declared.transfer.Transfer.{Transfer}

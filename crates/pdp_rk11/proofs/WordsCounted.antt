@@ -2,8 +2,8 @@
 use Rattle.std.proofs.Common.{◌≡◌, ◌∙◌, ℕ, ◌+◌, ◌-◌, ◌*◌, ◌/◌, ◌%◌, ◌<◌, ◌≤◌, ◌==◌, Bool, true, false, Option, Some, None, ap, arith, if◌then◌else◌, length, min, refl, subst, sym}
 use Rattle.std.proofs.lemmas.Bool.{eqb-true, eqb-false}
 use Rattle.pdp_device.specs.Operation.{is_under_way}
-use Rattle.pdp_rk11.specs.Completion.{DiskWorld, drive_of, refusal, rk_completed, rk_finished, rk_transferred, run_function, run_unless_refused, transfer_of, registers_after, stop_of, words_asked, world_finished}
-use Rattle.pdp_rk11.specs.Geometry.{most_words_asked}
+use Rattle.pdp_rk11.specs.Handbook.Completion.{DiskWorld, drive_of, refusal, rk_completed, rk_finished, rk_transferred, run_function, run_unless_refused, transfer_of, registers_after, stop_of, words_asked, world_finished}
+use Rattle.pdp_rk11.specs.Handbook.Geometry.{most_words_asked}
 use Rattle.pdp_rk11.specs.WordsDone.{WordsAreCounted, is_transfer, words_by_failure, words_counted, words_of_function, words_unless_refused}
 use Rattle.pdp_rk11.specs.declared.failure.Failure.{Failure}
 use Rattle.pdp_rk11.specs.declared.function.Function.{Function}

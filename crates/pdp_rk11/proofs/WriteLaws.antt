@@ -3,11 +3,11 @@ use Rattle.std.proofs.Common.{◌≡◌, ◌≢◌, ℕ, zero, suc, ◌+◌, ◌
 use Rattle.std.proofs.lemmas.Bool.{cases_lt, eqb-true, ltb-true}
 use Rattle.std.proofs.lemmas.List.{get_or_past}
 use Rattle.std.specs.Prelude.{min, nat_lt}
-use Rattle.pdp_rk11.specs.Completion.{DiskWorld, rk_completed, core_word_of_bus_address, drive_of, first_word_of_sector, lists_after, refusal, registers_after, stop_of, transfer_of, rk_transferred, within_core, words_asked}
-use Rattle.pdp_rk11.specs.Geometry.{drive_in, sector_number}
+use Rattle.pdp_rk11.specs.Handbook.Completion.{DiskWorld, rk_completed, core_word_of_bus_address, drive_of, first_word_of_sector, lists_after, refusal, registers_after, stop_of, transfer_of, rk_transferred, within_core, words_asked}
+use Rattle.pdp_rk11.specs.Handbook.Geometry.{drive_in, sector_number}
 use Rattle.pdp_rk11.specs.Laws.{CanBeDone, EndsWell, WrittenWordsAreReadBack, WritesFillWithZeros, drive_numbered, transfer_in}
 use Rattle.pdp_rk11.specs.Moves.{moved_items}
-use Rattle.pdp_rk11.specs.Transfer.{core_word, disk_word, disk_written, moved_to_disk, rest_of_sector}
+use Rattle.pdp_rk11.specs.Handbook.Transfer.{core_word, disk_word, disk_written, moved_to_disk, rest_of_sector}
 use Rattle.pdp_rk11.specs.declared.failure.Failure.{Failure}
 use Rattle.pdp_rk11.specs.declared.failure.Failure.TheVariants.{NoDrive, NoMemory, Overrun}
 use Rattle.pdp_rk11.specs.declared.function.Function.TheVariants.{Write, Read}

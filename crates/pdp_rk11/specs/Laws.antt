@@ -5,12 +5,13 @@ use Rattle.std.specs.Prelude.{length, slice_index}
 use Rattle.pdp_word.specs.Bits.{field}
 use Rattle.pdp_device.specs.Operation.{is_under_way}
 use Rattle.pdp_store.specs.Parts.{words_of_drive}
-use Rattle.pdp_rk11.specs.Completion.{DiskWorld, rk_completed, core_word_of_bus_address, drive_of}
-use Rattle.pdp_rk11.specs.Completion.{is_read_check, is_write_check, refusal, transfer_of}
-use Rattle.pdp_rk11.specs.Completion.{words_asked}
-use Rattle.pdp_rk11.specs.Geometry.{drive_in, words_of_sector}
-use Rattle.pdp_rk11.specs.Rk.{rk_value}
-use Rattle.pdp_rk11.specs.Transfer.{core_word, disk_word}
+use Rattle.pdp_rk11.specs.Handbook.Completion.{DiskWorld, rk_completed, core_word_of_bus_address}
+use Rattle.pdp_rk11.specs.Handbook.Completion.{drive_of}
+use Rattle.pdp_rk11.specs.Handbook.Completion.{is_read_check, is_write_check, refusal, transfer_of}
+use Rattle.pdp_rk11.specs.Handbook.Completion.{words_asked}
+use Rattle.pdp_rk11.specs.Handbook.Geometry.{drive_in, words_of_sector}
+use Rattle.pdp_rk11.specs.Handbook.Rk.{rk_value}
+use Rattle.pdp_rk11.specs.Handbook.Transfer.{core_word, disk_word}
 use Rattle.pdp_rk11.specs.declared.function.Function.{Function}
 use Rattle.pdp_rk11.specs.declared.function.Function.TheVariants.{Write, Read}
 use Rattle.pdp_rk11.specs.declared.register.RkRegister.TheVariants.{Error, Control}

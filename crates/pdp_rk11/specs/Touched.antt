@@ -4,7 +4,7 @@ use Rattle.std.specs.Prelude.{ℕ, zero, suc, ◌+◌, ◌/◌, List, Option, ma
 use Rattle.pdp_store.specs.FirstTouches.{FirstTouches, first_touches_of, touch_page}
 use Rattle.pdp_store.specs.Unchanged.{SameWritten}
 use Rattle.pdp_store.specs.declared.Stamp.{Stamp}
-use Rattle.pdp_rk11.specs.Transfer.{core_word, disk_word, rest_of_sector}
+use Rattle.pdp_rk11.specs.Handbook.Transfer.{core_word, disk_word, rest_of_sector}
 use Rattle.pdp_rk11.specs.declared.function.Function.{Function}
 use Rattle.pdp_rk11.specs.declared.function.Function.TheVariants.{Write, Read, WriteCheck}
 use Rattle.pdp_rk11.specs.declared.function.Function.TheVariants.{ReadCheck}

@@ -9,9 +9,10 @@ use Rattle.pdp_store.specs.declared.part.Part.{Part}
 use Rattle.pdp_store.specs.declared.part.Part.TheVariants.{Core, Drive}
 use Rattle.pdp_store.specs.declared.Stamp.{Stamp}
 use Rattle.pdp_store.specs.declared.Agent.TheVariants.{Disk}
-use Rattle.pdp_rk11.specs.Completion.{DiskWorld, rk_completed, drive_of, refusal, transfer_of}
-use Rattle.pdp_rk11.specs.Geometry.{drive_in}
-use Rattle.pdp_rk11.specs.Transfer.{core_word, disk_word, rest_of_sector}
+use Rattle.pdp_rk11.specs.Handbook.Completion.{DiskWorld, rk_completed, drive_of, refusal}
+use Rattle.pdp_rk11.specs.Handbook.Completion.{transfer_of}
+use Rattle.pdp_rk11.specs.Handbook.Geometry.{drive_in}
+use Rattle.pdp_rk11.specs.Handbook.Transfer.{core_word, disk_word, rest_of_sector}
 use Rattle.pdp_rk11.specs.declared.failure.Failure.{Failure}
 use Rattle.pdp_rk11.specs.declared.function.Function.{Function}
 use Rattle.pdp_rk11.specs.declared.function.Function.TheVariants.{Write, Read, WriteCheck}

@@ -2,11 +2,13 @@
 use Rattle.std.specs.Prelude.{ℕ, ◌-◌, ◌<◌, ◌≡◌, Bool, true, false, Option, Some, None, length}
 use Rattle.std.specs.Prelude.{if◌then◌else◌}
 use Rattle.pdp_device.specs.Operation.{is_under_way}
-use Rattle.pdp_rk11.specs.Completion.{DiskWorld, drive_of, refusal, rk_completed, transfer_of}
-use Rattle.pdp_rk11.specs.Geometry.{most_words_asked}
+use Rattle.pdp_rk11.specs.Handbook.Completion.{DiskWorld, drive_of, refusal, rk_completed}
+use Rattle.pdp_rk11.specs.Handbook.Completion.{transfer_of}
+use Rattle.pdp_rk11.specs.Handbook.Geometry.{most_words_asked}
 use Rattle.pdp_rk11.specs.declared.failure.Failure.{Failure}
 use Rattle.pdp_rk11.specs.declared.function.Function.{Function}
-use Rattle.pdp_rk11.specs.declared.function.Function.TheVariants.{Write, Read, WriteCheck, ReadCheck}
+use Rattle.pdp_rk11.specs.declared.function.Function.TheVariants.{Write, Read, WriteCheck}
+use Rattle.pdp_rk11.specs.declared.function.Function.TheVariants.{ReadCheck}
 use Rattle.pdp_rk11.specs.declared.rk.Rk.{Rk}
 
 -- which functions move or compare words [6.85]

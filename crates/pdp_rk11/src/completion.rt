@@ -2,22 +2,26 @@
 
 ghost use Rattle.std.specs.Prelude.{◌≡◌, ℕ, ◌+◌, ◌*◌, ◌<◌, ◌≤◌, ◌-◌, ◌%◌, None, true, false, ◌&&◌};
 ghost use Rattle.std.specs.Prelude.{length, map};
-ghost use Rattle.pdp_rk11.specs.Completion.{address_after, rk_completed, disk_address_after};
-ghost use Rattle.pdp_rk11.specs.Completion.{LosesStamps, drive_of, stored_world};
-ghost use Rattle.pdp_rk11.specs.Completion.{rk_finished, is_read_check, is_write_check};
-ghost use Rattle.pdp_rk11.specs.Completion.{lists_after, names_sector};
-ghost use Rattle.pdp_rk11.specs.Completion.{run_unless_refused, refusal, registers_after, stop_of};
-ghost use Rattle.pdp_rk11.specs.Completion.{transfer_of, rk_transferred};
-ghost use Rattle.pdp_rk11.specs.Completion.{core_word_of_bus_address, within_core, run_function};
-ghost use Rattle.pdp_rk11.specs.Completion.{words_asked, write_locked};
-ghost use Rattle.pdp_rk11.specs.Completion.{stamps_after, stamps_completed};
-ghost use Rattle.pdp_rk11.specs.Geometry.{bus_words, drive_in, most_words_asked, sector_number};
-ghost use Rattle.pdp_rk11.specs.Geometry.{sectors_of_drive, words_of_sector};
+ghost use Rattle.pdp_rk11.specs.Handbook.Completion.{address_after, rk_completed};
+ghost use Rattle.pdp_rk11.specs.Handbook.Completion.{disk_address_after};
+ghost use Rattle.pdp_rk11.specs.Handbook.Completion.{LosesStamps, drive_of, stored_world};
+ghost use Rattle.pdp_rk11.specs.Handbook.Completion.{rk_finished, is_read_check, is_write_check};
+ghost use Rattle.pdp_rk11.specs.Handbook.Completion.{lists_after, names_sector};
+ghost use Rattle.pdp_rk11.specs.Handbook.Completion.{run_unless_refused, refusal, registers_after};
+ghost use Rattle.pdp_rk11.specs.Handbook.Completion.{stop_of};
+ghost use Rattle.pdp_rk11.specs.Handbook.Completion.{transfer_of, rk_transferred};
+ghost use Rattle.pdp_rk11.specs.Handbook.Completion.{core_word_of_bus_address, within_core};
+ghost use Rattle.pdp_rk11.specs.Handbook.Completion.{run_function};
+ghost use Rattle.pdp_rk11.specs.Handbook.Completion.{words_asked, write_locked};
+ghost use Rattle.pdp_rk11.specs.Handbook.Completion.{stamps_after, stamps_completed};
+ghost use Rattle.pdp_rk11.specs.Handbook.Geometry.{bus_words, drive_in, most_words_asked};
+ghost use Rattle.pdp_rk11.specs.Handbook.Geometry.{sector_number};
+ghost use Rattle.pdp_rk11.specs.Handbook.Geometry.{sectors_of_drive, words_of_sector};
 ghost use Rattle.pdp_rk11.specs.Trace.{completion_touches, touches_unless_refused};
 ghost use Rattle.pdp_rk11.specs.Trace.{transfer_touches};
 ghost use Rattle.pdp_store.specs.FirstTouches.{first_touches_after};
 ghost use Rattle.pdp_rk11.specs.Touched.{KeepsWritten, stored_touches};
-ghost use Rattle.pdp_rk11.specs.Transfer.{core_word, disk_word, is_different};
+ghost use Rattle.pdp_rk11.specs.Handbook.Transfer.{core_word, disk_word, is_different};
 
 use crate::geometry::{
     BUS_ADDRESSES, MOST_WORDS, WORDS_OF_SECTOR, address_of_sector, drive_in, has_cylinder,
@@ -100,7 +104,7 @@ impl Rk {
     }
 
     // Why the function can't be done with this number of drives, if so.
-    #[tactic(auto, unfolding(crate::specs::Completion::refusal))]
+    #[tactic(auto, unfolding(crate::specs::Handbook::Completion::refusal))]
     fn refusal(&self, drives: usize) -> Option<Failure>
         ensures value { result ≡ refusal self.now drives }
         ensures drive { result ≡ None → drive_in self.now.disk_address < drives }
@@ -181,7 +185,7 @@ impl Rk {
     }
 
     // The words of a transfer, with `words` words of core and a drive of `size` words.
-    #[tactic(auto, unfolding(crate::specs::Completion::transfer_of))]
+    #[tactic(auto, unfolding(crate::specs::Handbook::Completion::transfer_of))]
     fn transfer_of(&self, words: usize, size: usize) -> Transfer
         requires { sector_number self.now.disk_address < sectors_of_drive }
         ensures value { result ≡ transfer_of self.now words size }
@@ -307,7 +311,7 @@ impl Rk {
 
     // The registers tell how the transfer with a drive of this size (words) ended, and whether a
     // write check differed.
-    #[tactic(auto, unfolding(crate::specs::Completion::registers_after))]
+    #[tactic(auto, unfolding(crate::specs::Handbook::Completion::registers_after))]
     fn end_transfer(&mut self, size: usize, transfer: Transfer, different: bool)
         requires count { transfer.count ≤ most_words_asked }
         requires core_start { transfer.core_start < bus_words }

@@ -25,7 +25,7 @@ pub enum Failure {
 }
 
 impl Failure {
-    ghost use Rattle.pdp_rk11.specs.Rk.{failure_bit};
+    ghost use Rattle.pdp_rk11.specs.Handbook.Rk.{failure_bit};
 
     /// RKER with the bit of this failure alone.
     pub fn bit(self) -> u16

@@ -24,8 +24,8 @@ pub enum Function {
 }
 
 impl Function {
-    ghost use Rattle.pdp_rk11.specs.Completion.{names_sector};
-    ghost use Rattle.pdp_rk11.specs.Rk.{code_of, function_of};
+    ghost use Rattle.pdp_rk11.specs.Handbook.Completion.{names_sector};
+    ghost use Rattle.pdp_rk11.specs.Handbook.Rk.{code_of, function_of};
 
     /// The function of a code, 0 to 7; a greater number stands for write lock.
     pub fn of_code(code: u16) -> Function

@@ -1,10 +1,11 @@
 //! Disk addresses, and the sectors that they name.
 
 ghost use Rattle.std.specs.Prelude.{◌≡◌, ◌<◌, nat_lt};
-ghost use Rattle.pdp_rk11.specs.Geometry.{address_of_sector, cylinder_in, cylinders, drive_in};
-ghost use Rattle.pdp_rk11.specs.Geometry.{sector_in};
-ghost use Rattle.pdp_rk11.specs.Geometry.{sector_number, sectors_named, sectors_of_track};
-ghost use Rattle.pdp_rk11.specs.Geometry.{surface_in};
+ghost use Rattle.pdp_rk11.specs.Handbook.Geometry.{address_of_sector, cylinder_in, cylinders};
+ghost use Rattle.pdp_rk11.specs.Handbook.Geometry.{drive_in};
+ghost use Rattle.pdp_rk11.specs.Handbook.Geometry.{sector_in};
+ghost use Rattle.pdp_rk11.specs.Handbook.Geometry.{sector_number, sectors_named, sectors_of_track};
+ghost use Rattle.pdp_rk11.specs.Handbook.Geometry.{surface_in};
 
 use crate::bits::{RKDA_CYLINDER, RKDA_DRIVE, RKDA_SURFACE};
 use pdp_word::field;

@@ -23,7 +23,7 @@ pub enum RkRegister {
 }
 
 impl RkRegister {
-    ghost use Rattle.pdp_rk11.specs.Rk.{rk_register_at};
+    ghost use Rattle.pdp_rk11.specs.Handbook.Rk.{rk_register_at};
 
     /// The register `offset` bytes after the first one, RKDS, if there is one.
     pub fn at(offset: u32) -> Option<RkRegister>

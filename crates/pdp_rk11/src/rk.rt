@@ -41,12 +41,13 @@ pub struct Rk {
 }
 
 impl Rk {
-    ghost use Rattle.pdp_rk11.specs.Geometry.{drive_in};
-    ghost use Rattle.pdp_rk11.specs.Rk.{begun_function, rk_commanded, control_word};
-    ghost use Rattle.pdp_rk11.specs.Rk.{control_written, drive_status};
-    ghost use Rattle.pdp_rk11.specs.Rk.{error_word, function_of, gone_with, is_locked, init_rk};
-    ghost use Rattle.pdp_rk11.specs.Rk.{rk_reset, rk_served, rk_value};
-    ghost use Rattle.pdp_rk11.specs.Rk.{rk_written, with_command};
+    ghost use Rattle.pdp_rk11.specs.Handbook.Geometry.{drive_in};
+    ghost use Rattle.pdp_rk11.specs.Handbook.Rk.{begun_function, rk_commanded, control_word};
+    ghost use Rattle.pdp_rk11.specs.Handbook.Rk.{control_written, drive_status};
+    ghost use Rattle.pdp_rk11.specs.Handbook.Rk.{error_word, function_of, gone_with, is_locked};
+    ghost use Rattle.pdp_rk11.specs.Handbook.Rk.{init_rk};
+    ghost use Rattle.pdp_rk11.specs.Handbook.Rk.{rk_reset, rk_served, rk_value};
+    ghost use Rattle.pdp_rk11.specs.Handbook.Rk.{rk_written, with_command};
 
     /// Whether the controllers are the same in all.
     pub fn is_same(&self, other: &Rk) -> bool
@@ -117,7 +118,7 @@ impl Rk {
     ///
     /// PDP-11 Peripherals Handbook, RK11; how long a function takes, what a write does while the
     /// controller isn't ready, and that control reset acts at once [6.68] [6.70].
-    #[tactic(auto, unfolding(crate::specs::Rk::rk_written))]
+    #[tactic(auto, unfolding(crate::specs::Handbook::Rk::rk_written))]
     pub fn write_reg(&mut self, register: RkRegister, word: u16, turn: u32, delay: u32)
         ensures { self.new ≡ rk_written register word turn delay self.old }
     {

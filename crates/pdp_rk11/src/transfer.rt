@@ -2,7 +2,7 @@
 
 ghost use Rattle.std.specs.Prelude.{◌≡◌, ℕ, ◌+◌, ◌-◌, ◌*◌, ◌/◌, ◌^◌, ◌<◌, ◌%◌, None, false, length};
 ghost use Rattle.std.specs.Prelude.{slice_index};
-ghost use Rattle.pdp_rk11.specs.Geometry.{words_of_sector};
+ghost use Rattle.pdp_rk11.specs.Handbook.Geometry.{words_of_sector};
 ghost use Rattle.pdp_rk11.specs.Touched.{KeepsWritten, run_touched, after_steps};
 
 use crate::Function;
@@ -24,14 +24,16 @@ pub struct Transfer {
 }
 
 impl Transfer {
-    ghost use Rattle.pdp_rk11.specs.Completion.{is_read_check};
+    ghost use Rattle.pdp_rk11.specs.Handbook.Completion.{is_read_check};
     ghost use Rattle.pdp_rk11.specs.Touched.{core_after, disk_after, disk_touched};
     ghost use Rattle.pdp_rk11.specs.Touched.{fill_touched, after_steps, words_named};
     ghost use Rattle.pdp_rk11.specs.Moves.{moved_items, moved_to_one};
-    ghost use Rattle.pdp_rk11.specs.Transfer.{core_after_read, core_word, disk_word, disk_written};
-    ghost use Rattle.pdp_rk11.specs.Transfer.{is_different, stamps_read};
-    ghost use Rattle.pdp_rk11.specs.Transfer.{moved_to_disk, rest_of_sector, stamps_written};
-    ghost use Rattle.pdp_rk11.specs.Transfer.{without_stamps};
+    ghost use Rattle.pdp_rk11.specs.Handbook.Transfer.{core_after_read, core_word, disk_word};
+    ghost use Rattle.pdp_rk11.specs.Handbook.Transfer.{disk_written};
+    ghost use Rattle.pdp_rk11.specs.Handbook.Transfer.{is_different, stamps_read};
+    ghost use Rattle.pdp_rk11.specs.Handbook.Transfer.{moved_to_disk, rest_of_sector};
+    ghost use Rattle.pdp_rk11.specs.Handbook.Transfer.{stamps_written};
+    ghost use Rattle.pdp_rk11.specs.Handbook.Transfer.{without_stamps};
 
     /// A read: words of the drive go to core, with this stamp.
     pub(crate) fn read<S: Store, D: Store>(self, core: &mut S, disk: &D, stamp: Stamp)

@@ -1,7 +1,7 @@
 //! What a function asks for and what it did, told by the controller.
 
 ghost use Rattle.std.specs.Prelude.{◌≡◌};
-ghost use Rattle.pdp_rk11.specs.Completion.{first_word_of_sector};
+ghost use Rattle.pdp_rk11.specs.Handbook.Completion.{first_word_of_sector};
 ghost use Rattle.pdp_rk11.specs.WordsDone.{is_transfer, words_counted};
 
 use crate::geometry::{MOST_WORDS, WORDS_OF_SECTOR, sector_number};

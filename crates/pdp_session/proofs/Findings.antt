@@ -18,7 +18,7 @@ use Rattle.pdp_replay.specs.declared.ask.question.Value.{Value}
 use Rattle.pdp_replay.specs.declared.ask.reads.WordRead.{WordRead}
 use Rattle.pdp_replay.specs.declared.ask.told.Told.{Told}
 use Rattle.pdp_replay.specs.declared.past.past_edit.PastEdit.{PastEdit}
-use Rattle.pdp_unibus.specs.LastTurn.{last_turn}
+use Rattle.pdp_unibus.specs.Handbook.LastTurn.{last_turn}
 use Rattle.pdp_script.specs.declared.faults.Fault.TheVariants.{NoMemory, TurnTooLarge}
 use Rattle.pdp_session.specs.declared.search.Finding.{Finding}
 use Rattle.pdp_session.specs.declared.search.Finding.TheVariants.{Accesses, Answer as AnswerIs, Fades, Reads, Transfers, Writes}

@@ -13,7 +13,7 @@ use Rattle.pdp_store.specs.declared.Agent.TheVariants.{Cpu as ByProcessor, Disk 
 use Rattle.pdp_cpu.specs.declared.act.Act.{Act}
 use Rattle.pdp_cpu.specs.declared.act.Act.TheVariants.{Instr, Trace, Stack, Irq, Idle}
 use Rattle.pdp_cpu.specs.declared.regs.Regs.{Regs}
-use Rattle.pdp_unibus.specs.Shown.{shown_names}
+use Rattle.pdp_unibus.specs.Handbook.Shown.{shown_names}
 use Rattle.pdp_unibus.specs.declared.show.device_registers.DeviceRegisters.{DeviceRegisters}
 use Rattle.pdp_unibus.specs.declared.show.page_registers.PageRegisters.{PageRegisters}
 use Rattle.pdp_operand.specs.declared.processor.RunState.{RunState}

@@ -2,9 +2,9 @@
 use Rattle.std.specs.Prelude.{ℕ, Bool, List, Option, None, Some, ◌++◌, codes, decimal, length}
 use Rattle.std.specs.List.{flat_map}
 use Rattle.pdp_word.specs.Number.{octal_digits}
-use Rattle.pdp_rk11.specs.Completion.{first_word_of_sector}
-use Rattle.pdp_rk11.specs.Geometry.{drive_in}
-use Rattle.pdp_rk11.specs.Rk.{error_word}
+use Rattle.pdp_rk11.specs.Handbook.Completion.{first_word_of_sector}
+use Rattle.pdp_rk11.specs.Handbook.Geometry.{drive_in}
+use Rattle.pdp_rk11.specs.Handbook.Rk.{error_word}
 use Rattle.pdp_rk11.specs.WordsDone.{words_counted}
 use Rattle.pdp_rk11.specs.declared.function.Function.{Function}
 use Rattle.pdp_rk11.specs.declared.function.Function.TheVariants.{ControlReset, Write, Read}

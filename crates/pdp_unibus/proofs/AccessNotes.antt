@@ -7,7 +7,7 @@ use Rattle.pdp_store.specs.TracedAccess.{TracedAccess}
 use Rattle.pdp_store.specs.declared.Stamp.{Stamp}
 use Rattle.pdp_store.proofs.FirstTouches.{first_touches_after-append}
 use Rattle.pdp_store.proofs.Stamps.{stamps_after_trace-append}
-use Rattle.pdp_unibus.specs.BusWorld.{BusWorld}
+use Rattle.pdp_unibus.specs.Handbook.BusWorld.{BusWorld}
 
 pub record AccessNotes : Type 0 where
   pub stamps : List (Option Stamp)

@@ -6,9 +6,9 @@ use Rattle.pdp_store.specs.FirstTouches.{first_touches_after}
 use Rattle.pdp_store.specs.Stamps.{stamps_after_trace}
 use Rattle.pdp_store.specs.TracedAccess.{TracedAccess}
 use Rattle.pdp_rk11.proofs.DiskStamps.{stamps_disturb_no_completion}
-use Rattle.pdp_unibus.specs.Beginning.{Progress, after_event, after_events, at_start, before_disk}
-use Rattle.pdp_unibus.specs.Beginning.{after_beginning, disk_done, disk_due, in_turn, where_due}
-use Rattle.pdp_unibus.specs.BusWorld.{BusWorld, disk_world_of, with_disk_world, with_first_touches}
+use Rattle.pdp_unibus.specs.Handbook.Beginning.{Progress, after_event, after_events, at_start, before_disk}
+use Rattle.pdp_unibus.specs.Handbook.Beginning.{after_beginning, disk_done, disk_due, in_turn, where_due}
+use Rattle.pdp_unibus.specs.Handbook.BusWorld.{BusWorld, disk_world_of, with_disk_world, with_first_touches}
 use Rattle.pdp_unibus.specs.Trace.{begun_touches, disk_touches, due_touches, event_touches}
 use Rattle.pdp_unibus.specs.Trace.{events_touches}
 use Rattle.pdp_unibus.specs.declared.event.Event.{Event}

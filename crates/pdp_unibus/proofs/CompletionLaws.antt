@@ -4,18 +4,18 @@ use Rattle.pdp_device.specs.Operation.{is_due, is_under_way}
 use Rattle.pdp_device.specs.declared.operation.Operation.{Operation}
 use Rattle.pdp_device.specs.declared.operation.Operation.TheVariants.{Idle, ByEvent, At}
 use Rattle.pdp_rk11.proofs.Readiness.{completed_operation}
-use Rattle.pdp_rk11.specs.Rk.{rk_written}
+use Rattle.pdp_rk11.specs.Handbook.Rk.{rk_written}
 use Rattle.pdp_rk11.specs.declared.register.RkRegister.TheVariants as rk
 use Rattle.pdp_tape.specs.Reader.{reader_completed}
 use Rattle.pdp_unibus.proofs.Beginnings.{dues, dues_are_quiet, before_is_settled, event_is_quiet, events_are_settled, printer_is_quiet, reader_is_quiet, tick_is_quiet, turn_left}
 use Rattle.pdp_unibus.proofs.Frame.{event_leaves, use_leaves}
-use Rattle.pdp_unibus.specs.Beginning.{Progress, after_event, after_events, at_start, before_disk, after_beginning, clock_ticked, disk_done, in_turn, is_tick, printer_done, printer_due, punch_done, punch_due, reader_done, reader_due, tick_due, where_due}
-use Rattle.pdp_unibus.specs.BusWorld.{BusWorld, disk_world_of}
+use Rattle.pdp_unibus.specs.Handbook.Beginning.{Progress, after_event, after_events, at_start, before_disk, after_beginning, clock_ticked, disk_done, in_turn, is_tick, printer_done, printer_due, punch_done, punch_due, reader_done, reader_due, tick_due, where_due}
+use Rattle.pdp_unibus.specs.Handbook.BusWorld.{BusWorld, disk_world_of}
 use Rattle.pdp_unibus.specs.ByteLaws.{PrintingEndsWhenDue, PunchingEndsWhenDue, DiskEndsWhenDue, DiskOutlivesUses, PrintingOutlivesUses, PunchingOutlivesUses, ReadingEndsWhenDue, ReadingOutlivesUses, Without, left_at}
-use Rattle.pdp_unibus.specs.Tape.{next_byte}
+use Rattle.pdp_unibus.specs.Handbook.Tape.{next_byte}
 use Rattle.pdp_unibus.specs.declared.io_page.IoPage.{IoPage}
 use Rattle.pdp_unibus.specs.Laws.{RegisterUse, Reading, Writing, io_page_after_use, io_page_after_uses}
-use Rattle.pdp_unibus.specs.Register.{after_read, after_write}
+use Rattle.pdp_unibus.specs.Handbook.Register.{after_read, after_write}
 use Rattle.pdp_console.specs.declared.kl.KlRegister.TheVariants.{KeyboardBuffer, PrinterBuffer}
 use Rattle.pdp_tape.specs.declared.pc11.Pc11Register.TheVariants.{ReaderStatus, ReaderBuffer, PunchBuffer}
 use Rattle.pdp_unibus.specs.declared.register.Register.TheVariants as register

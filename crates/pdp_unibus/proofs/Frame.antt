@@ -1,10 +1,10 @@
 -- What the use of a register and an event leave on the I/O page, device by device. The last row of each function stands for
 -- all registers, or all events, that no row before it names.
 use Rattle.std.proofs.Common.{◌≡◌, ◌≢◌, Some, refl}
-use Rattle.pdp_unibus.specs.Beginning.{Progress, after_event}
+use Rattle.pdp_unibus.specs.Handbook.Beginning.{Progress, after_event}
 use Rattle.pdp_unibus.specs.Frame.{Owner as owner, EventsLeaveOthers, LeavesOthers, UsesLeaveOthers, owner_met, owner_used}
 use Rattle.pdp_unibus.specs.Laws.{RegisterUse, Reading, Writing, io_page_after_use}
-use Rattle.pdp_unibus.specs.Register.{after_read, after_write}
+use Rattle.pdp_unibus.specs.Handbook.Register.{after_read, after_write}
 use Rattle.pdp_unibus.specs.declared.io_page.IoPage.{IoPage}
 use Rattle.pdp_unibus.specs.declared.event.Event.{Event}
 use Rattle.pdp_unibus.specs.declared.event.Event.TheVariants as event

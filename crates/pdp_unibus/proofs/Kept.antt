@@ -7,13 +7,13 @@ use Rattle.pdp_rk11.proofs.CompletionPages.{completion_keeps_page}
 use Rattle.pdp_rk11.proofs.CompletionSizes.{completed_sizes}
 use Rattle.pdp_rk11.proofs.CompletionStamps.{completed_stamps}
 use Rattle.pdp_rk11.proofs.CompletionTouches.{completion_of_turn}
-use Rattle.pdp_rk11.specs.Completion.{rk_completed}
+use Rattle.pdp_rk11.specs.Handbook.Completion.{rk_completed}
 use Rattle.pdp_rk11.specs.Trace.{IsOfCompletion}
 use Rattle.pdp_store.proofs.Traces.{Avoids-first, Avoids-second, last_write-append}
 use Rattle.pdp_store.specs.TracedAccess.{Avoids, TracedAccess, last_write}
 use Rattle.pdp_store.specs.declared.part.Part.{Part}
-use Rattle.pdp_unibus.specs.Beginning.{Progress, after_event, after_events, at_start, before_disk, after_beginning, disk_done, in_turn, where_due}
-use Rattle.pdp_unibus.specs.BusWorld.{BusWorld, disk_world_of, with_disk_world, with_first_touches}
+use Rattle.pdp_unibus.specs.Handbook.Beginning.{Progress, after_event, after_events, at_start, before_disk, after_beginning, disk_done, in_turn, where_due}
+use Rattle.pdp_unibus.specs.Handbook.BusWorld.{BusWorld, disk_world_of, with_disk_world, with_first_touches}
 use Rattle.pdp_store.specs.FirstTouches.{first_touches_after}
 use Rattle.pdp_unibus.specs.Page.{SamePage}
 use Rattle.pdp_unibus.specs.Touched.{IsOfTurn}

@@ -2,10 +2,10 @@
 use Rattle.std.proofs.Common.{◌≡◌, false, List, [], ◌∷◌, refl, ap, ◌∙◌}
 use Rattle.pdp_console.proofs.KeyLaws.{others_leave_the_key, reads_leave_done_clear, status_shows_done}
 use Rattle.pdp_console.specs.declared.kl.KlRegister.TheVariants.{KeyboardBuffer}
-use Rattle.pdp_unibus.specs.Beginning.{at_start, after_key}
+use Rattle.pdp_unibus.specs.Handbook.Beginning.{at_start, after_key}
 use Rattle.pdp_word.specs.Bits.{bit_of}
 use Rattle.pdp_unibus.specs.Laws.{KeysAreReadOnce, KeysWaitUntilRead, NeverReading, RegisterUse, Reading, Writing, io_page_after_use, io_page_after_uses}
-use Rattle.pdp_unibus.specs.Register.{after_read, after_write, value_in}
+use Rattle.pdp_unibus.specs.Handbook.Register.{after_read, after_write, value_in}
 use Rattle.pdp_unibus.specs.declared.io_page.IoPage.{IoPage}
 use Rattle.pdp_unibus.specs.declared.register.Register.TheVariants.{Console}
 

@@ -2,8 +2,8 @@
 use Rattle.std.proofs.Common.{◌≡◌, ◌∙◌, ℕ, Bool, true, false, List, [], ◌∷◌, ap, refl}
 use Rattle.pdp_device.specs.Operation.{is_due}
 use Rattle.pdp_store.specs.CycleLogs.{KeptCycles}
-use Rattle.pdp_unibus.specs.Beginning.{Progress, after_event, after_events, at_start, before_disk, after_beginning, disk_done, disk_due, in_turn, where_due}
-use Rattle.pdp_unibus.specs.BusWorld.{BusWorld, with_log}
+use Rattle.pdp_unibus.specs.Handbook.Beginning.{Progress, after_event, after_events, at_start, before_disk, after_beginning, disk_done, disk_due, in_turn, where_due}
+use Rattle.pdp_unibus.specs.Handbook.BusWorld.{BusWorld, with_log}
 use Rattle.pdp_unibus.specs.declared.event.Event.{Event}
 use Rattle.pdp_unibus.specs.declared.event.Event.TheVariants.{DiskDone}
 use Rattle.pdp_unibus.proofs.Beginnings.{dues, dues_are_quiet, logging}

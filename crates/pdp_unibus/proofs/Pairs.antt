@@ -6,8 +6,8 @@ use Rattle.pdp_store.proofs.Traces.{Avoids-first, Avoids-second}
 use Rattle.pdp_store.specs.Parts.{AlikeWords}
 use Rattle.pdp_store.specs.TracedAccess.{Avoids, TracedAccess}
 use Rattle.pdp_store.specs.declared.part.Part.{Part}
-use Rattle.pdp_unibus.specs.Beginning.{Progress, after_event, after_events, at_start, before_disk, after_beginning, disk_done, disk_due, in_turn, where_due}
-use Rattle.pdp_unibus.specs.BusWorld.{BusWorld, disk_world_of, with_disk_world, with_first_touches}
+use Rattle.pdp_unibus.specs.Handbook.Beginning.{Progress, after_event, after_events, at_start, before_disk, after_beginning, disk_done, disk_due, in_turn, where_due}
+use Rattle.pdp_unibus.specs.Handbook.BusWorld.{BusWorld, disk_world_of, with_disk_world, with_first_touches}
 use Rattle.pdp_store.specs.FirstTouches.{first_touches_after}
 use Rattle.pdp_unibus.specs.Page.{words_of_part, bus_with_words}
 use Rattle.pdp_unibus.specs.Trace.{begun_touches, disk_touches, due_touches, event_touches, events_touches}

@@ -3,10 +3,10 @@ use Rattle.std.proofs.Common.{◌≡◌, ◌⊎◌, inl, inr, Bool, true, false,
 use Rattle.std.specs.List.{find, list_any}
 use Rattle.std.specs.Option.{option_or}
 use Rattle.std.proofs.lemmas.Bool.{and_parts, and_from, or_parts}
-use Rattle.pdp_unibus.specs.BusWorld.{io_page_reset}
+use Rattle.pdp_unibus.specs.Handbook.BusWorld.{io_page_reset}
 use Rattle.pdp_unibus.specs.RequestLaws.{NoneIsChosenWhereNoneIsAbove, OthersGoOnRequesting, RequestsAreTold, ResetDropsRequests, ServedSourcesAreSilent, TheFirstIsChosen, goes_before}
-use Rattle.pdp_unibus.specs.Source.{alone_above, chosen_source, first_above, has_request, level_of, order, requests, io_page_served}
-use Rattle.pdp_unibus.specs.Status.{is_above}
+use Rattle.pdp_unibus.specs.Handbook.Source.{alone_above, chosen_source, first_above, has_request, level_of, order, requests, io_page_served}
+use Rattle.pdp_unibus.specs.Handbook.Status.{is_above}
 use Rattle.pdp_unibus.specs.declared.io_page.IoPage.{IoPage}
 use Rattle.pdp_unibus.specs.declared.priority.Priority.{Priority}
 use Rattle.pdp_unibus.specs.declared.source.Source.{Source}

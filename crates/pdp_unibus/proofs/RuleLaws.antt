@@ -9,21 +9,21 @@ use Rattle.pdp_device.specs.Transmitter.{byte_written, transmitter_completed}
 use Rattle.pdp_device.specs.declared.ready_enable.ReadyEnable.{ReadyEnable}
 use Rattle.pdp_device.specs.declared.transmitter.Transmitter.{Transmitter}
 use Rattle.pdp_rk11.proofs.Readiness.{completed_ready_enable, completed_idle}
-use Rattle.pdp_rk11.specs.Completion.{rk_completed as completion}
-use Rattle.pdp_rk11.specs.Rk.{rk_commanded, function_of, gone_with, rk_written}
+use Rattle.pdp_rk11.specs.Handbook.Completion.{rk_completed as completion}
+use Rattle.pdp_rk11.specs.Handbook.Rk.{rk_commanded, function_of, gone_with, rk_written}
 use Rattle.pdp_rk11.specs.declared.function.Function.{Function}
 use Rattle.pdp_rk11.specs.declared.function.Function.TheVariants.{ControlReset, Write, Read, WriteCheck, Seek, ReadCheck, DriveReset, WriteLock}
 use Rattle.pdp_rk11.specs.declared.register.RkRegister.TheVariants as rk
 use Rattle.pdp_rk11.specs.declared.rk.Rk.{Rk}
 use Rattle.pdp_tape.specs.declared.pc11.Pc11Register.TheVariants.{ReaderBuffer, PunchStatus, PunchBuffer}
 use Rattle.pdp_unibus.proofs.Frame.{event_leaves, use_leaves}
-use Rattle.pdp_unibus.specs.Beginning.{Progress, after_event}
-use Rattle.pdp_unibus.specs.BusWorld.{disk_world_of}
+use Rattle.pdp_unibus.specs.Handbook.Beginning.{Progress, after_event}
+use Rattle.pdp_unibus.specs.Handbook.BusWorld.{disk_world_of}
 use Rattle.pdp_word.specs.Bits.{field}
 use Rattle.pdp_word.specs.Mask.{is_set}
-use Rattle.pdp_rk11.specs.Bits.{rkcs_enable, rkcs_go}
+use Rattle.pdp_rk11.specs.Handbook.Bits.{rkcs_enable, rkcs_go}
 use Rattle.pdp_unibus.specs.Laws.{RegisterUse, Reading, Writing, io_page_after_use}
-use Rattle.pdp_unibus.specs.Register.{after_read, after_write}
+use Rattle.pdp_unibus.specs.Handbook.Register.{after_read, after_write}
 use Rattle.pdp_unibus.specs.RuleLaws.{GoesByTheRule, IsSound, RequestsGoByTheRule, disk_ready_enable, keyboard_ready_enable, printer_ready_enable, punch_ready_enable}
 use Rattle.pdp_unibus.specs.declared.io_page.IoPage.{IoPage}
 use Rattle.pdp_unibus.specs.declared.event.Event.{Event}

@@ -2,9 +2,9 @@
 use Rattle.std.proofs.Common.{◌≡◌, ℕ, zero, suc, ◌+◌, ◌<◌, List, [], ◌∷◌, length, map, take, set, slice_get, slice_set, Some, refl, ap, ◌∙◌, add-one, arith}
 use Rattle.std.specs.Option.{option_map}
 use Rattle.std.proofs.lemmas.Option.{slice_get-map}
-use Rattle.pdp_unibus.specs.BusWorld.{BusWorld}
-use Rattle.pdp_unibus.specs.Register.{value_in}
-use Rattle.pdp_unibus.specs.Shown.{devices_of, shown_registers}
+use Rattle.pdp_unibus.specs.Handbook.BusWorld.{BusWorld}
+use Rattle.pdp_unibus.specs.Handbook.Register.{value_in}
+use Rattle.pdp_unibus.specs.Handbook.Shown.{devices_of, shown_registers}
 use Rattle.pdp_unibus.specs.declared.register.Register.{Register}
 
 -- a list of which the first elements are those of another, with one more

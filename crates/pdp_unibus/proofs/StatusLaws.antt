@@ -1,12 +1,12 @@
 -- The program status word, written and read back, part by part.
 use Rattle.std.proofs.Common.{◌≡◌, ℕ, zero, suc, ◌+◌, ◌*◌, ◌/◌, ◌%◌, ◌==◌, ◌<◌, Bool, true, false, refl, ap, ◌∙◌, arith}
-use Rattle.pdp_kt11.specs.Mode.{mode_bits, mode_of}
+use Rattle.pdp_kt11.specs.Handbook.Mode.{mode_bits, mode_of}
 use Rattle.pdp_kt11.specs.declared.mode.Mode.{Mode}
 use Rattle.pdp_kt11.specs.declared.mode.Mode.TheVariants.{Kernel, Bad1, Bad2, User}
 use Rattle.pdp_word.specs.Bits.{bit_of}
 use Rattle.pdp_unibus.specs.Laws.{status_part, writable_part}
-use Rattle.pdp_unibus.specs.Register.{after_write, value_in}
-use Rattle.pdp_unibus.specs.Status.{priority_bits, priority_of, status_of_word, status_word, status_written}
+use Rattle.pdp_unibus.specs.Handbook.Register.{after_write, value_in}
+use Rattle.pdp_unibus.specs.Handbook.Status.{priority_bits, priority_of, status_of_word, status_word, status_written}
 use Rattle.pdp_unibus.specs.declared.io_page.IoPage.{IoPage}
 use Rattle.pdp_unibus.specs.declared.priority.Priority.{Priority}
 use Rattle.pdp_unibus.specs.declared.priority.Priority.TheVariants.{Level0, Level1, Level2, Level3, Level4, Level5, Level6, Level7}

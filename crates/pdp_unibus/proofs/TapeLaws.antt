@@ -5,9 +5,9 @@ use Rattle.pdp_device.specs.declared.operation.Operation.TheVariants.{Idle}
 use Rattle.pdp_tape.specs.Reader.{read_over}
 use Rattle.pdp_tape.specs.declared.reader.Reader.{Reader}
 use Rattle.pdp_unibus.proofs.Frame.{event_leaves}
-use Rattle.pdp_unibus.specs.Beginning.{Progress, after_event, after_events, at_start, before_disk, after_beginning, clock_ticked, disk_done, disk_due, in_turn, is_tick, printer_done, printer_due, punch_done, punch_due, reader_done, reader_due, tick_due, where_due}
+use Rattle.pdp_unibus.specs.Handbook.Beginning.{Progress, after_event, after_events, at_start, before_disk, after_beginning, clock_ticked, disk_done, disk_due, in_turn, is_tick, printer_done, printer_due, punch_done, punch_due, reader_done, reader_due, tick_due, where_due}
 use Rattle.pdp_unibus.specs.ByteLaws.{ReadsTakeTheNextByte, has_ended, reader_of}
-use Rattle.pdp_unibus.specs.Tape.{next_byte, read_on}
+use Rattle.pdp_unibus.specs.Handbook.Tape.{next_byte, read_on}
 use Rattle.pdp_unibus.specs.declared.event.Event.{Event}
 use Rattle.pdp_unibus.specs.declared.event.Event.TheVariants.{ReaderDone, PunchDone}
 

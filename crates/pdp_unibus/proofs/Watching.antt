@@ -6,9 +6,9 @@ use Rattle.std.proofs.lemmas.Bool.Decides.{nat_tests}
 use Rattle.pdp_device.specs.Operation.{due_after, is_due}
 use Rattle.pdp_device.specs.declared.operation.Operation.{Operation}
 use Rattle.pdp_device.specs.declared.operation.Operation.TheVariants.{Idle, ByEvent, At}
-use Rattle.pdp_unibus.specs.Beginning.{Progress, at_start, before_disk, after_beginning, clock_ticked, disk_done, disk_due, in_turn, is_tick, printer_done, printer_due, punch_done, punch_due, reader_done, reader_due, where_due}
-use Rattle.pdp_unibus.specs.BusWorld.{BusWorld}
-use Rattle.pdp_unibus.specs.Source.{has_request}
+use Rattle.pdp_unibus.specs.Handbook.Beginning.{Progress, at_start, before_disk, after_beginning, clock_ticked, disk_done, disk_due, in_turn, is_tick, printer_done, printer_due, punch_done, punch_due, reader_done, reader_due, where_due}
+use Rattle.pdp_unibus.specs.Handbook.BusWorld.{BusWorld}
+use Rattle.pdp_unibus.specs.Handbook.Source.{has_request}
 use Rattle.pdp_unibus.specs.Watch.{IsQuiet, IsWatched}
 use Rattle.pdp_unibus.specs.declared.io_page.IoPage.{IoPage}
 use Rattle.pdp_unibus.specs.declared.watch.Watch.{Watch}

@@ -1,7 +1,7 @@
 -- What the use of a register and an event leave on the I/O page: each name is the law's sentence.
 -- No rule of the handbook is here.
 use Rattle.std.specs.Prelude.{◌≡◌, ◌≢◌, Option, Some, None}
-use Rattle.pdp_unibus.specs.Beginning.{Progress, after_event}
+use Rattle.pdp_unibus.specs.Handbook.Beginning.{Progress, after_event}
 use Rattle.pdp_unibus.specs.Laws.{RegisterUse, Reading, Writing, io_page_after_use}
 use Rattle.pdp_unibus.specs.declared.io_page.IoPage.{IoPage}
 use Rattle.pdp_unibus.specs.declared.event.Event.{Event}

@@ -3,11 +3,11 @@
 use Rattle.std.specs.Prelude.{◌≡◌, ℕ, ◌+◌, ◌*◌, ◌/◌, ◌%◌, ◌<◌, ◌≢◌, List, [], ◌∷◌}
 use Rattle.pdp_word.specs.Bits.{bit_of, field}
 use Rattle.pdp_console.specs.declared.kl.KlRegister.TheVariants.{KeyboardStatus, KeyboardBuffer}
-use Rattle.pdp_unibus.specs.Bits.{ps_trace}
-use Rattle.pdp_unibus.specs.BusWorld.{BusWorld}
-use Rattle.pdp_unibus.specs.Beginning.{at_start, after_key}
-use Rattle.pdp_unibus.specs.Register.{after_read, after_write, value_in}
-use Rattle.pdp_unibus.specs.Status.{status_of_word, status_word, status_written}
+use Rattle.pdp_unibus.specs.Handbook.Bits.{ps_trace}
+use Rattle.pdp_unibus.specs.Handbook.BusWorld.{BusWorld}
+use Rattle.pdp_unibus.specs.Handbook.Beginning.{at_start, after_key}
+use Rattle.pdp_unibus.specs.Handbook.Register.{after_read, after_write, value_in}
+use Rattle.pdp_unibus.specs.Handbook.Status.{status_of_word, status_word, status_written}
 use Rattle.pdp_unibus.specs.declared.io_page.IoPage.{IoPage}
 use Rattle.pdp_unibus.specs.declared.register.Register.{Register}
 use Rattle.pdp_unibus.specs.declared.register.Register.TheVariants.{Console, ProgramStatus}

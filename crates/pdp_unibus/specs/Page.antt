@@ -2,7 +2,7 @@
 use Rattle.std.specs.Prelude.{ℕ, ◌≡◌, List}
 use Rattle.pdp_store.specs.Parts.{AlikeWords, SameWords, core_with, drives_with, words_in}
 use Rattle.pdp_store.specs.declared.part.Part.{Part}
-use Rattle.pdp_unibus.specs.BusWorld.{BusWorld}
+use Rattle.pdp_unibus.specs.Handbook.BusWorld.{BusWorld}
 
 -- the words of a part
 abbrev pub words_of_part : Part → BusWorld → List ℕ

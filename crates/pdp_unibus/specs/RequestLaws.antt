@@ -2,9 +2,10 @@
 -- Unibus; the order at one level is [P]).
 use Rattle.std.specs.Prelude.{◌≡◌, ◌≢◌, ◌↔◌, ℕ, ◌==◌, Bool, true, false, ◌&&◌, ◌||◌, nat_lt, Some}
 use Rattle.std.specs.Prelude.{None}
-use Rattle.pdp_unibus.specs.BusWorld.{io_page_reset}
-use Rattle.pdp_unibus.specs.Source.{first_above, has_request, level_of, requests, io_page_served}
-use Rattle.pdp_unibus.specs.Status.{is_above, priority_bits}
+use Rattle.pdp_unibus.specs.Handbook.BusWorld.{io_page_reset}
+use Rattle.pdp_unibus.specs.Handbook.Source.{first_above, has_request, level_of, requests}
+use Rattle.pdp_unibus.specs.Handbook.Source.{io_page_served}
+use Rattle.pdp_unibus.specs.Handbook.Status.{is_above, priority_bits}
 use Rattle.pdp_unibus.specs.declared.io_page.IoPage.{IoPage}
 use Rattle.pdp_unibus.specs.declared.priority.Priority.{Priority}
 use Rattle.pdp_unibus.specs.declared.source.Source.{Source}

@@ -3,8 +3,8 @@ use Rattle.std.specs.Prelude.{◌≡◌, true}
 use Rattle.pdp_device.specs.Request.{request_after}
 use Rattle.pdp_device.specs.ReadyEnable.{wants_interrupt}
 use Rattle.pdp_device.specs.declared.ready_enable.ReadyEnable.{ReadyEnable}
-use Rattle.pdp_unibus.specs.Beginning.{Progress, after_event}
-use Rattle.pdp_unibus.specs.BusWorld.{io_page_at_power_up}
+use Rattle.pdp_unibus.specs.Handbook.Beginning.{Progress, after_event}
+use Rattle.pdp_unibus.specs.Handbook.BusWorld.{io_page_at_power_up}
 use Rattle.pdp_unibus.specs.Laws.{RegisterUse, io_page_after_use}
 use Rattle.pdp_unibus.specs.declared.io_page.IoPage.{IoPage}
 use Rattle.pdp_unibus.specs.declared.delays.Delays.{Delays}

@@ -6,9 +6,9 @@ use Rattle.pdp_rk11.specs.Trace.{completion_touches}
 use Rattle.pdp_store.specs.TracedAccess.{TracedAccess}
 use Rattle.pdp_store.specs.declared.part.Part.TheVariants as part
 use Rattle.pdp_store.specs.declared.Agent.TheVariants.{Cpu}
-use Rattle.pdp_unibus.specs.Beginning.{after_event, at_start, before_disk, in_turn}
-use Rattle.pdp_unibus.specs.BusWorld.{BusWorld, disk_world_of}
-use Rattle.pdp_unibus.specs.Beginning.{Progress}
+use Rattle.pdp_unibus.specs.Handbook.Beginning.{after_event, at_start, before_disk, in_turn}
+use Rattle.pdp_unibus.specs.Handbook.BusWorld.{BusWorld, disk_world_of}
+use Rattle.pdp_unibus.specs.Handbook.Beginning.{Progress}
 use Rattle.pdp_unibus.specs.declared.event.Event.{Event}
 use Rattle.pdp_unibus.specs.declared.event.Event.TheVariants.{DiskDone}
 

@@ -1,10 +1,12 @@
 //! The beginning of a turn: its events, a tick of the clock, and the operations that are due.
 
 ghost use Rattle.std.specs.Prelude.{◌≡◌, true, false, []};
-ghost use Rattle.pdp_unibus.specs.Beginning.{after_event, after_events, at_start, after_beginning};
-ghost use Rattle.pdp_unibus.specs.Beginning.{disk_done, disk_due, printer_done, printer_due};
-ghost use Rattle.pdp_unibus.specs.Beginning.{progress, punch_done, punch_due, reader_done};
-ghost use Rattle.pdp_unibus.specs.Beginning.{reader_due, tick_due};
+ghost use Rattle.pdp_unibus.specs.Handbook.Beginning.{after_event, after_events, at_start};
+ghost use Rattle.pdp_unibus.specs.Handbook.Beginning.{after_beginning};
+ghost use Rattle.pdp_unibus.specs.Handbook.Beginning.{disk_done, disk_due, printer_done};
+ghost use Rattle.pdp_unibus.specs.Handbook.Beginning.{printer_due};
+ghost use Rattle.pdp_unibus.specs.Handbook.Beginning.{progress, punch_done, punch_due, reader_done};
+ghost use Rattle.pdp_unibus.specs.Handbook.Beginning.{reader_due, tick_due};
 ghost use Rattle.pdp_unibus.specs.SingleBytes.{IsSingle, StaysSingle};
 ghost use Rattle.pdp_unibus.specs.declared.beginning.Output.{Output};
 

@@ -1,5 +1,5 @@
 ghost use Rattle.std.specs.Prelude.{◌≡◌, ◌↔◌, true};
-ghost use Rattle.pdp_unibus.specs.Delays.{standard_delays, with_delay};
+ghost use Rattle.pdp_unibus.specs.Handbook.Delays.{standard_delays, with_delay};
 
 /// A device whose delay can be set [6.57].
 #[derive(Clone, Copy)]

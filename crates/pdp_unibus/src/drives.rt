@@ -2,8 +2,8 @@
 
 ghost use Rattle.std.specs.Prelude.{◌≡◌, ◌++◌, map, take, IsErr, OnOk};
 ghost use Rattle.pdp_store.specs.FirstTouches.{first_touches_of};
-ghost use Rattle.pdp_unibus.specs.BusWorld.{with_first_touches};
-ghost use Rattle.pdp_unibus.specs.Drives.{with_drives};
+ghost use Rattle.pdp_unibus.specs.Handbook.BusWorld.{with_first_touches};
+ghost use Rattle.pdp_unibus.specs.Handbook.Drives.{with_drives};
 
 use crate::bus::Bus;
 use pdp_store::Store;

@@ -1,7 +1,7 @@
 ghost use Rattle.std.specs.Prelude.{◌≡◌, ◌↔◌, true};
-ghost use Rattle.pdp_unibus.specs.BusWorld.{io_page_reset, io_page_at_power_up};
-ghost use Rattle.pdp_unibus.specs.Register.{value_in, after_byte, after_read, after_write};
-ghost use Rattle.pdp_unibus.specs.Register.{is_byte_written, word_with_byte};
+ghost use Rattle.pdp_unibus.specs.Handbook.BusWorld.{io_page_reset, io_page_at_power_up};
+ghost use Rattle.pdp_unibus.specs.Handbook.Register.{value_in, after_byte, after_read, after_write};
+ghost use Rattle.pdp_unibus.specs.Handbook.Register.{is_byte_written, word_with_byte};
 
 use crate::delays::Delays;
 use crate::register::Register;
@@ -88,7 +88,7 @@ impl IoPage {
     /// What a read of the register gives, with so many drives on the disk, without the effect of a
     /// read.
     #[inline(always)]
-    #[tactic(auto, unfolding(crate::specs::Register::value_in))]
+    #[tactic(auto, unfolding(crate::specs::Handbook::Register::value_in))]
     pub fn value(&self, register: Register, drives: usize) -> u16
         ensures { result ≡ value_in register drives self.now }
     {
@@ -104,7 +104,7 @@ impl IoPage {
     }
 
     /// A read of the register, with so many drives on the disk.
-    #[tactic(auto, unfolding(crate::specs::Register::value_in, crate::specs::Register::after_read))]
+    #[tactic(auto, unfolding(crate::specs::value_in, crate::specs::after_read))]
     pub fn read(&mut self, register: Register, drives: usize) -> u16
         ensures value { result ≡ value_in register drives self.old }
         ensures after { self.new ≡ after_read register self.old }
@@ -121,7 +121,7 @@ impl IoPage {
     }
 
     /// A write of a word to the register, in this turn.
-    #[tactic(auto, unfolding(crate::specs::Register::after_write))]
+    #[tactic(auto, unfolding(crate::specs::Handbook::Register::after_write))]
     pub fn write(&mut self, register: Register, word: u16, turn: u32)
         ensures { self.new ≡ after_write register word turn self.old }
     {
@@ -148,7 +148,7 @@ impl IoPage {
     /// A write of a byte to the register, at an address in its word, in this turn, with so many
     /// drives: the other half is written as a read would give it, without the effect of a read. At
     /// the odd address of the printer's and the punch's buffer it does nothing. [6.30] [6.32]
-    #[tactic(auto, unfolding(crate::specs::Register::after_byte))]
+    #[tactic(auto, unfolding(crate::specs::Handbook::Register::after_byte))]
     pub fn write_byte(
         &mut self,
         register: Register,
@@ -167,7 +167,7 @@ impl IoPage {
 
     /// RESET of all devices and of SR0, so mapping is off. The program status, the pages, SR2, the
     /// delays, the switches and which drives are locked stay.
-    #[tactic(auto, unfolding(crate::specs::BusWorld::io_page_reset))]
+    #[tactic(auto, unfolding(crate::specs::Handbook::BusWorld::io_page_reset))]
     pub(crate) fn reset(&mut self)
         ensures { self.new ≡ io_page_reset self.old }
     {

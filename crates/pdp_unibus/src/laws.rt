@@ -1,6 +1,6 @@
 ghost use Rattle.std.specs.Prelude.{◌≡◌, ◌≤◌, Err};
-ghost use Rattle.pdp_unibus.specs.BusWorld.{BusWorld, with_log};
-ghost use Rattle.pdp_unibus.specs.Cycle.{Cycle, cycle};
+ghost use Rattle.pdp_unibus.specs.Handbook.BusWorld.{BusWorld, with_log};
+ghost use Rattle.pdp_unibus.specs.Handbook.Cycle.{Cycle, cycle};
 ghost use Rattle.pdp_unibus.specs.Frame.{EventsLeaveOthers, UsesLeaveOthers};
 ghost use Rattle.pdp_unibus.specs.Laws.{KeysAreReadOnce, KeysWaitUntilRead};
 ghost use Rattle.pdp_unibus.specs.Laws.{ReadStatusWritesBack, WrittenRegisterReadsBack};

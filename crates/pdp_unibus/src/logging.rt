@@ -2,7 +2,7 @@
 
 ghost use Rattle.std.specs.Prelude.{◌≡◌};
 ghost use Rattle.pdp_store.specs.CycleLogs.{without_cycles, no_log};
-ghost use Rattle.pdp_unibus.specs.BusWorld.{with_log};
+ghost use Rattle.pdp_unibus.specs.Handbook.BusWorld.{with_log};
 
 use crate::bus::Bus;
 use pdp_store::{BusCycle, CycleLog, Logging, Paged, PagedDrive, Store};

@@ -18,10 +18,10 @@ pub enum Priority {
 }
 
 impl Priority {
-    ghost use Rattle.pdp_unibus.specs.Status.{is_above, priority_bits, priority_of};
+    ghost use Rattle.pdp_unibus.specs.Handbook.Status.{is_above, priority_bits, priority_of};
 
     /// The priority of three bits of the program status word, 0 to 7.
-    #[tactic(auto, unfolding(crate::specs::Status::priority_of))]
+    #[tactic(auto, unfolding(crate::specs::Handbook::Status::priority_of))]
     pub fn of_bits(bits: u16) -> Priority
         requires { bits < 8 }
         ensures priority { result ≡ priority_of bits }

@@ -1,5 +1,5 @@
 ghost use Rattle.std.specs.Prelude.{◌≡◌};
-ghost use Rattle.pdp_unibus.specs.Register.{register_at};
+ghost use Rattle.pdp_unibus.specs.Handbook.Register.{register_at};
 
 use crate::device_table::DEVICES;
 use pdp_console::KlRegister;
@@ -31,7 +31,7 @@ pub enum Register {
 ///
 /// PDP-11 Peripherals Handbook, KL11, KW11-L, PC11 and RK11; DEC PDP-11/40 Processor Handbook
 /// (1972), Switch register, Processor status word and Memory management.
-#[tactic(auto, unfolding(crate::specs::Register::register_at))]
+#[tactic(auto, unfolding(crate::specs::Handbook::Register::register_at))]
 pub fn register_at_address(address: u32) -> Option<Register>
     ensures { result ≡ register_at address }
 {

@@ -1,8 +1,9 @@
 //! Requests of the devices on the I/O page: who requests, who is chosen, and who is served.
 
 ghost use Rattle.std.specs.Prelude.{◌≡◌};
-ghost use Rattle.pdp_unibus.specs.Source.{alone_above, chosen_source, has_request, requests};
-ghost use Rattle.pdp_unibus.specs.Source.{io_page_served};
+ghost use Rattle.pdp_unibus.specs.Handbook.Source.{alone_above, chosen_source, has_request};
+ghost use Rattle.pdp_unibus.specs.Handbook.Source.{requests};
+ghost use Rattle.pdp_unibus.specs.Handbook.Source.{io_page_served};
 
 use crate::io_page::IoPage;
 use crate::priority::Priority;
@@ -10,7 +11,7 @@ use crate::source::Source;
 
 impl IoPage {
     /// Whether the source requests.
-    #[tactic(auto, unfolding(crate::specs::Source::requests))]
+    #[tactic(auto, unfolding(crate::specs::Handbook::Source::requests))]
     pub(crate) fn requests(&self, source: Source) -> bool
         ensures { result ≡ requests self.now source }
     {
@@ -65,7 +66,7 @@ impl IoPage {
     }
 
     /// The source's request is served: that request goes.
-    #[tactic(auto, unfolding(crate::specs::Source::io_page_served))]
+    #[tactic(auto, unfolding(crate::specs::Handbook::Source::io_page_served))]
     pub(crate) fn serve(&mut self, source: Source)
         ensures { self.new ≡ io_page_served source self.old }
     {

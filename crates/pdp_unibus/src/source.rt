@@ -23,7 +23,7 @@ pub enum Source {
 }
 
 impl Source {
-    ghost use Rattle.pdp_unibus.specs.Source.{level_of, vector_of};
+    ghost use Rattle.pdp_unibus.specs.Handbook.Source.{level_of, vector_of};
 
     // The source's device.
     fn device(self) -> Device

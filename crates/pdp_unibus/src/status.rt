@@ -18,7 +18,7 @@ pub struct Status {
 }
 
 impl Status {
-    ghost use Rattle.pdp_unibus.specs.Status.{status_of_word, status_word, status_written};
+    ghost use Rattle.pdp_unibus.specs.Handbook.Status.{status_of_word, status_word, status_written};
 
     /// Whether both are the same in all.
     pub fn is_same(&self, other: &Status) -> bool
@@ -45,7 +45,7 @@ impl Status {
     }
 
     /// What a whole program status word says, T with it. Bits 11-8 count for nothing [4.58] [5.38].
-    #[tactic(auto, unfolding(crate::specs::Status::status_of_word))]
+    #[tactic(auto, unfolding(crate::specs::Handbook::Status::status_of_word))]
     pub fn of_word(word: u16) -> Status
         ensures { result ≡ status_of_word word }
     {
@@ -65,7 +65,7 @@ impl Status {
 
     /// The program status after its word was written: modes, priority and codes as the word has
     /// them. T stays, and bits 11-8 count for nothing [2.9].
-    #[tactic(auto, unfolding(crate::specs::Status::status_written))]
+    #[tactic(auto, unfolding(crate::specs::Handbook::Status::status_written))]
     pub fn written(self, word: u16) -> Status
         ensures { result ≡ status_written word self }
     {

@@ -1,5 +1,5 @@
 ghost use Rattle.std.specs.Prelude.{◌≡◌};
-ghost use Rattle.pdp_unibus.specs.Tape.{next_byte, read_on};
+ghost use Rattle.pdp_unibus.specs.Handbook.Tape.{next_byte, read_on};
 
 use std::marker::Model;
 
@@ -13,7 +13,7 @@ pub(crate) struct Tape {
 }
 
 impl Model for Tape {
-    ghost use Rattle.pdp_unibus.specs.Tape.{Reel};
+    ghost use Rattle.pdp_unibus.specs.Handbook.Tape.{Reel};
 
     ghost Value = { Reel };
 

@@ -3,7 +3,7 @@
 ghost use Rattle.std.specs.Prelude.{◌≡◌, ◌<◌, [], length, map, slice_index_or, slice_set};
 ghost use Rattle.pdp_store.specs.FirstTouches.{all_first_touches_before, first_touches_before};
 ghost use Rattle.pdp_store.specs.FirstTouches.{first_touches_in, first_turn, never};
-ghost use Rattle.pdp_unibus.specs.BusWorld.{with_first_touches};
+ghost use Rattle.pdp_unibus.specs.Handbook.BusWorld.{with_first_touches};
 
 use crate::bus::Bus;
 use pdp_store::{Part, Store};

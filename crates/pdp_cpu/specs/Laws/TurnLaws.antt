@@ -2,7 +2,7 @@
 use Rattle.std.specs.Prelude.{ℕ, zero, suc, ◌+◌, ◌≡◌, ◌≢◌, All, List, Option}
 use Rattle.pdp_unibus.specs.declared.event.Event.{Event}
 use Rattle.pdp_unibus.specs.declared.event.Event.TheVariants.{Continue}
-use Rattle.pdp_unibus.specs.BusWorld.{BusWorld}
+use Rattle.pdp_unibus.specs.Handbook.BusWorld.{BusWorld}
 use Rattle.pdp_operand.specs.Laws.Count.{course_length}
 use Rattle.pdp_store.specs.CycleLogs.{KeptCycles}
 use Rattle.pdp_store.specs.Stamps.{stamps_after_trace}
@@ -11,10 +11,10 @@ use Rattle.pdp_store.specs.declared.part.Part.{Part}
 use Rattle.pdp_unibus.specs.Page.{AlikeOutside, SamePage}
 use Rattle.pdp_operand.specs.declared.processor.Processor.{Processor}
 use Rattle.pdp_operand.specs.Phases.World.{World, world}
-use Rattle.pdp_cpu.specs.Turns.MachineState.{world_with_log, world_with_stamps}
-use Rattle.pdp_cpu.specs.Turns.Turn.{course_at, at_turn, one_turn, printed_in, punched_in}
-use Rattle.pdp_cpu.specs.Turns.Turn.{turn_act, turn_trace}
-use Rattle.pdp_cpu.specs.Turns.TurnDisk.{disk_begun}
+use Rattle.pdp_cpu.specs.Handbook.MachineState.{world_with_log, world_with_stamps}
+use Rattle.pdp_cpu.specs.Handbook.Turn.{course_at, at_turn, one_turn, printed_in, punched_in}
+use Rattle.pdp_cpu.specs.Handbook.Turn.{turn_act, turn_trace}
+use Rattle.pdp_cpu.specs.Handbook.TurnDisk.{disk_begun}
 
 -- how many phases turn t runs
 unfoldable pub turn_phases : ℕ → List Event → World → ℕ

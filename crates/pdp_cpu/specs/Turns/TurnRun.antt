@@ -3,9 +3,10 @@ use Rattle.std.specs.Prelude.{ℕ, ◌≡◌, List}
 use Rattle.pdp_store.specs.FirstTouches.{first_touches_after, no_first_touches}
 use Rattle.pdp_unibus.specs.declared.event.Event.{Event}
 use Rattle.pdp_cpu.specs.Meters.{Counts}
-use Rattle.pdp_cpu.specs.Turns.MachineState.{MachineWithTexts, after_turn, printed_kept, punched_kept}
-use Rattle.pdp_cpu.specs.Turns.MachineState.{touched_machine}
-use Rattle.pdp_cpu.specs.Turns.Turn.{turn_trace}
+use Rattle.pdp_cpu.specs.Handbook.MachineState.{MachineWithTexts, after_turn, printed_kept}
+use Rattle.pdp_cpu.specs.Handbook.MachineState.{punched_kept}
+use Rattle.pdp_cpu.specs.Handbook.MachineState.{touched_machine}
+use Rattle.pdp_cpu.specs.Handbook.Turn.{turn_trace}
 
 -- a machine ran its next turn with these events, and a meter counted it
 pub record RunsTurn (events : List Event) (before after : MachineWithTexts)

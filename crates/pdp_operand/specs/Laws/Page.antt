@@ -2,7 +2,7 @@
 -- is here.
 use Rattle.std.specs.Prelude.{ℕ, ◌≡◌}
 use Rattle.pdp_store.specs.declared.part.Part.{Part}
-use Rattle.pdp_unibus.specs.BusWorld.{BusWorld}
+use Rattle.pdp_unibus.specs.Handbook.BusWorld.{BusWorld}
 use Rattle.pdp_unibus.specs.Page.{AlikeOutside, SamePage}
 use Rattle.pdp_operand.specs.Phases.Phase.{State, state_of}
 use Rattle.pdp_operand.specs.Phases.Course.{Course, follow}

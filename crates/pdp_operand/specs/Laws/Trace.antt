@@ -4,8 +4,8 @@ use Rattle.std.specs.Prelude.{if◌then◌else◌}
 use Rattle.pdp_kt11.specs.declared.place.Access.{Access}
 use Rattle.pdp_kt11.specs.declared.place.Access.TheVariants.{Read, Write}
 use Rattle.pdp_store.specs.TracedAccess.{TracedAccess}
-use Rattle.pdp_unibus.specs.BusWorld.{BusWorld}
-use Rattle.pdp_unibus.specs.Cycle.{Slave, Core, Device, Nobody, slave_at}
+use Rattle.pdp_unibus.specs.Handbook.BusWorld.{BusWorld}
+use Rattle.pdp_unibus.specs.Handbook.Cycle.{Slave, Core, Device, Nobody, slave_at}
 use Rattle.pdp_unibus.specs.Trace.{processor_touch}
 use Rattle.pdp_operand.specs.Handbook.Reference.{Kind, Reference, access_of, is_odd, translation}
 use Rattle.pdp_kt11.specs.declared.place.Abort.{Abort}

@@ -4,9 +4,9 @@ use Rattle.std.proofs.lemmas.List.Elements.{All-replicate}
 use Rattle.std.proofs.lemmas.Grind.{get_or_default_zero, same_number_lists}
 use Rattle.pdp_kt11.specs.declared.mode.Mode.{Mode}
 use Rattle.pdp_unibus.specs.declared.event.Event.{Event}
-use Rattle.pdp_cpu.specs.Turns.MachineState.{MachineState, MachineWithTexts}
-use Rattle.pdp_cpu.specs.Turns.Regs.{regs_of}
-use Rattle.pdp_cpu.specs.Turns.Turn.{turn_act}
+use Rattle.pdp_cpu.specs.Handbook.MachineState.{MachineState, MachineWithTexts}
+use Rattle.pdp_cpu.specs.Handbook.Regs.{regs_of}
+use Rattle.pdp_cpu.specs.Handbook.Turn.{turn_act}
 use Rattle.pdp_cpu.specs.declared.act.Act.{Act}
 use Rattle.pdp_script.specs.Entries.{events_at}
 use Rattle.pdp_replay.specs.Past.{Past}

@@ -1,7 +1,7 @@
 -- Edits that are asked about: what they leave, and how they are refused.
 use Rattle.std.proofs.Common.{◌≡◌, ◌<◌, ◌≤◌, ℕ, Err, Ok, Result, ap, false, refl, subst, sym}
 use Rattle.std.proofs.lemmas.Bool.{le-leb, lt-leb}
-use Rattle.pdp_unibus.specs.LastTurn.{last_turn}
+use Rattle.pdp_unibus.specs.Handbook.LastTurn.{last_turn}
 use Rattle.pdp_script.specs.Refusal.{for_memory, past_left, question_answer}
 use Rattle.pdp_script.specs.Script.{ScriptData, first_turn_of_edit, script_edited}
 use Rattle.pdp_script.specs.declared.faults.Fault.{Fault}

@@ -4,8 +4,8 @@ use Rattle.std.proofs.lemmas.List.{length-replicate}
 use Rattle.pdp_store.proofs.Traces.{last_write-append}
 use Rattle.pdp_store.specs.TracedAccess.{last_write}
 use Rattle.pdp_cpu.proofs.TurnLaws.{turn_keeps_stamps, turn_stamps}
-use Rattle.pdp_cpu.specs.Turns.MachineState.{MachineState}
-use Rattle.pdp_cpu.specs.Turns.Turn.{turn_trace}
+use Rattle.pdp_cpu.specs.Handbook.MachineState.{MachineState}
+use Rattle.pdp_cpu.specs.Handbook.Turn.{turn_trace}
 use Rattle.pdp_script.specs.Entries.{events_at}
 use Rattle.pdp_cpu.specs.Saved.{SavedMachineData, saved_machine}
 use Rattle.pdp_replay.specs.Ask.LastWrites.{AreLastWrites, StampsOfCheckpointsAreLastWrites, StampsOfStatesAreLastWrites, last_write_of, last_write_at}

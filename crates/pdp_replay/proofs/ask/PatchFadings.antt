@@ -2,7 +2,7 @@
 use Rattle.std.proofs.Common.{◌≡◌, ◌∙◌, ℕ, ◌/◌, ◌<◌, ◌≤◌, List, [], Some, ap, arith, get_or-set_same, length, refl, slice_index, slice_index_or, slice_set, subst, sym, true}
 use Rattle.std.proofs.lemmas.List.{set-get_or}
 use Rattle.pdp_cpu.specs.Saved.{SavedMeet, saved_machine}
-use Rattle.pdp_cpu.specs.Turns.MachineState.{MachineState}
+use Rattle.pdp_cpu.specs.Handbook.MachineState.{MachineState}
 use Rattle.pdp_operand.specs.Phases.World.{World, world}
 use Rattle.pdp_store.specs.declared.part.Part.{Part}
 use Rattle.pdp_store.specs.declared.part.Part.TheVariants as parts

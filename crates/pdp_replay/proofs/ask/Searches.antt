@@ -1,7 +1,7 @@
 -- Searches for the first of some turns that has a property, part by part.
 use Rattle.std.proofs.Common.{◌≡◌, ◌∙◌, ℕ, ◌+◌, ◌-◌, ◌<◌, ◌≤◌, ⊎_elim, Bool, Option, None, Some, ap, arith, false, refl, subst, suc, sym, true, zero}
 use Rattle.std.proofs.lemmas.Bool.{cases_lt}
-use Rattle.pdp_cpu.specs.Turns.MachineState.{MachineState, after_turn}
+use Rattle.pdp_cpu.specs.Handbook.MachineState.{MachineState, after_turn}
 use Rattle.pdp_script.specs.Entries.{events_at}
 use Rattle.pdp_script.specs.Script.{ScriptData}
 use Rattle.pdp_replay.specs.Past.{Past}

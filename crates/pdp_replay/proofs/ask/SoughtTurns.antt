@@ -4,8 +4,8 @@ use Rattle.pdp_kt11.specs.declared.mode.Mode.{Mode}
 use Rattle.pdp_operand.specs.Handbook.Processor.{register_of}
 use Rattle.pdp_operand.specs.Phases.World.{World}
 use Rattle.pdp_cpu.specs.Turns.CalmTurns.{InstructsFor, PassesNone, after_calm_turns}
-use Rattle.pdp_cpu.specs.Turns.MachineState.{MachineState, MachineWithTexts}
-use Rattle.pdp_cpu.specs.Turns.Regs.{regs_of}
+use Rattle.pdp_cpu.specs.Handbook.MachineState.{MachineState, MachineWithTexts}
+use Rattle.pdp_cpu.specs.Handbook.Regs.{regs_of}
 use Rattle.pdp_script.specs.Entries.{events_at}
 use Rattle.pdp_replay.specs.Past.{Past}
 use Rattle.pdp_replay.specs.Run.KeptRuns.{IsUnderWay, IsWithoutEvents}

@@ -1,7 +1,7 @@
 -- Trails, turn by turn.
 use Rattle.std.proofs.Common.{◌≡◌, ℕ, ◌+◌, ◌-◌, ◌<◌, List, [], ◌∷◌, ◌++◌, length, length-append, refl, sym, add-one, arith, ap, ◌∙◌}
 use Rattle.circular_buffer.specs.Buffer.{keep_last}
-use Rattle.pdp_cpu.specs.Turns.MachineState.{MachineState, after_turn}
+use Rattle.pdp_cpu.specs.Handbook.MachineState.{MachineState, after_turn}
 use Rattle.pdp_script.specs.Entries.{events_at}
 use Rattle.pdp_script.specs.Script.{ScriptData}
 use Rattle.pdp_replay.specs.Past.{Past}

@@ -9,8 +9,8 @@ use Rattle.pdp_unibus.specs.declared.event.Event.{Event}
 use Rattle.pdp_cpu.proofs.Logged.{logs_disturb_nothing}
 use Rattle.pdp_cpu.specs.KeptTexts.{without_turns}
 use Rattle.pdp_cpu.specs.declared.kept_text.KeptByte.{KeptByte}
-use Rattle.pdp_cpu.specs.Turns.MachineState.{MachineState, after_turn, state_with_log, world_with_log}
-use Rattle.pdp_cpu.specs.Turns.Turn.{printed_in, punched_in, turn_act}
+use Rattle.pdp_cpu.specs.Handbook.MachineState.{MachineState, after_turn, state_with_log, world_with_log}
+use Rattle.pdp_cpu.specs.Handbook.Turn.{printed_in, punched_in, turn_act}
 use Rattle.pdp_cpu.specs.declared.act.Act.{Act}
 use Rattle.pdp_script.specs.Entries.{events_at}
 use Rattle.pdp_script.specs.Script.{ScriptData}

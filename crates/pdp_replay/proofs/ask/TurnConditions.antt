@@ -9,7 +9,7 @@ use Rattle.pdp_operand.specs.Phases.World.{World}
 use Rattle.pdp_operand.specs.declared.processor.RegisterId.TheVariants.{ProgramCounter}
 use Rattle.pdp_cpu.specs.Turns.CalmTurns.{PassesNone, WordStays, after_calm_turns}
 use Rattle.pdp_cpu.proofs.CalmTurns.{size_stays}
-use Rattle.pdp_cpu.specs.Turns.MachineState.{MachineWithTexts}
+use Rattle.pdp_cpu.specs.Handbook.MachineState.{MachineWithTexts}
 use Rattle.pdp_replay.specs.Ask.TurnConditions.{AreUnmet, address_asked, all_met_in, checked_if_there, conditions_checked, is_met_in, is_related, is_there_with, quantity_in, unmet_word, word_of_condition, word_of_quantity}
 use Rattle.pdp_replay.specs.Ask.Writes.{then_checked}
 use Rattle.pdp_replay.specs.Past.Setup.{SetupData}

@@ -3,7 +3,7 @@ use Rattle.std.proofs.Common.{◌≡◌, ◌∙◌, ◌+◌, ◌*◌, ℕ, Bool,
 use Rattle.pdp_store.specs.CycleLogs.{KeptCycles}
 use Rattle.pdp_store.specs.declared.Agent.TheVariants.{Cpu}
 use Rattle.pdp_store.specs.declared.cycle_log.BusCycle.{BusCycle}
-use Rattle.pdp_cpu.specs.Turns.MachineState.{MachineState, after_turn, state_with_log}
+use Rattle.pdp_cpu.specs.Handbook.MachineState.{MachineState, after_turn, state_with_log}
 use Rattle.pdp_script.specs.Entries.{events_at}
 use Rattle.pdp_script.specs.Script.{ScriptData}
 use Rattle.pdp_replay.specs.Past.{Past}

@@ -2,8 +2,8 @@
 use Rattle.std.proofs.Common.{◌≡◌, ◌∙◌, ℕ, zero, suc, ◌+◌, ◌*◌, ◌-◌, ◌<◌, List, [], ◌∷◌, ◌++◌, Result, Ok, Err, add-one, ap, arith, length, refl, sym}
 use Rattle.pdp_kt11.specs.declared.mode.Mode.{Mode}
 use Rattle.pdp_kt11.specs.declared.place.Abort.{Abort}
-use Rattle.pdp_unibus.specs.BusWorld.{BusWorld}
-use Rattle.pdp_unibus.specs.Cycle.{Slave, Core, Device, Nobody, read_from, slave_at}
+use Rattle.pdp_unibus.specs.Handbook.BusWorld.{BusWorld}
+use Rattle.pdp_unibus.specs.Handbook.Cycle.{Slave, Core, Device, Nobody, read_from, slave_at}
 use Rattle.pdp_replay.specs.Ask.VirtualReads.{AgreesWithCycle, VirtualWordsAreRead, core_word_at_place, core_word_of, place_of_read, virtual_word, virtual_words, with_next_word}
 use Rattle.pdp_replay.specs.declared.ask.virtual_words.Cause.{Cause}
 use Rattle.pdp_replay.specs.declared.ask.virtual_words.Unreadable.{Unreadable}

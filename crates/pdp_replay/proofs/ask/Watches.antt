@@ -7,7 +7,7 @@ use Rattle.pdp_cpu.proofs.CalmDrives.{drive_sizes_stay}
 use Rattle.pdp_cpu.proofs.CalmTurns.{size_stays}
 use Rattle.pdp_cpu.proofs.TurnLaws.{turn_keeps_words}
 use Rattle.pdp_cpu.specs.Turns.CalmTurns.{StampStays, after_calm_turns, word_stamp}
-use Rattle.pdp_cpu.specs.Turns.MachineState.{MachineState, MachineWithTexts, after_turn}
+use Rattle.pdp_cpu.specs.Handbook.MachineState.{MachineState, MachineWithTexts, after_turn}
 use Rattle.pdp_cpu.specs.KeptTexts.{without_turns}
 use Rattle.pdp_cpu.specs.declared.turn_trap.ActWithTrap.{ActWithTrap}
 use Rattle.pdp_cpu.specs.declared.kept_text.KeptByte.{KeptByte}

@@ -6,7 +6,7 @@ use Rattle.std.proofs.lemmas.List.{length-replicate}
 use Rattle.pdp_checkpoint.specs.Ladder.{LadderData}
 use Rattle.pdp_checkpoint.specs.Patched.{HavePageAlike}
 use Rattle.pdp_cpu.specs.Saved.{HasWord, saved_machine}
-use Rattle.pdp_cpu.specs.Turns.MachineState.{powered_world}
+use Rattle.pdp_cpu.specs.Handbook.MachineState.{powered_world}
 use Rattle.pdp_operand.specs.Phases.World.{World}
 use Rattle.pdp_script.specs.Script.{ScriptData}
 use Rattle.pdp_script.specs.declared.faults.Fault.{Fault}

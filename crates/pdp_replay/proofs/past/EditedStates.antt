@@ -5,7 +5,7 @@ use Rattle.std.specs.List.{All}
 use Rattle.std.specs.Option.{option_map}
 use Rattle.std.specs.Prelude.{unwrap_or}
 use Rattle.pdp_checkpoint.specs.Ladder.{LadderData}
-use Rattle.pdp_cpu.specs.Turns.MachineState.{MachineWithTexts}
+use Rattle.pdp_cpu.specs.Handbook.MachineState.{MachineWithTexts}
 use Rattle.pdp_script.specs.Entries.{altered_entries, entry_of, events_at, without}
 use Rattle.pdp_script.specs.declared.entry.Entry.{Entry}
 use Rattle.pdp_script.specs.Refusal.{edit_answer, past_left}
@@ -13,7 +13,7 @@ use Rattle.pdp_script.specs.Script.{ScriptData, alter_edit, drop_edit, insert_ed
 use Rattle.pdp_script.specs.declared.faults.Fault.{Fault}
 use Rattle.pdp_script.specs.declared.faults.Fault.TheVariants.{ScriptFull, TurnTooLarge}
 use Rattle.pdp_script.proofs.Events.{events_at-altered, events_at-dropped, events_at-inserted}
-use Rattle.pdp_unibus.specs.LastTurn.{last_turn}
+use Rattle.pdp_unibus.specs.Handbook.LastTurn.{last_turn}
 use Rattle.pdp_unibus.specs.declared.event.Event.{Event}
 use Rattle.pdp_replay.specs.Run.Checkpoints.{AreKept, IsBuiltFrom, IsFormerOf}
 use Rattle.pdp_replay.specs.Past.{Past}

@@ -4,7 +4,7 @@ use Rattle.pdp_script.specs.Entries.{entry_of, altered_entries, without}
 use Rattle.pdp_script.specs.declared.entry.Entry.{Entry}
 use Rattle.pdp_script.specs.Refusal.{for_memory, result_map}
 use Rattle.pdp_script.specs.Script.{ScriptData, of_entry}
-use Rattle.pdp_unibus.specs.LastTurn.{last_turn}
+use Rattle.pdp_unibus.specs.Handbook.LastTurn.{last_turn}
 use Rattle.pdp_script.specs.declared.faults.Fault.{Fault}
 use Rattle.pdp_script.specs.declared.faults.Fault.TheVariants.{NoMemory, OutsideCore, OddAddress, OutsideDisk, NoSuchEvent, ScriptFull, TurnTooLarge, CountOutOfRange, NoSuchPatch, BadLine, LineTooLong, Input, Output, BadImage, BadSetup, NoSuchDrive}
 use Rattle.pdp_unibus.specs.declared.event.Event.{Event}

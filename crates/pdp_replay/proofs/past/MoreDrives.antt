@@ -9,7 +9,7 @@ use Rattle.std.proofs.Math.Seq.{take-append_seam}
 use Rattle.pdp_checkpoint.specs.Ladder.{checkpoint_of}
 use Rattle.pdp_cpu.specs.KeptTexts.{kept_before}
 use Rattle.pdp_cpu.specs.Saved.{state_cut}
-use Rattle.pdp_cpu.specs.Turns.MachineState.{MachineState, MachineWithTexts, powered_machine}
+use Rattle.pdp_cpu.specs.Handbook.MachineState.{MachineState, MachineWithTexts, powered_machine}
 use Rattle.pdp_store.specs.FirstTouches.{FirstTouches, all_first_touches_before, first_touches_after, first_touches_before, first_touches_of, word_touched}
 use Rattle.pdp_store.specs.TracedAccess.{TracedAccess}
 use Rattle.pdp_store.specs.Parts.{is_same_part, word_at}

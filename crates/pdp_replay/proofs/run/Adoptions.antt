@@ -4,7 +4,7 @@ use Rattle.pdp_store.specs.FirstTouches.{FirstTouches}
 use Rattle.pdp_store.specs.Overlays.{first_touches_over}
 use Rattle.pdp_operand.specs.Phases.World.{World}
 use Rattle.pdp_cpu.specs.Saved.{SavedMachineData, SavedMeet, saved_machine, saved_over, state_on}
-use Rattle.pdp_cpu.specs.Turns.MachineState.{MachineWithTexts}
+use Rattle.pdp_cpu.specs.Handbook.MachineState.{MachineWithTexts}
 use Rattle.pdp_cpu.specs.declared.kept_text.KeptByte.{KeptByte}
 use Rattle.pdp_replay.specs.Past.{Past}
 use Rattle.pdp_replay.specs.Past.Setup.{SetupData}

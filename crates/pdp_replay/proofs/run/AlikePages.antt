@@ -9,7 +9,7 @@ use Rattle.pdp_store.specs.declared.part.Part.TheVariants as parts
 use Rattle.pdp_store.specs.declared.Stamp.{Stamp}
 use Rattle.pdp_unibus.specs.Page.{SamePage, words_of_part, bus_with_words}
 use Rattle.pdp_cpu.proofs.TurnLaws.{turn_undisturbed}
-use Rattle.pdp_cpu.specs.Turns.Turn.{turn_trace}
+use Rattle.pdp_cpu.specs.Handbook.Turn.{turn_trace}
 use Rattle.pdp_script.specs.Entries.{events_at}
 use Rattle.pdp_replay.specs.Run.FirstTouches.{IsAsAtPowerUp, UntouchedPagesAreAlike}
 use Rattle.pdp_replay.specs.Past.{Past}

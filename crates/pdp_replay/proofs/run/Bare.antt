@@ -7,8 +7,8 @@ use Rattle.pdp_unibus.specs.declared.event.Event.{Event}
 use Rattle.pdp_operand.specs.Phases.World.{World}
 use Rattle.pdp_cpu.proofs.Carried.{turn_carried}
 use Rattle.pdp_cpu.proofs.Logged.{turn_keeps_no_log}
-use Rattle.pdp_cpu.specs.Turns.MachineState.{world_with_first_touches}
-use Rattle.pdp_cpu.specs.Turns.Turn.{one_turn, turn_trace}
+use Rattle.pdp_cpu.specs.Handbook.MachineState.{world_with_first_touches}
+use Rattle.pdp_cpu.specs.Handbook.Turn.{one_turn, turn_trace}
 use Rattle.pdp_script.specs.Entries.{events_at}
 use Rattle.pdp_replay.specs.Past.{Past}
 use Rattle.pdp_replay.specs.Run.States.{power, state_at}

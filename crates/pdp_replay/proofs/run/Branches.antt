@@ -2,7 +2,7 @@
 use Rattle.std.proofs.Common.{◌≡◌, ◌∙◌, ◌*◌, ◌≤◌, ℕ, ap, arith, length, map, max, refl, replicate, subst, sym}
 use Rattle.pdp_unibus.specs.SavedBusData.{HasSizesOf}
 use Rattle.pdp_cpu.specs.Saved.{CanHold, SavedMachineData, saved_machine, state_on}
-use Rattle.pdp_cpu.specs.Turns.MachineState.{MachineState, MachineWithTexts}
+use Rattle.pdp_cpu.specs.Handbook.MachineState.{MachineState, MachineWithTexts}
 use Rattle.pdp_replay.specs.Past.{Past}
 use Rattle.pdp_replay.specs.Past.Setup.{drive_words, unit_words}
 use Rattle.pdp_replay.specs.Run.Branches.{IsBranchOf, IsBranchAt, IsLookedAt}

@@ -13,7 +13,7 @@ use Rattle.pdp_unibus.specs.SavedTouches.{HasPagesOf}
 use Rattle.pdp_cpu.specs.KeptTexts.{kept_before}
 use Rattle.pdp_cpu.specs.Saved.{SavedMachineData, saved_machine, state_on}
 use Rattle.pdp_cpu.specs.SavedOutput.{TakesOutput, bytes_between, output_from}
-use Rattle.pdp_cpu.specs.Turns.MachineState.{MachineState, MachineWithTexts}
+use Rattle.pdp_cpu.specs.Handbook.MachineState.{MachineState, MachineWithTexts}
 use Rattle.pdp_cpu.specs.declared.kept_text.KeptByte.{KeptByte}
 use Rattle.pdp_replay.specs.Past.{Past}
 use Rattle.pdp_replay.specs.Past.Setup.{drive_count, drive_words, unit_words}

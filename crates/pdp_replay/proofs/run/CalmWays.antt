@@ -1,7 +1,7 @@
 -- A machine on its way through a run, after turns without events.
 use Rattle.std.proofs.Common.{◌≡◌, ℕ, ◌+◌, ◌<◌, ◌≤◌, zero, suc, refl, subst, sym, arith, []}
 use Rattle.pdp_cpu.specs.Turns.CalmTurns.{after_calm_turn, after_calm_turns}
-use Rattle.pdp_cpu.specs.Turns.MachineState.{MachineWithTexts}
+use Rattle.pdp_cpu.specs.Handbook.MachineState.{MachineWithTexts}
 use Rattle.pdp_replay.specs.Run.KeptRuns.{IsUnderWay, IsWithoutEvents}
 use Rattle.pdp_replay.specs.Past.{Past}
 use Rattle.pdp_replay.proofs.run.UnderWay.{way_on}

@@ -9,7 +9,7 @@ use Rattle.pdp_checkpoint.proofs.Checkpoints.{All-kept_with, turn_at}
 use Rattle.pdp_checkpoint.specs.Ladder.{AreCheckpoints, LadderData, checkpoint_of, kept_with, ladder_doubled, most_kept, most_near, near_with, next_of, with_last}
 use Rattle.pdp_checkpoint.specs.declared.checkpoint.Checkpoint.{Checkpoint}
 use Rattle.pdp_cpu.specs.Saved.{CanHold, saved_machine, state_on}
-use Rattle.pdp_cpu.specs.Turns.MachineState.{MachineState, MachineWithTexts}
+use Rattle.pdp_cpu.specs.Handbook.MachineState.{MachineState, MachineWithTexts}
 use Rattle.pdp_replay.specs.Run.Checkpoints.{AreKept, AreStatesOf, IsFormerOf, IsKeptState}
 use Rattle.pdp_replay.specs.Past.{Past}
 use Rattle.pdp_replay.specs.Run.States.{at}

@@ -3,7 +3,7 @@ use Rattle.std.proofs.Common.{◌≡◌, ◌∙◌, Bool, List, ℕ, ◌+◌, �
 use Rattle.std.proofs.lemmas.Bool.{lt-ltb}
 use Rattle.pdp_checkpoint.specs.Ladder.{LadderData, next_of}
 use Rattle.pdp_checkpoint.specs.declared.checkpoint.Checkpoint.{Checkpoint}
-use Rattle.pdp_cpu.specs.Turns.MachineState.{MachineWithTexts}
+use Rattle.pdp_cpu.specs.Handbook.MachineState.{MachineWithTexts}
 use Rattle.pdp_replay.specs.Run.KeptRuns.{Advances, ArrivesAt, CanGoOn, ComesTo, KeepsStride, with_near}
 use Rattle.pdp_replay.specs.Run.Strides.{IsStride}
 use Rattle.pdp_replay.specs.declared.run.kept_run.KeptRun.{KeptRun}

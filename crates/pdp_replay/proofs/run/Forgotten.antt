@@ -7,7 +7,7 @@ use Rattle.pdp_checkpoint.specs.Formers.{FormerData}
 use Rattle.pdp_checkpoint.specs.Ladder.{AreCheckpoints, LadderData, checkpoint_of}
 use Rattle.pdp_checkpoint.specs.declared.checkpoint.Checkpoint.{Checkpoint}
 use Rattle.pdp_cpu.specs.Saved.{SavedMachineData, saved_machine}
-use Rattle.pdp_cpu.specs.Turns.MachineState.{MachineWithTexts}
+use Rattle.pdp_cpu.specs.Handbook.MachineState.{MachineWithTexts}
 use Rattle.pdp_replay.specs.Run.KeptRuns.{IsForgotten}
 use Rattle.pdp_replay.specs.Run.Checkpoints.{AreKept, AreStatesOf, IsBuiltFrom, KeepsTexts, punched_kept_at, text_kept_at}
 use Rattle.pdp_replay.specs.Past.{Past}

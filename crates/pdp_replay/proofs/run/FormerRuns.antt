@@ -14,7 +14,7 @@ use Rattle.pdp_checkpoint.specs.Formers.{FormerData, IsStateIn}
 use Rattle.pdp_checkpoint.specs.declared.checkpoint.Checkpoint.{Checkpoint}
 use Rattle.pdp_cpu.specs.Saved.{CanHold, SavedMachineData, SavedMeet, saved_machine, saved_over, state_on}
 use Rattle.pdp_cpu.specs.SavedOutput.{TakesOutput, bytes_between}
-use Rattle.pdp_cpu.specs.Turns.MachineState.{MachineState, MachineWithTexts}
+use Rattle.pdp_cpu.specs.Handbook.MachineState.{MachineState, MachineWithTexts}
 use Rattle.pdp_cpu.specs.declared.kept_text.KeptByte.{KeptByte}
 use Rattle.pdp_replay.specs.Past.{Past}
 use Rattle.pdp_replay.specs.Past.Setup.{drive_words, unit_words}

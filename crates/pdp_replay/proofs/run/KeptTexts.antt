@@ -1,8 +1,8 @@
 -- The bytes that were printed and punched in a run, kept with their turns.
 use Rattle.std.proofs.Common.{◌≡◌, ◌∙◌, ℕ, ◌+◌, ◌≤◌, List, ap, length, max, refl, take}
 use Rattle.pdp_cpu.specs.KeptTexts.{kept_before, kept_over, without_turns}
-use Rattle.pdp_cpu.specs.Turns.MachineState.{MachineWithTexts}
-use Rattle.pdp_cpu.specs.Turns.Turn.{printed_in, punched_in}
+use Rattle.pdp_cpu.specs.Handbook.MachineState.{MachineWithTexts}
+use Rattle.pdp_cpu.specs.Handbook.Turn.{printed_in, punched_in}
 use Rattle.pdp_script.specs.Entries.{events_at}
 use Rattle.pdp_replay.specs.Run.Checkpoints.{KeepsTexts, ShowsTexts, text_kept_at, punched_kept_at}
 use Rattle.pdp_replay.specs.Past.{Past}

@@ -9,8 +9,8 @@ use Rattle.pdp_operand.proofs.Shape.{log_after}
 use Rattle.pdp_operand.specs.Phases.World.{World}
 use Rattle.pdp_cpu.proofs.Logged.{logs_disturb_nothing}
 use Rattle.pdp_cpu.proofs.TurnLaws.{turn_keeps_words}
-use Rattle.pdp_cpu.specs.Turns.MachineState.{MachineState, after_turn, state_with_log, world_with_log}
-use Rattle.pdp_cpu.specs.Turns.Turn.{at_turn, course_at, one_turn}
+use Rattle.pdp_cpu.specs.Handbook.MachineState.{MachineState, after_turn, state_with_log, world_with_log}
+use Rattle.pdp_cpu.specs.Handbook.Turn.{at_turn, course_at, one_turn}
 use Rattle.pdp_script.specs.Entries.{events_at}
 use Rattle.pdp_script.specs.Script.{ScriptData}
 use Rattle.pdp_replay.specs.Past.{Past}

@@ -5,8 +5,8 @@ use Rattle.std.proofs.lemmas.Bool.{leb-true}
 use Rattle.std.proofs.lemmas.List.{take_all}
 use Rattle.pdp_cpu.specs.KeptTexts.{kept_before, kept_over}
 use Rattle.pdp_cpu.specs.Saved.{state_cut}
-use Rattle.pdp_cpu.specs.Turns.MachineState.{MachineState, MachineWithTexts, printed_kept, punched_kept}
-use Rattle.pdp_cpu.specs.Turns.Turn.{printed_in, punched_in, turn_trace}
+use Rattle.pdp_cpu.specs.Handbook.MachineState.{MachineState, MachineWithTexts, printed_kept, punched_kept}
+use Rattle.pdp_cpu.specs.Handbook.Turn.{printed_in, punched_in, turn_trace}
 use Rattle.pdp_operand.specs.Phases.World.{World}
 use Rattle.pdp_store.specs.FirstTouches.{all_first_touches_before, first_touches_after, never}
 use Rattle.pdp_script.specs.Entries.{events_at}

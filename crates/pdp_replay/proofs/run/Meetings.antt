@@ -7,7 +7,7 @@ use Rattle.pdp_store.proofs.FirstTouches.{first_touches_after-append}
 use Rattle.pdp_unibus.specs.Touched.{IsOfTurn}
 use Rattle.pdp_operand.specs.Phases.World.{World}
 use Rattle.pdp_cpu.proofs.TurnLaws.{turn_touches}
-use Rattle.pdp_cpu.specs.Turns.Turn.{one_turn, printed_in, punched_in, turn_trace}
+use Rattle.pdp_cpu.specs.Handbook.Turn.{one_turn, printed_in, punched_in, turn_trace}
 use Rattle.pdp_script.specs.Entries.{events_at}
 use Rattle.pdp_replay.specs.Past.{Past}
 use Rattle.pdp_replay.specs.Past.Setup.{core_size}
@@ -21,7 +21,7 @@ use Rattle.pdp_store.specs.Overlays.{AreBefore, drives_over, first_touches_over,
 use Rattle.pdp_store.specs.Stamps.{stamps_after_access, stamps_after_trace}
 use Rattle.pdp_store.proofs.OverlayLaws.{AllFrom, over_after, over_early, touches_late}
 use Rattle.pdp_cpu.proofs.Carried.{stamps_disturb_nothing}
-use Rattle.pdp_cpu.specs.Turns.MachineState.{world_with_stamps}
+use Rattle.pdp_cpu.specs.Handbook.MachineState.{world_with_stamps}
 
 -- the trace of a turn is of that turn
 of_turn : (n words : ℕ) (xs : List TracedAccess) (c : ℕ) → c ≤ n → All (IsOfTurn n words) xs → AllFrom c xs

@@ -5,13 +5,13 @@ use Rattle.pdp_checkpoint.proofs.Checkpoints.{checkpoints_beside}
 use Rattle.pdp_checkpoint.specs.Ladder.{LadderData, checkpoint_of, near_with, next_of}
 use Rattle.pdp_checkpoint.specs.declared.checkpoint.Checkpoint.{Checkpoint}
 use Rattle.pdp_cpu.specs.Saved.{saved_machine, state_on}
-use Rattle.pdp_cpu.specs.Turns.MachineState.{MachineState, MachineWithTexts, after_turn, printed_kept, punched_kept}
+use Rattle.pdp_cpu.specs.Handbook.MachineState.{MachineState, MachineWithTexts, after_turn, printed_kept, punched_kept}
 use Rattle.pdp_script.specs.Entries.{events_at}
 use Rattle.pdp_script.specs.Script.{ScriptData}
 use Rattle.pdp_unibus.specs.declared.event.Event.{Event}
 use Rattle.pdp_word.specs.declared.memory.NoMemory.{NoMemory}
 use Rattle.pdp_store.specs.FirstTouches.{first_touches_after}
-use Rattle.pdp_cpu.specs.Turns.Turn.{turn_trace}
+use Rattle.pdp_cpu.specs.Handbook.Turn.{turn_trace}
 use Rattle.pdp_replay.specs.Run.KeptRuns.{IsOnWay, IsUnderWay, with_near}
 use Rattle.pdp_replay.specs.Run.Checkpoints.{AreKept, AreStatesOf, IsKeptState}
 use Rattle.pdp_replay.specs.Past.{Past}

@@ -2,7 +2,7 @@
 -- with the patch.
 use Rattle.std.proofs.Common.{◌≡◌, ◌∙◌, ℕ, ap, ap₂, arith, max, refl, subst, sym}
 use Rattle.pdp_cpu.specs.Saved.{CanHold, HasWord, SavedMachineData, saved_machine, saved_machine_with_word, state_on}
-use Rattle.pdp_cpu.specs.Turns.MachineState.{MachineState, MachineWithTexts}
+use Rattle.pdp_cpu.specs.Handbook.MachineState.{MachineState, MachineWithTexts}
 use Rattle.pdp_store.specs.FirstTouches.{first_touches_after}
 use Rattle.pdp_store.specs.declared.part.WordAt.{WordAt}
 use Rattle.pdp_unibus.specs.PatchedPages.{IsPatchOf}

@@ -15,7 +15,7 @@ use Rattle.pdp_checkpoint.specs.Patched.{patched_to, checkpoint_with_word}
 use Rattle.pdp_checkpoint.specs.declared.checkpoint.Checkpoint.{Checkpoint}
 use Rattle.pdp_cpu.specs.KeptTexts.{kept_before}
 use Rattle.pdp_cpu.specs.Saved.{SavedMachineData, saved_machine_with_word, saved_machine}
-use Rattle.pdp_cpu.specs.Turns.MachineState.{MachineWithTexts}
+use Rattle.pdp_cpu.specs.Handbook.MachineState.{MachineWithTexts}
 use Rattle.pdp_replay.specs.Run.FirstTouches.{first_touch, untouched_all, world_changed}
 use Rattle.pdp_store.specs.FirstTouches.{all_first_touches_before, first_touches_after, never}
 use Rattle.pdp_replay.specs.Run.Checkpoints.{AreStatesOf, IsFormerOf, IsKeptState, KeepsTexts}

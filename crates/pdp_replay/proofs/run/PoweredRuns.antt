@@ -1,7 +1,7 @@
 -- What a run keeps as of power-up.
 use Rattle.std.proofs.Common.{◌≡◌, ◌∙◌, ℕ, List, [], ◌∷◌, None, Option, ap, ap₂, arith, refl, replicate, sym}
 use Rattle.pdp_checkpoint.specs.Ladder.{AreCheckpoints, LadderData, checkpoint_of}
-use Rattle.pdp_cpu.specs.Turns.MachineState.{MachineState, MachineWithTexts, powered_machine}
+use Rattle.pdp_cpu.specs.Handbook.MachineState.{MachineState, MachineWithTexts, powered_machine}
 use Rattle.pdp_store.specs.declared.Stamp.{Stamp}
 use Rattle.pdp_store.specs.Stored.{no_touch_in}
 use Rattle.pdp_replay.specs.Past.FirstWords.{core_words, drives_words}

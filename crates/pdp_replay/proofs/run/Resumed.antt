@@ -2,7 +2,7 @@
 use Rattle.std.proofs.Common.{◌≡◌, ◌∙◌, ℕ, ◌≤◌, List, ap, ap₂, sym, take}
 use Rattle.pdp_cpu.specs.KeptTexts.{without_turns}
 use Rattle.pdp_cpu.specs.Saved.{CanHold, SavedMachineData, saved_machine, state_on, world_of}
-use Rattle.pdp_cpu.specs.Turns.MachineState.{MachineState, MachineWithTexts, world_with_first_touches, world_with_log}
+use Rattle.pdp_cpu.specs.Handbook.MachineState.{MachineState, MachineWithTexts, world_with_first_touches, world_with_log}
 use Rattle.pdp_operand.specs.Phases.World.{World}
 use Rattle.pdp_replay.specs.Run.Checkpoints.{IsBuiltFrom, KeepsTexts}
 use Rattle.pdp_replay.proofs.run.Bare.{state_is_bare, state_is_unlogged}

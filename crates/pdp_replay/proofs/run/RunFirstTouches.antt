@@ -8,7 +8,7 @@ use Rattle.pdp_store.specs.declared.part.Part.{Part}
 use Rattle.pdp_store.specs.declared.part.Part.TheVariants as parts
 use Rattle.pdp_unibus.specs.Touched.{IsOfTurn}
 use Rattle.pdp_cpu.proofs.TurnLaws.{turn_touches}
-use Rattle.pdp_cpu.specs.Turns.Turn.{turn_trace}
+use Rattle.pdp_cpu.specs.Handbook.Turn.{turn_trace}
 use Rattle.pdp_script.specs.Entries.{events_at}
 use Rattle.pdp_store.specs.Stored.{no_touch_in}
 use Rattle.pdp_replay.specs.Run.FirstTouches.{earlier_touch, first_touch_of, first_touch, first_touches_at, if_before, untouched_all, meets}

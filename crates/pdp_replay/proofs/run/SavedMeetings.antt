@@ -3,7 +3,7 @@ use Rattle.std.proofs.Common.{◌≡◌, ◌∙◌, ℕ, ◌+◌, ◌-◌, List,
 use Rattle.std.proofs.lemmas.List.{length-drop}
 use Rattle.pdp_store.specs.CycleLogs.{no_log}
 use Rattle.pdp_store.specs.FirstTouches.{no_first_touches}
-use Rattle.pdp_unibus.specs.BusWorld.{BusWorld, with_stamps}
+use Rattle.pdp_unibus.specs.Handbook.BusWorld.{BusWorld, with_stamps}
 use Rattle.pdp_unibus.specs.SavedBusData.{bus_of, saved_bus}
 use Rattle.pdp_operand.specs.Phases.World.{World, world}
 use Rattle.pdp_cpu.specs.Saved.{SavedMachineData, saved_machine}

@@ -7,7 +7,7 @@ use Rattle.pdp_checkpoint.proofs.Checkpoints.{stride_at_full, stride_in_room}
 use Rattle.pdp_checkpoint.specs.Ladder.{AreCheckpoints, LadderData, checkpoint_of, kept_with, most_kept, next_of}
 use Rattle.pdp_cpu.specs.KeptTexts.{kept_before}
 use Rattle.pdp_cpu.specs.Saved.{state_cut}
-use Rattle.pdp_cpu.specs.Turns.MachineState.{MachineState, MachineWithTexts}
+use Rattle.pdp_cpu.specs.Handbook.MachineState.{MachineState, MachineWithTexts}
 use Rattle.pdp_store.specs.FirstTouches.{all_first_touches_before, never}
 use Rattle.pdp_replay.specs.Run.KeptRuns.{IsUnderWay}
 use Rattle.pdp_replay.specs.Run.Checkpoints.{AreKept, AreStatesOf, KeepsTexts}

@@ -1,7 +1,7 @@
 -- What no turn of a run changes: its tape, and how large core, its stamps and its drive are.
 use Rattle.std.proofs.Common.{◌≡◌, ◌∙◌, ℕ, zero, suc, refl, sym}
 use Rattle.pdp_cpu.proofs.TurnLaws.{turn_keeps_tape}
-use Rattle.pdp_cpu.specs.Turns.MachineState.{MachineWithTexts}
+use Rattle.pdp_cpu.specs.Handbook.MachineState.{MachineWithTexts}
 use Rattle.pdp_cpu.specs.Saved.{SavedMachineData, saved_machine}
 use Rattle.pdp_unibus.specs.SavedBusData.{HasSizesOf}
 use Rattle.pdp_script.specs.Entries.{events_at}

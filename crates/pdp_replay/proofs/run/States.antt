@@ -1,6 +1,6 @@
 -- The states of a run: the first, and that of the next turn.
 use Rattle.std.proofs.Common.{◌≡◌, ℕ, ◌+◌, refl, add-one}
-use Rattle.pdp_cpu.specs.Turns.MachineState.{after_turn}
+use Rattle.pdp_cpu.specs.Handbook.MachineState.{after_turn}
 use Rattle.pdp_script.specs.Entries.{events_at}
 use Rattle.pdp_replay.specs.Past.{Past}
 use Rattle.pdp_replay.specs.Run.States.{state_at, text_at, punched_at, at, powered_up}

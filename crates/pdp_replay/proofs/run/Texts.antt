@@ -1,7 +1,7 @@
 -- What was printed and punched only grows.
 use Rattle.std.proofs.Common.{◌≡◌, ℕ, zero, suc, ◌+◌, ◌++◌, List, [], length, take, refl, sym, ◌∙◌, ap, append_assoc, append-nil, arith}
 use Rattle.std.proofs.Math.Seq.{take-append_seam}
-use Rattle.pdp_cpu.specs.Turns.Turn.{printed_in, punched_in}
+use Rattle.pdp_cpu.specs.Handbook.Turn.{printed_in, punched_in}
 use Rattle.pdp_script.specs.Entries.{events_at}
 use Rattle.pdp_replay.specs.Past.{Past}
 use Rattle.pdp_replay.specs.Run.States.{state_at, text_at, punched_at, Begins}

@@ -8,11 +8,11 @@ use Rattle.pdp_store.specs.Parts.{AlikeWords, SameWords, is_same_part}
 use Rattle.pdp_store.specs.TracedAccess.{Avoids, TracedAccess}
 use Rattle.pdp_store.specs.declared.part.Part.{Part}
 use Rattle.pdp_store.specs.declared.part.Part.TheVariants as parts
-use Rattle.pdp_unibus.specs.BusWorld.{BusWorld}
+use Rattle.pdp_unibus.specs.Handbook.BusWorld.{BusWorld}
 use Rattle.pdp_unibus.specs.Page.{SamePage, words_of_part, bus_with_words}
 use Rattle.pdp_operand.specs.Phases.World.{World, world}
 use Rattle.pdp_cpu.proofs.TurnLaws.{turn_undisturbed}
-use Rattle.pdp_cpu.specs.Turns.Turn.{one_turn, printed_in, punched_in, turn_trace}
+use Rattle.pdp_cpu.specs.Handbook.Turn.{one_turn, printed_in, punched_in, turn_trace}
 use Rattle.pdp_script.specs.Entries.{events_at}
 use Rattle.pdp_replay.specs.Run.FirstTouches.{earlier_touch, first_touch, meets, world_changed, world_with}
 use Rattle.pdp_replay.specs.Run.Checkpoints.{with_turn, text_kept_at, punched_kept_at}

@@ -1,10 +1,10 @@
 -- A machine on its way through a run: what making room and a turn leave of that.
 use Rattle.std.proofs.Common.{◌≡◌, ◌∙◌, ℕ, List, ap, max, subst, sym}
-use Rattle.pdp_cpu.specs.Turns.MachineState.{MachineState, MachineWithTexts, after_turn, printed_kept, punched_kept}
+use Rattle.pdp_cpu.specs.Handbook.MachineState.{MachineState, MachineWithTexts, after_turn, printed_kept, punched_kept}
 use Rattle.pdp_script.specs.Entries.{events_at}
 use Rattle.pdp_unibus.specs.declared.event.Event.{Event}
 use Rattle.pdp_store.specs.FirstTouches.{first_touches_after}
-use Rattle.pdp_cpu.specs.Turns.Turn.{turn_trace}
+use Rattle.pdp_cpu.specs.Handbook.Turn.{turn_trace}
 use Rattle.pdp_replay.specs.Run.KeptRuns.{IsUnderWay}
 use Rattle.pdp_replay.specs.Run.Checkpoints.{KeepsTexts}
 use Rattle.pdp_replay.specs.Past.{Past}

@@ -1,13 +1,14 @@
 -- What some turns have in them, with each cycle of the processor on the bus [P].
 use Rattle.std.specs.Prelude.{ℕ, zero, suc, ◌≡◌, ◌+◌, ◌-◌, ◌++◌, Bool, true, false, List, [], ◌∷◌}
-use Rattle.std.specs.Prelude.{drop, length, map, nat_le, None, Option, Some, option_to_list, if◌then◌else◌}
+use Rattle.std.specs.Prelude.{drop, length, map, nat_le, None, Option, Some, option_to_list}
+use Rattle.std.specs.Prelude.{if◌then◌else◌}
 use Rattle.pdp_store.specs.CycleLogs.{KeptCycles}
 use Rattle.pdp_store.specs.declared.cycle_log.BusCycle.{BusCycle}
 use Rattle.pdp_unibus.specs.declared.event.Event.{Event}
 use Rattle.pdp_operand.specs.Phases.World.{World}
-use Rattle.pdp_cpu.specs.Turns.MachineState.{MachineState}
-use Rattle.pdp_cpu.specs.Turns.Regs.{regs_of}
-use Rattle.pdp_cpu.specs.Turns.Turn.{printed_in, punched_in, turn_act}
+use Rattle.pdp_cpu.specs.Handbook.MachineState.{MachineState}
+use Rattle.pdp_cpu.specs.Handbook.Regs.{regs_of}
+use Rattle.pdp_cpu.specs.Handbook.Turn.{printed_in, punched_in, turn_act}
 use Rattle.pdp_script.specs.Entries.{events_at}
 use Rattle.pdp_script.specs.Script.{ScriptData}
 use Rattle.pdp_replay.specs.Past.{Past}

@@ -2,11 +2,11 @@
 use Rattle.std.specs.Prelude.{ℕ, ◌≡◌, ◌+◌, ◌*◌, ◌-◌, ◌/◌, ◌%◌, ◌==◌, ◌<◌, ◌≤◌, ◌&&◌, List, length}
 use Rattle.std.specs.Prelude.{map, replicate, take, drop, Result, Ok, Err, nat_le, nat_lt}
 use Rattle.std.specs.Prelude.{if◌then◌else◌}
-use Rattle.pdp_cpu.specs.Turns.MachineState.{MachineState}
-use Rattle.pdp_unibus.specs.Shown.{devices_of, page_registers_of}
-use Rattle.pdp_cpu.specs.Turns.Regs.{regs_of}
+use Rattle.pdp_cpu.specs.Handbook.MachineState.{MachineState}
+use Rattle.pdp_unibus.specs.Handbook.Shown.{devices_of, page_registers_of}
+use Rattle.pdp_cpu.specs.Handbook.Regs.{regs_of}
 use Rattle.pdp_script.specs.Refusal.{result_map}
-use Rattle.pdp_unibus.specs.LastTurn.{last_turn}
+use Rattle.pdp_unibus.specs.Handbook.LastTurn.{last_turn}
 use Rattle.pdp_script.specs.declared.faults.Fault.{Fault}
 use Rattle.pdp_script.specs.declared.faults.Fault.TheVariants.{OutsideCore, OddAddress, OutsideDisk}
 use Rattle.pdp_script.specs.declared.faults.Fault.TheVariants.{TurnTooLarge, CountOutOfRange}

@@ -4,8 +4,8 @@ use Rattle.std.specs.Prelude.{ℕ, ◌≡◌, ◌-◌, ◌&&◌, Bool, true, fal
 use Rattle.std.specs.Prelude.{None, if◌then◌else◌}
 use Rattle.pdp_device.specs.Operation.{is_under_way}
 use Rattle.pdp_unibus.specs.declared.event.Event.{Event}
-use Rattle.pdp_cpu.specs.Turns.MachineState.{MachineState}
-use Rattle.pdp_cpu.specs.Turns.TurnDisk.{disk_begun}
+use Rattle.pdp_cpu.specs.Handbook.MachineState.{MachineState}
+use Rattle.pdp_cpu.specs.Handbook.TurnDisk.{disk_begun}
 use Rattle.pdp_script.specs.Entries.{events_at}
 use Rattle.pdp_script.specs.Script.{ScriptData}
 use Rattle.pdp_replay.specs.Past.{Past}

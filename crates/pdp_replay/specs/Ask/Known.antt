@@ -2,7 +2,7 @@
 use Rattle.std.specs.Prelude.{ℕ, ◌≡◌, ◌+◌, ◌-◌, ◌*◌, ◌/◌, ◌≤◌, length, min, max, nat_lt}
 use Rattle.std.specs.Prelude.{if◌then◌else◌}
 use Rattle.pdp_script.specs.Script.{ScriptData}
-use Rattle.pdp_unibus.specs.LastTurn.{last_turn}
+use Rattle.pdp_unibus.specs.Handbook.LastTurn.{last_turn}
 use Rattle.pdp_replay.specs.Ask.Answer.{turn_asked, first_turn_needed, AreDrives, IsWithin}
 use Rattle.pdp_replay.specs.Run.KeptRuns.{CanGoOn, IsKeptRun, resumed_at}
 use Rattle.pdp_replay.specs.Past.{Past}

@@ -5,12 +5,12 @@ use Rattle.std.specs.Prelude.{if◌then◌else◌}
 use Rattle.pdp_store.specs.CycleLogs.{KeptCycles}
 use Rattle.pdp_store.specs.declared.Agent.TheVariants.{Cpu, Disk}
 use Rattle.pdp_store.specs.declared.cycle_log.BusCycle.{BusCycle}
-use Rattle.pdp_rk11.specs.Completion.{core_word_of_bus_address}
+use Rattle.pdp_rk11.specs.Handbook.Completion.{core_word_of_bus_address}
 use Rattle.pdp_rk11.specs.WordsDone.{words_counted}
 use Rattle.pdp_rk11.specs.declared.function.Function.{Function}
 use Rattle.pdp_rk11.specs.declared.function.Function.TheVariants.{Write, WriteCheck}
 use Rattle.pdp_unibus.specs.declared.event.Event.{Event}
-use Rattle.pdp_cpu.specs.Turns.MachineState.{MachineState, after_turn, state_with_log}
+use Rattle.pdp_cpu.specs.Handbook.MachineState.{MachineState, after_turn, state_with_log}
 use Rattle.pdp_script.specs.Entries.{events_at}
 use Rattle.pdp_script.specs.Script.{ScriptData}
 use Rattle.pdp_replay.specs.Past.{Past}

@@ -1,7 +1,7 @@
 -- Searches for the first of some turns that has a property [P].
 use Rattle.std.specs.Prelude.{ℕ, zero, suc, ◌≡◌, ◌+◌, ◌<◌, ◌≤◌, Bool, true, false, Option, Some}
 use Rattle.std.specs.Prelude.{None, Result, Ok, Err, max, min, nat_le, if◌then◌else◌}
-use Rattle.pdp_unibus.specs.LastTurn.{last_turn}
+use Rattle.pdp_unibus.specs.Handbook.LastTurn.{last_turn}
 use Rattle.pdp_script.specs.declared.faults.Fault.{Fault}
 use Rattle.pdp_script.specs.declared.faults.Fault.TheVariants.{TurnTooLarge, CountOutOfRange}
 use Rattle.pdp_replay.specs.Timeline.{Timeline}

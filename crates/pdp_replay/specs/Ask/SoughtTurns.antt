@@ -1,15 +1,15 @@
 -- The turns that a search looks for [P].
 use Rattle.std.specs.Prelude.{ℕ, ◌≡◌, ◌<◌, ◌==◌, ◌&&◌, Bool, true, false, List, [], Option, None}
 use Rattle.std.specs.Prelude.{Ok, Result, Some}
-use Rattle.pdp_kt11.specs.Mode.{mode_bits}
+use Rattle.pdp_kt11.specs.Handbook.Mode.{mode_bits}
 use Rattle.pdp_kt11.specs.declared.mode.Mode.{Mode}
 use Rattle.pdp_unibus.specs.declared.event.Event.{Event}
 use Rattle.pdp_operand.specs.Phases.World.{World}
 use Rattle.pdp_cpu.specs.Turns.CalmTurns.{after_calm_turns}
-use Rattle.pdp_cpu.specs.Turns.MachineState.{MachineWithTexts}
-use Rattle.pdp_cpu.specs.Turns.Regs.{regs_of}
-use Rattle.pdp_cpu.specs.Turns.Turn.{turn_act}
-use Rattle.pdp_cpu.specs.Turns.TurnTrap.{turn_trap}
+use Rattle.pdp_cpu.specs.Handbook.MachineState.{MachineWithTexts}
+use Rattle.pdp_cpu.specs.Handbook.Regs.{regs_of}
+use Rattle.pdp_cpu.specs.Handbook.Turn.{turn_act}
+use Rattle.pdp_cpu.specs.Handbook.TurnTrap.{turn_trap}
 use Rattle.pdp_cpu.specs.declared.act.Act.{Act}
 use Rattle.pdp_cpu.specs.declared.turn_trap.ActWithTrap.{ActWithTrap}
 use Rattle.pdp_cpu.specs.declared.act.Act.TheVariants.{Trace, Stack, Irq}

@@ -1,9 +1,9 @@
 -- The bytes of a text from one of them on, and the turn in which a byte came out [P].
 use Rattle.std.specs.Prelude.{ℕ, ◌+◌, ◌&&◌, Bool, List, length, nat_le, nat_lt}
 use Rattle.std.specs.Prelude.{Result, Ok, Err, if◌then◌else◌, take}
-use Rattle.pdp_cpu.specs.Turns.MachineState.{MachineWithTexts}
+use Rattle.pdp_cpu.specs.Handbook.MachineState.{MachineWithTexts}
 use Rattle.pdp_cpu.specs.declared.kept_text.KeptByte.{KeptByte}
-use Rattle.pdp_unibus.specs.LastTurn.{last_turn}
+use Rattle.pdp_unibus.specs.Handbook.LastTurn.{last_turn}
 use Rattle.pdp_script.specs.declared.faults.Fault.{Fault}
 use Rattle.pdp_script.specs.declared.faults.Fault.TheVariants.{TurnTooLarge}
 use Rattle.pdp_replay.specs.Past.{Past}

@@ -3,14 +3,14 @@ use Rattle.std.specs.Prelude.{ℕ, ◌≡◌, ◌<◌, ◌/◌, ◌==◌, Bool, 
 use Rattle.std.specs.Prelude.{[], ◌∷◌, Option, None, Some, slice_get, Result, Ok, if◌then◌else◌}
 use Rattle.std.specs.List.{list_all}
 use Rattle.std.specs.Option.{option_or}
-use Rattle.pdp_kt11.specs.Mode.{mode_bits}
+use Rattle.pdp_kt11.specs.Handbook.Mode.{mode_bits}
 use Rattle.pdp_operand.specs.Handbook.Processor.{register_of}
 use Rattle.pdp_operand.specs.Handbook.RegisterId.{stack_of}
 use Rattle.pdp_operand.specs.Phases.World.{World}
 use Rattle.pdp_operand.specs.declared.processor.RegisterId.TheVariants as register
-use Rattle.pdp_unibus.specs.Status.{status_word}
+use Rattle.pdp_unibus.specs.Handbook.Status.{status_word}
 use Rattle.pdp_cpu.specs.Turns.CalmTurns.{after_calm_turns}
-use Rattle.pdp_cpu.specs.Turns.MachineState.{MachineWithTexts}
+use Rattle.pdp_cpu.specs.Handbook.MachineState.{MachineWithTexts}
 use Rattle.pdp_cpu.specs.declared.act.Act.{Act}
 use Rattle.pdp_cpu.specs.declared.act.Act.TheVariants.{Instr}
 use Rattle.pdp_script.specs.Refusal.{result_map}

@@ -1,12 +1,12 @@
 -- What an instruction would read at virtual addresses, without a bus cycle [P].
 use Rattle.std.specs.Prelude.{ℕ, ◌≡◌, ◌+◌, ◌*◌, ◌%◌, ◌==◌, ◌&&◌, ◌++◌, zero, suc, List, [], ◌∷◌}
 use Rattle.std.specs.Prelude.{Result, Ok, Err, length, nat_le, slice_index, if◌then◌else◌}
-use Rattle.pdp_kt11.specs.Translation.{translate}
+use Rattle.pdp_kt11.specs.Handbook.Translation.{translate}
 use Rattle.pdp_kt11.specs.declared.mode.Mode.{Mode}
 use Rattle.pdp_kt11.specs.declared.place.Abort.{Abort}
 use Rattle.pdp_kt11.specs.declared.place.Access.TheVariants.{Read}
-use Rattle.pdp_unibus.specs.BusWorld.{BusWorld}
-use Rattle.pdp_unibus.specs.Cycle.{Slave, Core, Device, Nobody, ReadAt, cycle, slave_at}
+use Rattle.pdp_unibus.specs.Handbook.BusWorld.{BusWorld}
+use Rattle.pdp_unibus.specs.Handbook.Cycle.{Slave, Core, Device, Nobody, ReadAt, cycle, slave_at}
 use Rattle.pdp_unibus.specs.declared.register.Register.{Register}
 use Rattle.pdp_script.specs.declared.faults.Fault.{Fault}
 use Rattle.pdp_script.specs.declared.faults.Fault.TheVariants.{CountOutOfRange, OddAddress}

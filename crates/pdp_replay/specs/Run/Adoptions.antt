@@ -2,7 +2,7 @@
 use Rattle.std.specs.Prelude.{ℕ, ◌≡◌, ◌+◌, ◌++◌, drop, length}
 use Rattle.pdp_store.specs.Overlays.{first_touches_over}
 use Rattle.pdp_cpu.specs.Saved.{SavedMeet, saved_machine, saved_over, state_on}
-use Rattle.pdp_cpu.specs.Turns.MachineState.{MachineWithTexts}
+use Rattle.pdp_cpu.specs.Handbook.MachineState.{MachineWithTexts}
 use Rattle.pdp_replay.specs.Past.{Past}
 use Rattle.pdp_replay.specs.Run.Checkpoints.{KeepsTexts, SameInputsFrom, punched_kept_at}
 use Rattle.pdp_replay.specs.Run.Checkpoints.{text_kept_at}

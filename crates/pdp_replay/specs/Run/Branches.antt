@@ -1,7 +1,7 @@
 -- Branches: a machine beside that of a run, in a state of the run of another past [P].
 use Rattle.std.specs.Prelude.{ℕ, ◌≡◌, ◌*◌, ◌/◌, ◌≤◌, ◌<◌, List, [], length, map, max, replicate}
 use Rattle.pdp_cpu.specs.Saved.{SavedMachineData, SavedMeet, saved_machine}
-use Rattle.pdp_cpu.specs.Turns.MachineState.{MachineWithTexts}
+use Rattle.pdp_cpu.specs.Handbook.MachineState.{MachineWithTexts}
 use Rattle.pdp_script.specs.Entries.{events_at}
 use Rattle.pdp_script.specs.Script.{ScriptData}
 use Rattle.pdp_store.specs.FirstTouches.{first_touches_of}

@@ -9,8 +9,8 @@ use Rattle.pdp_checkpoint.specs.declared.checkpoint.Checkpoint.{Checkpoint}
 use Rattle.pdp_cpu.specs.Saved.{saved_machine}
 use Rattle.pdp_cpu.specs.KeptTexts.{without_turns}
 use Rattle.pdp_cpu.specs.SavedOutput.{OutputData}
-use Rattle.pdp_cpu.specs.Turns.MachineState.{MachineWithTexts}
-use Rattle.pdp_cpu.specs.Turns.Turn.{printed_in, punched_in}
+use Rattle.pdp_cpu.specs.Handbook.MachineState.{MachineWithTexts}
+use Rattle.pdp_cpu.specs.Handbook.Turn.{printed_in, punched_in}
 use Rattle.pdp_cpu.specs.declared.kept_text.KeptByte.{KeptByte}
 use Rattle.pdp_script.specs.Entries.{events_at}
 use Rattle.pdp_store.specs.FirstTouches.{never}

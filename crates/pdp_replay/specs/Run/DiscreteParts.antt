@@ -1,9 +1,9 @@
 -- Deciding whether two parts of machines are equal, and two events [P].
 use Rattle.std.specs.Prelude.{true, false, [], ◌∷◌, get_or, refl}
 use Rattle.pdp_word.specs.declared.codes.Codes.{Codes}
-use Rattle.pdp_kt11.specs.Apr.{access_bits, access_control_of, expansion_of, numbered_page}
-use Rattle.pdp_kt11.specs.Apr.{page_number}
-use Rattle.pdp_kt11.specs.Mode.{mode_bits, mode_of}
+use Rattle.pdp_kt11.specs.Handbook.Apr.{access_bits, access_control_of, expansion_of, numbered_page}
+use Rattle.pdp_kt11.specs.Handbook.Apr.{page_number}
+use Rattle.pdp_kt11.specs.Handbook.Mode.{mode_bits, mode_of}
 use Rattle.pdp_kt11.specs.declared.apr.AccessControl.{AccessControl}
 use Rattle.pdp_kt11.specs.declared.apr.AccessControl.TheVariants.{NonResident}
 use Rattle.pdp_kt11.specs.declared.apr.Apr.{Apr}
@@ -24,14 +24,14 @@ use Rattle.pdp_console.specs.declared.kl.Kl.{Kl}
 use Rattle.pdp_console.specs.declared.kw.Kw.{Kw}
 use Rattle.pdp_tape.specs.declared.pc11.Pc11.{Pc11}
 use Rattle.pdp_tape.specs.declared.reader.Reader.{Reader}
-use Rattle.pdp_rk11.specs.Rk.{code_of, function_of}
+use Rattle.pdp_rk11.specs.Handbook.Rk.{code_of, function_of}
 use Rattle.pdp_rk11.specs.declared.failure.Failure.{Failure}
 use Rattle.pdp_rk11.specs.declared.failure.Failure.TheVariants.{NoSector, NoCylinder, NoDrive}
 use Rattle.pdp_rk11.specs.declared.failure.Failure.TheVariants.{NoMemory, WriteLocked, Overrun}
 use Rattle.pdp_rk11.specs.declared.function.Function.{Function}
 use Rattle.pdp_rk11.specs.declared.function.Function.TheVariants.{ControlReset}
 use Rattle.pdp_rk11.specs.declared.rk.Rk.{Rk}
-use Rattle.pdp_unibus.specs.Status.{priority_bits, priority_of}
+use Rattle.pdp_unibus.specs.Handbook.Status.{priority_bits, priority_of}
 use Rattle.pdp_unibus.specs.declared.delays.Delays.{Delays}
 use Rattle.pdp_unibus.specs.declared.event.Event.{Event}
 use Rattle.pdp_unibus.specs.declared.event.Event.TheVariants.{Key, Tick, PrinterDone, ReaderDone}

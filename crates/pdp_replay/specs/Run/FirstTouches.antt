@@ -9,9 +9,10 @@ use Rattle.pdp_store.specs.declared.part.Part.{Part}
 use Rattle.pdp_store.specs.declared.part.Part.TheVariants.{Core}
 use Rattle.pdp_unibus.specs.Page.{SamePage, words_of_part, bus_with_words}
 use Rattle.pdp_operand.specs.Phases.World.{World, world}
-use Rattle.pdp_cpu.specs.Turns.Turn.{turn_trace}
+use Rattle.pdp_cpu.specs.Handbook.Turn.{turn_trace}
 use Rattle.pdp_script.specs.Entries.{events_at}
-use Rattle.pdp_store.specs.FirstTouches.{FirstTouches, all_first_touches_before, first_touches_after, first_touches_in, first_touches_of}
+use Rattle.pdp_store.specs.FirstTouches.{FirstTouches, all_first_touches_before}
+use Rattle.pdp_store.specs.FirstTouches.{first_touches_after, first_touches_in, first_touches_of}
 use Rattle.pdp_store.specs.FirstTouches.{never}
 use Rattle.pdp_store.specs.Stored.{no_touch_in}
 use Rattle.pdp_replay.specs.Past.{Past, with_setup}

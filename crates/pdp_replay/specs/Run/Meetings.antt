@@ -2,7 +2,7 @@
 use Rattle.std.specs.Prelude.{ℕ, ◌≡◌, ◌≤◌, ◌+◌, ◌++◌, drop, length}
 use Rattle.pdp_store.specs.Overlays.{first_touches_over, stamps_over}
 use Rattle.pdp_operand.specs.Phases.World.{World}
-use Rattle.pdp_cpu.specs.Turns.MachineState.{world_with_stamps}
+use Rattle.pdp_cpu.specs.Handbook.MachineState.{world_with_stamps}
 use Rattle.pdp_script.specs.Entries.{events_at}
 use Rattle.pdp_replay.specs.Past.{Past}
 use Rattle.pdp_replay.specs.Run.FirstTouches.{first_touches_at, trace_of_turn}

@@ -4,8 +4,8 @@ use Rattle.std.specs.Prelude.{None, replicate}
 use Rattle.pdp_store.specs.Parts.{words_of_drive}
 use Rattle.pdp_store.specs.TracedAccess.{TracedAccess}
 use Rattle.pdp_operand.specs.Phases.World.{World}
-use Rattle.pdp_cpu.specs.Turns.Turn.{one_turn, printed_in, punched_in, turn_trace}
-use Rattle.pdp_cpu.specs.Turns.MachineState.{MachineState, powered_world}
+use Rattle.pdp_cpu.specs.Handbook.Turn.{one_turn, printed_in, punched_in, turn_trace}
+use Rattle.pdp_cpu.specs.Handbook.MachineState.{MachineState, powered_world}
 use Rattle.pdp_script.specs.Entries.{events_at}
 use Rattle.pdp_script.specs.Script.{ScriptData}
 use Rattle.pdp_replay.specs.Past.Setup.{SetupData, core_size}

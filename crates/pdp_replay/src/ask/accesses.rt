@@ -4,7 +4,7 @@ ghost use Rattle.std.specs.Prelude.{◌≡◌, ◌+◌, ◌-◌, ◌<◌, ◌≤
 ghost use Rattle.std.specs.Prelude.{false, IfOk, IsErr, OnOk};
 ghost use Rattle.pdp_store.specs.CycleLogs.{without_cycles};
 ghost use Rattle.pdp_cpu.specs.KeptTexts.{without_turns};
-ghost use Rattle.pdp_cpu.specs.Turns.Regs.{regs_of};
+ghost use Rattle.pdp_cpu.specs.Handbook.Regs.{regs_of};
 ghost use Rattle.pdp_script.specs.Refusal.{for_memory, question_answer, result_map};
 ghost use Rattle.pdp_replay.specs.Past.{Past};
 ghost use Rattle.pdp_replay.specs.Run.Branches.{IsKeptOfSize, IsLookedAt, IsRunOfSize};
@@ -12,7 +12,8 @@ ghost use Rattle.pdp_replay.specs.Run.KeptRuns.{KeepsRun, MetersTurns};
 ghost use Rattle.pdp_replay.specs.Ask.Answer.{question_checked};
 ghost use Rattle.pdp_replay.specs.Ask.Known.{IsWithinBound, LeavesPast};
 ghost use Rattle.pdp_replay.specs.Ask.Told.{IsToldOf};
-ghost use Rattle.pdp_replay.specs.Ask.Accesses.{accesses_end, completion_detail_if, details_in_turns};
+ghost use Rattle.pdp_replay.specs.Ask.Accesses.{accesses_end, completion_detail_if};
+ghost use Rattle.pdp_replay.specs.Ask.Accesses.{details_in_turns};
 ghost use Rattle.pdp_replay.specs.Ask.DiskCompletions.{has_completion};
 ghost use Rattle.pdp_replay.specs.Ask.Accesses.{AreDetailsFrom, EndsAccesses, HasCyclesOf};
 ghost use Rattle.pdp_replay.specs.Ask.Accesses.{details_told, IsToldTurn, log_of_all};

@@ -1,5 +1,5 @@
 ghost use Rattle.std.specs.Prelude.{◌≡◌, ◌+◌, ◌<◌, ◌≤◌, ℕ, length, slice_get, IfOk, OnOk};
-ghost use Rattle.pdp_cpu.specs.Turns.MachineState.{after_turn};
+ghost use Rattle.pdp_cpu.specs.Handbook.MachineState.{after_turn};
 ghost use Rattle.pdp_script.specs.Entries.{events_at};
 ghost use Rattle.pdp_replay.specs.Run.KeptRuns.{Advances, ArrivesAt, CanGoOn, GoesOn, LeavesKept};
 ghost use Rattle.pdp_replay.specs.Ask.Trails.{trail_entry, IsTrailFrom};

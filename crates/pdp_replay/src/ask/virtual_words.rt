@@ -1,5 +1,5 @@
 ghost use Rattle.std.specs.Prelude.{◌≡◌, ◌+◌, ◌*◌, ◌≤◌, length, IfOk, OnOk};
-ghost use Rattle.pdp_unibus.specs.Cycle.{slave_at};
+ghost use Rattle.pdp_unibus.specs.Handbook.Cycle.{slave_at};
 ghost use Rattle.pdp_replay.specs.Ask.VirtualReads.{core_word_of, place_of_read, virtual_addresses};
 ghost use Rattle.pdp_replay.specs.Ask.VirtualReads.{virtual_checked, virtual_word, virtual_words};
 

@@ -3,7 +3,7 @@ ghost use Rattle.pdp_cpu.specs.Meters.{Counts};
 ghost use Rattle.pdp_cpu.specs.Turns.CalmTurns.{after_calm_turns};
 ghost use Rattle.pdp_replay.specs.Ask.Searches.{or_turn};
 ghost use Rattle.pdp_replay.specs.Ask.Watches.{bytes_of, is_met, is_met_last, is_of_turn};
-ghost use Rattle.pdp_cpu.specs.Turns.MachineState.{IsReady};
+ghost use Rattle.pdp_cpu.specs.Handbook.MachineState.{IsReady};
 ghost use Rattle.pdp_cpu.specs.Turns.TurnRun.{RunsTurn};
 ghost use Rattle.pdp_replay.specs.Ask.SoughtTurns.{act_with_trap};
 ghost use Rattle.pdp_replay.specs.Ask.Watches.{is_act_watched, is_possible};

@@ -1,8 +1,8 @@
 ghost use Rattle.std.specs.Prelude.{◌≡◌, ◌+◌, ◌≤◌, ◌<◌, ◌&&◌, ℕ, [], max, min, nat_le, true, IfOk};
 ghost use Rattle.std.specs.Prelude.{OnOk};
 ghost use Rattle.pdp_checkpoint.specs.Ladder.{next_of};
-ghost use Rattle.pdp_cpu.specs.Turns.MachineState.{after_turn};
-ghost use Rattle.pdp_cpu.specs.Turns.Turn.{turn_act};
+ghost use Rattle.pdp_cpu.specs.Handbook.MachineState.{after_turn};
+ghost use Rattle.pdp_cpu.specs.Handbook.Turn.{turn_act};
 ghost use Rattle.pdp_script.specs.Entries.{events_at};
 ghost use Rattle.pdp_replay.specs.Run.KeptRuns.{is_current_by, resumed_turn, Advances, ArrivesAt};
 ghost use Rattle.pdp_replay.specs.Run.KeptRuns.{CanGoOn, GoesOn, IsKeptRun, IsOnWay, IsOnWayOf};

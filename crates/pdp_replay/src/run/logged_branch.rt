@@ -3,8 +3,8 @@
 
 ghost use Rattle.std.specs.Prelude.{◌≡◌, ◌+◌, ◌-◌, ◌<◌, ◌≤◌, min, IfOk, IsErr, OnOk};
 ghost use Rattle.pdp_store.specs.CycleLogs.{without_cycles};
-ghost use Rattle.pdp_cpu.specs.Turns.MachineState.{after_turn, state_with_log, world_with_log};
-ghost use Rattle.pdp_cpu.specs.Turns.Turn.{turn_act};
+ghost use Rattle.pdp_cpu.specs.Handbook.MachineState.{after_turn, state_with_log, world_with_log};
+ghost use Rattle.pdp_cpu.specs.Handbook.Turn.{turn_act};
 ghost use Rattle.pdp_script.specs.Entries.{events_at};
 ghost use Rattle.pdp_replay.specs.Past.{Past};
 ghost use Rattle.pdp_replay.specs.Run.Branches.{IsKeptOfSize, IsLookedAt, IsRunOfSize};

@@ -1,6 +1,6 @@
 ghost use Rattle.std.specs.Prelude.{◌≡◌, ◌+◌, ◌*◌, ◌≤◌, ◌++◌, length, codes, decimal};
 ghost use Rattle.pdp_word.specs.Number.{octal_digits};
-ghost use Rattle.pdp_unibus.specs.Shown.{shown_names};
+ghost use Rattle.pdp_unibus.specs.Handbook.Shown.{shown_names};
 ghost use Rattle.pdp_session.specs.Reply.{register_text, regs_line, state_name, refusal_text};
 ghost use Rattle.pdp_session.specs.Reply.{count_line, drive_text, patch_line, word_text};
 ghost use Rattle.pdp_session.specs.Reply.{word_texts, named_word_text, named_word_texts};

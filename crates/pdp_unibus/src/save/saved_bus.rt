@@ -1,7 +1,7 @@
 //! What is saved of a bus, so that it can be looked at again as it was.
 
 ghost use Rattle.std.specs.Prelude.{◌≡◌, length, map, IfOk};
-ghost use Rattle.pdp_unibus.specs.BusWorld.{with_first_touches};
+ghost use Rattle.pdp_unibus.specs.Handbook.BusWorld.{with_first_touches};
 ghost use Rattle.pdp_unibus.specs.SavedBusData.{HasSizesOf, saved_bus, bus_of};
 ghost use Rattle.pdp_unibus.specs.SavedBusData.{IsCoreOf, IsCoreOfSize, with_core_of};
 ghost use Rattle.pdp_unibus.specs.SavedBusData.{saved_bus_with_core, saved_bus_with_delays};

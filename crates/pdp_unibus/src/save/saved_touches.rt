@@ -1,10 +1,11 @@
 //! First touches apart from a bus: taken of one run, and laid over those of another.
 
-ghost use Rattle.std.specs.Prelude.{◌≡◌, ◌<◌, ◌↔◌, [], length, map, slice_index_or, slice_set, true};
+ghost use Rattle.std.specs.Prelude.{◌≡◌, ◌<◌, ◌↔◌, [], length, map, slice_index_or, slice_set};
+ghost use Rattle.std.specs.Prelude.{true};
 ghost use Rattle.std.specs.Prelude.{IfOk};
 ghost use Rattle.pdp_store.specs.FirstTouches.{all_first_touches_before, first_touches_before};
 ghost use Rattle.pdp_store.specs.Overlays.{drives_over, first_touches_over, touches_over};
-ghost use Rattle.pdp_unibus.specs.BusWorld.{with_first_touches};
+ghost use Rattle.pdp_unibus.specs.Handbook.BusWorld.{with_first_touches};
 ghost use Rattle.pdp_unibus.specs.SavedTouches.{HasPagesOf, turns_in};
 
 use crate::bus::Bus;

@@ -1,5 +1,5 @@
 ghost use Rattle.std.specs.Prelude.{◌≡◌, ◌≤◌, ◌<◌, length, map, slice_get, Some};
-ghost use Rattle.pdp_unibus.specs.Shown.{devices_of, shown_names, shown_registers};
+ghost use Rattle.pdp_unibus.specs.Handbook.Shown.{devices_of, shown_names, shown_registers};
 
 use crate::bus::Bus;
 use crate::register::Register;
@@ -77,7 +77,7 @@ fn shown_register(index: usize) -> Register
 impl<S: Store, D: Store> Bus<S, D> {
     /// The registers of the devices as reads would give them, without the effect of a read (PDP-11
     /// Peripherals Handbook, KL11, KW11-L, PC11 and RK11).
-    #[tactic(auto, unfolding(crate::specs::Shown::devices_of))]
+    #[tactic(auto, unfolding(crate::specs::Handbook::Shown::devices_of))]
     pub fn devices(&self) -> DeviceRegisters
         ensures { result ≡ devices_of self.now }
     {

@@ -1,7 +1,7 @@
 ghost use Rattle.std.specs.Prelude.{◌≡◌, length};
 ghost use Rattle.pdp_kt11.specs.declared.register.KtRegister.TheVariants.{Address, Descriptor};
-ghost use Rattle.pdp_unibus.specs.Register.{value_in};
-ghost use Rattle.pdp_unibus.specs.Shown.{of_each_page, page_registers_of};
+ghost use Rattle.pdp_unibus.specs.Handbook.Register.{value_in};
+ghost use Rattle.pdp_unibus.specs.Handbook.Shown.{of_each_page, page_registers_of};
 ghost use Rattle.pdp_unibus.specs.declared.register.Register.TheVariants.{Mapping};
 
 use crate::bus::Bus;
@@ -30,7 +30,7 @@ pub struct PageRegisters {
 impl<S: Store, D: Store> Bus<S, D> {
     /// The registers of memory management as reads would give them (DEC PDP-11/40 Processor
     /// Handbook (1972), Memory management).
-    #[tactic(auto, unfolding(crate::specs::Shown::page_registers_of))]
+    #[tactic(auto, unfolding(crate::specs::Handbook::Shown::page_registers_of))]
     pub fn pages(&self) -> PageRegisters
         ensures { result ≡ page_registers_of self.now }
     {

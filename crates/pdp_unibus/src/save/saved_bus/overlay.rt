@@ -1,5 +1,5 @@
 ghost use Rattle.std.specs.Prelude.{◌≡◌, ◌↔◌, map, length, true};
-ghost use Rattle.pdp_unibus.specs.BusWorld.{with_first_touches};
+ghost use Rattle.pdp_unibus.specs.Handbook.BusWorld.{with_first_touches};
 ghost use Rattle.pdp_unibus.specs.SavedBusData.{HasSizesOf, bus_of, saved_bus, saved_bus_over};
 ghost use Rattle.pdp_unibus.specs.SavedBusData.{saved_bus_with_stamps, with_core_over};
 

@@ -1,6 +1,6 @@
 use Rattle.std.proofs.Common.{◌∙◌, ap, refl}
-use Rattle.pdp_cpu.specs.Turns.MachineState.{MachineWithTexts, machine_world}
-use Rattle.pdp_cpu.specs.Turns.Turn.{act_end, clear_latch}
+use Rattle.pdp_cpu.specs.Handbook.MachineState.{MachineWithTexts, machine_world}
+use Rattle.pdp_cpu.specs.Handbook.Turn.{act_end, clear_latch}
 use Rattle.pdp_cpu.specs.declared.due.Due.TheVariants as due
 use Rattle.pdp_cpu.proofs.Carried.{act_is}
 use Rattle.pdp_cpu.proofs.machine.Machine.act.Goals as goal

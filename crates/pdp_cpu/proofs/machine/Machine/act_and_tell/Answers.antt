@@ -1,9 +1,9 @@
 use Rattle.std.proofs.Common.{◌∙◌, ap, refl}
 use Rattle.pdp_operand.specs.Phases.Phase.{inner_of}
-use Rattle.pdp_cpu.specs.Turns.Due.{due_of}
-use Rattle.pdp_cpu.specs.Turns.MachineState.{MachineWithTexts, machine_world}
-use Rattle.pdp_cpu.specs.Turns.Turn.{act_end, clear_latch, initial_state}
-use Rattle.pdp_cpu.specs.Turns.TurnTrap.{trap_of_due}
+use Rattle.pdp_cpu.specs.Handbook.Due.{due_of}
+use Rattle.pdp_cpu.specs.Handbook.MachineState.{MachineWithTexts, machine_world}
+use Rattle.pdp_cpu.specs.Handbook.Turn.{act_end, clear_latch, initial_state}
+use Rattle.pdp_cpu.specs.Handbook.TurnTrap.{trap_of_due}
 use Rattle.pdp_cpu.proofs.Carried.{act_is}
 use Rattle.pdp_cpu.proofs.machine.Machine.act_and_tell.Goals as goal
 

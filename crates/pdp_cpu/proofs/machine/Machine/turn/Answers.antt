@@ -1,5 +1,5 @@
 use Rattle.std.proofs.Common.{◌∙◌, ap, sym}
-use Rattle.pdp_cpu.specs.Turns.MachineState.{MachineWithTexts}
+use Rattle.pdp_cpu.specs.Handbook.MachineState.{MachineWithTexts}
 use Rattle.pdp_cpu.proofs.Carried.{turn_carried}
 use Rattle.pdp_cpu.proofs.TurnRuns.{turn_seen}
 use Rattle.pdp_cpu.proofs.machine.Machine.turn.Goals as goal

@@ -1,5 +1,5 @@
 use Rattle.std.proofs.Common.{◌+◌, ◌≡◌, ◌∙◌, ap, sym}
-use Rattle.pdp_cpu.specs.Turns.MachineState.{MachineState}
+use Rattle.pdp_cpu.specs.Handbook.MachineState.{MachineState}
 use Rattle.pdp_script.specs.Entries.{events_at}
 use Rattle.pdp_replay.proofs.ask.CountedTurns.{adds_next, few_after}
 use Rattle.pdp_replay.proofs.run.Ways.{way_on_with_room}

@@ -1,6 +1,6 @@
 use Rattle.std.proofs.Common.{◌<◌, ◌∙◌, ap, length, subst}
 use Rattle.std.proofs.lemmas.Result.{IfOk-weaker}
-use Rattle.pdp_cpu.specs.Turns.MachineState.{MachineState}
+use Rattle.pdp_cpu.specs.Handbook.MachineState.{MachineState}
 use Rattle.pdp_replay.specs.Ask.DiskChanges.{word_on}
 use Rattle.pdp_replay.specs.Ask.Searches.{IsFirst}
 use Rattle.pdp_replay.specs.Ask.Watches.{is_watched_at}

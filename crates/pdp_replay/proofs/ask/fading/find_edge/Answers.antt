@@ -1,6 +1,6 @@
 use Rattle.std.proofs.Common.{◌≡◌, ◌≤◌, ℕ, Some, arith, subst, sym}
 use Rattle.pdp_cpu.specs.Saved.{saved_machine}
-use Rattle.pdp_cpu.specs.Turns.MachineState.{MachineWithTexts}
+use Rattle.pdp_cpu.specs.Handbook.MachineState.{MachineWithTexts}
 use Rattle.pdp_replay.specs.Past.{Past}
 use Rattle.pdp_replay.specs.Ask.Fadings.{AreApart, AreBesideIn, IsBracketOrNone}
 use Rattle.pdp_replay.specs.Run.Branches.{IsBranchOf, IsLookedAt}

@@ -1,5 +1,5 @@
 use Rattle.std.proofs.Common.{◌∙◌, ◌-◌, ◌*◌, ap, ap₂, arith, length, sym}
-use Rattle.pdp_cpu.specs.Turns.MachineState.{MachineState, state_with_log}
+use Rattle.pdp_cpu.specs.Handbook.MachineState.{MachineState, state_with_log}
 use Rattle.pdp_replay.specs.Past.{Past}
 use Rattle.pdp_replay.specs.Past.Setup.{unit_words}
 use Rattle.pdp_replay.specs.Run.Branches.{IsKeptOfSize}

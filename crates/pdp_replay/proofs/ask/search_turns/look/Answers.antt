@@ -1,5 +1,5 @@
 use Rattle.std.proofs.Common.{◌+◌, ◌≡◌, ◌∙◌, ap, arith, subst, sym}
-use Rattle.pdp_cpu.specs.Turns.MachineState.{MachineState}
+use Rattle.pdp_cpu.specs.Handbook.MachineState.{MachineState}
 use Rattle.pdp_script.specs.Entries.{events_at}
 use Rattle.pdp_replay.specs.Ask.Searches.{EndsAfter, IsFirst}
 use Rattle.pdp_replay.specs.Ask.Watches.{IsInside, StaysWith, is_watched_at}

@@ -1,6 +1,6 @@
 use Rattle.std.proofs.Common.{◌∙◌, Some, ap, arith, option_map, slice_get, subst}
 use Rattle.std.proofs.lemmas.Result.{IfOk-weaker}
-use Rattle.pdp_unibus.specs.LastTurn.{last_turn}
+use Rattle.pdp_unibus.specs.Handbook.LastTurn.{last_turn}
 use Rattle.pdp_replay.specs.Ask.Searches.{IsFirst, IsFirstTurn}
 use Rattle.pdp_replay.specs.Ask.TextParts.{comes_out, is_out_after}
 use Rattle.pdp_replay.proofs.ask.TextParts.{arrives_past, byte_turn_is, later_turn_is, on_way_there}

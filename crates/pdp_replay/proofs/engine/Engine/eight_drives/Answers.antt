@@ -1,5 +1,5 @@
 use Rattle.std.proofs.Common.{◌≡◌, ◌∙◌, List, ap, arith, map, subst, ℕ}
-use Rattle.pdp_cpu.specs.Turns.MachineState.{MachineState}
+use Rattle.pdp_cpu.specs.Handbook.MachineState.{MachineState}
 use Rattle.pdp_store.specs.Pages.{PagedWords}
 use Rattle.pdp_replay.specs.Past.Edit.{with_eight_drives}
 use Rattle.pdp_replay.specs.Past.Image.{more_drives}

@@ -1,5 +1,5 @@
 use Rattle.std.proofs.Common.{◌≡◌, arith, refl, subst}
-use Rattle.pdp_unibus.specs.LastTurn.{last_turn}
+use Rattle.pdp_unibus.specs.Handbook.LastTurn.{last_turn}
 use Rattle.pdp_replay.specs.Ask.Known.{RunsFrom}
 use Rattle.pdp_replay.specs.Ask.Searches.{IsFirst}
 use Rattle.pdp_replay.specs.Ask.TextParts.{comes_out}

@@ -1,7 +1,7 @@
 use Rattle.std.proofs.Common.{◌≡◌, ◌∙◌, ◌*◌, ap, ap₂, length, map, replicate}
 use Rattle.pdp_store.specs.FirstTouches.{first_touches_of}
 use Rattle.pdp_store.specs.Stored.{no_touch_in}
-use Rattle.pdp_cpu.specs.Turns.MachineState.{MachineState}
+use Rattle.pdp_cpu.specs.Handbook.MachineState.{MachineState}
 use Rattle.pdp_replay.specs.Past.Setup.{drive_words, unit_words}
 use Rattle.pdp_replay.proofs.run.BranchingOff.{BlankCore, blank_core, map_twice}
 use Rattle.pdp_replay.proofs.run.branch.blank_machine.Goals as goal

@@ -1,5 +1,5 @@
 use Rattle.std.proofs.Common.{◌≡◌, ◌∙◌, [], ◌∷◌, List, ℕ, ap, refl}
-use Rattle.pdp_cpu.specs.Turns.MachineState.{powered_machine}
+use Rattle.pdp_cpu.specs.Handbook.MachineState.{powered_machine}
 use Rattle.pdp_replay.specs.Past.Image.{padded_image}
 use Rattle.pdp_replay.specs.Past.Setup.{SetupData, drive_count, drive_words, first_setup, image_of}
 use Rattle.pdp_replay.proofs.run.PoweredRuns.{powered_over, untouched_over}

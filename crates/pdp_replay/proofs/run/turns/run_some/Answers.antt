@@ -1,5 +1,5 @@
 use Rattle.std.proofs.Common.{◌∙◌, ap, arith, sym}
-use Rattle.pdp_cpu.specs.Turns.MachineState.{MachineState}
+use Rattle.pdp_cpu.specs.Handbook.MachineState.{MachineState}
 use Rattle.pdp_replay.proofs.run.CalmWays.{ran_calmly}
 use Rattle.pdp_replay.proofs.run.Ways.{way_on_with_room, way_stays}
 use Rattle.pdp_replay.proofs.run.turns.run_some.Goals as goal

@@ -1,5 +1,5 @@
 use Rattle.std.proofs.Common.{ap, map}
-use Rattle.pdp_rk11.specs.Completion.{disk_world}
+use Rattle.pdp_rk11.specs.Handbook.Completion.{disk_world}
 use Rattle.pdp_rk11.proofs.FirstTouches.{moves_words, none_worked}
 use Rattle.pdp_rk11.proofs.rk.Rk.run_function.Goals as goal
 

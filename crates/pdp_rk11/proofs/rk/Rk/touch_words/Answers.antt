@@ -1,6 +1,6 @@
 use Rattle.std.proofs.Common.{◌≡◌, ◌∙◌, ap, sym}
 use Rattle.pdp_rk11.specs.Touched.{disk_after}
-use Rattle.pdp_rk11.specs.Geometry.{drive_in}
+use Rattle.pdp_rk11.specs.Handbook.Geometry.{drive_in}
 use Rattle.pdp_rk11.proofs.FirstTouches.{touched_there}
 use Rattle.pdp_rk11.proofs.Names.{map_get, map_length, map_with}
 use Rattle.pdp_rk11.proofs.rk.Rk.touch_words.Goals as goal

@@ -1,5 +1,5 @@
 use Rattle.std.proofs.Common.{None, arith}
-use Rattle.pdp_rk11.specs.Transfer.{disk_word, rest_of_sector}
+use Rattle.pdp_rk11.specs.Handbook.Transfer.{disk_word, rest_of_sector}
 use Rattle.pdp_rk11.proofs.Fill.{moved_as_far, moved_as_far_or_none}
 use Rattle.pdp_rk11.proofs.transfer.Transfer.fill_sector.Goals as goal
 

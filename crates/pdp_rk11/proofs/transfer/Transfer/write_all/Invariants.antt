@@ -1,7 +1,7 @@
 -- the words moved so far are on the drive, without stamps
 use Rattle.std.proofs.Common.{◌≡◌, None, slice_index}
 use Rattle.pdp_rk11.specs.Moves.{moved_items}
-use Rattle.pdp_rk11.specs.Transfer.{core_word}
+use Rattle.pdp_rk11.specs.Handbook.Transfer.{core_word}
 use Rattle.pdp_rk11.proofs.transfer.Transfer.write_all.Given as goal
 
 abbrev pub invariant-loop-i : goal.invariant-loop-i

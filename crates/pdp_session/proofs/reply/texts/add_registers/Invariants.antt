@@ -1,5 +1,5 @@
 use Rattle.std.proofs.Common.{◌≡◌, ◌+◌, ◌*◌, ◌++◌, ◌≤◌, length, take}
-use Rattle.pdp_unibus.specs.Shown.{shown_names}
+use Rattle.pdp_unibus.specs.Handbook.Shown.{shown_names}
 use Rattle.pdp_session.specs.Reply.{named_word_texts}
 use Rattle.pdp_session.proofs.reply.texts.add_registers.Given as goal
 

@@ -1,5 +1,5 @@
 use Rattle.std.proofs.Common.{◌≡◌, length, take}
-use Rattle.pdp_unibus.specs.Shown.{devices_of}
+use Rattle.pdp_unibus.specs.Handbook.Shown.{devices_of}
 use Rattle.pdp_unibus.specs.declared.show.device_registers.TheConstants.{SHOWN_REGISTERS}
 use Rattle.pdp_unibus.proofs.bus.Bus.devices.Given as goal
 

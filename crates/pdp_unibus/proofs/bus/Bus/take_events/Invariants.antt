@@ -1,5 +1,5 @@
 use Rattle.std.proofs.Common.{◌≡◌, take}
-use Rattle.pdp_unibus.specs.Beginning.{after_events, progress}
+use Rattle.pdp_unibus.specs.Handbook.Beginning.{after_events, progress}
 use Rattle.pdp_unibus.specs.SingleBytes.{IsSingle}
 use Rattle.pdp_unibus.proofs.bus.Bus.take_events.Given as goal
 

@@ -1,5 +1,5 @@
 use Rattle.std.proofs.Common.{◌≡◌, ◌+◌, ◌∙◌, ap, arith, length, subst}
-use Rattle.pdp_cpu.specs.Turns.MachineState.{after_turn}
+use Rattle.pdp_cpu.specs.Handbook.MachineState.{after_turn}
 use Rattle.pdp_script.specs.Entries.{events_at}
 use Rattle.pdp_replay.specs.Ask.Trails.{trail_entry}
 use Rattle.pdp_replay.specs.Run.KeptRuns.{Advances, ArrivesAt}

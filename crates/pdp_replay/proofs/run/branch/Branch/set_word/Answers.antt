@@ -1,6 +1,6 @@
 use Rattle.std.proofs.Common.{◌≡◌, ◌∙◌, ap, subst, sym}
 use Rattle.pdp_cpu.specs.Saved.{CanHold, state_on}
-use Rattle.pdp_cpu.specs.Turns.MachineState.{MachineWithTexts}
+use Rattle.pdp_cpu.specs.Handbook.MachineState.{MachineWithTexts}
 use Rattle.pdp_replay.proofs.run.PatchedBranches.{branch_patched, has_word, patch_held, saved_is, turn_of_patch}
 use Rattle.pdp_replay.proofs.run.branch.Branch.set_word.Goals as goal
 

@@ -1,6 +1,6 @@
 use Rattle.std.proofs.Common.{◌≡◌, ◌∙◌, ◌++◌, List, ap, ap₂, map, refl, take, ℕ}
 use Rattle.pdp_cpu.specs.Drives.{machine_with_drives}
-use Rattle.pdp_cpu.specs.Turns.MachineState.{MachineWithTexts}
+use Rattle.pdp_cpu.specs.Handbook.MachineState.{MachineWithTexts}
 use Rattle.pdp_store.specs.Pages.{PagedWords}
 use Rattle.pdp_replay.proofs.past.MoreDrives.{one_kept}
 use Rattle.pdp_replay.proofs.run.kept_run.KeptRun.add_drives.Goals as goal

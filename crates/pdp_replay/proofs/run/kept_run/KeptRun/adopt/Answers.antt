@@ -2,7 +2,7 @@ use Rattle.std.proofs.Common.{◌≡◌, ◌∙◌, Err, Ok, OnOk, Result, ap, a
 use Rattle.std.proofs.lemmas.Result.{on_ok_weaker}
 use Rattle.pdp_cpu.specs.Saved.{CanHold, saved_machine, saved_over, state_on}
 use Rattle.pdp_cpu.specs.SavedOutput.{OutputData, TakesOutput}
-use Rattle.pdp_cpu.specs.Turns.MachineState.{MachineState}
+use Rattle.pdp_cpu.specs.Handbook.MachineState.{MachineState}
 use Rattle.pdp_replay.specs.Past.{Past}
 use Rattle.pdp_replay.specs.Run.Checkpoints.{KeepsTexts}
 use Rattle.pdp_replay.specs.Run.FormerRuns.{MeetsFormer}

@@ -2,7 +2,7 @@ use Rattle.std.proofs.Common.{◌≡◌, ◌∙◌, ℕ, ap, arith, refl, subst,
 use Rattle.pdp_unibus.specs.SavedTouches.{HasPagesOf}
 use Rattle.pdp_cpu.specs.Saved.{saved_machine}
 use Rattle.pdp_cpu.specs.SavedOutput.{OutputData, TakesOutput, output_from}
-use Rattle.pdp_cpu.specs.Turns.MachineState.{MachineState, MachineWithTexts}
+use Rattle.pdp_cpu.specs.Handbook.MachineState.{MachineState, MachineWithTexts}
 use Rattle.pdp_replay.specs.Past.{Past}
 use Rattle.pdp_replay.specs.Run.Branches.{IsKeptOfSize, IsLookedAt}
 use Rattle.pdp_replay.specs.Run.Checkpoints.{IsBuiltFrom, KeepsTexts}

@@ -4,7 +4,7 @@ use Rattle.pdp_checkpoint.specs.Ladder.{LadderData}
 use Rattle.pdp_cpu.specs.KeptTexts.{kept_before}
 use Rattle.pdp_cpu.specs.Saved.{state_cut}
 use Rattle.pdp_store.specs.FirstTouches.{all_first_touches_before}
-use Rattle.pdp_cpu.specs.Turns.MachineState.{MachineState, MachineWithTexts}
+use Rattle.pdp_cpu.specs.Handbook.MachineState.{MachineState, MachineWithTexts}
 use Rattle.pdp_replay.specs.declared.run.kept_run.KeptRun.{KeptRun}
 use Rattle.pdp_replay.proofs.run.Checkpoints.{states_cut}
 use Rattle.pdp_replay.proofs.run.Formers.{all_edited, edited_after, formers_after, states_edited}

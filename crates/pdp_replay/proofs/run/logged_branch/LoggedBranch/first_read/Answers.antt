@@ -1,5 +1,5 @@
 use Rattle.std.proofs.Common.{◌∙◌, ◌+◌, ◌*◌, ap, slice_get, slice_index, sym}
-use Rattle.pdp_cpu.specs.Turns.MachineState.{MachineState}
+use Rattle.pdp_cpu.specs.Handbook.MachineState.{MachineState}
 use Rattle.pdp_replay.specs.declared.ask.disk_completions.DiskTurn.{DiskTurn}
 use Rattle.pdp_store.specs.CycleLogs.{without_cycles}
 use Rattle.pdp_replay.proofs.ask.TurnReads.{disk_there, first_there, read_there, read_told}

@@ -1,7 +1,7 @@
 use Rattle.std.proofs.Common.{◌≡◌, ◌∙◌, ap}
 use Rattle.pdp_store.specs.CycleLogs.{without_cycles}
-use Rattle.pdp_cpu.specs.Turns.MachineState.{MachineState}
-use Rattle.pdp_cpu.specs.Turns.Regs.{regs_of}
+use Rattle.pdp_cpu.specs.Handbook.MachineState.{MachineState}
+use Rattle.pdp_cpu.specs.Handbook.Regs.{regs_of}
 use Rattle.pdp_script.specs.Entries.{events_at}
 use Rattle.pdp_replay.specs.Run.States.{state_at}
 use Rattle.pdp_replay.specs.Ask.Accesses.{turn_head}

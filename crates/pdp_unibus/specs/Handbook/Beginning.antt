@@ -6,12 +6,13 @@ use Rattle.pdp_console.specs.Kl.{kl_completed, kl_printed, kl_struck}
 use Rattle.pdp_console.specs.Kw.{kw_ticked}
 use Rattle.pdp_tape.specs.Pc11.{pc11_punch_completed, pc11_punched, pc11_reader_completed}
 use Rattle.pdp_tape.specs.Reader.{takes_byte}
-use Rattle.pdp_rk11.specs.Completion.{rk_completed}
+use Rattle.pdp_rk11.specs.Handbook.Completion.{rk_completed}
 use Rattle.pdp_rk11.specs.Trace.{completion_touches}
 use Rattle.pdp_store.specs.FirstTouches.{first_touches_after}
-use Rattle.pdp_unibus.specs.BusWorld.{BusWorld, disk_world_of, with_io_page, with_disk_world}
-use Rattle.pdp_unibus.specs.BusWorld.{with_first_touches}
-use Rattle.pdp_unibus.specs.Tape.{next_byte, read_on}
+use Rattle.pdp_unibus.specs.Handbook.BusWorld.{BusWorld, disk_world_of, with_io_page}
+use Rattle.pdp_unibus.specs.Handbook.BusWorld.{with_disk_world}
+use Rattle.pdp_unibus.specs.Handbook.BusWorld.{with_first_touches}
+use Rattle.pdp_unibus.specs.Handbook.Tape.{next_byte, read_on}
 use Rattle.pdp_unibus.specs.declared.beginning.Output.{Output}
 use Rattle.pdp_unibus.specs.declared.io_page.IoPage.{IoPage}
 use Rattle.pdp_unibus.specs.declared.event.Event.{Event}

@@ -13,9 +13,10 @@ use Rattle.pdp_store.specs.declared.cycle_log.CycleKind.TheVariants as kind
 use Rattle.pdp_store.specs.declared.part.Part.TheVariants as part
 use Rattle.pdp_store.specs.declared.Agent.TheVariants.{Cpu}
 use Rattle.pdp_store.specs.declared.Stamp.{Stamp}
-use Rattle.pdp_unibus.specs.BusWorld.{BusWorld, with_io_page, with_log}
-use Rattle.pdp_unibus.specs.Register.{register_at, value_in, after_read, after_write, after_byte}
-use Rattle.pdp_unibus.specs.Register.{word_with_byte}
+use Rattle.pdp_unibus.specs.Handbook.BusWorld.{BusWorld, with_io_page, with_log}
+use Rattle.pdp_unibus.specs.Handbook.Register.{register_at, value_in, after_read, after_write}
+use Rattle.pdp_unibus.specs.Handbook.Register.{after_byte}
+use Rattle.pdp_unibus.specs.Handbook.Register.{word_with_byte}
 use Rattle.pdp_unibus.specs.declared.register.Register.{Register}
 use Rattle.pdp_unibus.specs.declared.io_page.IoPage.{IoPage}
 use Rattle.pdp_unibus.specs.declared.bus.Timeout.{Timeout}

@@ -5,7 +5,7 @@ use Rattle.std.specs.Prelude.{ℕ, ◌+◌, ◌*◌, ◌==◌, Bool, true, false
 use Rattle.std.specs.Prelude.{if◌then◌else◌}
 use Rattle.pdp_word.specs.Bits.{bit_of, field}
 use Rattle.pdp_word.specs.Mask.{is_set}
-use Rattle.pdp_kt11.specs.Bits.{pdr_access, pdr_downward, pdr_length, pdr_written}
+use Rattle.pdp_kt11.specs.Handbook.Bits.{pdr_access, pdr_downward, pdr_length, pdr_written}
 use Rattle.pdp_kt11.specs.declared.mode.Mode.{Mode}
 use Rattle.pdp_kt11.specs.declared.mode.Mode.TheVariants.{Kernel, Bad1, Bad2, User}
 use Rattle.pdp_kt11.specs.declared.apr.AccessControl.{AccessControl}

@@ -14,8 +14,8 @@ use Rattle.pdp_rk11.specs.declared.register.RkRegister.TheVariants.{WordCount, B
 use Rattle.pdp_rk11.specs.declared.register.RkRegister.TheVariants.{DiskAddress}
 use Rattle.pdp_tape.specs.declared.pc11.Pc11Register.TheVariants.{ReaderStatus, ReaderBuffer}
 use Rattle.pdp_tape.specs.declared.pc11.Pc11Register.TheVariants.{PunchStatus}
-use Rattle.pdp_unibus.specs.BusWorld.{BusWorld}
-use Rattle.pdp_unibus.specs.Register.{value_in}
+use Rattle.pdp_unibus.specs.Handbook.BusWorld.{BusWorld}
+use Rattle.pdp_unibus.specs.Handbook.Register.{value_in}
 use Rattle.pdp_unibus.specs.declared.io_page.IoPage.{IoPage}
 use Rattle.pdp_unibus.specs.declared.show.device_registers.DeviceRegisters.{DeviceRegisters}
 use Rattle.pdp_unibus.specs.declared.show.page_registers.PageRegisters.{PageRegisters}

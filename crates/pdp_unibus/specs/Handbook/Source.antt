@@ -5,8 +5,8 @@ use Rattle.std.specs.List.{find, list_any}
 use Rattle.pdp_console.specs.Kl.{keyboard_served, printer_served}
 use Rattle.pdp_console.specs.Kw.{kw_served}
 use Rattle.pdp_tape.specs.Pc11.{punch_served, reader_served}
-use Rattle.pdp_rk11.specs.Rk.{rk_served}
-use Rattle.pdp_unibus.specs.Status.{is_above}
+use Rattle.pdp_rk11.specs.Handbook.Rk.{rk_served}
+use Rattle.pdp_unibus.specs.Handbook.Status.{is_above}
 use Rattle.pdp_unibus.specs.declared.io_page.IoPage.{IoPage}
 use Rattle.pdp_unibus.specs.declared.priority.Priority.{Priority}
 use Rattle.pdp_unibus.specs.declared.priority.Priority.TheVariants.{Level4, Level5, Level6}

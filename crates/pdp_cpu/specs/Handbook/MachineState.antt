@@ -4,13 +4,14 @@ use Rattle.pdp_store.specs.CycleLogs.{KeptCycles}
 use Rattle.pdp_store.specs.declared.Stamp.{Stamp}
 use Rattle.pdp_unibus.specs.SavedBusData.{bus_with_tape}
 use Rattle.pdp_store.specs.FirstTouches.{FirstTouches, no_first_touches}
-use Rattle.pdp_unibus.specs.BusWorld.{bus_at_power_up, with_first_touches, with_log, with_stamps}
+use Rattle.pdp_unibus.specs.Handbook.BusWorld.{bus_at_power_up, with_first_touches, with_log}
+use Rattle.pdp_unibus.specs.Handbook.BusWorld.{with_stamps}
 use Rattle.pdp_unibus.specs.declared.delays.Delays.{Delays}
 use Rattle.pdp_unibus.specs.declared.event.Event.{Event}
 use Rattle.pdp_operand.specs.Handbook.Processor.{powered_processor}
 use Rattle.pdp_operand.specs.Phases.World.{World, world}
 use Rattle.pdp_cpu.specs.KeptTexts.{kept_over}
-use Rattle.pdp_cpu.specs.Turns.Turn.{beginning, one_turn, printed_in, punched_in}
+use Rattle.pdp_cpu.specs.Handbook.Turn.{beginning, one_turn, printed_in, punched_in}
 use Rattle.pdp_cpu.specs.declared.kept_text.KeptByte.{KeptByte}
 
 -- the turns that it has run, its world, and the bytes that were printed and punched in them, in

@@ -4,10 +4,12 @@
 -- are [P].
 use Rattle.std.specs.Prelude.{ℕ, ◌+◌, ◌-◌, ◌/◌, ◌%◌, ◌==◌, ◌&&◌, nat_le, Bool, List, [], ◌∷◌}
 use Rattle.std.specs.Prelude.{Option, Some, None, slice_index_or, slice_set, if◌then◌else◌}
-use Rattle.pdp_kt11.specs.Apr.{address_written, descriptor_word, descriptor_written, empty_page}
-use Rattle.pdp_kt11.specs.Apr.{numbered_page, page_number}
-use Rattle.pdp_kt11.specs.Status.{clear_status, mapping_status_word, mapping_status_written}
-use Rattle.pdp_kt11.specs.Status.{tells_abort}
+use Rattle.pdp_kt11.specs.Handbook.Apr.{address_written, descriptor_word, descriptor_written}
+use Rattle.pdp_kt11.specs.Handbook.Apr.{empty_page}
+use Rattle.pdp_kt11.specs.Handbook.Apr.{numbered_page, page_number}
+use Rattle.pdp_kt11.specs.Handbook.Status.{clear_status, mapping_status_word}
+use Rattle.pdp_kt11.specs.Handbook.Status.{mapping_status_written}
+use Rattle.pdp_kt11.specs.Handbook.Status.{tells_abort}
 use Rattle.pdp_kt11.specs.declared.registers.MappingRegisters.{MappingRegisters}
 use Rattle.pdp_kt11.specs.declared.apr.Apr.{Apr}
 use Rattle.pdp_kt11.specs.declared.apr.PageNumber.{PageNumber}

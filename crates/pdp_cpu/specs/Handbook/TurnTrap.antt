@@ -6,8 +6,8 @@ use Rattle.pdp_operand.specs.Phases.Phase.{State, inner_of}
 use Rattle.pdp_operand.specs.Phases.World.{World}
 use Rattle.pdp_instruction.specs.Handbook.Instruction.{instruction_trap}
 use Rattle.pdp_instruction.specs.Handbook.TrapSequence.{trap_vector}
-use Rattle.pdp_cpu.specs.Turns.Due.{due_of}
-use Rattle.pdp_cpu.specs.Turns.Turn.{at_turn}
+use Rattle.pdp_cpu.specs.Handbook.Due.{due_of}
+use Rattle.pdp_cpu.specs.Handbook.Turn.{at_turn}
 use Rattle.pdp_cpu.specs.declared.due.Due.{Due}
 use Rattle.pdp_cpu.specs.declared.due.Due.TheVariants as due
 

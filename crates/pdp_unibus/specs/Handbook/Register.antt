@@ -3,14 +3,14 @@
 -- management. How bytes are written is [P].
 use Rattle.std.specs.Prelude.{ℕ, ◌+◌, ◌-◌, ◌*◌, ◌%◌, ◌==◌, ◌&&◌, nat_le, Bool, true, Option, Some}
 use Rattle.std.specs.Prelude.{option_map, if◌then◌else◌}
-use Rattle.pdp_kt11.specs.Kt.{kt_register_at, kt_value, kt_written}
+use Rattle.pdp_kt11.specs.Handbook.Kt.{kt_register_at, kt_value, kt_written}
 use Rattle.pdp_console.specs.Kl.{kl_read, kl_register_at, kl_value, kl_written}
 use Rattle.pdp_console.specs.Kw.{kw_value, kw_written}
 use Rattle.pdp_console.specs.declared.kl.KlRegister.TheVariants.{PrinterBuffer}
 use Rattle.pdp_tape.specs.Pc11.{pc11_read, pc11_register_at, pc11_value, pc11_written}
 use Rattle.pdp_tape.specs.declared.pc11.Pc11Register.TheVariants.{PunchBuffer}
-use Rattle.pdp_rk11.specs.Rk.{rk_register_at, rk_value, rk_written}
-use Rattle.pdp_unibus.specs.Status.{status_word, status_written}
+use Rattle.pdp_rk11.specs.Handbook.Rk.{rk_register_at, rk_value, rk_written}
+use Rattle.pdp_unibus.specs.Handbook.Status.{status_word, status_written}
 use Rattle.pdp_unibus.specs.declared.io_page.IoPage.{IoPage}
 use Rattle.pdp_unibus.specs.declared.register.Register.{Register}
 use Rattle.pdp_unibus.specs.declared.register.Register.TheVariants.{Clock, Console, Disk, Mapping}

@@ -2,11 +2,12 @@
 -- 10 and access 10 abort as non-resident, and the order of the tests, are [P].
 use Rattle.std.specs.Prelude.{ℕ, ◌+◌, ◌*◌, ◌/◌, ◌%◌, Bool, true, false, nat_le, Option, Some, None}
 use Rattle.std.specs.Prelude.{Result, Ok, Err, if◌then◌else◌}
-use Rattle.pdp_kt11.specs.Bits.{block_bytes, blocks_of_page, page_bytes, physical_addresses}
-use Rattle.pdp_kt11.specs.Kt.{page_at, with_page}
-use Rattle.pdp_kt11.specs.Apr.{numbered_page, space_of}
-use Rattle.pdp_kt11.specs.Place.{unmapped_address}
-use Rattle.pdp_kt11.specs.Status.{abort_told}
+use Rattle.pdp_kt11.specs.Handbook.Bits.{block_bytes, blocks_of_page, page_bytes}
+use Rattle.pdp_kt11.specs.Handbook.Bits.{physical_addresses}
+use Rattle.pdp_kt11.specs.Handbook.Kt.{page_at, with_page}
+use Rattle.pdp_kt11.specs.Handbook.Apr.{numbered_page, space_of}
+use Rattle.pdp_kt11.specs.Handbook.Place.{unmapped_address}
+use Rattle.pdp_kt11.specs.Handbook.Status.{abort_told}
 use Rattle.pdp_kt11.specs.declared.registers.MappingRegisters.{MappingRegisters}
 use Rattle.pdp_kt11.specs.declared.mode.Mode.{Mode}
 use Rattle.pdp_kt11.specs.declared.apr.AccessControl.{AccessControl}

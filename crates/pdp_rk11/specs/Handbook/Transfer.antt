@@ -3,7 +3,7 @@
 use Rattle.std.specs.Prelude.{ℕ, ◌+◌, ◌-◌, ◌*◌, ◌/◌, ◌==◌, Bool, not, List, Option, Some, None}
 use Rattle.std.specs.Prelude.{slice_index, if◌then◌else◌}
 use Rattle.pdp_store.specs.declared.Stamp.{Stamp}
-use Rattle.pdp_rk11.specs.Geometry.{words_of_sector}
+use Rattle.pdp_rk11.specs.Handbook.Geometry.{words_of_sector}
 use Rattle.pdp_rk11.specs.Moves.{any_below, moved_items, moved_to_one}
 use Rattle.pdp_rk11.specs.declared.transfer.Transfer.{Transfer}
 

@@ -5,9 +5,9 @@ use Rattle.pdp_console.specs.Kl.{kl_reset, init_kl}
 use Rattle.pdp_console.specs.Kw.{init_kw}
 use Rattle.pdp_device.specs.Operation.{is_under_way}
 use Rattle.pdp_tape.specs.Pc11.{pc11_reset, init_pc11}
-use Rattle.pdp_rk11.specs.Completion.{DiskWorld, disk_world}
-use Rattle.pdp_rk11.specs.Rk.{init_rk, rk_reset}
-use Rattle.pdp_kt11.specs.Kt.{kt_reset, powered_kt}
+use Rattle.pdp_rk11.specs.Handbook.Completion.{DiskWorld, disk_world}
+use Rattle.pdp_rk11.specs.Handbook.Rk.{init_rk, rk_reset}
+use Rattle.pdp_kt11.specs.Handbook.Kt.{kt_reset, powered_kt}
 use Rattle.pdp_kt11.specs.declared.kt.Kt.{Kt}
 use Rattle.pdp_kt11.specs.declared.mode.Mode.TheVariants.{Kernel}
 use Rattle.pdp_store.specs.CycleLogs.{KeptCycles, no_log}

@@ -1,10 +1,11 @@
 -- The program status word: DEC PDP-11/40 Processor Handbook (1972), Processor status word.
 use Rattle.std.specs.Prelude.{ℕ, ◌+◌, ◌*◌, ◌==◌, Bool, nat_lt, if◌then◌else◌}
-use Rattle.pdp_kt11.specs.Mode.{mode_bits, mode_of}
+use Rattle.pdp_kt11.specs.Handbook.Mode.{mode_bits, mode_of}
 use Rattle.pdp_word.specs.Bits.{bit_of, field}
 use Rattle.pdp_word.specs.Mask.{is_set}
-use Rattle.pdp_unibus.specs.Bits.{ps_c, ps_mode, ps_n, ps_previous, ps_priority, ps_trace, ps_v}
-use Rattle.pdp_unibus.specs.Bits.{ps_z}
+use Rattle.pdp_unibus.specs.Handbook.Bits.{ps_c, ps_mode, ps_n, ps_previous, ps_priority, ps_trace}
+use Rattle.pdp_unibus.specs.Handbook.Bits.{ps_v}
+use Rattle.pdp_unibus.specs.Handbook.Bits.{ps_z}
 use Rattle.pdp_word.specs.declared.codes.Codes.{Codes}
 use Rattle.pdp_unibus.specs.declared.priority.Priority.{Priority}
 use Rattle.pdp_unibus.specs.declared.priority.Priority.TheVariants.{Level0, Level1, Level2, Level3}

@@ -1,7 +1,8 @@
 -- The completion of a function of the RK11: PDP-11 Peripherals Handbook, RK11 (that it is one act,
 -- the order of its tests, and where registers are left [P]).
 use Rattle.std.specs.Prelude.{ℕ, ◌+◌, ◌-◌, ◌*◌, ◌/◌, ◌%◌, ◌==◌, nat_lt, min, Bool, true, false, not}
-use Rattle.std.specs.Prelude.{◌≡◌, ◌&&◌, ◌||◌, List, [], Option, Some, None, length, map, slice_index_or}
+use Rattle.std.specs.Prelude.{◌≡◌, ◌&&◌, ◌||◌, List, [], Option, Some, None, length, map}
+use Rattle.std.specs.Prelude.{slice_index_or}
 use Rattle.std.specs.Prelude.{slice_set, if◌then◌else◌}
 use Rattle.pdp_device.specs.ReadyEnable.{with_ready}
 use Rattle.pdp_device.specs.Operation.{is_under_way}
@@ -9,12 +10,14 @@ use Rattle.pdp_device.specs.declared.operation.Operation.TheVariants.{Idle}
 use Rattle.pdp_store.specs.Parts.{words_of_drive}
 use Rattle.pdp_store.specs.declared.Agent.TheVariants.{Disk}
 use Rattle.pdp_store.specs.declared.Stamp.{Stamp}
-use Rattle.pdp_rk11.specs.Geometry.{address_of_sector, bus_addresses, cylinder_in, cylinders}
-use Rattle.pdp_rk11.specs.Geometry.{drive_in, most_words_asked, sector_in, sector_number}
-use Rattle.pdp_rk11.specs.Geometry.{sectors_of_track, words_of_sector}
-use Rattle.pdp_rk11.specs.Rk.{is_locked}
-use Rattle.pdp_rk11.specs.Transfer.{core_after_read, disk_written, is_different, stamps_read}
-use Rattle.pdp_rk11.specs.Transfer.{stamps_written}
+use Rattle.pdp_rk11.specs.Handbook.Geometry.{address_of_sector, bus_addresses, cylinder_in}
+use Rattle.pdp_rk11.specs.Handbook.Geometry.{cylinders}
+use Rattle.pdp_rk11.specs.Handbook.Geometry.{drive_in, most_words_asked, sector_in, sector_number}
+use Rattle.pdp_rk11.specs.Handbook.Geometry.{sectors_of_track, words_of_sector}
+use Rattle.pdp_rk11.specs.Handbook.Rk.{is_locked}
+use Rattle.pdp_rk11.specs.Handbook.Transfer.{core_after_read, disk_written, is_different}
+use Rattle.pdp_rk11.specs.Handbook.Transfer.{stamps_read}
+use Rattle.pdp_rk11.specs.Handbook.Transfer.{stamps_written}
 use Rattle.pdp_rk11.specs.declared.function.Function.{Function}
 use Rattle.pdp_rk11.specs.declared.function.Function.TheVariants.{ControlReset, Write, Read}
 use Rattle.pdp_rk11.specs.declared.function.Function.TheVariants.{WriteCheck, Seek, ReadCheck}

@@ -8,14 +8,17 @@ use Rattle.pdp_device.specs.ReadyEnable.{ready_enable_served, ready_enable_statu
 use Rattle.pdp_device.specs.ReadyEnable.{ready_enable_with, enable_written, init_ready_enable}
 use Rattle.pdp_device.specs.Operation.{begun_operation}
 use Rattle.pdp_device.specs.declared.operation.Operation.TheVariants.{Idle}
-use Rattle.pdp_rk11.specs.Bits.{rkcs_address, rkcs_enable, rkcs_error, rkcs_function, rkcs_go}
-use Rattle.pdp_rk11.specs.Bits.{rkcs_hard_error, rkcs_no_increment, rkcs_search_complete}
-use Rattle.pdp_rk11.specs.Bits.{rkds_heads_ready, rkds_ready, rkds_rk05, rkds_sector_counter}
-use Rattle.pdp_rk11.specs.Bits.{rkds_write_locked}
-use Rattle.pdp_rk11.specs.Bits.{rker_no_cylinder, rker_no_drive, rker_no_memory, rker_no_sector}
-use Rattle.pdp_rk11.specs.Bits.{rker_overrun}
-use Rattle.pdp_rk11.specs.Bits.{rker_write_locked}
-use Rattle.pdp_rk11.specs.Geometry.{address_bit_16, drive_in}
+use Rattle.pdp_rk11.specs.Handbook.Bits.{rkcs_address, rkcs_enable, rkcs_error, rkcs_function}
+use Rattle.pdp_rk11.specs.Handbook.Bits.{rkcs_go}
+use Rattle.pdp_rk11.specs.Handbook.Bits.{rkcs_hard_error, rkcs_no_increment, rkcs_search_complete}
+use Rattle.pdp_rk11.specs.Handbook.Bits.{rkds_heads_ready, rkds_ready, rkds_rk05}
+use Rattle.pdp_rk11.specs.Handbook.Bits.{rkds_sector_counter}
+use Rattle.pdp_rk11.specs.Handbook.Bits.{rkds_write_locked}
+use Rattle.pdp_rk11.specs.Handbook.Bits.{rker_no_cylinder, rker_no_drive, rker_no_memory}
+use Rattle.pdp_rk11.specs.Handbook.Bits.{rker_no_sector}
+use Rattle.pdp_rk11.specs.Handbook.Bits.{rker_overrun}
+use Rattle.pdp_rk11.specs.Handbook.Bits.{rker_write_locked}
+use Rattle.pdp_rk11.specs.Handbook.Geometry.{address_bit_16, drive_in}
 use Rattle.pdp_rk11.specs.declared.function.Function.{Function}
 use Rattle.pdp_rk11.specs.declared.function.Function.TheVariants.{ControlReset, Write, Read}
 use Rattle.pdp_rk11.specs.declared.function.Function.TheVariants.{WriteCheck, Seek, ReadCheck}

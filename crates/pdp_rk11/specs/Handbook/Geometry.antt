@@ -2,7 +2,7 @@
 -- of 2 surfaces of 12 sectors of 256 words).
 use Rattle.std.specs.Prelude.{ℕ, ◌+◌, ◌*◌, ◌/◌, ◌%◌}
 use Rattle.pdp_word.specs.Bits.{field}
-use Rattle.pdp_rk11.specs.Bits.{rkda_cylinder, rkda_drive, rkda_surface}
+use Rattle.pdp_rk11.specs.Handbook.Bits.{rkda_cylinder, rkda_drive, rkda_surface}
 
 abbrev pub cylinders : ℕ
 cylinders = 203

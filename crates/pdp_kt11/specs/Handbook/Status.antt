@@ -4,10 +4,11 @@
 use Rattle.std.specs.Prelude.{ℕ, ◌+◌, ◌*◌, Bool, true, false, ◌||◌, if◌then◌else◌}
 use Rattle.pdp_word.specs.Bits.{bit_of}
 use Rattle.pdp_word.specs.Mask.{is_set}
-use Rattle.pdp_kt11.specs.Bits.{sr0_enable, sr0_length, sr0_mode, sr0_non_resident, sr0_page}
-use Rattle.pdp_kt11.specs.Bits.{sr0_read_only}
-use Rattle.pdp_kt11.specs.Mode.{mode_bits}
-use Rattle.pdp_kt11.specs.Apr.{page_number}
+use Rattle.pdp_kt11.specs.Handbook.Bits.{sr0_enable, sr0_length, sr0_mode, sr0_non_resident}
+use Rattle.pdp_kt11.specs.Handbook.Bits.{sr0_page}
+use Rattle.pdp_kt11.specs.Handbook.Bits.{sr0_read_only}
+use Rattle.pdp_kt11.specs.Handbook.Mode.{mode_bits}
+use Rattle.pdp_kt11.specs.Handbook.Apr.{page_number}
 use Rattle.pdp_kt11.specs.declared.mode.Mode.{Mode}
 use Rattle.pdp_kt11.specs.declared.mode.Mode.TheVariants.{Kernel}
 use Rattle.pdp_kt11.specs.declared.apr.PageNumber.{PageNumber}

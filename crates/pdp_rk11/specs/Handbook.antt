@@ -1,0 +1,6 @@
+-- What the handbook says of the disk.
+pub mod Bits
+pub mod Geometry
+pub mod Rk
+pub mod Transfer
+pub mod Completion
