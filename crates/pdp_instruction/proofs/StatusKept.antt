@@ -11,7 +11,7 @@ use Rattle.pdp_unibus.specs.declared.register.Register.{Register}
 use Rattle.pdp_unibus.specs.declared.register.Register.TheVariants as register
 use Rattle.pdp_unibus.specs.declared.status.Status.{Status}
 use Rattle.pdp_decode.specs.declared.instruction.Specifier.{Specifier}
-use Rattle.pdp_decode.specs.declared.instruction.Specifier.TheVariants.{Register, Deferred, Autoincrement, AutoincrementDeferred, Autodecrement, AutodecrementDeferred, Index, IndexDeferred}
+use Rattle.pdp_decode.specs.declared.instruction.Specifier.TheVariants as specifier
 use Rattle.pdp_word.specs.declared.size.Size.{Size}
 use Rattle.pdp_word.specs.declared.size.Size.TheVariants.{Word, Byte}
 use Rattle.pdp_operand.specs.Handbook.Reference.{Kind, ReadWord, ReadByte, WriteWord, WriteByte, Reference, access_of, is_odd, perform, translation}
@@ -242,14 +242,14 @@ steady_point r = phase_steady _ (λ i. tt) (λ i value. refl)
 
 pub steady_find : (size : Size) (spec : Specifier) → Steady (find size spec)
 unfolding find
-steady_find size (Register r) = steady_name _
-steady_find size (Deferred r) = steady_point _
-steady_find size (Autoincrement r) = steady_grow _ _
-steady_find size (AutoincrementDeferred r) = steady_steady _ _ (steady_grow _ _) steady_indirect
-steady_find size (Autodecrement r) = steady_lower _ _
-steady_find size (AutodecrementDeferred r) = steady_steady _ _ (steady_lower _ _) steady_indirect
-steady_find size (Index r) = steady_index _
-steady_find size (IndexDeferred r) = steady_steady _ _ (steady_index _) steady_indirect
+steady_find size (specifier.Register r) = steady_name _
+steady_find size (specifier.Deferred r) = steady_point _
+steady_find size (specifier.Autoincrement r) = steady_grow _ _
+steady_find size (specifier.AutoincrementDeferred r) = steady_steady _ _ (steady_grow _ _) steady_indirect
+steady_find size (specifier.Autodecrement r) = steady_lower _ _
+steady_find size (specifier.AutodecrementDeferred r) = steady_steady _ _ (steady_lower _ _) steady_indirect
+steady_find size (specifier.Index r) = steady_index _
+steady_find size (specifier.IndexDeferred r) = steady_steady _ _ (steady_index _) steady_indirect
 
 pub steady_read : (size : Size) → Steady (one (read_operand size))
 unfolding read_operand
