@@ -10,11 +10,13 @@ ROOT = os.path.join(HERE, "..")
 
 
 def found_program(name="pdp11"):
-    """The program that was built here last, whatever the sources are now, or the release file; an
-    empty path if there is none."""
-    built = os.path.join(ROOT, "crates", name, "out", name)
-    if os.access(built, os.X_OK):
-        return built
+    """The program that was built here last, or that tools/release-static linked since, whatever the
+    sources are now. Otherwise the release file; an empty path if there is none."""
+    folders = os.path.join("crates", name, "out"), os.path.join("out", "static")
+    made = [os.path.join(ROOT, it, name) for it in folders]
+    runs = [it for it in made if os.access(it, os.X_OK)]
+    if runs:
+        return max(runs, key=os.path.getmtime)
     command = [os.path.join(ROOT, "tools", "program"), "--at-hand", name]
     found = subprocess.run(command, stdout=subprocess.PIPE)
     return os.fsdecode(found.stdout.removesuffix(b"\n"))

@@ -60,11 +60,3 @@ const struct leaf *__x86_get_cpuid_feature_leaf(unsigned number) {
     memcpy(found[number].usable, found[number].has, sizeof found[number].usable);
     return &found[number];
 }
-
-/* The functions of the program come after this, which is FURTHER bytes long. */
-#define DIGITS_OF(number) #number
-#define DIGITS(number) DIGITS_OF(number)
-__asm__(".section .text.further, \"axR\", @progbits\n"
-        ".balign 256\n"
-        ".skip " DIGITS(FURTHER) "\n"
-        ".previous\n");

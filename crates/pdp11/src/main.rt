@@ -20,13 +20,6 @@ const PROGRAM: Program<'static> = Program {
     more_lines: "",
 };
 
-// It is out of line, which changes only where the burst of turns lies in the machine code: from
-// there on fewer jumps cross blocks of 32 bytes (docs/SPEED.md, "Where its jumps lie").
-#[inline(never)]
-fn run(rt: &HostRuntime) -> ExitCode {
-    run_on_host::<false>(rt, PROGRAM)
-}
-
 fn main(rt: HostRuntime) -> ExitCode {
-    run(&rt)
+    run_on_host::<false>(&rt, PROGRAM)
 }
