@@ -8,7 +8,7 @@ use itoa::Buffer;
 use pdp_disassembler::{LONGEST_TEXT, disassemble};
 use std::alloc::{AllocError, Global};
 
-// The most bytes that an answer has room for.
+/// The most bytes that an answer has room for.
 const LONGEST_ANSWER: usize = LONGEST_TEXT + 24;
 
 /// An answer, with its line feed. It takes no memory.
@@ -63,7 +63,7 @@ fn reason_of(bad: BadLine) -> &'static str
     }
 }
 
-// Adds `bytes` at the end.
+/// Adds `bytes` at the end.
 fn add(answer: &mut AnswerText, bytes: &[u8])
     requires { length answer.old.items + length bytes.now ≤ LONGEST_ANSWER }
     ensures { answer.new.items ≡ answer.old.items ++ bytes.now }

@@ -38,7 +38,7 @@ pub fn help_asked<S: AsStr>(alloc: Global, words: &[S]) -> Result<Option<String>
     }
 }
 
-// What clap finds in these words.
+/// What clap finds in these words.
 fn matches_of<'a, S: AsStr>(alloc: Global, words: &'a [S]) -> Result<ArgMatches<'a>, Error>
     ensures { FailsBy (fault_of help_command (map S.text words.entry.now)) result }
 {

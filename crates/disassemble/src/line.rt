@@ -61,7 +61,7 @@ fn is_separator(byte: u8) -> bool
     byte == b' ' || byte == b'\t'
 }
 
-// The word that a field shows.
+/// The word that a field shows.
 fn word_in(field: &[u8]) -> Result<u16, BadLine>
     ensures { result ≡ word_in_field field.now }
 {
@@ -74,5 +74,5 @@ fn word_in(field: &[u8]) -> Result<u16, BadLine>
     u16::try_from(number).map_err(|_| BadLine::Range)
 }
 
-// The most digits of a word.
+/// The most digits of a word.
 const MOST_DIGITS: usize = 6;

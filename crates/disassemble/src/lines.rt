@@ -31,7 +31,7 @@ pub fn answer_lines<R: BufRead, W: Write>(
     Err(Error::from(ErrorKind::Other))
 }
 
-// Answers the next line, and returns whether there was one.
+/// Answers the next line, and returns whether there was one.
 fn answer_next<R: BufRead, W: Write>(alloc: Global, reader: &mut R, writer: &mut W) -> Result<bool>
     ensures { IfOk result (λ was_line. AnswersNext (R.remaining reader.old) (R.remaining reader.new)
         (W.contents writer.old) (W.contents writer.new) was_line) }
@@ -46,7 +46,7 @@ fn answer_next<R: BufRead, W: Write>(alloc: Global, reader: &mut R, writer: &mut
     Ok(true)
 }
 
-// A line as it was read, without what ended it.
+/// A line as it was read, without what ended it.
 fn line_in(read: &[u8]) -> &[u8]
     ensures { result.now ≡ line_in read.now }
 {

@@ -40,7 +40,7 @@ fn main(rt: HostRuntime) -> ExitCode {
     ExitCode::from(ending.status())
 }
 
-// Writes the help that the command line asks for, or answers the lines of standard input.
+/// Writes the help that the command line asks for, or answers the lines of standard input.
 fn run(rt: &HostRuntime) -> Result<(), Ending> {
     let words = env::args(rt)?.collect::<Vec<String>>(rt.alloc())?;
     match help_asked(rt.alloc(), words.as_slice())? {

@@ -7,7 +7,7 @@ use pdp_icache::Lines;
 use pdp_store::Flat;
 use pdp_word::NoMemory;
 
-// A line has 32 bytes: 001000 to 001037.
+/// A line has 32 bytes: 001000 to 001037.
 #[test]
 fn a_line_is_kept_until_it_is_dropped(rt: HostRuntime) -> Result<(), NoMemory> {
     let core = Flat::new(rt.alloc(), 1024, true)?;
@@ -24,7 +24,7 @@ fn a_line_is_kept_until_it_is_dropped(rt: HostRuntime) -> Result<(), NoMemory> {
     Ok(())
 }
 
-// Asks for a word of each of the first 600 lines, the lowest first.
+/// Asks for a word of each of the first 600 lines, the lowest first.
 fn ask_for_600(core: &Flat, lines: &mut Lines)
     requires in_core { 9600 ≤ length core.now.words }
     requires current { AreCurrent core.now.words lines.old }
@@ -35,7 +35,7 @@ fn ask_for_600(core: &Flat, lines: &mut Lines)
     }
 }
 
-// How many of the first 600 lines are kept.
+/// How many of the first 600 lines are kept.
 fn kept_of_600(lines: &Lines) -> usize {
     let mut kept = 0usize;
     for number in 0..600 {
@@ -46,7 +46,7 @@ fn kept_of_600(lines: &Lines) -> usize {
     kept
 }
 
-// The last 64 are kept in front. As they come again, the last 448 are kept behind.
+/// The last 64 are kept in front. As they come again, the last 448 are kept behind.
 #[test]
 fn at_most_512_lines_are_kept(rt: HostRuntime) -> Result<(), NoMemory> {
     let core = Flat::new(rt.alloc(), 9600, true)?;

@@ -8,10 +8,10 @@ use pdp_store::{
 use pdp_word::NoMemory;
 use std::rc::Rc;
 
-// Each store has two pages.
+/// Each store has two pages.
 const WORDS: usize = 512;
 
-// The serials of two pages.
+/// The serials of two pages.
 fn serials(pages: &[Rc<Page>]) -> [Option<u64>; 2] {
     [
         pages.get(0).map(|page| page.serial),
@@ -19,7 +19,7 @@ fn serials(pages: &[Rc<Page>]) -> [Option<u64>; 2] {
     ]
 }
 
-// Whether both have one and the same page at this place.
+/// Whether both have one and the same page at this place.
 fn is_shared_at(these: &[Rc<Page>], those: &[Rc<Page>], place: usize) -> bool {
     match (these.get(place), those.get(place)) {
         (Some(this), Some(that)) => Rc::ptr_eq(this, that),
@@ -27,7 +27,7 @@ fn is_shared_at(these: &[Rc<Page>], those: &[Rc<Page>], place: usize) -> bool {
     }
 }
 
-// The page that wasn't written is shared. The other is new.
+/// The page that wasn't written is shared. The other is new.
 #[test]
 fn pages_of_core(rt: HostRuntime) -> Result<(), NoMemory> {
     let mut core = Paged::new(rt.alloc(), WORDS, true)?;
@@ -41,7 +41,7 @@ fn pages_of_core(rt: HostRuntime) -> Result<(), NoMemory> {
     Ok(())
 }
 
-// The stamp of a write by the processor in this turn.
+/// The stamp of a write by the processor in this turn.
 fn stamp_of(turn: u32) -> Stamp {
     Stamp {
         turn,
@@ -49,14 +49,14 @@ fn stamp_of(turn: u32) -> Stamp {
     }
 }
 
-// Word `i` of core, with the turn of its last write.
+/// Word `i` of core, with the turn of its last write.
 fn word_and_turn(core: &Paged, i: usize) -> (u16, Option<u32>)
     requires { i < length core.now.words }
 {
     (core.read(i), core.last(i).map(|stamp| stamp.turn))
 }
 
-// Of the stamps of the pages those of turn 5 and of later turns are laid over those of core.
+/// Of the stamps of the pages those of turn 5 and of later turns are laid over those of core.
 #[test]
 fn pages_are_laid_over_core(rt: HostRuntime) -> Result<(), NoMemory> {
     let mut core = Paged::new(rt.alloc(), WORDS, true)?;
@@ -73,8 +73,8 @@ fn pages_are_laid_over_core(rt: HostRuntime) -> Result<(), NoMemory> {
     Ok(())
 }
 
-// A page that is laid over core becomes the base of its place if its stamps are those of the place.
-// A base stays if nothing changes.
+/// A page that is laid over core becomes the base of its place if its stamps are those of the place.
+/// A base stays if nothing changes.
 #[test]
 fn bases_of_laid_pages(rt: HostRuntime) -> Result<(), NoMemory> {
     let mut core = Paged::new(rt.alloc(), WORDS, true)?;
@@ -91,13 +91,13 @@ fn bases_of_laid_pages(rt: HostRuntime) -> Result<(), NoMemory> {
     Ok(())
 }
 
-// Word 300, which is in the second page.
+/// Word 300, which is in the second page.
 fn word_of(pages: &Pages) -> Option<u16> {
     let page = pages.get(300 / PAGE_WORDS)?;
     page.words.get(300 % PAGE_WORDS).copied()
 }
 
-// Sets word 300, if the drive has that word.
+/// Sets word 300, if the drive has that word.
 fn put(drive: &mut PagedDrive, word: u16)
     ensures words { length drive.new.words ≡ length drive.old.words }
 {
@@ -106,7 +106,7 @@ fn put(drive: &mut PagedDrive, word: u16)
     }
 }
 
-// A load gives the old words back, and a write after it changes no page that was taken before.
+/// A load gives the old words back, and a write after it changes no page that was taken before.
 #[test]
 fn pages_of_a_drive(rt: HostRuntime) -> Result<(), NoMemory> {
     let mut drive = PagedDrive::new(rt.alloc(), WORDS)?;
@@ -127,7 +127,7 @@ fn pages_of_a_drive(rt: HostRuntime) -> Result<(), NoMemory> {
     Ok(())
 }
 
-// All places of a blank drive have one page.
+/// All places of a blank drive have one page.
 #[test]
 fn pages_of_a_blank_drive(rt: HostRuntime) -> Result<(), NoMemory> {
     let mut drive = PagedDrive::blank(rt.alloc(), WORDS)?;

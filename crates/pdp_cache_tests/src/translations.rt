@@ -3,8 +3,8 @@
 use pdp_kt11::{Access, Kt, KtRegister, Mode, PageNumber, Space};
 use pdp_word::NoMemory;
 
-// Mapping is on. Page 0 of both modes has all of its length, and can be read and written; no other
-// page is resident.
+/// Mapping is on. Page 0 of both modes has all of its length, and can be read and written; no other
+/// page is resident.
 fn mapped() -> Kt {
     let mut kt = Kt::power();
     kt.write_reg(
@@ -19,7 +19,7 @@ fn mapped() -> Kt {
     kt
 }
 
-// The same after a read and a write in page 0 of kernel mode and a read in that of user mode.
+/// The same after a read and a write in page 0 of kernel mode and a read in that of user mode.
 fn placed() -> Kt {
     let mut kt = mapped();
     let _read = kt.place(Mode::Kernel, 0o1000, Access::Read);
@@ -28,7 +28,7 @@ fn placed() -> Kt {
     kt
 }
 
-// How many of the eight pages of kernel mode and of the eight of user mode are held.
+/// How many of the eight pages of kernel mode and of the eight of user mode are held.
 fn count_held(kt: &Kt) -> u32 {
     let mut count = 0_u32;
     for number in 0..8 {
@@ -94,7 +94,7 @@ fn reset_leaves_nothing_held(rt: HostRuntime) -> Result<(), NoMemory> {
     Ok(())
 }
 
-// A checkpoint keeps the registers alone.
+/// A checkpoint keeps the registers alone.
 #[test]
 fn loaded_registers_hold_nothing(rt: HostRuntime) -> Result<(), NoMemory> {
     let kt = placed();

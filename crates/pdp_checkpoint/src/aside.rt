@@ -51,7 +51,7 @@ pub(crate) fn add_former(formers: &mut Vec<Former>, former: Former)
     add(formers, former);
 }
 
-// Drops all former runs but the first that was known up to a turn above this one.
+/// Drops all former runs but the first that was known up to a turn above this one.
 fn keep_longer(formers: &mut Vec<Former>, known: u32)
     ensures { All (IsFormerIn formers.old.items) formers.new.items }
 {
@@ -59,7 +59,7 @@ fn keep_longer(formers: &mut Vec<Former>, known: u32)
     formers.truncate(1);
 }
 
-// Adds an item to a list, unless memory is refused for it.
+/// Adds an item to a list, unless memory is refused for it.
 fn add<T: Drop>(list: &mut Vec<T>, item: T)
     ensures { (list.new.items ≡ list.old.items ++ item ∷ []) ⊎ (list.new.items ≡ list.old.items) }
 {

@@ -114,8 +114,8 @@ impl Former {
     }
 }
 
-// The state of the greatest turn that is not above `turn`, of these states and of others, of which
-// `last` is the one.
+/// The state of the greatest turn that is not above `turn`, of these states and of others, of which
+/// `last` is the one.
 fn last_of<'a>(
     states: &'a [Checkpoint],
     turn: u32,
@@ -131,8 +131,8 @@ fn last_of<'a>(
     last
 }
 
-// The least turn that is not below `turn`, of these states and of others, of which `first` is the
-// one.
+/// The least turn that is not below `turn`, of these states and of others, of which `first` is the
+/// one.
 fn first_of(states: &[Checkpoint], turn: u32, first: Option<u32>) -> Option<u32>
     ensures { (others : List Checkpoint) → IsFirstFrom others turn first
         → IsFirstFrom (others ++ states.now) turn result }
@@ -144,7 +144,7 @@ fn first_of(states: &[Checkpoint], turn: u32, first: Option<u32>) -> Option<u32>
     first
 }
 
-// The later of two states that are not above `turn`.
+/// The later of two states that are not above `turn`.
 fn later<'a>(
     last: Option<&'a Checkpoint>,
     state: &'a Checkpoint,
@@ -166,7 +166,7 @@ fn later<'a>(
     }
 }
 
-// The earlier of two turns that are not below `turn`.
+/// The earlier of two turns that are not below `turn`.
 fn earlier(first: Option<u32>, other: u32, turn: u32) -> Option<u32>
     ensures { (states : List Checkpoint) (state : Checkpoint) → state.turn ≡ other
         → IsFirstFrom states turn first → IsFirstFrom (states ++ state ∷ []) turn result }

@@ -238,7 +238,7 @@ impl Ladder {
         }
     }
 
-    // Makes the states of turns above `turn` those of this former run, which becomes one of them.
+    /// Makes the states of turns above `turn` those of this former run, which becomes one of them.
     fn add_former(&mut self, alloc: Global, turn: u32, former: Former)
         ensures kept { self.new.kept ≡ filter (λ c. nat_le c.turn turn) self.old.kept }
         ensures near { self.new.near ≡ filter (λ c. nat_le c.turn turn) self.old.near }
@@ -359,7 +359,7 @@ impl Ladder {
     }
 }
 
-// The turn at which a run may meet this former run, if that is before turn `to`; otherwise `to`.
+/// The turn at which a run may meet this former run, if that is before turn `to`; otherwise `to`.
 fn earlier_meeting(former: &Former, from: u32, to: u32) -> u32
     ensures least { min from to ≤ result }
     ensures most { result ≤ to }

@@ -57,9 +57,9 @@ impl ReadyPatch {
     }
 }
 
-// What takes the place of a patched page in each of these states.
-//
-// Err as above.
+/// What takes the place of a patched page in each of these states.
+///
+/// Err as above.
 fn new_pages(
     alloc: Global,
     kept: &[Checkpoint],

@@ -23,7 +23,7 @@ pub struct KeptByte {
 pub struct KeptText {
     bytes: Vec<KeptByte>,
 
-    // How many of them came out of the machine as it is now.
+    /// How many of them came out of the machine as it is now.
     shown: usize,
 }
 

@@ -117,7 +117,7 @@ impl<S: Store, D: Store> Machine<S, D> {
         self.make_room()
     }
 
-    // Makes room for one printed and one punched byte.
+    /// Makes room for one printed and one punched byte.
     #[cold]
     #[inline(never)]
     fn make_room(&mut self) -> Result<(), NoMemory>
@@ -156,7 +156,7 @@ impl<S: Store, D: Store> Machine<S, D> {
         self.turn_whole(meter, events)
     }
 
-    // One whole turn of the machine with the first touches in its world.
+    /// One whole turn of the machine with the first touches in its world.
     #[inline(always)]
     #[tactic(auto, unfolding(crate::proofs::Rules::whole_turn))]
     fn turn_whole(&mut self, meter: &mut Meter, events: &[Event]) -> Act
@@ -172,7 +172,7 @@ impl<S: Store, D: Store> Machine<S, D> {
         act
     }
 
-    // A turn begins, with or without events.
+    /// A turn begins, with or without events.
     #[inline(always)]
     #[tactic(auto, unfolding(crate::proofs::Rules::texts_of_turn))]
     pub(crate) fn begin_any(&mut self, events: &[Event])
@@ -189,7 +189,7 @@ impl<S: Store, D: Store> Machine<S, D> {
         }
     }
 
-    // The act of a turn that has begun.
+    /// The act of a turn that has begun.
     #[inline(always)]
     pub(crate) fn act(&mut self) -> Act
         ensures act { result ≡ act_of (due_of (inner_of (initial_state (machine_world self.old)))) }
@@ -354,7 +354,7 @@ impl<S: Store, D: Store> Machine<S, D> {
         self.computer.bus.mapping_registers()
     }
 
-    // A turn begins that has events, or in which something comes of the devices.
+    /// A turn begins that has events, or in which something comes of the devices.
     #[cold]
     #[inline(never)]
     #[tactic(auto, unfolding(crate::proofs::Rules::texts_of_turn))]

@@ -32,7 +32,7 @@ pub struct Saved {
     processor: Processor,
     bus: SavedBus,
 
-    // How many bytes were printed and punched.
+    /// How many bytes were printed and punched.
     text_length: usize,
     punched_length: usize,
 }

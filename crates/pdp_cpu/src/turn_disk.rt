@@ -40,7 +40,7 @@ impl<S: Store, D: Store> Machine<S, D> {
         self.tell_disk_whole(meter, events)
     }
 
-    // One whole turn of the machine with the first touches in its world.
+    /// One whole turn of the machine with the first touches in its world.
     #[tactic(auto, unfolding(crate::proofs::Rules::whole_turn_with_disk))]
     fn tell_disk_whole(&mut self, meter: &mut Meter, events: &[Event]) -> ActWithDisk
         requires ready { IsReady self.old }

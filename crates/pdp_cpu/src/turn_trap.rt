@@ -52,7 +52,7 @@ impl<S: Store, D: Store> Machine<S, D> {
         self.tell_whole(meter, events)
     }
 
-    // One whole turn of the machine with the first touches in its world.
+    /// One whole turn of the machine with the first touches in its world.
     #[tactic(auto, unfolding(crate::proofs::Rules::whole_turn_with_trap))]
     fn tell_whole(&mut self, meter: &mut Meter, events: &[Event]) -> ActWithTrap
         requires ready { IsReady self.old }
@@ -70,7 +70,7 @@ impl<S: Store, D: Store> Machine<S, D> {
         told
     }
 
-    // The act of a turn that has begun, with its trap.
+    /// The act of a turn that has begun, with its trap.
     fn act_and_tell(&mut self) -> ActWithTrap
         ensures act { result.act
             ≡ act_of (due_of (inner_of (initial_state (machine_world self.old)))) }

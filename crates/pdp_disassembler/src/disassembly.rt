@@ -49,7 +49,7 @@ pub fn disassemble(address: u16, words: [u16; 3]) -> Disassembly
     }
 }
 
-// Adds the operands of the instruction at `address`, and the space before them.
+/// Adds the operands of the instruction at `address`, and the space before them.
 #[tactic(auto, unfolding(crate::specs::Text::operands_text))]
 fn add_operands(text: &mut InstructionText, address: u16, words: [u16; 3], operands: Operands)
     requires valid { OperandsFit operands }
@@ -96,7 +96,7 @@ fn add_operands(text: &mut InstructionText, address: u16, words: [u16; 3], opera
     }
 }
 
-// Adds the second operand. The words are the two that follow the instruction word.
+/// Adds the second operand. The words are the two that follow the instruction word.
 fn add_second(
     text: &mut InstructionText,
     address: u16,
@@ -117,7 +117,7 @@ fn add_second(
     }
 }
 
-// Where the branch at `address` goes.
+/// Where the branch at `address` goes.
 fn branch_target(address: u16, offset: i8) -> u16
     ensures { result ≡ branch_target address offset }
 {
@@ -125,7 +125,7 @@ fn branch_target(address: u16, offset: i8) -> u16
     address.wrapping_add(2).wrapping_add(twice)
 }
 
-// Where the SOB at `address` goes.
+/// Where the SOB at `address` goes.
 fn loop_target(address: u16, words: u8) -> u16
     ensures { result ≡ loop_target address words }
 {

@@ -227,7 +227,7 @@ pub fn takes_word(operand: Specifier) -> bool
     }
 }
 
-// Whether an operand is immediate or absolute: autoincrement of PC.
+/// Whether an operand is immediate or absolute: autoincrement of PC.
 fn is_immediate(operand: Specifier) -> bool
     ensures { result ≡ is_immediate operand }
 {

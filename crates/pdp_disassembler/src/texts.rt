@@ -87,7 +87,7 @@ pub fn add_operand(text: &mut InstructionText, address: u16, word: u16, operand:
     }
 }
 
-// Adds a register between what stands before and after it.
+/// Adds a register between what stands before and after it.
 fn add_within(text: &mut InstructionText, before: &[u8], register: u8, after: &[u8])
     requires register { register < 8 }
     requires room { length text.old.items + length before.now + 2 + length after.now ≤ LONGEST_TEXT }
@@ -101,7 +101,7 @@ fn add_within(text: &mut InstructionText, before: &[u8], register: u8, after: &[
     add(text, after);
 }
 
-// Adds an index, whose word is at `address`, and its register; by PC, the address that they name.
+/// Adds an index, whose word is at `address`, and its register; by PC, the address that they name.
 fn add_index(text: &mut InstructionText, address: u16, word: u16, register: u8)
     requires register { register < 8 }
     requires room { length text.old.items + 10 ≤ LONGEST_TEXT }
@@ -116,7 +116,7 @@ fn add_index(text: &mut InstructionText, address: u16, word: u16, register: u8)
     }
 }
 
-// The address that a relative operand names, whose word is at `address`.
+/// The address that a relative operand names, whose word is at `address`.
 fn relative_target(address: u16, word: u16) -> u16
     ensures { result ≡ relative_target address word }
 {

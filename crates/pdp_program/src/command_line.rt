@@ -13,7 +13,7 @@ use clap::{Arg, ArgAction, ArgMatches, Command, Error};
 use std::alloc::{AllocError, Global};
 use std::convert::AsStr;
 
-// The lines of the session language, a few words on each.
+/// The lines of the session language, a few words on each.
 const LINES: &str = "\
 An image file holds words of two bytes each, the low byte first.
 
@@ -173,7 +173,7 @@ fn command<'a>(alloc: Global, program: Program<'a>) -> Result<Command<'a>, Alloc
     with_numbers(alloc, with_files(alloc, command)?)
 }
 
-// With the options that name files.
+/// With the options that name files.
 fn with_files<'a>(alloc: Global, command: Command<'a>) -> Result<Command<'a>, AllocError>
     ensures { IfOk result (λ more. app_of more ≡ with_files (app_of command.entry)) }
 {
@@ -184,7 +184,7 @@ fn with_files<'a>(alloc: Global, command: Command<'a>) -> Result<Command<'a>, Al
     with_file(alloc, command, "tape", tape)
 }
 
-// With the options that name the images of the drives.
+/// With the options that name the images of the drives.
 fn with_drives<'a>(alloc: Global, command: Command<'a>) -> Result<Command<'a>, AllocError>
     ensures { IfOk result (λ more.
         app_of more ≡ with_options drive_options (app_of command.entry)) }
@@ -201,7 +201,7 @@ fn with_drives<'a>(alloc: Global, command: Command<'a>) -> Result<Command<'a>, A
     with_file(alloc, command, "disk7", "The same of drive 7")
 }
 
-// With an option that names a file.
+/// With an option that names a file.
 fn with_file<'a>(
     alloc: Global,
     command: Command<'a>,
@@ -214,7 +214,7 @@ fn with_file<'a>(
     command.arg(option(alloc, name, "FILE", help))
 }
 
-// With the options that are numbers.
+/// With the options that are numbers.
 fn with_numbers<'a>(alloc: Global, command: Command<'a>) -> Result<Command<'a>, AllocError>
     ensures { IfOk result (λ more. app_of more ≡ with_numbers (app_of command.entry)) }
 {
@@ -239,7 +239,7 @@ fn with_numbers<'a>(alloc: Global, command: Command<'a>) -> Result<Command<'a>, 
     command.arg(units)?.arg(start)?.arg(stride)
 }
 
-// An option of one value.
+/// An option of one value.
 fn option<'a>(alloc: Global, name: &'a str, value: &'a str, help: &'a str) -> Arg<'a>
     ensures rule { rule_of result ≡ option_rule name.entry.now }
     ensures local { result.global ≡ false }

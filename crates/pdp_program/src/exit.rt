@@ -49,7 +49,7 @@ impl Exit {
         })
     }
 
-    // What went wrong, if anything did.
+    /// What went wrong, if anything did.
     fn message(self) -> Option<&'static str>
         ensures { option_map (λ message. message.now) result ≡ message_of self }
     {

@@ -78,7 +78,7 @@ impl Files for HostFiles<'_> {
     }
 }
 
-// The first bytes of a file of the system, at most `most`.
+/// The first bytes of a file of the system, at most `most`.
 fn read_host_file(
     rt: &HostRuntime,
     alloc: Global,
@@ -96,7 +96,7 @@ fn read_host_file(
     }
 }
 
-// How many bytes are read at a time.
+/// How many bytes are read at a time.
 const CHUNK: usize = 4_096;
 
 /// The first bytes of a feed, at most `most`, or all that it has.

@@ -49,8 +49,8 @@ fn outcome_on_host<'a, const SEARCHES: bool>(
     }
 }
 
-// The words of the command line, the program's name first. Words that aren't text are bad
-// arguments.
+/// The words of the command line, the program's name first. Words that aren't text are bad
+/// arguments.
 fn words_of(rt: &HostRuntime) -> Result<Vec<String>, Exit> {
     match env::args(rt) {
         Ok(words) => Ok(words.collect::<Vec<String>>(rt.alloc())?),

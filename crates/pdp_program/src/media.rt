@@ -20,20 +20,20 @@ pub struct Media {
     pub tape: Vec<u8>,
 }
 
-// The most units of core.
+/// The most units of core.
 const MOST_UNITS: u8 = 31;
 
-// The bytes of one unit of core.
+/// The bytes of one unit of core.
 const UNIT_BYTES: usize = 8_192;
 
-// The bytes of a drive.
+/// The bytes of a drive.
 const DRIVE_BYTES: usize = 2_494_464;
 
-// The most bytes of a paper tape.
+/// The most bytes of a paper tape.
 const TAPE_BYTES: usize = 1_048_576;
 
-// One word past its limit shows that an image is too long, however long its file is. So no more of
-// the file is read.
+/// One word past its limit shows that an image is too long, however long its file is. So no more of
+/// the file is read.
 const WORD_BYTES: usize = 2;
 
 /// Reads the files of these names, for a core of `units` units. Of an image it reads at most one
@@ -59,7 +59,7 @@ pub fn read_media<F: Files>(
     Ok(Media { core, drives, tape })
 }
 
-// How many bytes of core's image are read at most.
+/// How many bytes of core's image are read at most.
 fn most_of_core(units: u8) -> usize
     ensures { result ≡ most_of_core units }
 {
@@ -71,7 +71,7 @@ fn most_of_core(units: u8) -> usize
     usize::from(units) * UNIT_BYTES + WORD_BYTES
 }
 
-// The bytes of the file of this name, at most the first `most`; no bytes if no file is named.
+/// The bytes of the file of this name, at most the first `most`; no bytes if no file is named.
 fn read_file<F: Files>(
     alloc: Global,
     name: Option<String>,
@@ -93,7 +93,7 @@ fn read_file<F: Files>(
     }
 }
 
-// The bytes of the files of these names, each as an image of a drive.
+/// The bytes of the files of these names, each as an image of a drive.
 fn read_drives<F: Files>(
     alloc: Global,
     names: Vec<Option<String>>,
@@ -112,7 +112,7 @@ fn read_drives<F: Files>(
     Ok(drives)
 }
 
-// The words of these images. Their bytes are dropped.
+/// The words of these images. Their bytes are dropped.
 fn images_of(alloc: Global, images: Vec<Vec<u8>>) -> Result<Vec<Vec<u16>>, Exit>
     ensures { AreImagesOf (map (λ bytes. bytes.items) images.items)
         (result_map (λ drives. map (λ words. words.items) drives.items) result) }
@@ -124,7 +124,7 @@ fn images_of(alloc: Global, images: Vec<Vec<u8>>) -> Result<Vec<Vec<u16>>, Exit>
     Ok(drives)
 }
 
-// The words of an image. Its bytes are dropped.
+/// The words of an image. Its bytes are dropped.
 #[tactic(auto, unfolding(pdp_session::specs::Image::image_read))]
 fn image_of(alloc: Global, bytes: Vec<u8>) -> Result<Vec<u16>, Exit>
     ensures { IsImageOf bytes.items (result_map (λ words. words.items) result) }

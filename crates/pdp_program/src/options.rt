@@ -5,10 +5,10 @@ ghost use Rattle.pdp_program.specs.Numbers.{units_number};
 use pdp_replay::DEFAULT_STRIDE;
 use pdp_word::{read_decimal, read_octal};
 
-// The units if none are given.
+/// The units if none are given.
 const UNITS: u8 = 31;
 
-// The start address if none is given.
+/// The start address if none is given.
 const START: u16 = 0o1000;
 
 /// The numbers that a run starts from, each as its field holds it: a number that its field can't

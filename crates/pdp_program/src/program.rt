@@ -73,7 +73,7 @@ pub fn outcome<'a, const SEARCHES: bool, R: Feed, W: Drain, F: Files, S: AsStr>(
     (exit.status(), exit.line(program.name))
 }
 
-// Writes a text whole, or a beginning of it up to where the writer fails or takes no byte.
+/// Writes a text whole, or a beginning of it up to where the writer fails or takes no byte.
 fn show<W: Drain>(text: &[u8], writer: &mut W) -> Exit
     ensures shows { Shows text.now (W.output writer.old) (W.output writer.new) result }
     ensures fails { result ≢ Exit.Done → (W.output writer.new).has_failed ≡ true }
@@ -89,7 +89,7 @@ fn show<W: Drain>(text: &[u8], writer: &mut W) -> Exit
     Exit::Done
 }
 
-// Reads the files, and then answers the reader's lines on the writer.
+/// Reads the files, and then answers the reader's lines on the writer.
 fn start_session<const SEARCHES: bool, R: Feed, W: Drain, F: Files>(
     alloc: Global,
     options: Options,
@@ -113,7 +113,7 @@ fn start_session<const SEARCHES: bool, R: Feed, W: Drain, F: Files>(
     }
 }
 
-// Answers the reader's lines on the writer.
+/// Answers the reader's lines on the writer.
 fn answer_lines<const SEARCHES: bool, R: Feed, W: Drain>(
     alloc: Global,
     options: Options,
@@ -133,7 +133,7 @@ fn answer_lines<const SEARCHES: bool, R: Feed, W: Drain>(
     Exit::of_session(run::<SEARCHES, R, W>(alloc, setup, reader, writer))
 }
 
-// The setup of these options, images and tape.
+/// The setup of these options, images and tape.
 fn setup_of(options: Options, media: Media) -> Setup
     ensures { given_setup result ≡ setup_with options (contents_of media) }
 {

@@ -7,7 +7,7 @@ use pdp_unibus::{Delays, LAST_TURN};
 use pdp_word::NoMemory;
 use std::alloc::Global;
 
-// MOV #3,R0; INC R1; MOVB #202,@#1004, which makes the INC one of R2; SOB R0 to the INC; HALT
+/// MOV #3,R0; INC R1; MOVB #202,@#1004, which makes the INC one of R2; SOB R0 to the INC; HALT
 const STORES_OVER_ITSELF: [u16; 8] = [
     0o012700, 0o000003, 0o005201, 0o112737, 0o000202, 0o001004, 0o077005, 0o000000,
 ];
@@ -39,7 +39,7 @@ fn run_without_lines(machine: &mut Machine<Flat, Flat>, turns: u32) -> Result<()
     Ok(())
 }
 
-// R1 is counted up once, and R2 twice.
+/// R1 is counted up once, and R2 twice.
 #[test]
 fn stores_over_itself(rt: HostRuntime) -> Result<(), NoMemory> {
     let mut machine = machine_of(rt.alloc())?;

@@ -6,8 +6,8 @@ use std::alloc::Global;
 use std::process::Abort;
 use std::test::Fail;
 
-// In a loop TSTB @#177560 and a BPL back to it, until there is a key; then MOV @#177562,R0 and a
-// branch back to the TSTB, which is done in the even turns while no key comes.
+/// In a loop TSTB @#177560 and a BPL back to it, until there is a key; then MOV @#177562,R0 and a
+/// branch back to the TSTB, which is done in the even turns while no key comes.
 const FETCHES_KEYS: [u16; 6] = [0o105737, 0o177560, 0o100375, 0o13700, 0o177562, 0o772];
 
 /// An edit. Key 101 comes in turn 5000 as event 1, and key 102 in turn 9000 as event 2.
@@ -47,7 +47,7 @@ impl Edit {
     }
 }
 
-// The edit, the turn up to which is looked, and the turn from which on it would change nothing.
+/// The edit, the turn up to which is looked, and the turn from which on it would change nothing.
 const FADINGS: [(Edit, u32, Option<u32>); 10] = [
     // The key is fetched four turns later, and the TSTB after it sets the condition codes.
     (Edit::Alter(5003, 0o101), 20_000, Some(5009)),
@@ -66,7 +66,7 @@ const FADINGS: [(Edit, u32, Option<u32>); 10] = [
     (Edit::Core(0o20000, 1), 20_000, None),
 ];
 
-// Both keys are put into the script, and then the edits are asked about.
+/// Both keys are put into the script, and then the edits are asked about.
 const KEYS: [Step; 2] = [
     Step::Edit(steps::Edit::Insert(5000, Event::Key(0o101)), Ok(1)),
     Step::Edit(steps::Edit::Insert(9000, Event::Key(0o102)), Ok(2)),

@@ -5,7 +5,7 @@ use std::io;
 use std::io::{Error, ErrorKind, Read, Write};
 use std::test::Fail;
 
-// Fails at its second read, and gives a byte at each other.
+/// Fails at its second read, and gives a byte at each other.
 #[derive(Drop)]
 struct FailsOnce {
     reads: u32,
@@ -35,7 +35,7 @@ fn a_failed_feed_gives_no_more(rt: HostRuntime) -> Result<(), Fail> {
     Ok(())
 }
 
-// Takes none at its second write, and a byte at each other.
+/// Takes none at its second write, and a byte at each other.
 #[derive(Drop)]
 struct TakesNoneOnce {
     writes: u32,

@@ -7,17 +7,17 @@ use std::alloc::Global;
 use std::process::Abort;
 use std::test::Fail;
 
-// MOV #5,R0; HALT
+/// MOV #5,R0; HALT
 const FIVE: [u16; 3] = [0o12700, 5, 0];
 
-// MOV #101,R0; then in a loop MOVB R0,@#177566; MOVB R0,@#177556; INC R0; and a branch back to the
-// first MOVB. A letter is sent to the printer in the turns 1, 5, 9 and so on, and is printed one
-// turn later. In that turn it is sent to the punch, and four turns later it is punched.
+/// MOV #101,R0; then in a loop MOVB R0,@#177566; MOVB R0,@#177556; INC R0; and a branch back to the
+/// first MOVB. A letter is sent to the printer in the turns 1, 5, 9 and so on, and is printed one
+/// turn later. In that turn it is sent to the punch, and four turns later it is punched.
 const LETTERS: [u16; 9] = [
     0o12700, 0o101, 0o110037, 0o177566, 0o110037, 0o177556, 0o5200, 0o772, 0,
 ];
 
-// What LETTERS has printed before turn 7.
+/// What LETTERS has printed before turn 7.
 const A_AND_B: [KeptByte; 2] = [
     KeptByte {
         byte: 0o101,
@@ -29,20 +29,20 @@ const A_AND_B: [KeptByte; 2] = [
     },
 ];
 
-// What it has punched by then.
+/// What it has punched by then.
 const PUNCHED_A: [KeptByte; 1] = [KeptByte {
     byte: 0o101,
     turn: 6,
 }];
 
-// Asserts which states are kept: the turn of the next, and the turn of the one from which a turn is
-// reached.
+/// Asserts which states are kept: the turn of the next, and the turn of the one from which a turn is
+/// reached.
 fn assert_kept(rt: &impl Abort, engine: &Engine, turn: u32, want: (u32, u32)) {
     let ladder = engine.kept_states();
     assert_eq!(rt; (ladder.next(), ladder.best(turn).turn), want);
 }
 
-// The 257th state, that of turn 256, doubles the stride: the states of turns 0, 2, .. 256 stay.
+/// The 257th state, that of turn 256, doubles the stride: the states of turns 0, 2, .. 256 stay.
 const FILLS: [Step; 1] = [Step::Ran(Question::Regs(255), 255, 255)];
 
 const DOUBLES: [Step; 5] = [
@@ -67,7 +67,7 @@ fn stride_doubles(rt: HostRuntime) -> Result<(), Fail> {
     assert_doubles(&rt, rt.alloc(), &mut engine)
 }
 
-// Asserts that the machine is at turn 7, and has printed and punched what LETTERS has before it.
+/// Asserts that the machine is at turn 7, and has printed and punched what LETTERS has before it.
 fn assert_machine(rt: &impl Abort, engine: &Engine) {
     let machine = engine.machine();
     assert_eq!(rt; machine.turns(), 7);
@@ -82,8 +82,8 @@ const BACK_TO_TURN_7: [Step; 2] = [
 
 const EVENT_AT_TURN_5: [Step; 1] = [Step::Edit(Edit::Insert(5, Event::Tick), Ok(1))];
 
-// By turn 11 the states of the turns 0, 4 and 8 are kept, and then the machine goes back to turn 7.
-// The edit leaves the states of the turns 0 and 4.
+/// By turn 11 the states of the turns 0, 4 and 8 are kept, and then the machine goes back to turn 7.
+/// The edit leaves the states of the turns 0 and 4.
 fn assert_states(rt: &impl Abort, alloc: Global, engine: &mut Engine) -> Result<(), Fail> {
     follow(rt, alloc, engine, 4, &BACK_TO_TURN_7)?;
     assert_kept(rt, engine, 1_000, (12, 8));
@@ -100,8 +100,8 @@ fn machine_and_kept_states(rt: HostRuntime) -> Result<(), Fail> {
     assert_states(&rt, rt.alloc(), &mut engine)
 }
 
-// An early question leaves what was printed and punched by the known turn. An edit at a turn
-// leaves what was printed and punched before it.
+/// An early question leaves what was printed and punched by the known turn. An edit at a turn
+/// leaves what was printed and punched before it.
 const TEXTS: [Step; 11] = [
     Step::Ran(Question::Text(100), 100, 100),
     Step::Ran(Question::Text(3), 3, 100),
@@ -122,9 +122,9 @@ fn early_questions_keep_the_text(rt: HostRuntime) -> Result<(), Fail> {
     follow(&rt, rt.alloc(), &mut engine, 4, &TEXTS)
 }
 
-// States at the multiples of 40,000 are kept by turn 10,000,000: from 256 times 10,000 on the
-// stride is 20,000, and from 256 times 20,000 on 40,000. An engine that ran turns in secret,
-// without the meter, would not end within a test's time.
+/// States at the multiples of 40,000 are kept by turn 10,000,000: from 256 times 10,000 on the
+/// stride is 20,000, and from 256 times 20,000 on 40,000. An engine that ran turns in secret,
+/// without the meter, would not end within a test's time.
 const FAR: [Step; 1] = [Step::Ran(Question::Regs(10_000_000), 10_000_000, 10_000_000)];
 
 fn assert_known(rt: &impl Abort, alloc: Global, engine: &mut Engine) -> Result<(), Fail> {

@@ -13,8 +13,8 @@ const PPB: u32 = 0o777556;
 
 const TPB: u32 = 0o777566;
 
-// A turn, whether it begins quietly, and the word that is written then to the register of this
-// address. Printer, reader and punch take 3 turns each.
+/// A turn, whether it begins quietly, and the word that is written then to the register of this
+/// address. Printer, reader and punch take 3 turns each.
 const TURNS: [(u32, bool, Option<(u32, u16)>); 12] = [
     (2, true, Some((TPB, 0o101))),
     (3, true, None),
@@ -30,7 +30,7 @@ const TURNS: [(u32, bool, Option<(u32, u16)>); 12] = [
     (LAST_TURN, true, None),
 ];
 
-// The same with a clock that ticks in turns 3, 6 and so on.
+/// The same with a clock that ticks in turns 3, 6 and so on.
 const TICKS: [(u32, bool, Option<(u32, u16)>); 4] = [
     (2, true, None),
     (3, false, None),
@@ -71,7 +71,7 @@ fn begins_quietly(
     Ok(())
 }
 
-// A turn can't begin quietly if the printer, the reader or the punch is due, or the clock ticks.
+/// A turn can't begin quietly if the printer, the reader or the punch is due, or the clock ticks.
 #[test]
 fn turns_of_devices_and_of_the_clock(rt: HostRuntime) -> Result<(), NoMemory> {
     let delays = Delays::standard()

@@ -4,8 +4,8 @@ use pdp_script::{Fault, Script};
 use pdp_unibus::Event;
 use std::test::Fail;
 
-// A script has at most 65,536 events. A refused one uses no number up, and a dropped one makes
-// room.
+/// A script has at most 65,536 events. A refused one uses no number up, and a dropped one makes
+/// room.
 #[test]
 fn holds_65536_events(rt: HostRuntime) -> Result<(), Fail> {
     let mut script = Script::new(rt.alloc());

@@ -8,8 +8,8 @@ use std::alloc::Global;
 use std::process::Abort;
 use std::test::Fail;
 
-// MOV #101,R0; then in a loop MOVB R0,@#177566; MOVB R0,@#177556; INC R0 at 1014; and a branch back
-// to the first MOVB. The letter of number k, counted from 0, is printed in turn 4k + 2.
+/// MOV #101,R0; then in a loop MOVB R0,@#177566; MOVB R0,@#177556; INC R0 at 1014; and a branch back
+/// to the first MOVB. The letter of number k, counted from 0, is printed in turn 4k + 2.
 const LETTERS: [u16; 9] = [
     0o12700, 0o101, 0o110037, 0o177566, 0o110037, 0o177556, 0o5200, 0o772, 0,
 ];
@@ -36,14 +36,14 @@ const INCREMENT: Sought = Sought::Instruction {
     mode: None,
 };
 
-// Turn 0 alone runs it.
+/// Turn 0 alone runs it.
 const BEGIN: Sought = Sought::Instruction {
     address: 0o1000,
     mode: None,
 };
 
-// What is asked, how many turns are run for it, and the known turn after it. The state of turn 0
-// alone is kept, and the machine goes on from where it is if that isn't past the first turn.
+/// What is asked, how many turns are run for it, and the known turn after it. The state of turn 0
+/// alone is kept, and the machine goes on from where it is if that isn't past the first turn.
 const SEARCHES: [(Asked, u64, u32); 10] = [
     (Asked::First(INCREMENT, 0, 100), 4, 4),
     (Asked::Writes(4, 100), 96, 100),
@@ -60,8 +60,8 @@ const SEARCHES: [(Asked, u64, u32); 10] = [
     (Asked::Last(INCREMENT, 0, 120), 180, 120),
 ];
 
-// With a state at each tenth turn: 100 turns are made known, and then turns are searched from the
-// end on, part by part, up to the part in which one is found.
+/// With a state at each tenth turn: 100 turns are made known, and then turns are searched from the
+/// end on, part by part, up to the part in which one is found.
 const SEARCHES_BACKWARDS: [(Asked, u64, u32); 3] = [
     (Asked::Last(INCREMENT, 0, 100), 110, 100),
     (Asked::Last(INCREMENT, 0, 100), 10, 100),
@@ -126,8 +126,8 @@ fn turns_run_for_searches_backwards(rt: HostRuntime) -> Result<(), Fail> {
     assert_runs(&rt, rt.alloc(), &mut engine, &SEARCHES_BACKWARDS)
 }
 
-// MOV #400,SP; MOV R0,-(SP), into the yellow zone. The stack trap is turn 2, and goes to 0, where
-// HALT is.
+/// MOV #400,SP; MOV R0,-(SP), into the yellow zone. The stack trap is turn 2, and goes to 0, where
+/// HALT is.
 const PUSHES: [u16; 4] = [0o12706, 0o400, 0o10046, 0];
 
 #[test]

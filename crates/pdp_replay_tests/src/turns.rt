@@ -7,14 +7,14 @@ use std::alloc::Global;
 use std::process::Abort;
 use std::test::Fail;
 
-// A branch to itself.
+/// A branch to itself.
 const BRANCH: [u16; 1] = [0o777];
 
-// MOV #5,R0; HALT
+/// MOV #5,R0; HALT
 const FIVE: [u16; 3] = [0o12700, 5, 0];
 
-// One word is read from the disk over the branch that waits for it. The transfer is done in turn
-// 12.
+/// One word is read from the disk over the branch that waits for it. The transfer is done in turn
+/// 12.
 const READS_DISK_OVER_ITSELF: [u16; 10] = [
     0o012737, 0o177777, 0o177406, 0o012737, 0o001022, 0o177410, 0o012737, 0o000005, 0o177404,
     0o000777,
@@ -57,8 +57,8 @@ const BRANCHES_ON_DRIVE: Question = Question::FindDisk {
     wanted: BRANCHES,
 };
 
-// No state but that of turn 0 is kept. The machine stays where the last question left it, until an
-// edit reaches back before that turn.
+/// No state but that of turn 0 is kept. The machine stays where the last question left it, until an
+/// edit reaches back before that turn.
 const QUESTIONS: [Step; 20] = [
     Step::Ran(Question::Regs(300), 300, 300),
     Step::Ran(Question::Regs(5), 5, 300),
@@ -88,8 +88,8 @@ fn turns_run(rt: HostRuntime) -> Result<(), Fail> {
     follow(&rt, rt.alloc(), &mut engine, WIDEST, &QUESTIONS)
 }
 
-// An event lowers it to its turn, or to its old turn if that is lower. What no turn has come to
-// yet stays as it is.
+/// An event lowers it to its turn, or to its old turn if that is lower. What no turn has come to
+/// yet stays as it is.
 const SCRIPT_EDITS: [Step; 15] = [
     Step::Ran(Question::Regs(300), 300, 300),
     Step::Edit(Edit::Insert(500, Event::Tick), Ok(1)),
@@ -108,7 +108,7 @@ const SCRIPT_EDITS: [Step; 15] = [
     Step::Ran(POWER_UP, 0, 100),
 ];
 
-// A delay, a tape and more drives are as of power-up. A refused edit lowers nothing.
+/// A delay, a tape and more drives are as of power-up. A refused edit lowers nothing.
 const SETUP_EDITS: [Step; 16] = [
     Step::Ran(Question::Regs(10), 10, 100),
     Step::Edit(
@@ -142,7 +142,7 @@ fn known_turns(rt: HostRuntime) -> Result<(), Fail> {
     follow_edits(&rt, rt.alloc(), &mut engine)
 }
 
-// A patch of a page that no turn touched leaves all known, and the word is in each checkpoint.
+/// A patch of a page that no turn touched leaves all known, and the word is in each checkpoint.
 const PATCHES_OF_CORE: [Step; 6] = [
     Step::Ran(Question::Regs(100), 100, 100),
     Step::Edit(Edit::Patch(0o4000, 7), Ok(0)),
@@ -173,8 +173,8 @@ fn known_turns_of_patches_of_the_drive(rt: HostRuntime) -> Result<(), Fail> {
     follow(&rt, rt.alloc(), &mut engine, 1, &PATCHES_OF_THE_DRIVE)
 }
 
-// On the way to a turn far off states are kept each 8,192 turns. They are dropped as what is known
-// is, so that no question goes on from a state of another past.
+/// On the way to a turn far off states are kept each 8,192 turns. They are dropped as what is known
+/// is, so that no question goes on from a state of another past.
 const STATES_NEAR_A_TURN: [Step; 10] = [
     Step::Ran(Question::Regs(90_000), 90_000, 90_000),
     Step::Ran(Question::Regs(89_999), 8_079, 90_000),
@@ -194,8 +194,8 @@ fn states_near_a_turn(rt: HostRuntime) -> Result<(), Fail> {
     follow(&rt, rt.alloc(), &mut engine, 100_000, &STATES_NEAR_A_TURN)
 }
 
-// A key that no program reads changes the machine only in which key waits. A run that meets the run
-// before the edit takes its states back, and runs no more turns.
+/// A key that no program reads changes the machine only in which key waits. A run that meets the run
+/// before the edit takes its states back, and runs no more turns.
 const KEY: Event = Event::Key(0o101);
 
 const OTHER_KEY: Event = Event::Key(0o102);

@@ -164,9 +164,9 @@ impl Script {
         }
     }
 
-    // Whether an edit could be done, memory allowing.
-    //
-    // Err as that of the edit.
+    /// Whether an edit could be done, memory allowing.
+    ///
+    /// Err as that of the edit.
     fn check(&self, edit: ScriptEdit) -> Result<(), Fault>
         ensures { result ≡ result_map (λ _. tt) (script_edited edit self.now) }
     {
@@ -180,9 +180,9 @@ impl Script {
         }
     }
 
-    // Whether an event can be added at a turn, memory allowing.
-    //
-    // Err as that of `insert`.
+    /// Whether an event can be added at a turn, memory allowing.
+    ///
+    /// Err as that of `insert`.
     fn check_insert(&self, turn: u32) -> Result<(), Fault>
         ensures { (event : Event)
             → result ≡ result_map (λ _. tt) (insert_edit turn event self.now) }
@@ -194,9 +194,9 @@ impl Script {
         Ok(())
     }
 
-    // Whether there is an event of this number.
-    //
-    // Err(NoSuchEvent) if there is none.
+    /// Whether there is an event of this number.
+    ///
+    /// Err(NoSuchEvent) if there is none.
     fn check_number(&self, number: u32) -> Result<(), Fault>
         ensures { result ≡ result_map (λ _. tt) (drop_edit number self.now) }
     {
@@ -350,9 +350,9 @@ impl Script {
     }
 }
 
-// Whether events can have this turn.
-//
-// Err(TurnTooLarge) if it is above 1,000,000,000.
+/// Whether events can have this turn.
+///
+/// Err(TurnTooLarge) if it is above 1,000,000,000.
 fn check_turn(turn: u32) -> Result<(), Fault>
     ensures refusal { result ≡ cond (nat_lt LAST_TURN turn) (Err Fault.TurnTooLarge) (Ok tt) }
     ensures within { OnOk result (turn ≤ LAST_TURN) }

@@ -11,10 +11,10 @@ use arrayvec::ArrayVec;
 use pdp_replay::{DelayedDevice, Engine, Fault, PastEdit, Patch, Question, ScriptEdit};
 use std::alloc::Global;
 
-// The bytes of a paper tape that a line names. They take no memory; a line has room for fewer.
+/// The bytes of a paper tape that a line names. They take no memory; a line has room for fewer.
 pub type TapeBytes = ArrayVec<u8, LONGEST_LINE>;
 
-// A command of the session language.
+/// A command of the session language.
 #[derive(Drop)]
 pub enum Command {
     EditPast(PastEdit),
@@ -26,7 +26,7 @@ pub enum Command {
     Ask(Question),
 }
 
-// Does what a command says, and answers its reply.
+/// Does what a command says, and answers its reply.
 #[tactic(auto, using(crate::proofs::Replying::reply_of_edit))]
 pub fn run_command(alloc: Global, engine: &mut Engine, command: Command) -> Reply
     ensures reply { result ≡ command_reply command (wants_memory result) engine.old.past }
@@ -46,7 +46,7 @@ pub fn run_command(alloc: Global, engine: &mut Engine, command: Command) -> Repl
     }
 }
 
-// Makes an edit that can also be asked about.
+/// Makes an edit that can also be asked about.
 fn edit_past(engine: &mut Engine, edit: PastEdit) -> Reply
     ensures reply { result ≡ past_edit_reply edit (wants_memory result) engine.old.past }
     ensures after { engine.new.past ≡ past_edit_leaves edit (wants_memory result)
@@ -61,7 +61,7 @@ fn edit_past(engine: &mut Engine, edit: PastEdit) -> Reply
     }
 }
 
-// Edits the script.
+/// Edits the script.
 #[tactic(auto, using(crate::proofs::Replying::reply_of_edit))]
 fn edit_script(engine: &mut Engine, edit: ScriptEdit) -> Reply
     ensures reply { result ≡ script_edit_reply edit (wants_memory result) engine.old.past }
@@ -82,7 +82,7 @@ fn edit_script(engine: &mut Engine, edit: ScriptEdit) -> Reply
     }
 }
 
-// Replaces the tape. The engine's own copy of the bytes is all the memory that it takes.
+/// Replaces the tape. The engine's own copy of the bytes is all the memory that it takes.
 #[tactic(auto, unfolding(pdp_replay::specs::Past::Edit::tape_edit))]
 fn set_tape(alloc: Global, engine: &mut Engine, tape: &TapeBytes) -> Result<(), Fault>
     ensures answer { result
@@ -94,7 +94,7 @@ fn set_tape(alloc: Global, engine: &mut Engine, tape: &TapeBytes) -> Result<(), 
     engine.set_tape(bytes)
 }
 
-// The reply to an edit.
+/// The reply to an edit.
 fn edit_reply(edited: Result<(), Fault>) -> Reply
     ensures { result ≡ edit_reply edited }
 {

@@ -30,10 +30,10 @@ use questions::read_question;
 use searches::read_search;
 use words::next_word;
 
-// The most bytes that a line may have.
+/// The most bytes that a line may have.
 pub const LONGEST_LINE: usize = 200;
 
-// What a line means.
+/// What a line means.
 #[derive(Drop)]
 pub enum LineMeaning {
     // A comment, or a line without words.
@@ -42,9 +42,9 @@ pub enum LineMeaning {
     Search(Search),
 }
 
-// A line, less what ended it, in this version; SEARCHES is whether its language has searches.
-// `LineTooLong` comes if the line has more than 200 bytes, and `BadLine` if it is not in the
-// grammar.
+/// A line, less what ended it, in this version; SEARCHES is whether its language has searches.
+/// `LineTooLong` comes if the line has more than 200 bytes, and `BadLine` if it is not in the
+/// grammar.
 pub fn read_line<const SEARCHES: bool>(version: Version, line: &[u8]) -> Result<LineMeaning, Fault>
     ensures { result ≡ line_read (line_means version line.now)
         (search_of (language_with SEARCHES) version line.now) }
@@ -62,8 +62,8 @@ pub fn read_line<const SEARCHES: bool>(version: Version, line: &[u8]) -> Result<
     }
 }
 
-// A line of the session language as a command; `None` for a line without words and for a comment.
-// Err as that of `read_line`.
+/// A line of the session language as a command; `None` for a line without words and for a comment.
+/// Err as that of `read_line`.
 #[tactic(auto, unfolding(crate::specs::Grammar::line_means))]
 fn read_session_line(version: Version, line: &[u8]) -> Result<Option<Command>, Fault>
     ensures { result ≡ line_means version line.now }
@@ -83,7 +83,7 @@ fn read_session_line(version: Version, line: &[u8]) -> Result<Option<Command>, F
     }
 }
 
-// The command of a name, with the words that follow it.
+/// The command of a name, with the words that follow it.
 #[tactic(auto, unfolding(crate::specs::Grammar::command_with))]
 fn read_command(version: Version, name: &[u8], arguments: &[u8]) -> Option<Command>
     requires { length arguments.now ≤ longest_line }
@@ -107,7 +107,7 @@ fn read_command(version: Version, name: &[u8], arguments: &[u8]) -> Option<Comma
     }
 }
 
-// `uncore A`
+/// `uncore A`
 fn read_uncore(arguments: &[u8]) -> Option<Command>
     ensures { result ≡ uncore_form (words_of_line arguments.now) }
 {
@@ -115,7 +115,7 @@ fn read_uncore(arguments: &[u8]) -> Option<Command>
     Some(Command::RevertCore { address })
 }
 
-// `tape B B ..`
+/// `tape B B ..`
 fn read_tape(arguments: &[u8]) -> Option<Command>
     requires { length arguments.now ≤ longest_line }
     ensures { result ≡ tape_form (words_of_line arguments.now) }
@@ -124,7 +124,7 @@ fn read_tape(arguments: &[u8]) -> Option<Command>
     Some(Command::SetTape(bytes))
 }
 
-// `delay printer N`, also `reader`, `punch`, `disk` and `clock`
+/// `delay printer N`, also `reader`, `punch`, `disk` and `clock`
 fn read_delay(arguments: &[u8]) -> Option<Command>
     ensures { result ≡ delay_form (words_of_line arguments.now) }
 {
@@ -134,7 +134,7 @@ fn read_delay(arguments: &[u8]) -> Option<Command>
     Some(Command::SetDelay { device, delay })
 }
 
-// `version 2`; there is no line that leads back to version 1
+/// `version 2`; there is no line that leads back to version 1
 fn read_version(arguments: &[u8]) -> Option<Command>
     ensures { result ≡ version_form (words_of_line arguments.now) }
 {
@@ -144,7 +144,7 @@ fn read_version(arguments: &[u8]) -> Option<Command>
     }
 }
 
-// `patches`
+/// `patches`
 fn read_patches(arguments: &[u8]) -> Option<Command>
     ensures { result ≡ patches_form (words_of_line arguments.now) }
 {

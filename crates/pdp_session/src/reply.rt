@@ -27,7 +27,7 @@ use texts::{
     refusal_text, regs_text, word_text,
 };
 
-// What a line is answered.
+/// What a line is answered.
 #[derive(Drop)]
 pub enum Reply {
     Nothing,
@@ -39,7 +39,7 @@ pub enum Reply {
     Refused(Fault),
 }
 
-// Writes a reply: nothing, or lines that each end in LF.
+/// Writes a reply: nothing, or lines that each end in LF.
 #[tactic(auto, unfolding(crate::specs::Reply::text_of))]
 pub fn send_reply<W: Drain>(engine: &Engine, reply: Reply, writer: &mut W) -> Result<(), Failed>
     ensures { Sends (text_of reply engine.now.past)
@@ -56,7 +56,7 @@ pub fn send_reply<W: Drain>(engine: &Engine, reply: Reply, writer: &mut W) -> Re
     send(writer, text.as_slice())
 }
 
-// Writes the answer to a question: one row for each kind of question.
+/// Writes the answer to a question: one row for each kind of question.
 fn send_value<W: Drain>(value: &Value, writer: &mut W) -> Result<(), Failed>
     ensures { Sends (value_text value.now) (W.output writer.old) (W.output writer.new) result }
 {
@@ -77,7 +77,7 @@ fn send_value<W: Drain>(value: &Value, writer: &mut W) -> Result<(), Failed>
     }
 }
 
-// Writes how many patches there are, and a line for each.
+/// Writes how many patches there are, and a line for each.
 fn send_patches<W: Drain>(engine: &Engine, writer: &mut W) -> Result<(), Failed>
     ensures { Sends (patches_text engine.now.past)
         (W.output writer.old) (W.output writer.new) result }
@@ -90,7 +90,7 @@ fn send_patches<W: Drain>(engine: &Engine, writer: &mut W) -> Result<(), Failed>
     Ok(())
 }
 
-// Writes the line of the patch of this index, if there is one.
+/// Writes the line of the patch of this index, if there is one.
 fn send_patch<W: Drain>(engine: &Engine, index: usize, writer: &mut W) -> Result<(), Failed>
     ensures { Sends (line_at (kept_patch_line (version_of engine.now.past))
         engine.now.past.setup.patches index)
@@ -103,7 +103,7 @@ fn send_patch<W: Drain>(engine: &Engine, index: usize, writer: &mut W) -> Result
     send(writer, text.as_slice())
 }
 
-// Writes words, in one line after a name.
+/// Writes words, in one line after a name.
 fn send_words<W: Drain>(name: &str, words: &[u16], writer: &mut W) -> Result<(), Failed>
     ensures { Sends (words_line name.now words.now)
         (W.output writer.old) (W.output writer.new) result }

@@ -14,8 +14,8 @@ use pdp_replay::{
 };
 use std::alloc::Global;
 
-// A search of the run. If it has two turns, it looks at the turns from the first on and before the
-// second.
+/// A search of the run. If it has two turns, it looks at the turns from the first on and before the
+/// second.
 #[derive(Clone, Copy)]
 pub enum Search {
     // The first turn that is sought.
@@ -88,7 +88,7 @@ pub enum Search {
     Setup,
 }
 
-// What a search found.
+/// What a search found.
 #[derive(Drop)]
 pub enum Finding {
     First(Option<u32>),
@@ -112,7 +112,7 @@ pub enum Finding {
 }
 
 impl Search {
-    // What the search finds in the run of the past as it is.
+    /// What the search finds in the run of the past as it is.
     pub fn run(self, alloc: Global, engine: &mut Engine) -> Result<Finding, Fault>
         ensures finding { result
             ≡ question_answer (search_result self engine.old.past) (for_memory result) }

@@ -57,7 +57,7 @@ pub fn run<const SEARCHES: bool, R: Feed, W: Drain>(
     serve::<SEARCHES, R, W>(alloc, &mut engine, reader, writer)
 }
 
-// Runs a session on an engine.
+/// Runs a session on an engine.
 fn serve<const SEARCHES: bool, R: Feed, W: Drain>(
     alloc: Global,
     engine: &mut Engine,

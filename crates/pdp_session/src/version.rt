@@ -3,7 +3,7 @@ ghost use Rattle.pdp_session.specs.Version.{version_of};
 
 use pdp_replay::Engine;
 
-// The version of a session, by which the lines of the drives are read and shown.
+/// The version of a session, by which the lines of the drives are read and shown.
 #[derive(Clone, Copy)]
 pub enum Version {
     // One drive, which no line names.
@@ -13,7 +13,7 @@ pub enum Version {
 }
 
 impl Version {
-    // The version of the session of this engine.
+    /// The version of the session of this engine.
     pub fn of(engine: &Engine) -> Version
         ensures { result ≡ version_of engine.now.past }
     {

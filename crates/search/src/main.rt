@@ -20,7 +20,7 @@ const PROGRAM: Program<'static> = Program {
     more_lines: LINES,
 };
 
-// The lines of searches, a few words on each.
+/// The lines of searches, a few words on each.
 const LINES: &str = "
 Lines of searches (A, B, D, I, J, K, V and W are octal; C, F, M and N are
 decimal). With N and M the turns from N on and before M are searched; F is a

@@ -23,7 +23,7 @@ use std::marker::Model;
 pub struct SavedOutput {
     text: Vec<KeptByte>,
 
-    // How many bytes were printed, and punched, before the first of these.
+    /// How many bytes were printed, and punched, before the first of these.
     text_from: usize,
     punched: Vec<KeptByte>,
     punched_from: usize,
@@ -154,8 +154,8 @@ impl Machine<Paged, PagedDrive> {
     }
 }
 
-// Of bytes that come after the first `from` ones, those after the first `first` and up to the first
-// `last`.
+/// Of bytes that come after the first `from` ones, those after the first `first` and up to the first
+/// `last`.
 fn between(bytes: &[KeptByte], from: usize, first: usize, last: usize) -> &[KeptByte]
     ensures { result.now ≡ bytes_between from first last bytes.now }
 {
@@ -165,9 +165,9 @@ fn between(bytes: &[KeptByte], from: usize, first: usize, last: usize) -> &[Kept
     &to_last[start..]
 }
 
-// Adds these bytes to both texts.
-//
-// Err(NoMemory) if memory was refused. Both stay as they are then.
+/// Adds these bytes to both texts.
+///
+/// Err(NoMemory) if memory was refused. Both stay as they are then.
 fn add_both(
     text: &mut KeptText,
     printed: &[KeptByte],

@@ -14,7 +14,7 @@ use pdp_kt11::Mode;
 use pdp_replay::DelayedDevice;
 use pdp_word::{read_decimal, read_octal};
 
-// The word of a text that has one.
+/// The word of a text that has one.
 pub fn one_word(text: &[u8]) -> Option<&[u8]>
     ensures { option_map (λ word. word.now) result ≡ one_of (words_of_line text.now) }
 {
@@ -25,7 +25,7 @@ pub fn one_word(text: &[u8]) -> Option<&[u8]>
     Some(word)
 }
 
-// The words of a text that has two.
+/// The words of a text that has two.
 pub fn two_words(text: &[u8]) -> Option<(&[u8], &[u8])>
     ensures { option_map (λ words. (words.0.now, words.1.now)) result ≡ two_of
         (words_of_line text.now) }
@@ -35,7 +35,7 @@ pub fn two_words(text: &[u8]) -> Option<(&[u8], &[u8])>
     Some((first, second))
 }
 
-// A word of the machine, in octal; `None` above 177777.
+/// A word of the machine, in octal; `None` above 177777.
 pub fn read_word(text: &[u8]) -> Option<u16>
     ensures { result ≡ word_named text.now }
 {
@@ -43,7 +43,7 @@ pub fn read_word(text: &[u8]) -> Option<u16>
     u16::try_from(number).ok()
 }
 
-// A byte, in octal; `None` above 377.
+/// A byte, in octal; `None` above 377.
 pub fn read_byte(text: &[u8]) -> Option<u8>
     ensures { result ≡ byte_named text.now }
 {
@@ -51,8 +51,8 @@ pub fn read_byte(text: &[u8]) -> Option<u8>
     u8::try_from(number).ok()
 }
 
-// A drive by its number, in octal; one that 8 bits can't hold becomes the largest that they hold,
-// which no drive has.
+/// A drive by its number, in octal; one that 8 bits can't hold becomes the largest that they hold,
+/// which no drive has.
 fn read_drive(text: &[u8]) -> Option<u8>
     ensures { result ≡ drive_named text.now }
 {
@@ -60,8 +60,8 @@ fn read_drive(text: &[u8]) -> Option<u8>
     Some(u8::try_from(number).unwrap_or(u8::MAX))
 }
 
-// The drive that a text's words are about, and the words that say what: in version 1 they name no
-// drive.
+/// The drive that a text's words are about, and the words that say what: in version 1 they name no
+/// drive.
 pub fn drive_first(version: Version, text: &[u8]) -> Option<(u8, &[u8])>
     ensures { option_map (λ found. (found.0, words_of_line found.1.now)) result
         ≡ drive_first version (words_of_line text.now) }
@@ -76,7 +76,7 @@ pub fn drive_first(version: Version, text: &[u8]) -> Option<(u8, &[u8])>
     }
 }
 
-// The bytes that a text's words are, in octal; `None` if one of its words is no byte.
+/// The bytes that a text's words are, in octal; `None` if one of its words is no byte.
 pub fn read_bytes(text: &[u8]) -> Option<TapeBytes>
     requires { length text.now ≤ longest_line }
     ensures { option_map (λ bytes. bytes.items) result ≡ bytes_named (words_of_line text.now) }
@@ -90,7 +90,7 @@ pub fn read_bytes(text: &[u8]) -> Option<TapeBytes>
     Some(bytes)
 }
 
-// A mode of the processor, by its name.
+/// A mode of the processor, by its name.
 #[tactic(auto, unfolding(crate::specs::Grammar::Arguments::mode_named))]
 pub fn read_mode(name: &[u8]) -> Option<Mode>
     ensures { result ≡ mode_named name.now }
@@ -104,7 +104,7 @@ pub fn read_mode(name: &[u8]) -> Option<Mode>
     }
 }
 
-// A device that has a delay, by its name.
+/// A device that has a delay, by its name.
 #[tactic(auto, unfolding(crate::specs::Grammar::Arguments::device_named))]
 pub fn read_device_name(name: &[u8]) -> Option<DelayedDevice>
     ensures { result ≡ device_named name.now }
@@ -124,7 +124,7 @@ pub fn read_device_name(name: &[u8]) -> Option<DelayedDevice>
     }
 }
 
-// An event by its number, in decimal; one that 32 bits can't hold becomes 0, which no event has.
+/// An event by its number, in decimal; one that 32 bits can't hold becomes 0, which no event has.
 pub fn read_event_number(text: &[u8]) -> Option<u32>
     ensures { result ≡ event_named text.now }
 {
@@ -132,8 +132,8 @@ pub fn read_event_number(text: &[u8]) -> Option<u32>
     Some(u32::try_from(number).unwrap_or(0))
 }
 
-// A turn, in decimal; one that 32 bits can't hold becomes the largest that they hold, which no run
-// reaches.
+/// A turn, in decimal; one that 32 bits can't hold becomes the largest that they hold, which no run
+/// reaches.
 pub fn read_turn(text: &[u8]) -> Option<u32>
     ensures { result ≡ turn_named text.now }
 {
@@ -141,8 +141,8 @@ pub fn read_turn(text: &[u8]) -> Option<u32>
     Some(u32::try_from(number).unwrap_or(u32::MAX))
 }
 
-// A count, in decimal; one that 32 bits can't hold becomes the largest that they hold, which no
-// count may be.
+/// A count, in decimal; one that 32 bits can't hold becomes the largest that they hold, which no
+/// count may be.
 pub fn read_count(text: &[u8]) -> Option<u32>
     ensures { result ≡ count_named text.now }
 {
@@ -150,7 +150,7 @@ pub fn read_count(text: &[u8]) -> Option<u32>
     Some(u32::try_from(number).unwrap_or(u32::MAX))
 }
 
-// Two turns, and the words that say what.
+/// Two turns, and the words that say what.
 pub fn turns_first(text: &[u8]) -> Option<(u32, u32, &[u8])>
     ensures { option_map (λ found. (found.0, found.1, words_of_line found.2.now)) result
         ≡ turns_first (words_of_line text.now) }

@@ -15,7 +15,7 @@ use pdp_kt11::Mode;
 use pdp_replay::{Quantity, Relation, TurnCondition, TurnConditions};
 use pdp_word::read_octal;
 
-// A register, by its name.
+/// A register, by its name.
 #[tactic(auto, unfolding(crate::specs::Grammar::Conditions::register_named))]
 fn read_register_name(name: &[u8]) -> Option<Quantity>
     ensures { result ≡ register_named name.now }
@@ -47,7 +47,7 @@ fn read_register_name(name: &[u8]) -> Option<Quantity>
     }
 }
 
-// A relation, by its sign.
+/// A relation, by its sign.
 #[tactic(auto, unfolding(crate::specs::Grammar::Conditions::relation_named))]
 fn read_relation(name: &[u8]) -> Option<Relation>
     ensures { result ≡ relation_named name.now }
@@ -65,7 +65,7 @@ fn read_relation(name: &[u8]) -> Option<Relation>
     }
 }
 
-// `core A` or the name of a register, with the words after it.
+/// `core A` or the name of a register, with the words after it.
 #[tactic(auto, unfolding(crate::specs::Grammar::Conditions::quantity_first))]
 fn read_quantity(text: &[u8]) -> Option<(Quantity, &[u8])>
     ensures { option_map (λ found. (found.0, words_of_line found.1.now)) result
@@ -81,7 +81,7 @@ fn read_quantity(text: &[u8]) -> Option<(Quantity, &[u8])>
     Some((register, others))
 }
 
-// `= W` and so on, with the words after it.
+/// `= W` and so on, with the words after it.
 fn read_compared(quantity: Quantity, text: &[u8]) -> Option<(TurnCondition, &[u8])>
     ensures { option_map (λ found. (found.0, words_of_line found.1.now)) result
         ≡ compared_first quantity (words_of_line text.now) }
@@ -98,7 +98,7 @@ fn read_compared(quantity: Quantity, text: &[u8]) -> Option<(TurnCondition, &[u8
     Some((condition, after))
 }
 
-// `W = W`, with the words after it.
+/// `W = W`, with the words after it.
 #[tactic(auto, unfolding(crate::specs::Grammar::Conditions::masked_first))]
 fn read_masked(quantity: Quantity, text: &[u8]) -> Option<(TurnCondition, &[u8])>
     ensures { option_map (λ found. (found.0, words_of_line found.1.now)) result
@@ -120,7 +120,7 @@ fn read_masked(quantity: Quantity, text: &[u8]) -> Option<(TurnCondition, &[u8])
     Some((condition, after))
 }
 
-// `X = W`, `X != W`, `X < W`, `X > W` and `X & W = W`, with the words after it.
+/// `X = W`, `X != W`, `X < W`, `X > W` and `X & W = W`, with the words after it.
 #[tactic(auto, unfolding(crate::specs::Grammar::Conditions::comparison_first))]
 fn read_comparison(text: &[u8]) -> Option<(TurnCondition, &[u8])>
     ensures { option_map (λ found. (found.0, words_of_line found.1.now)) result
@@ -135,7 +135,7 @@ fn read_comparison(text: &[u8]) -> Option<(TurnCondition, &[u8])>
     }
 }
 
-// `A`, the address of an instruction, with the words after it.
+/// `A`, the address of an instruction, with the words after it.
 fn read_address(text: &[u8]) -> Option<(TurnCondition, &[u8])>
     ensures { option_map (λ found. (found.0, words_of_line found.1.now)) result
         ≡ address_first (words_of_line text.now) }
@@ -145,7 +145,7 @@ fn read_address(text: &[u8]) -> Option<(TurnCondition, &[u8])>
     Some((TurnCondition::At { address }, others))
 }
 
-// A condition, with the words after it.
+/// A condition, with the words after it.
 #[tactic(auto, unfolding(crate::specs::Grammar::Conditions::condition_first))]
 fn read_condition(text: &[u8]) -> Option<(TurnCondition, &[u8])>
     ensures { option_map (λ found. (found.0, words_of_line found.1.now)) result
@@ -163,7 +163,7 @@ fn read_condition(text: &[u8]) -> Option<(TurnCondition, &[u8])>
     }
 }
 
-// `and C`, with the words after it; nothing where the words end.
+/// `and C`, with the words after it; nothing where the words end.
 #[tactic(auto, unfolding(crate::specs::Grammar::Conditions::and_condition_first))]
 fn read_next(text: &[u8]) -> Option<(Option<TurnCondition>, &[u8])>
     ensures { option_map (λ found. (found.0, words_of_line found.1.now)) result
@@ -179,7 +179,7 @@ fn read_next(text: &[u8]) -> Option<(Option<TurnCondition>, &[u8])>
     Some((Some(condition), rest))
 }
 
-// `C`, `C and C` and so on, up to four.
+/// `C`, `C and C` and so on, up to four.
 pub fn read_conditions(text: &[u8]) -> Option<TurnConditions>
     ensures { result ≡ conditions_named (words_of_line text.now) }
 {

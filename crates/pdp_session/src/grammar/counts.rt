@@ -9,7 +9,7 @@ use super::words::next_word;
 use crate::search::Search;
 use pdp_replay::CountedWords;
 
-// `counts N M kernel A C` and `counts N M user A C`
+/// `counts N M kernel A C` and `counts N M user A C`
 pub fn read_counts(arguments: &[u8]) -> Option<Search>
     ensures { result ≡ counts_form (words_of_line arguments.now) }
 {
@@ -18,7 +18,7 @@ pub fn read_counts(arguments: &[u8]) -> Option<Search>
     Some(Search::Counts { from, to, words })
 }
 
-// `kernel A C` or `user A C`
+/// `kernel A C` or `user A C`
 fn read_words(text: &[u8]) -> Option<CountedWords>
     ensures { result ≡ counted_words_named (words_of_line text.now) }
 {

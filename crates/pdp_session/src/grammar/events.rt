@@ -6,7 +6,7 @@ use super::arguments::{read_byte, read_word};
 use super::words::next_word;
 use pdp_replay::Event;
 
-// The event that a text's words name, if they name one.
+/// The event that a text's words name, if they name one.
 pub fn read_event(text: &[u8]) -> Option<Event>
     ensures { result ≡ event_of (words_of_line text.now) }
 {
@@ -22,7 +22,7 @@ pub fn read_event(text: &[u8]) -> Option<Event>
     }
 }
 
-// An event that is a name alone.
+/// An event that is a name alone.
 #[tactic(auto, unfolding(crate::specs::Grammar::Events::event_alone))]
 fn event_alone(name: &[u8]) -> Option<Event>
     ensures { result ≡ event_alone name.now }
@@ -44,7 +44,7 @@ fn event_alone(name: &[u8]) -> Option<Event>
     }
 }
 
-// An event that is a name and a number.
+/// An event that is a name and a number.
 #[tactic(auto, unfolding(crate::specs::Grammar::Events::event_with))]
 fn event_with(name: &[u8], number: &[u8]) -> Option<Event>
     ensures { result ≡ event_with name.now number.now }

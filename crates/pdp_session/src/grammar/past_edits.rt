@@ -13,7 +13,7 @@ use crate::version::Version;
 use pdp_replay::{PastEdit, Patch, ScriptEdit};
 use pdp_word::read_octal;
 
-// The edit of a name, with the words that follow it.
+/// The edit of a name, with the words that follow it.
 #[tactic(auto, unfolding(crate::specs::Grammar::PastEdits::past_edit_with))]
 pub fn read_past_edit(version: Version, name: &[u8], arguments: &[u8]) -> Option<PastEdit>
     ensures { result ≡ past_edit_with version name.now (words_of_line arguments.now) }
@@ -33,7 +33,7 @@ pub fn read_past_edit(version: Version, name: &[u8], arguments: &[u8]) -> Option
     }
 }
 
-// `core A W`
+/// `core A W`
 fn read_core(arguments: &[u8]) -> Option<Patch>
     ensures { result ≡ core_form (words_of_line arguments.now) }
 {
@@ -43,7 +43,7 @@ fn read_core(arguments: &[u8]) -> Option<Patch>
     Some(Patch::Core(address, word))
 }
 
-// `disk I W`, in version 2 `disk D I W`
+/// `disk I W`, in version 2 `disk D I W`
 fn read_disk(version: Version, arguments: &[u8]) -> Option<Patch>
     ensures { result ≡ disk_form version (words_of_line arguments.now) }
 {
@@ -54,7 +54,7 @@ fn read_disk(version: Version, arguments: &[u8]) -> Option<Patch>
     Some(Patch::Disk(drive, number, word))
 }
 
-// `at T event`
+/// `at T event`
 fn read_at(arguments: &[u8]) -> Option<ScriptEdit>
     ensures { result ≡ at_form (words_of_line arguments.now) }
 {
@@ -64,7 +64,7 @@ fn read_at(arguments: &[u8]) -> Option<ScriptEdit>
     Some(ScriptEdit::Insert { turn, event })
 }
 
-// `alter E T event`
+/// `alter E T event`
 fn read_alter(arguments: &[u8]) -> Option<ScriptEdit>
     ensures { result ≡ alter_form (words_of_line arguments.now) }
 {
@@ -80,7 +80,7 @@ fn read_alter(arguments: &[u8]) -> Option<ScriptEdit>
     })
 }
 
-// `drop E`
+/// `drop E`
 fn read_drop(arguments: &[u8]) -> Option<ScriptEdit>
     ensures { result ≡ drop_form (words_of_line arguments.now) }
 {

@@ -9,7 +9,7 @@ use crate::version::Version;
 use pdp_replay::Question;
 use pdp_word::read_octal;
 
-// The question of a name, with the words that follow it.
+/// The question of a name, with the words that follow it.
 #[tactic(auto, unfolding(crate::specs::Grammar::Questions::question_with))]
 pub fn read_question(version: Version, name: &[u8], arguments: &[u8]) -> Option<Question>
     ensures { result ≡ question_with version name.now (words_of_line arguments.now) }
@@ -37,14 +37,14 @@ pub fn read_question(version: Version, name: &[u8], arguments: &[u8]) -> Option<
     }
 }
 
-// A turn, and no other word.
+/// A turn, and no other word.
 fn read_only_turn(arguments: &[u8]) -> Option<u32>
     ensures { result ≡ only_turn (words_of_line arguments.now) }
 {
     read_turn(one_word(arguments)?)
 }
 
-// `mem N A C`
+/// `mem N A C`
 fn read_mem(arguments: &[u8]) -> Option<Question>
     ensures { result ≡ mem_form (words_of_line arguments.now) }
 {
@@ -54,7 +54,7 @@ fn read_mem(arguments: &[u8]) -> Option<Question>
     Some(Question::Core(turn, address, count))
 }
 
-// `dsk N I C`, in version 2 `dsk N D I C`
+/// `dsk N I C`, in version 2 `dsk N D I C`
 fn read_dsk(version: Version, arguments: &[u8]) -> Option<Question>
     ensures { result ≡ dsk_form version (words_of_line arguments.now) }
 {
@@ -65,7 +65,7 @@ fn read_dsk(version: Version, arguments: &[u8]) -> Option<Question>
     Some(Question::Disk(turn, drive, number, count))
 }
 
-// The number of the first of some words, and how many.
+/// The number of the first of some words, and how many.
 fn read_range(arguments: &[u8]) -> Option<(u32, u32)>
     ensures { result ≡ range_named (words_of_line arguments.now) }
 {
@@ -75,7 +75,7 @@ fn read_range(arguments: &[u8]) -> Option<(u32, u32)>
     Some((first, count))
 }
 
-// `last N A`
+/// `last N A`
 fn read_last(arguments: &[u8]) -> Option<Question>
     ensures { result ≡ last_form (words_of_line arguments.now) }
 {
@@ -85,7 +85,7 @@ fn read_last(arguments: &[u8]) -> Option<Question>
     Some(Question::Last(turn, address))
 }
 
-// `trail N C`
+/// `trail N C`
 fn read_trail(arguments: &[u8]) -> Option<Question>
     ensures { result ≡ trail_form (words_of_line arguments.now) }
 {

@@ -27,8 +27,8 @@ use crate::version::Version;
 use pdp_replay::{Fault, Sought, TextKind};
 use pdp_word::read_octal;
 
-// The search that a line is which is no line of the session language, less what ended it, in this
-// version, if its language has searches.
+/// The search that a line is which is no line of the session language, less what ended it, in this
+/// version, if its language has searches.
 #[tactic(auto, unfolding(crate::specs::Language::search_of))]
 pub fn read_search<const SEARCHES: bool>(version: Version, line: &[u8]) -> Option<Search>
     requires { line_means version line.now ≡ Err Fault.BadLine }
@@ -41,7 +41,7 @@ pub fn read_search<const SEARCHES: bool>(version: Version, line: &[u8]) -> Optio
     }
 }
 
-// The search that the words of a text are.
+/// The search that the words of a text are.
 fn read_words(version: Version, text: &[u8]) -> Option<Search>
     ensures { result ≡ search_named version (words_of_line text.now) }
 {
@@ -49,7 +49,7 @@ fn read_words(version: Version, text: &[u8]) -> Option<Search>
     read_named(version, name, arguments)
 }
 
-// The search of a name, with the words that follow it.
+/// The search of a name, with the words that follow it.
 #[tactic(auto, unfolding(crate::specs::Grammar::Searches::search_with))]
 fn read_named(version: Version, name: &[u8], arguments: &[u8]) -> Option<Search>
     ensures { result ≡ search_with version name.now (words_of_line arguments.now) }
@@ -88,7 +88,7 @@ fn read_named(version: Version, name: &[u8], arguments: &[u8]) -> Option<Search>
     }
 }
 
-// `events` or `setup`, without arguments.
+/// `events` or `setup`, without arguments.
 fn read_alone(search: Search, arguments: &[u8]) -> Option<Search>
     ensures { result ≡ alone search (words_of_line arguments.now) }
 {
@@ -98,8 +98,8 @@ fn read_alone(search: Search, arguments: &[u8]) -> Option<Search>
     Some(search)
 }
 
-// `first N M at A`, also `first N M at A kernel`, `first N M at A user`, `first N M vector V`,
-// `first N M trap V` and `first N M where C`
+/// `first N M at A`, also `first N M at A kernel`, `first N M at A user`, `first N M vector V`,
+/// `first N M trap V` and `first N M where C`
 fn read_first(arguments: &[u8]) -> Option<Search>
     ensures { result ≡ first_form (words_of_line arguments.now) }
 {
@@ -108,7 +108,7 @@ fn read_first(arguments: &[u8]) -> Option<Search>
     Some(Search::First { from, to, sought })
 }
 
-// `latest N M at A` and so on
+/// `latest N M at A` and so on
 fn read_latest(arguments: &[u8]) -> Option<Search>
     ensures { result ≡ latest_form (words_of_line arguments.now) }
 {
@@ -117,7 +117,7 @@ fn read_latest(arguments: &[u8]) -> Option<Search>
     Some(Search::Latest { from, to, sought })
 }
 
-// What a search looks for; `where C` and so on are conditions.
+/// What a search looks for; `where C` and so on are conditions.
 #[tactic(auto, unfolding(crate::specs::Grammar::Searches::sought_named))]
 fn read_sought(text: &[u8]) -> Option<Sought>
     ensures { result ≡ sought_named (words_of_line text.now) }
@@ -130,7 +130,7 @@ fn read_sought(text: &[u8]) -> Option<Sought>
     read_plainly_sought(word, others)
 }
 
-// `at A` and so on.
+/// `at A` and so on.
 fn read_plainly_sought(word: &[u8], text: &[u8]) -> Option<Sought>
     ensures { result ≡ plainly_sought word.now (words_of_line text.now) }
 {
@@ -146,7 +146,7 @@ fn read_plainly_sought(word: &[u8], text: &[u8]) -> Option<Sought>
     }
 }
 
-// `at A`, `vector V` or `trap V`
+/// `at A`, `vector V` or `trap V`
 #[tactic(auto, unfolding(crate::specs::Grammar::Searches::sought_in_any_mode))]
 fn sought_in_any_mode(word: &[u8], number: &[u8]) -> Option<Sought>
     ensures { result ≡ sought_in_any_mode word.now number.now }
@@ -168,7 +168,7 @@ fn sought_in_any_mode(word: &[u8], number: &[u8]) -> Option<Sought>
     }
 }
 
-// `at A kernel` or `at A user`
+/// `at A kernel` or `at A user`
 #[tactic(auto, unfolding(crate::specs::Grammar::Searches::sought_in_mode))]
 fn sought_in_mode(word: &[u8], number: &[u8], name: &[u8]) -> Option<Sought>
     ensures { result ≡ sought_in_mode word.now number.now name.now }
@@ -184,7 +184,7 @@ fn sought_in_mode(word: &[u8], number: &[u8], name: &[u8]) -> Option<Sought>
     })
 }
 
-// `writes N M A`
+/// `writes N M A`
 fn read_writes(arguments: &[u8]) -> Option<Search>
     ensures { result ≡ writes_form (words_of_line arguments.now) }
 {
@@ -193,7 +193,7 @@ fn read_writes(arguments: &[u8]) -> Option<Search>
     Some(Search::Writes { from, to, address })
 }
 
-// `reads N M A`
+/// `reads N M A`
 fn read_reads(arguments: &[u8]) -> Option<Search>
     ensures { result ≡ reads_form (words_of_line arguments.now) }
 {
@@ -202,7 +202,7 @@ fn read_reads(arguments: &[u8]) -> Option<Search>
     Some(Search::Reads { from, to, address })
 }
 
-// `accesses N C`
+/// `accesses N C`
 fn read_accesses(arguments: &[u8]) -> Option<Search>
     ensures { result ≡ accesses_form (words_of_line arguments.now) }
 {
@@ -212,7 +212,7 @@ fn read_accesses(arguments: &[u8]) -> Option<Search>
     Some(Search::Accesses { turn, count })
 }
 
-// `transfers N M`
+/// `transfers N M`
 fn read_transfers(arguments: &[u8]) -> Option<Search>
     ensures { result ≡ transfers_form (words_of_line arguments.now) }
 {
@@ -222,7 +222,7 @@ fn read_transfers(arguments: &[u8]) -> Option<Search>
     Some(Search::Transfers { from, to })
 }
 
-// `change N M I`, in version 2 `change N M D I`
+/// `change N M I`, in version 2 `change N M D I`
 fn read_change(version: Version, arguments: &[u8]) -> Option<Search>
     ensures { result ≡ change_form version (words_of_line arguments.now) }
 {
@@ -237,7 +237,7 @@ fn read_change(version: Version, arguments: &[u8]) -> Option<Search>
     })
 }
 
-// `N from F`
+/// `N from F`
 fn read_part(text: &[u8]) -> Option<(u32, u32)>
     ensures { result ≡ part_named (words_of_line text.now) }
 {
@@ -251,7 +251,7 @@ fn read_part(text: &[u8]) -> Option<(u32, u32)>
     Some((turn, number))
 }
 
-// `text N from F` and `punched N from F`
+/// `text N from F` and `punched N from F`
 fn read_text_from(kind: TextKind, arguments: &[u8]) -> Option<Search>
     ensures { result ≡ text_from_form kind (words_of_line arguments.now) }
 {
@@ -259,7 +259,7 @@ fn read_text_from(kind: TextKind, arguments: &[u8]) -> Option<Search>
     Some(Search::TextFrom { kind, turn, first })
 }
 
-// `when F`
+/// `when F`
 fn read_when(arguments: &[u8]) -> Option<Search>
     ensures { result ≡ when_form (words_of_line arguments.now) }
 {
@@ -267,7 +267,7 @@ fn read_when(arguments: &[u8]) -> Option<Search>
     Some(Search::When { number })
 }
 
-// `fades N EDIT`
+/// `fades N EDIT`
 fn read_fades(version: Version, arguments: &[u8]) -> Option<Search>
     ensures { result ≡ fades_form version (words_of_line arguments.now) }
 {

@@ -16,10 +16,10 @@ use crate::version::Version;
 use pdp_replay::{Question, VirtualWords, WantedWords, WordPattern};
 use pdp_word::read_octal;
 
-// A mask that has every bit of a word.
+/// A mask that has every bit of a word.
 const ALL_BITS: u16 = 0o177777;
 
-// The question of a name, with the words that follow it.
+/// The question of a name, with the words that follow it.
 #[tactic(auto, unfolding(crate::specs::Grammar::StateQuestions::state_question_with))]
 pub fn read_state_question(version: Version, name: &[u8], arguments: &[u8]) -> Option<Question>
     ensures { result ≡ state_question_with version name.now (words_of_line arguments.now) }
@@ -37,7 +37,7 @@ pub fn read_state_question(version: Version, name: &[u8], arguments: &[u8]) -> O
     }
 }
 
-// `translate N MODE A`
+/// `translate N MODE A`
 fn read_translate(arguments: &[u8]) -> Option<Question>
     ensures { result ≡ translate_form (words_of_line arguments.now) }
 {
@@ -53,7 +53,7 @@ fn read_translate(arguments: &[u8]) -> Option<Question>
     })
 }
 
-// `virtual N MODE A C`
+/// `virtual N MODE A C`
 fn read_virtual(arguments: &[u8]) -> Option<Question>
     ensures { result ≡ virtual_form (words_of_line arguments.now) }
 {
@@ -69,7 +69,7 @@ fn read_virtual(arguments: &[u8]) -> Option<Question>
     Some(Question::Virtual { turn, words })
 }
 
-// `find N A B W` and `find N A B W mask W`
+/// `find N A B W` and `find N A B W mask W`
 fn read_find(arguments: &[u8]) -> Option<Question>
     ensures { result ≡ find_form (words_of_line arguments.now) }
 {
@@ -79,7 +79,7 @@ fn read_find(arguments: &[u8]) -> Option<Question>
     Some(Question::FindCore { turn, wanted })
 }
 
-// `finddsk N I J W` and `finddsk N I J W mask W`, in version 2 `finddsk N D I J W` and so on
+/// `finddsk N I J W` and `finddsk N I J W mask W`, in version 2 `finddsk N D I J W` and so on
 fn read_finddsk(version: Version, arguments: &[u8]) -> Option<Question>
     ensures { result ≡ finddsk_form version (words_of_line arguments.now) }
 {
@@ -94,7 +94,7 @@ fn read_finddsk(version: Version, arguments: &[u8]) -> Option<Question>
     })
 }
 
-// The first and the last of the words that are looked at, and the pattern.
+/// The first and the last of the words that are looked at, and the pattern.
 fn read_wanted(text: &[u8]) -> Option<WantedWords>
     ensures { result ≡ wanted_named (words_of_line text.now) }
 {
@@ -114,7 +114,7 @@ fn read_wanted(text: &[u8]) -> Option<WantedWords>
     })
 }
 
-// `mask W`, or nothing, if every bit counts.
+/// `mask W`, or nothing, if every bit counts.
 fn read_mask(text: &[u8]) -> Option<u16>
     ensures { result ≡ mask_named (words_of_line text.now) }
 {
@@ -127,7 +127,7 @@ fn read_mask(text: &[u8]) -> Option<u16>
     }
 }
 
-// `mask W`
+/// `mask W`
 #[tactic(auto, unfolding(crate::specs::Grammar::StateQuestions::mask_by_name))]
 fn mask_by_name(name: &[u8], mask: &[u8]) -> Option<u16>
     ensures { result ≡ mask_by_name name.now mask.now }

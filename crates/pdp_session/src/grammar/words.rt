@@ -3,7 +3,7 @@ ghost use Rattle.std.specs.Prelude.{IfSome};
 ghost use Rattle.std.specs.List.{position_or_len, slice_get};
 ghost use Rattle.pdp_session.specs.Grammar.Words.{is_blank, words_of_line};
 
-// The first word of a text, and what follows it; `None` if the text has no word.
+/// The first word of a text, and what follows it; `None` if the text has no word.
 #[tactic(auto, using(crate::proofs::WordLists::words))]
 pub fn next_word(text: &[u8]) -> Option<(&[u8], &[u8])>
     ensures words { MatchOption result (words_of_line text.now ≡ [])
@@ -17,7 +17,7 @@ pub fn next_word(text: &[u8]) -> Option<(&[u8], &[u8])>
     Some(text.split_at(word_length(text)))
 }
 
-// The text from its first byte on that is no blank.
+/// The text from its first byte on that is no blank.
 #[tactic(auto, using(crate::proofs::WordLists::words))]
 fn skip_blanks(text: &[u8]) -> &[u8]
     ensures words { words_of_line result.now ≡ words_of_line text.now }
@@ -34,7 +34,7 @@ fn skip_blanks(text: &[u8]) -> &[u8]
     rest
 }
 
-// How many bytes come before the first blank.
+/// How many bytes come before the first blank.
 fn word_length(text: &[u8]) -> usize
     ensures { result ≡ position_or_len is_blank text.now }
 {

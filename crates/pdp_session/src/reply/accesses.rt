@@ -20,10 +20,10 @@ use pdp_replay::{DiskTurn, Event, TextKind, TurnDetail, TurnHead};
 use pdp_store::{BusCycle, CycleKind};
 use pdp_word::write_octal6;
 
-// The first address of a register (bytes); those below it are of core.
+/// The first address of a register (bytes); those below it are of core.
 const FIRST_REGISTER: u32 = 0o760000;
 
-// Writes how many lines follow, whether turns were left, and a line for each detail.
+/// Writes how many lines follow, whether turns were left, and a line for each detail.
 pub fn send_accesses<W: Drain>(
     details: &FoundList<TurnDetail>,
     more: bool,
@@ -40,14 +40,14 @@ pub fn send_accesses<W: Drain>(
     Ok(())
 }
 
-// How many lines follow, and whether turns were left.
+/// How many lines follow, and whether turns were left.
 fn accesses_head(count: usize, more: bool) -> Text
     ensures { result.items ≡ accesses_head count more }
 {
     listed_head("accesses", count, more)
 }
 
-// Writes the line of the detail of this index, if there is one.
+/// Writes the line of the detail of this index, if there is one.
 fn send_detail<W: Drain>(
     details: &FoundList<TurnDetail>,
     index: usize,
@@ -63,7 +63,7 @@ fn send_detail<W: Drain>(
     send(writer, text.as_slice())
 }
 
-// A detail of a turn.
+/// A detail of a turn.
 fn detail_text(detail: TurnDetail) -> Text
     ensures { result.items ≡ detail_line detail }
 {
@@ -76,7 +76,7 @@ fn detail_text(detail: TurnDetail) -> Text
     }
 }
 
-// A turn, the mode and PC before it, and its act.
+/// A turn, the mode and PC before it, and its act.
 #[tactic(auto, unfolding(crate::specs::Accesses::head_line))]
 fn head_text(head: TurnHead) -> Text
     ensures { result.items ≡ head_line head }
@@ -105,7 +105,7 @@ fn mode_name(mode: Mode) -> &'static str
     }
 }
 
-// An event, as in the line that makes it.
+/// An event, as in the line that makes it.
 fn happening_text(event: Event) -> Text
     ensures { result.items ≡ detail_line (detail.Event event) }
 {
@@ -116,7 +116,7 @@ fn happening_text(event: Event) -> Text
     text
 }
 
-// A byte that came out.
+/// A byte that came out.
 #[tactic(auto, unfolding(crate::specs::Accesses::output_line))]
 fn output_text(kind: TextKind, byte: u8) -> Text
     ensures { result.items ≡ output_line kind byte }
@@ -138,7 +138,7 @@ fn output_name(kind: TextKind) -> &'static str
     }
 }
 
-// A function of the disk that was completed.
+/// A function of the disk that was completed.
 #[tactic(auto, unfolding(crate::specs::Accesses::completion_line))]
 fn completion_text(disk: DiskTurn) -> Text
     ensures { result.items ≡ completion_line disk }
@@ -150,7 +150,7 @@ fn completion_text(disk: DiskTurn) -> Text
     text
 }
 
-// A cycle of the processor on the bus.
+/// A cycle of the processor on the bus.
 #[tactic(auto, unfolding(crate::specs::Accesses::cycle_line))]
 fn cycle_text(cycle: BusCycle) -> Text
     ensures { result.items ≡ cycle_line cycle }
@@ -165,7 +165,7 @@ fn cycle_text(cycle: BusCycle) -> Text
     text
 }
 
-// What the processor asked for.
+/// What the processor asked for.
 fn kind_name(kind: CycleKind) -> &'static str
     ensures name { result.now ≡ kind_name kind }
     ensures length { length result.now ≤ 5 }
@@ -177,7 +177,7 @@ fn kind_name(kind: CycleKind) -> &'static str
     }
 }
 
-// Whether it is core that has an address, if anything has it.
+/// Whether it is core that has an address, if anything has it.
 fn place_text(address: u32, value: Option<u16>) -> &'static str
     ensures place { result.now ≡ place_text address value }
     ensures length { length result.now ≤ 5 }
@@ -188,7 +188,7 @@ fn place_text(address: u32, value: Option<u16>) -> &'static str
     }
 }
 
-// Adds what was read or written, or that nothing has the address.
+/// Adds what was read or written, or that nothing has the address.
 fn add_value(text: &mut Text, value: Option<u16>)
     requires { length text.old.items + 8 ≤ LONGEST_TEXT }
     ensures text { text.new.items ≡ text.old.items ++ cycle_value_text value }

@@ -7,10 +7,10 @@ use super::texts::{LONGEST_TEXT, Text, add, octal3};
 use crate::streams::{Drain, Failed, send};
 use itoa::Buffer;
 
-// The most bytes that are written out at once: with their escapes they have room in a text.
+/// The most bytes that are written out at once: with their escapes they have room in a text.
 const MOST_BYTES: usize = 64;
 
-// Writes bytes, in one line after their name and their count, some of them at a time.
+/// Writes bytes, in one line after their name and their count, some of them at a time.
 pub fn send_bytes<W: Drain>(name: &str, bytes: &[u8], writer: &mut W) -> Result<(), Failed>
     requires { length name.now ≤ 7 }
     ensures { Sends (bytes_line name.now bytes.now)
@@ -26,7 +26,7 @@ pub fn send_bytes<W: Drain>(name: &str, bytes: &[u8], writer: &mut W) -> Result<
     send(writer, b"\n")
 }
 
-// What comes before so many bytes: their name and their count.
+/// What comes before so many bytes: their name and their count.
 fn bytes_head(name: &str, count: usize) -> Text
     requires { length name.now ≤ 7 }
     ensures { result.items ≡ bytes_head name.now count }
@@ -40,7 +40,7 @@ fn bytes_head(name: &str, count: usize) -> Text
     text
 }
 
-// Some bytes as they are shown.
+/// Some bytes as they are shown.
 fn bytes_text(bytes: &[u8]) -> Text
     requires { length bytes.now ≤ MOST_BYTES }
     ensures { result.items ≡ byte_texts bytes.now }
@@ -52,8 +52,8 @@ fn bytes_text(bytes: &[u8]) -> Text
     text
 }
 
-// A printing byte but a backslash stands for itself; any other is a backslash and three octal
-// digits.
+/// A printing byte but a backslash stands for itself; any other is a backslash and three octal
+/// digits.
 fn add_byte(text: &mut Text, byte: u8)
     requires { length text.old.items + 4 ≤ LONGEST_TEXT }
     ensures byte_text { text.new.items ≡ text.old.items ++ byte_text byte }
@@ -67,7 +67,7 @@ fn add_byte(text: &mut Text, byte: u8)
     }
 }
 
-// A printing byte, 040 to 176, but no backslash.
+/// A printing byte, 040 to 176, but no backslash.
 fn stands_for_itself(byte: u8) -> bool
     ensures { result ≡ stands_for_itself byte }
 {

@@ -8,7 +8,7 @@ use crate::search::FoundList;
 use crate::streams::{Drain, Failed, send};
 use itoa::Buffer;
 
-// Writes counts, in one line after their name.
+/// Writes counts, in one line after their name.
 pub fn send_counts<W: Drain>(counts: &FoundList<u32>, writer: &mut W) -> Result<(), Failed>
     ensures { Sends (counts_line counts.now) (W.output writer.old) (W.output writer.new) result }
 {
@@ -19,7 +19,7 @@ pub fn send_counts<W: Drain>(counts: &FoundList<u32>, writer: &mut W) -> Result<
     send(writer, b"\n")
 }
 
-// Writes the count of this index, if there is one.
+/// Writes the count of this index, if there is one.
 fn send_count<W: Drain>(counts: &FoundList<u32>, index: usize, writer: &mut W) -> Result<(), Failed>
     ensures { Sends (line_at count_shown counts.now index)
         (W.output writer.old) (W.output writer.new) result }
@@ -31,7 +31,7 @@ fn send_count<W: Drain>(counts: &FoundList<u32>, index: usize, writer: &mut W) -
     send(writer, text.as_slice())
 }
 
-// A count in decimal, after a space.
+/// A count in decimal, after a space.
 fn count_text(count: u32) -> Text
     ensures { result.items ≡ count_shown count }
 {

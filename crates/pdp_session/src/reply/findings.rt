@@ -19,7 +19,7 @@ use itoa::Buffer;
 use pdp_replay::{Fault, LastWrite, TextKind};
 use pdp_store::Agent;
 
-// Writes what a search found, or why it was refused.
+/// Writes what a search found, or why it was refused.
 pub fn send_found<W: Drain>(found: &Result<Finding, Fault>, writer: &mut W) -> Result<(), Failed>
     ensures { Sends (found_text found.now) (W.output writer.old) (W.output writer.new) result }
 {
@@ -29,7 +29,7 @@ pub fn send_found<W: Drain>(found: &Result<Finding, Fault>, writer: &mut W) -> R
     }
 }
 
-// Writes what a search found: one row for each kind of search.
+/// Writes what a search found: one row for each kind of search.
 fn send_finding<W: Drain>(finding: &Finding, writer: &mut W) -> Result<(), Failed>
     ensures { Sends (finding_text finding.now) (W.output writer.old) (W.output writer.new) result }
 {
@@ -51,7 +51,7 @@ fn send_finding<W: Drain>(finding: &Finding, writer: &mut W) -> Result<(), Faile
     }
 }
 
-// What was looked for, and the turn that was found, or that there is none.
+/// What was looked for, and the turn that was found, or that there is none.
 fn turn_text(name: &str, turn: Option<u32>) -> Text
     requires { length name.now ≤ 6 }
     ensures { result.items ≡ turn_line name.now turn }
@@ -69,7 +69,7 @@ fn turn_text(name: &str, turn: Option<u32>) -> Text
     text
 }
 
-// The name of a text.
+/// The name of a text.
 fn text_name(kind: TextKind) -> &'static str
     ensures name { result.now ≡ text_name kind }
     ensures length { length result.now ≤ 7 }
@@ -80,7 +80,7 @@ fn text_name(kind: TextKind) -> &'static str
     }
 }
 
-// Writes how many writes there are, whether there may be more, and a line for each.
+/// Writes how many writes there are, whether there may be more, and a line for each.
 fn send_writes<W: Drain>(
     writes: &FoundList<LastWrite>,
     more: bool,
@@ -97,14 +97,14 @@ fn send_writes<W: Drain>(
     Ok(())
 }
 
-// How many writes are listed, and whether there may be more.
+/// How many writes are listed, and whether there may be more.
 fn writes_head(count: usize, more: bool) -> Text
     ensures { result.items ≡ writes_head count more }
 {
     listed_head("writes", count, more)
 }
 
-// What a list is of, how many are listed, and whether there may be more.
+/// What a list is of, how many are listed, and whether there may be more.
 pub fn listed_head(name: &str, count: usize, more: bool) -> Text
     requires { length name.now ≤ 9 }
     ensures { result.items ≡ listed_head name.now count more }
@@ -118,7 +118,7 @@ pub fn listed_head(name: &str, count: usize, more: bool) -> Text
     text
 }
 
-// The end of a line that says whether there may be more.
+/// The end of a line that says whether there may be more.
 fn more_mark(more: bool) -> &'static str
     ensures mark { result.now ≡ more_mark more }
     ensures length { length result.now ≤ 9 }
@@ -126,7 +126,7 @@ fn more_mark(more: bool) -> &'static str
     if more { " or more\n" } else { "\n" }
 }
 
-// Writes the line of the write of this index, if there is one.
+/// Writes the line of the write of this index, if there is one.
 fn send_write<W: Drain>(
     writes: &FoundList<LastWrite>,
     index: usize,
@@ -142,14 +142,14 @@ fn send_write<W: Drain>(
     send(writer, text.as_slice())
 }
 
-// A write, with the word after the turn.
+/// A write, with the word after the turn.
 fn write_text(write: LastWrite) -> Text
     ensures { result.items ≡ write_line write }
 {
     word_use_text(write.turn, write.agent, write.word)
 }
 
-// A read or a write: its turn, its agent, and a word.
+/// A read or a write: its turn, its agent, and a word.
 pub fn word_use_text(turn: u32, agent: Agent, word: u16) -> Text
     ensures { result.items ≡ word_use_line turn agent word }
 {

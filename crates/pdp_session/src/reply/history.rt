@@ -9,7 +9,7 @@ use crate::streams::{Drain, Failed, send};
 use itoa::Buffer;
 use pdp_replay::{Act, Agent, LastWrite, Trail, TrailEntry};
 
-// The last write to a word: its turn, its agent and the word since, or that there was none.
+/// The last write to a word: its turn, its agent and the word since, or that there was none.
 pub fn last_text(last: Option<LastWrite>) -> Text
     ensures { result.items ≡ last_line last }
 {
@@ -38,7 +38,7 @@ pub fn agent_name(agent: Agent) -> &'static str
     }
 }
 
-// Writes how many turns a trail has, and a line for each.
+/// Writes how many turns a trail has, and a line for each.
 pub fn send_trail<W: Drain>(trail: &Trail, writer: &mut W) -> Result<(), Failed>
     ensures { Sends (trail_text trail.now) (W.output writer.old) (W.output writer.new) result }
 {
@@ -50,7 +50,7 @@ pub fn send_trail<W: Drain>(trail: &Trail, writer: &mut W) -> Result<(), Failed>
     Ok(())
 }
 
-// Writes the line of the turn of this index in a trail, if there is one.
+/// Writes the line of the turn of this index in a trail, if there is one.
 fn send_entry<W: Drain>(trail: &Trail, index: usize, writer: &mut W) -> Result<(), Failed>
     ensures { Sends (line_at entry_line trail.now index)
         (W.output writer.old) (W.output writer.new) result }
@@ -62,7 +62,7 @@ fn send_entry<W: Drain>(trail: &Trail, index: usize, writer: &mut W) -> Result<(
     send(writer, text.as_slice())
 }
 
-// A turn, PC before it, and its act.
+/// A turn, PC before it, and its act.
 fn entry_text(entry: TrailEntry) -> Text
     ensures { result.items ≡ entry_line entry }
 {
@@ -76,7 +76,7 @@ fn entry_text(entry: TrailEntry) -> Text
     text
 }
 
-// An act by its name, an interrupt with its vector.
+/// An act by its name, an interrupt with its vector.
 pub fn add_act(text: &mut Text, act: Act)
     requires { length text.old.items + 7 ≤ LONGEST_TEXT }
     ensures act_text { text.new.items ≡ text.old.items ++ act_text act }
@@ -91,7 +91,7 @@ pub fn add_act(text: &mut Text, act: Act)
     }
 }
 
-// The interrupt with this vector, in three octal digits.
+/// The interrupt with this vector, in three octal digits.
 fn add_interrupt(text: &mut Text, vector: u16)
     requires { length text.old.items + 7 ≤ LONGEST_TEXT }
     ensures act_text { text.new.items ≡ text.old.items ++ codes "irq " ++ octal_digits 3 vector }

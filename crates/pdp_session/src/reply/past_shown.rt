@@ -11,7 +11,7 @@ use crate::version::Version;
 use itoa::Buffer;
 use pdp_replay::{Entry, Event, SetupNumbers};
 
-// Writes how many events a script has, and a line for each.
+/// Writes how many events a script has, and a line for each.
 pub fn send_events<W: Drain>(events: &FoundList<Entry>, writer: &mut W) -> Result<(), Failed>
     ensures { Sends (events_text events.now) (W.output writer.old) (W.output writer.new) result }
 {
@@ -23,7 +23,7 @@ pub fn send_events<W: Drain>(events: &FoundList<Entry>, writer: &mut W) -> Resul
     Ok(())
 }
 
-// Writes the line of the event of this index, if there is one.
+/// Writes the line of the event of this index, if there is one.
 fn send_event<W: Drain>(
     events: &FoundList<Entry>,
     index: usize,
@@ -39,7 +39,7 @@ fn send_event<W: Drain>(
     send(writer, text.as_slice())
 }
 
-// An event: its number, its turn, and what happens.
+/// An event: its number, its turn, and what happens.
 fn entry_text(entry: Entry) -> Text
     ensures { result.items ≡ event_line entry }
 {
@@ -54,7 +54,7 @@ fn entry_text(entry: Entry) -> Text
     text
 }
 
-// Adds what happens, as in the line that makes the event.
+/// Adds what happens, as in the line that makes the event.
 pub fn add_event(text: &mut Text, event: Event)
     requires { length text.old.items + 15 ≤ LONGEST_TEXT }
     ensures event_text { text.new.items ≡ text.old.items ++ event_text event }
@@ -78,7 +78,7 @@ pub fn add_event(text: &mut Text, event: Event)
     }
 }
 
-// The number of a version.
+/// The number of a version.
 fn version_number(version: Version) -> u32
     ensures { result ≡ version_number version }
 {
@@ -88,7 +88,7 @@ fn version_number(version: Version) -> u32
     }
 }
 
-// Adds a number in decimal after its name.
+/// Adds a number in decimal after its name.
 fn add_number(text: &mut Text, name: &str, number: u32)
     requires { length text.old.items + length name.now + 10 ≤ LONGEST_TEXT }
     ensures named_number { text.new.items ≡ text.old.items ++ named_number name.now number }
@@ -99,7 +99,7 @@ fn add_number(text: &mut Text, name: &str, number: u32)
     add(text, buffer.format(number).as_bytes());
 }
 
-// The numbers of the setup, each after its name.
+/// The numbers of the setup, each after its name.
 #[tactic(auto, unfolding(crate::specs::PastShown::setup_line))]
 pub fn setup_text(version: Version, setup: &SetupNumbers) -> Text
     ensures { result.items ≡ setup_line version setup.now }

@@ -9,7 +9,7 @@ use crate::search::FoundList;
 use crate::streams::{Drain, Failed, send};
 use pdp_replay::WordRead;
 
-// Writes how many reads there are, whether there may be more, and a line for each.
+/// Writes how many reads there are, whether there may be more, and a line for each.
 pub fn send_reads<W: Drain>(
     reads: &FoundList<WordRead>,
     more: bool,
@@ -26,14 +26,14 @@ pub fn send_reads<W: Drain>(
     Ok(())
 }
 
-// How many reads are listed, and whether there may be more.
+/// How many reads are listed, and whether there may be more.
 fn reads_head(count: usize, more: bool) -> Text
     ensures { result.items ≡ reads_head count more }
 {
     listed_head("reads", count, more)
 }
 
-// Writes the line of the read of this index, if there is one.
+/// Writes the line of the read of this index, if there is one.
 fn send_read<W: Drain>(
     reads: &FoundList<WordRead>,
     index: usize,
@@ -49,7 +49,7 @@ fn send_read<W: Drain>(
     send(writer, text.as_slice())
 }
 
-// A read, with the word that was read.
+/// A read, with the word that was read.
 fn read_text(read: WordRead) -> Text
     ensures { result.items ≡ read_line read }
 {

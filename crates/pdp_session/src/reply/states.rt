@@ -12,17 +12,17 @@ use pdp_kt11::Abort;
 use pdp_replay::{Cause, FoundWords, Unreadable, Words};
 use pdp_word::write_octal6;
 
-// How many words there are whose addresses have six octal digits.
+/// How many words there are whose addresses have six octal digits.
 const ADDRESSED_WORDS: u32 = 0o400000;
 
-// What words were looked for in.
+/// What words were looked for in.
 #[derive(Clone, Copy)]
 pub enum FoundWhere {
     InCore,
     OnDrive,
 }
 
-// The physical address of a virtual one, or the abort.
+/// The physical address of a virtual one, or the abort.
 #[tactic(auto, unfolding(crate::specs::Reply::translation_line))]
 pub fn translation_text(translated: Result<u32, Abort>) -> Text
     ensures { result.items ≡ translation_line translated }
@@ -42,7 +42,7 @@ pub fn translation_text(translated: Result<u32, Abort>) -> Text
     text
 }
 
-// Why memory management doesn't let an access through.
+/// Why memory management doesn't let an access through.
 fn abort_name(abort: Abort) -> &'static str
     ensures name { result.now ≡ abort_name abort }
     ensures length { length result.now ≤ 12 }
@@ -54,7 +54,7 @@ fn abort_name(abort: Abort) -> &'static str
     }
 }
 
-// Writes the words at virtual addresses, or the first that can't be read.
+/// Writes the words at virtual addresses, or the first that can't be read.
 pub fn send_virtual<W: Drain>(
     words: &Result<Words, Unreadable>,
     writer: &mut W,
@@ -67,7 +67,7 @@ pub fn send_virtual<W: Drain>(
     }
 }
 
-// The first word that can't be read, and why.
+/// The first word that can't be read, and why.
 #[tactic(auto, unfolding(crate::specs::Reply::unreadable_line))]
 fn unreadable_text(unreadable: Unreadable) -> Text
     ensures { result.items ≡ unreadable_line unreadable }
@@ -81,7 +81,7 @@ fn unreadable_text(unreadable: Unreadable) -> Text
     text
 }
 
-// Why a word can't be read.
+/// Why a word can't be read.
 fn cause_text(cause: Cause) -> Text
     ensures text { result.items ≡ cause_text cause }
     ensures length { length result.items ≤ 18 }
@@ -98,7 +98,7 @@ fn cause_text(cause: Cause) -> Text
     text
 }
 
-// Writes how many words were found, whether there are more, and a line for each.
+/// Writes how many words were found, whether there are more, and a line for each.
 pub fn send_found_words<W: Drain>(
     place: FoundWhere,
     found: &FoundWords,
@@ -119,7 +119,7 @@ pub fn send_found_words<W: Drain>(
     Ok(())
 }
 
-// The search for words of core or of a drive, by its name.
+/// The search for words of core or of a drive, by its name.
 fn search_name(place: FoundWhere) -> &'static str
     ensures name { result.now ≡ search_name place }
     ensures length { length result.now ≤ 7 }
@@ -130,7 +130,7 @@ fn search_name(place: FoundWhere) -> &'static str
     }
 }
 
-// Writes the line of the number of this index, if there is one.
+/// Writes the line of the number of this index, if there is one.
 fn send_number<W: Drain>(
     place: FoundWhere,
     numbers: &[u32],
@@ -147,7 +147,7 @@ fn send_number<W: Drain>(
     send(writer, text.as_slice())
 }
 
-// A word that was found: of core its address, of a drive its number.
+/// A word that was found: of core its address, of a drive its number.
 #[tactic(auto, unfolding(pdp_word::specs::Number::octal_digits))]
 fn found_text(place: FoundWhere, number: u32) -> Text
     ensures { result.items ≡ found_line place number }

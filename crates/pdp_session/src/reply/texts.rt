@@ -13,15 +13,15 @@ use pdp_replay::{DeviceRegisters, Fault, PageRegisters, Patch, Regs, RunState};
 use pdp_unibus::SHOWN_REGISTERS;
 use pdp_word::write_octal6;
 
-// The most bytes that a text has: the reply to the question `pages`, with its LF. That is 34 words,
-// each of six digits after a space, and the names pages, SR0, SR2, KPDR, KPAR, UPDR and UPAR, a
-// space before each but the first.
+/// The most bytes that a text has: the reply to the question `pages`, with its LF. That is 34 words,
+/// each of six digits after a space, and the names pages, SR0, SR2, KPDR, KPAR, UPDR and UPAR, a
+/// space before each but the first.
 pub const LONGEST_TEXT: usize = 272;
 
-// A line of a reply, with its LF, or a piece of one. It takes no memory.
+/// A line of a reply, with its LF, or a piece of one. It takes no memory.
 pub type Text = ArrayVec<u8, LONGEST_TEXT>;
 
-// The last three octal digits of a number: all of those of a byte or of a vector.
+/// The last three octal digits of a number: all of those of a byte or of a vector.
 #[tactic(auto, unfolding(pdp_word::specs::Number::octal_digits))]
 pub fn octal3(number: u16) -> [u8; 3]
     ensures { result ≡ octal_digits 3 number }
@@ -30,7 +30,7 @@ pub fn octal3(number: u16) -> [u8; 3]
     [sixty_fours, eights, ones]
 }
 
-// Adds `bytes` at the end.
+/// Adds `bytes` at the end.
 pub fn add(text: &mut Text, bytes: &[u8])
     requires { length text.old.items + length bytes.now ≤ LONGEST_TEXT }
     ensures { text.new.items ≡ text.old.items ++ bytes.now }
@@ -39,7 +39,7 @@ pub fn add(text: &mut Text, bytes: &[u8])
     let _ = text.try_extend_from_slice(bytes);
 }
 
-// A name, the word in six octal digits, and the space after it.
+/// A name, the word in six octal digits, and the space after it.
 fn add_register(text: &mut Text, name: &str, word: u16)
     requires { length text.old.items + length name.now + 8 ≤ LONGEST_TEXT }
     ensures register_text { text.new.items ≡ text.old.items ++ register_text name.now word }
@@ -51,7 +51,7 @@ fn add_register(text: &mut Text, name: &str, word: u16)
     add(text, b" ");
 }
 
-// The reply to an edit that was made.
+/// The reply to an edit that was made.
 pub fn done_text() -> Text
     ensures { result.items ≡ codes "ok" ++ codes "\n" }
 {
@@ -60,7 +60,7 @@ pub fn done_text() -> Text
     text
 }
 
-// The reply to an insertion that was made.
+/// The reply to an insertion that was made.
 pub fn insertion_text(number: u32) -> Text
     ensures { result.items ≡ codes "event " ++ decimal number ++ codes "\n" }
 {
@@ -72,7 +72,7 @@ pub fn insertion_text(number: u32) -> Text
     text
 }
 
-// The first line of a list: its name, and how many lines follow.
+/// The first line of a list: its name, and how many lines follow.
 pub fn count_text(name: &str, count: usize) -> Text
     requires { length name.now ≤ 7 }
     ensures { result.items ≡ count_line name.now count }
@@ -86,7 +86,7 @@ pub fn count_text(name: &str, count: usize) -> Text
     text
 }
 
-// A patch as the line that makes it in this version.
+/// A patch as the line that makes it in this version.
 pub fn patch_text(version: Version, patch: Patch) -> Text
     ensures { result.items ≡ patch_line version patch }
 {
@@ -109,7 +109,7 @@ pub fn patch_text(version: Version, patch: Patch) -> Text
     text
 }
 
-// The number of a drive, one octal digit, and the space after it; nothing in version 1.
+/// The number of a drive, one octal digit, and the space after it; nothing in version 1.
 #[tactic(auto, unfolding(pdp_word::specs::Number::octal_digits))]
 fn add_drive(text: &mut Text, version: Version, drive: u8)
     requires { length text.old.items + 2 ≤ LONGEST_TEXT }
@@ -125,7 +125,7 @@ fn add_drive(text: &mut Text, version: Version, drive: u8)
     }
 }
 
-// The last seven octal digits of a number: all of those of the number of a word of the drive.
+/// The last seven octal digits of a number: all of those of the number of a word of the drive.
 #[tactic(auto, unfolding(pdp_word::specs::Number::octal_digits))]
 pub fn add_octal7(text: &mut Text, number: u32)
     requires { length text.old.items + 7 ≤ LONGEST_TEXT }
@@ -136,7 +136,7 @@ pub fn add_octal7(text: &mut Text, number: u32)
     add(text, &write_octal6(number));
 }
 
-// A word in six octal digits, after a space.
+/// A word in six octal digits, after a space.
 pub fn word_text(word: u16) -> Text
     ensures { result.items ≡ word_text word }
 {
@@ -145,7 +145,7 @@ pub fn word_text(word: u16) -> Text
     text
 }
 
-// Adds a word in six octal digits, after a space.
+/// Adds a word in six octal digits, after a space.
 pub fn add_word(text: &mut Text, word: u16)
     requires { length text.old.items + 7 ≤ LONGEST_TEXT }
     ensures word_text { text.new.items ≡ text.old.items ++ word_text word }
@@ -155,7 +155,7 @@ pub fn add_word(text: &mut Text, word: u16)
     add(text, &write_octal6(u32::from(word)));
 }
 
-// A name and a word in six octal digits, each after a space.
+/// A name and a word in six octal digits, each after a space.
 fn add_named_word(text: &mut Text, name: &str, word: u16)
     requires { length text.old.items + length name.now + 8 ≤ LONGEST_TEXT }
     ensures named_word_text { text.new.items ≡ text.old.items ++ named_word_text name.now word }
@@ -166,7 +166,7 @@ fn add_named_word(text: &mut Text, name: &str, word: u16)
     add_word(text, word);
 }
 
-// The registers of the devices.
+/// The registers of the devices.
 #[tactic(auto, unfolding(crate::specs::Reply::devices_line))]
 pub fn devices_text(devices: DeviceRegisters) -> Text
     ensures { result.items ≡ devices_line devices }
@@ -178,7 +178,7 @@ pub fn devices_text(devices: DeviceRegisters) -> Text
     text
 }
 
-// The names and the words of the registers of the devices.
+/// The names and the words of the registers of the devices.
 #[tactic(auto, using(crate::proofs::NamedWords::one_more_named_word))]
 fn add_registers(text: &mut Text, devices: DeviceRegisters)
     requires { length text.old.items + 12 * SHOWN_REGISTERS ≤ LONGEST_TEXT }
@@ -191,7 +191,7 @@ fn add_registers(text: &mut Text, devices: DeviceRegisters)
     }
 }
 
-// Words in six octal digits, each after a space.
+/// Words in six octal digits, each after a space.
 #[tactic(auto, using(crate::proofs::WordLines::one_more_word))]
 fn add_words(text: &mut Text, words: &[u16])
     requires { length text.old.items + 7 * length words.now ≤ LONGEST_TEXT }
@@ -203,7 +203,7 @@ fn add_words(text: &mut Text, words: &[u16])
     }
 }
 
-// A name and the words of the eight pages, each after a space.
+/// A name and the words of the eight pages, each after a space.
 fn add_page_words(text: &mut Text, name: &str, words: [u16; 8])
     requires { length text.old.items + length name.now + 57 ≤ LONGEST_TEXT }
     ensures page_words_text { text.new.items ≡ text.old.items ++ page_words_text name.now words }
@@ -214,7 +214,7 @@ fn add_page_words(text: &mut Text, name: &str, words: [u16; 8])
     add_words(text, &words);
 }
 
-// The registers of memory management.
+/// The registers of memory management.
 #[tactic(auto, unfolding(crate::specs::Reply::pages_line))]
 pub fn pages_text(pages: PageRegisters) -> Text
     ensures { result.items ≡ pages_line pages }
@@ -231,7 +231,7 @@ pub fn pages_text(pages: PageRegisters) -> Text
     text
 }
 
-// The registers and the run state.
+/// The registers and the run state.
 pub fn regs_text(regs: Regs) -> Text
     ensures { result.items ≡ regs_line regs ++ codes "\n" }
 {
@@ -262,7 +262,7 @@ fn state_name(state: RunState) -> &'static str
     }
 }
 
-// The number and the name of a refusal.
+/// The number and the name of a refusal.
 pub fn refusal_text(fault: Fault) -> Text
     ensures { result.items ≡ refusal_text fault }
 {

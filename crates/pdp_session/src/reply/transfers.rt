@@ -14,7 +14,7 @@ use pdp_replay::DiskCompletion;
 use pdp_rk11::{Function, Rk};
 use pdp_word::write_octal6;
 
-// Writes how many completions there are, whether there may be more, and a line for each.
+/// Writes how many completions there are, whether there may be more, and a line for each.
 pub fn send_transfers<W: Drain>(
     completions: &FoundList<DiskCompletion>,
     more: bool,
@@ -31,14 +31,14 @@ pub fn send_transfers<W: Drain>(
     Ok(())
 }
 
-// How many completions are listed, and whether there may be more.
+/// How many completions are listed, and whether there may be more.
 fn transfers_head(count: usize, more: bool) -> Text
     ensures { result.items ≡ transfers_head count more }
 {
     listed_head("transfers", count, more)
 }
 
-// Writes the line of the completion of this index, if there is one.
+/// Writes the line of the completion of this index, if there is one.
 fn send_transfer<W: Drain>(
     completions: &FoundList<DiskCompletion>,
     index: usize,
@@ -54,7 +54,7 @@ fn send_transfer<W: Drain>(
     send(writer, text.as_slice())
 }
 
-// A completion: its turns, what was asked for, and what was done.
+/// A completion: its turns, what was asked for, and what was done.
 fn transfer_text(completion: DiskCompletion) -> Text
     ensures { result.items ≡ transfer_line completion }
 {
@@ -65,7 +65,7 @@ fn transfer_text(completion: DiskCompletion) -> Text
     text
 }
 
-// Adds the turns of a completion.
+/// Adds the turns of a completion.
 #[tactic(auto, unfolding(crate::specs::Transfers::turns_text))]
 fn add_turns(text: &mut Text, completion: DiskCompletion)
     requires { length text.old.items + 22 ≤ LONGEST_TEXT }
@@ -79,7 +79,7 @@ fn add_turns(text: &mut Text, completion: DiskCompletion)
     add(text, b" ");
 }
 
-// Adds the turn that began a function.
+/// Adds the turn that began a function.
 fn add_begun(text: &mut Text, begun: Option<u32>)
     requires { length text.old.items + 10 ≤ LONGEST_TEXT }
     ensures text { text.new.items ≡ text.old.items ++ begun_text begun }
@@ -94,7 +94,7 @@ fn add_begun(text: &mut Text, begun: Option<u32>)
     }
 }
 
-// Adds what was asked for.
+/// Adds what was asked for.
 #[tactic(auto, unfolding(crate::specs::Transfers::asked_text))]
 pub fn add_asked(text: &mut Text, asked: Rk)
     requires { length text.old.items + 50 ≤ LONGEST_TEXT }
@@ -112,7 +112,7 @@ pub fn add_asked(text: &mut Text, asked: Rk)
     add(text, b" ");
 }
 
-// Adds what was done: how many words, and RKER, and ends the line.
+/// Adds what was done: how many words, and RKER, and ends the line.
 #[tactic(auto, unfolding(crate::specs::Transfers::done_text))]
 pub fn add_done(text: &mut Text, before: Rk, after: Rk)
     requires { length text.old.items + 18 ≤ LONGEST_TEXT }
@@ -126,7 +126,7 @@ pub fn add_done(text: &mut Text, before: Rk, after: Rk)
     add(text, b"\n");
 }
 
-// The name of a function.
+/// The name of a function.
 fn function_name(function: Function) -> &'static str
     ensures name { result.now ≡ function_name function }
     ensures length { length result.now ≤ 13 }

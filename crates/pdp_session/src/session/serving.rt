@@ -13,8 +13,8 @@ use crate::version::Version;
 use pdp_replay::Engine;
 use std::alloc::Global;
 
-// Answers one line, which comes without what ended it, and writes its reply. SEARCHES is whether
-// its language has searches.
+/// Answers one line, which comes without what ended it, and writes its reply. SEARCHES is whether
+/// its language has searches.
 fn serve_line<const SEARCHES: bool, W: Drain>(
     alloc: Global,
     engine: &mut Engine,
@@ -32,7 +32,7 @@ fn serve_line<const SEARCHES: bool, W: Drain>(
     }
 }
 
-// Makes a search, and writes what it finds.
+/// Makes a search, and writes what it finds.
 fn serve_search<W: Drain>(
     alloc: Global,
     engine: &mut Engine,
@@ -46,7 +46,7 @@ fn serve_search<W: Drain>(
     send_found(&found, writer)
 }
 
-// Runs a command, and writes its reply.
+/// Runs a command, and writes its reply.
 fn serve_command<W: Drain>(
     alloc: Global,
     engine: &mut Engine,
@@ -60,7 +60,7 @@ fn serve_command<W: Drain>(
     send_reply(engine, reply, writer)
 }
 
-// Takes one byte of input: an LF ends the line, and any other byte is held.
+/// Takes one byte of input: an LF ends the line, and any other byte is held.
 fn take_byte<const SEARCHES: bool, W: Drain>(
     alloc: Global,
     engine: &mut Engine,
@@ -81,7 +81,7 @@ fn take_byte<const SEARCHES: bool, W: Drain>(
     sent
 }
 
-// Takes some bytes of input, and answers each line that ends among them.
+/// Takes some bytes of input, and answers each line that ends among them.
 pub fn take_bytes<const SEARCHES: bool, W: Drain>(
     alloc: Global,
     engine: &mut Engine,
@@ -98,7 +98,7 @@ pub fn take_bytes<const SEARCHES: bool, W: Drain>(
     Ok(())
 }
 
-// Answers the line that the end of the input left open, if it has a byte.
+/// Answers the line that the end of the input left open, if it has a byte.
 pub fn serve_last_line<const SEARCHES: bool, W: Drain>(
     alloc: Global,
     engine: &mut Engine,

@@ -12,7 +12,7 @@ pub struct FromRead<R> {
     failed: bool,
 }
 
-// How many pulls a `FromRead` begins with: more than any input has.
+/// How many pulls a `FromRead` begins with: more than any input has.
 const PULLS: u64 = 1_000_000_000_000;
 
 impl<R: Read> FromRead<R> {
