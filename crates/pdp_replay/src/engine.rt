@@ -162,7 +162,7 @@ impl Engine {
         }
     }
 
-    /// How many drives there are [P]: drive 0 alone, until `eight_drives` gives eight.
+    /// How many drives there are [P]: drive 0 alone, until `use_eight_drives` gives eight.
     pub fn drive_count(&self) -> usize
         ensures { result ≡ self.now.past.setup.drives }
     {

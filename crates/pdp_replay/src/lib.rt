@@ -34,7 +34,7 @@
 //! - Core and each drive as of power-up have each word's patch, else the word of the image, else 0
 //!   (`core_words_are_first_words`, `disk_words_are_first_words`).
 //! - Each edit with its refusals in their order, what it leaves, and how far back it lowers the
-//!   known turn; no edit runs a turn (`set_core`, `revert_core`, `set_disk`, `eight_drives`,
+//!   known turn; no edit runs a turn (`set_core`, `revert_core`, `set_disk`, `use_eight_drives`,
 //!   `set_tape`, `set_delay`, `insert`, `alter`, `drop_event`). Patches keep the place in which
 //!   they were first given (`patches`, `patch_count`).
 //! - A patch of a word lowers the known turn to the first turn that accesses the page of the word,

@@ -104,7 +104,7 @@ pub(crate) fn make(engine: &mut Engine, alloc: Global, edit: Edit) -> Result<u32
     match edit {
         Edit::Patch(address, word) => engine.set_core(address, word)?,
         Edit::Disk(number, word) => engine.set_disk(0, number, word)?,
-        Edit::EightDrives => engine.eight_drives()?,
+        Edit::EightDrives => engine.use_eight_drives()?,
         Edit::Insert(turn, event) => return engine.insert(turn, event),
         Edit::Alter(number, turn, event) => engine.alter(number, turn, event)?,
         Edit::Drop(number) => engine.drop_event(number)?,

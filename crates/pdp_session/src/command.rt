@@ -37,7 +37,7 @@ pub fn run_command(alloc: Global, engine: &mut Engine, command: Command) -> Repl
         Command::RevertCore { address } => edit_reply(engine.revert_core(address)),
         Command::SetTape(tape) => edit_reply(set_tape(alloc, engine, &tape)),
         Command::SetDelay { device, delay } => edit_reply(engine.set_delay(device, delay)),
-        Command::UseEightDrives => edit_reply(engine.eight_drives()),
+        Command::UseEightDrives => edit_reply(engine.use_eight_drives()),
         Command::ListPatches => Reply::Listed,
         Command::Ask(question) => match engine.ask(alloc, question) {
             Ok(answer) => Reply::Shown(answer.value),

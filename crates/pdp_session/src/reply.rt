@@ -96,7 +96,7 @@ fn send_patch<W: Drain>(engine: &Engine, index: usize, writer: &mut W) -> Result
         engine.now.past.setup.patches index)
         (W.output writer.old) (W.output writer.new) result }
 {
-    let text = match engine.patches(index) {
+    let text = match engine.patch(index) {
         Some(patch) => patch_text(Version::of(engine), patch),
         None => Text::new(),
     };

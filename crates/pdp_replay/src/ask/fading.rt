@@ -159,7 +159,7 @@ pub(crate) fn find_edge(
     ensures kept { KeepsRun script.now run.old run.new }
     ensures looked { IsLookedAt to run.old run.new }
 {
-    branch.run(&run.words, &mut run.meter, apart)?;
+    branch.run(&run.forms, &mut run.meter, apart)?;
     let state = branch.machine.save(alloc)?;
     match gallop(alloc, run, script, branch, state, apart, to)? {
         Some(bracket) => Ok(Some(halve(alloc, run, script, branch, bracket)?)),

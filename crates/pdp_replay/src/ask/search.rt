@@ -193,7 +193,7 @@ fn search_leg(
     let mut counting = mem::replace(&mut run.meter, Meter::new());
     let found = search_part(
         &mut run.machine,
-        &run.words,
+        &run.forms,
         script,
         &mut counting,
         watch,

@@ -154,7 +154,7 @@ impl Engine {
 
     /// The patch of this index, counted from 0 in the order in which the words were first given
     /// one; None past the last. Takes no memory.
-    pub fn patches(&self, index: usize) -> Option<Patch>
+    pub fn patch(&self, index: usize) -> Option<Patch>
         ensures { result ≡ patch_at self.now.past index }
     {
         let (at, word) = self.patches.get_index(index)?;

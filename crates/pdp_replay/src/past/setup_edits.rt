@@ -46,7 +46,7 @@ impl Engine {
     /// Err(NoMemory) if memory was refused. The past, the known turn and all that is kept of the
     /// run then stay; the next question goes on from a checkpoint, and not from the turn of the
     /// last one. [P]
-    pub fn eight_drives(&mut self) -> Result<(), Fault>
+    pub fn use_eight_drives(&mut self) -> Result<(), Fault>
         ensures answer { result ≡ edit_answer (drives_edit self.old.past) (for_memory result) tt }
         ensures after { self.new ≡ drives_given (for_memory result) self.old }
         ensures refused { OnErr result (self.new ≡ timeline_restarted self.old) }

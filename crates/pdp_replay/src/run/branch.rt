@@ -147,7 +147,7 @@ impl KeptRun {
         ensures looked { IsLookedAt turn self.old self.new }
     {
         self.reach(alloc, script, turn)?;
-        branch.run(&self.words, &mut self.meter, turn)?;
+        branch.run(&self.forms, &mut self.meter, turn)?;
         let here = branch.machine.save(alloc)?;
         if self.machine.meets(&here) {
             Ok(Likeness::Alike)

@@ -33,7 +33,7 @@ use std::mem;
 #[derive(Drop)]
 pub(crate) struct KeptRun {
     pub(crate) machine: PagedMachine,
-    pub(crate) words: WordTable,
+    pub(crate) forms: WordTable,
     pub(crate) ladder: Ladder,
     pub(crate) meter: Meter,
     pub(crate) known: u32,
@@ -62,10 +62,10 @@ impl KeptRun {
     {
         let mut machine = first_machine(alloc, base_setup, tape)?;
         let ladder = Ladder::new(alloc, base_setup.stride, &mut machine)?;
-        let words = WordTable::new(alloc)?;
+        let forms = WordTable::new(alloc)?;
         Ok(KeptRun {
             machine,
-            words,
+            forms,
             ladder,
             meter: Meter::new(),
             known: 0,
@@ -210,7 +210,7 @@ impl KeptRun {
         let end = self.ladder.next().min(to);
         // While the meter is apart from the machine, the loop counts in a register.
         let mut counting = mem::replace(&mut self.meter, Meter::new());
-        let ran = run_part(&mut self.machine, &self.words, script, &mut counting, end);
+        let ran = run_part(&mut self.machine, &self.forms, script, &mut counting, end);
         self.meter = counting;
         self.settle(alloc)?;
         ran

@@ -2,7 +2,7 @@ use Rattle.std.proofs.Common.{arith, sym, ◌<◌}
 use Rattle.pdp_replay.specs.Past.FirstWords.{IsThere}
 use Rattle.pdp_replay.specs.Past.Setup.{SetupData, setup_from}
 use Rattle.pdp_replay.proofs.past.Patches.{entry_there, number_is_small}
-use Rattle.pdp_replay.proofs.engine.Engine.patches.Goals as goal
+use Rattle.pdp_replay.proofs.engine.Engine.patch.Goals as goal
 
 pub overflow_cast-number : goal.overflow_cast-number
 overflow_cast-number c =

@@ -9,7 +9,7 @@ use Rattle.pdp_replay.specs.Past.Setup.{drive_count, setup_from}
 use Rattle.pdp_replay.specs.declared.past.base_setup.DriveCount.TheVariants.{Eight}
 use Rattle.pdp_replay.specs.declared.past.base_setup.BaseSetup.{BaseSetup}
 use Rattle.pdp_replay.proofs.past.MoreDrives.{engine_begun, first_touches_counted}
-use Rattle.pdp_replay.proofs.engine.Engine.eight_drives.Goals as goal
+use Rattle.pdp_replay.proofs.engine.Engine.use_eight_drives.Goals as goal
 
 pub add_drives-requires-clause-first_touches : goal.add_drives-requires-clause-first_touches
 add_drives-requires-clause-first_touches c =
