@@ -15,6 +15,7 @@ use Rattle.pdp_replay.specs.Ask.DiskChanges.{word_on}
 use Rattle.pdp_replay.specs.Ask.Searches.{IsFirst}
 use Rattle.pdp_replay.specs.Ask.SoughtTurns.{NoneIsSought, is_act_sought, is_sought_at}
 use Rattle.pdp_replay.specs.Ask.SoughtTurns.{is_state_sought}
+use Rattle.pdp_replay.specs.Ask.SoughtTurns.{is_stepped as is_sought_by_step}
 use Rattle.pdp_replay.specs.Ask.TextParts.{is_out_after}
 use Rattle.pdp_replay.specs.Ask.Writes.{is_written}
 use Rattle.pdp_replay.specs.declared.ask.text_part.TextKind.{TextKind}
@@ -68,6 +69,11 @@ is_met (watch.Output kind number) possible t told now = nat_lt number (length (b
     now.state))
 is_met (watch.Change drive number word) possible t told now =
     not (word == word_on drive number now.state.world)
+
+-- does a search for it look at each turn? No burst passes turns of it
+abbrev pub is_stepped : Watchpoint → Bool
+is_stepped (watch.Act sought) = is_sought_by_step sought
+is_stepped _ = false
 
 -- of a machine's next n turns without events none is watched for, but maybe the last, if that
 -- writes the word
