@@ -1,10 +1,9 @@
 //! What some turns have in them, with each cycle of the processor on the bus.
 
-ghost use Rattle.std.specs.Prelude.{◌≡◌, ◌+◌, ◌-◌, ◌<◌, ◌≤◌, ◌++◌, drop, length, map, min, true};
+ghost use Rattle.std.specs.Prelude.{◌≡◌, ◌+◌, ◌-◌, ◌<◌, ◌≤◌, ◌++◌, length, map, min};
 ghost use Rattle.std.specs.Prelude.{false, IfOk, IsErr, OnOk};
 ghost use Rattle.pdp_store.specs.CycleLogs.{without_cycles};
 ghost use Rattle.pdp_cpu.specs.KeptTexts.{without_turns};
-ghost use Rattle.pdp_cpu.specs.Turns.Regs.{regs_of};
 ghost use Rattle.pdp_script.specs.Refusal.{for_memory, question_answer, result_map};
 ghost use Rattle.pdp_replay.specs.Past.{Past};
 ghost use Rattle.pdp_replay.specs.Run.Branches.{IsKeptOfSize, IsLookedAt, IsRunOfSize};
@@ -196,7 +195,7 @@ fn list_accesses(
     })
 }
 
-/// A turn that a branch ran, but for what the branch still has of it.
+/// What is known of a turn that a branch ran before its text and its log are read.
 #[derive(Clone, Copy)]
 struct ToldTurn {
     head: TurnHead,
