@@ -7,7 +7,7 @@ ghost use Rattle.pdp_script.specs.Refusal.{for_memory, question_answer, result_m
 ghost use Rattle.pdp_replay.specs.Past.{Past};
 ghost use Rattle.pdp_replay.specs.Run.Branches.{IsKeptOfSize, IsLookedAt, IsRunOfSize};
 ghost use Rattle.pdp_replay.specs.Run.KeptRuns.{KeepsRun, MetersTurns};
-ghost use Rattle.pdp_replay.specs.Ask.Known.{LeavesPast};
+ghost use Rattle.pdp_replay.specs.Ask.Known.{IsWithinBound, LeavesPast};
 ghost use Rattle.pdp_replay.specs.Ask.Searches.{EndsAfter};
 ghost use Rattle.pdp_replay.specs.Ask.Told.{IsToldOf};
 ghost use Rattle.pdp_replay.specs.Ask.Writes.{writes_checked};
@@ -135,9 +135,11 @@ impl Engine {
         ensures reached { IfOk result (λ found. found.value.reached
             ≡ reads_end found.value.reads.items to) }
 
-        // It ran at most one stride of turns more than those searched or past what was known.
+        // It ran at most one stride of turns more than those searched or past what was known. If
+        // memory was refused, it may have searched all turns before turn `to`.
         ensures bound { IfOk result (λ found. self.new.turns + min from self.old.known + 1
             ≤ self.old.turns + found.value.reached + self.old.stride) }
+        ensures most { IsWithinBound from (max from to) self.old self.new.turns }
 
         // The turns that it searched are run apart: what it leaves is what a question about turn
         // `from` leaves.
@@ -187,6 +189,8 @@ fn find_reads(
     ensures looked { IsLookedAt from run.old run.new }
     ensures bound { IfOk result (λ found. run.new.meter + min from run.old.known + 1
         ≤ run.old.meter + found.reached + run.old.ladder.stride) }
+    ensures bound_to { run.new.meter + min from run.old.known + 1
+        ≤ run.old.meter + to + run.old.ladder.stride }
 {
     let log = CycleLog::new(alloc, Some(number as u32 * 2), 1)?;
     let mut branch = run.logged_branch(alloc, base_setup, script, log, from)?;
@@ -226,6 +230,7 @@ fn list_reads(
     ensures ran { OnOk result (MetersTurns
         (branch.new.machine.state.turn - branch.old.machine.state.turn) meter.old meter.new) }
     ensures counted { meter.old ≤ meter.new }
+    ensures ran_to { meter.new ≤ meter.old + (to - branch.old.machine.state.turn) }
 {
     let mut reads = Vec::new(alloc);
     while branch.machine.turns() < to && reads.len() < MOST_READS {
@@ -265,6 +270,7 @@ impl LoggedBranch {
             ≡ without_cycles self.old.machine.state.world.bus.log }
         ensures ran { MetersTurns (self.new.machine.state.turn - self.old.machine.state.turn)
             meter.old meter.new }
+        ensures one { self.new.machine.state.turn ≤ self.old.machine.state.turn + 1 }
     {
         let word = self.machine.word(number);
         let passed = self.pass(meter, script)?;

@@ -75,3 +75,21 @@ returns-clause-reached c = λ p same here.
     let turn = c.loop-branch.branch.machine.state.turn in
     let none = within_none c.loop-branch.room p turn c.args.to (omega (arith, c.loop-branch-test.false, c.turns.ensures)) in
     c.turns-2.ensures ∙ sym (c.loop-branch.invariant.ends p same here ∙ omega (arith, none))
+
+pub returns-in_err-told-clause-ran : goal.returns-in_err-told-clause-ran
+returns-in_err-told-clause-ran c =
+    let before = c.loop-branch.invariant in
+    let started = before.started in
+    let ran = before.ran in
+    let one = c.pass_and_tell.ensures.one in
+    let more = c.pass_and_tell.ensures.ran in
+    omega (arith, started, ran, one, more, c.loop-branch-test.true, c.turns.ensures)
+
+pub returns-in_err-list_turn-clause-ran : goal.returns-in_err-list_turn-clause-ran
+returns-in_err-list_turn-clause-ran c =
+    let before = c.loop-branch.invariant in
+    let started = before.started in
+    let ran = before.ran in
+    let one = c.pass_and_tell.ensures.one in
+    let more = c.pass_and_tell.ensures.ran in
+    omega (arith, started, ran, one, more, c.loop-branch-test.true, c.turns.ensures)

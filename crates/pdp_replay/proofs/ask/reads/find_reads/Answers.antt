@@ -38,3 +38,34 @@ returns-clause-reads c = λ p is.
     let turn = ap (λ (s : MachineState). s.turn) (c.in_ok-branch.ensures.state p is) in
     let listed = c.in_ok-reads.ensures.reads p is.same (there (goal.at.returns-clause-reads c).In_ok-branch p is) in
     listed ∙ ap₂ (λ first now. reads_in_turns p c.args.number first (now - first)) turn (sym c.turns.ensures)
+
+-- a stride is above 0, so none is run where the log is refused
+pub returns-in_err-log-clause-bound_to : goal.returns-in_err-log-clause-bound_to
+returns-in_err-log-clause-bound_to c =
+    let positive = c.requires.run.is.run.kept.states.checkpoints.positive in
+    let order = c.requires.order in
+    omega (arith, positive, order)
+
+pub returns-in_err-branch-clause-bound_to : goal.returns-in_err-branch-clause-bound_to
+returns-in_err-branch-clause-bound_to c =
+    let bound = c.logged_branch.ensures.bound in
+    let order = c.requires.order in
+    omega (arith, bound, order)
+
+pub returns-in_err-reads-clause-bound_to : goal.returns-in_err-reads-clause-bound_to
+returns-in_err-reads-clause-bound_to c =
+    let some = c.requires.run in
+    let turn = ap (λ (s : MachineState). s.turn) (c.in_ok-branch.ensures.state some.past some.is) in
+    let bound = c.logged_branch.ensures.bound in
+    let ran = c.list_reads.ensures.ran_to in
+    let order = c.requires.order in
+    omega (arith, turn, bound, ran, order)
+
+pub returns-clause-bound_to : goal.returns-clause-bound_to
+returns-clause-bound_to c =
+    let some = c.requires.run in
+    let turn = ap (λ (s : MachineState). s.turn) (c.in_ok-branch.ensures.state some.past some.is) in
+    let bound = c.logged_branch.ensures.bound in
+    let ran = c.list_reads.ensures.ran_to in
+    let order = c.requires.order in
+    omega (arith, turn, bound, ran, order)

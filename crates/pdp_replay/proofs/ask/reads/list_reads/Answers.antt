@@ -51,3 +51,29 @@ loop-reads-preserved c =
           listed_further (read_in p c.args.number) first turn now.turn read c.loop-reads.reads.items _
           started one (next.read p same (before.way p same here)) (before.listed p same here) c.in_ok-add_if_there.ensures.items;
     }
+
+pub returns-in_err-read-clause-ran_to : goal.returns-in_err-read-clause-ran_to
+returns-in_err-read-clause-ran_to c =
+    let before = c.loop-reads.invariant in
+    let started = before.started in
+    let ran = before.ran in
+    let one = c.first_read.ensures.one in
+    let more = c.first_read.ensures.ran in
+    omega (arith, started, ran, one, more, c.loop-reads-test.true, c.turns.ensures)
+
+pub returns-in_err-add_if_there-clause-ran_to : goal.returns-in_err-add_if_there-clause-ran_to
+returns-in_err-add_if_there-clause-ran_to c =
+    let before = c.loop-reads.invariant in
+    let started = before.started in
+    let ran = before.ran in
+    let one = c.first_read.ensures.one in
+    let more = c.first_read.ensures.ran in
+    omega (arith, started, ran, one, more, c.loop-reads-test.true, c.turns.ensures)
+
+pub returns-clause-ran_to : goal.returns-clause-ran_to
+returns-clause-ran_to c =
+    let before = c.loop-reads.invariant in
+    let started = before.started in
+    let most = before.most in
+    let ran = before.ran in
+    omega (arith, started, most, ran)
