@@ -25,8 +25,8 @@ use Rattle.pdp_replay.specs.declared.ask.watch.Watchpoint.TheVariants as watch
 use Rattle.pdp_replay.specs.declared.run.kept_run.KeptRun.{KeptRun}
 
 -- is turn t what a search watches for? A turn that begins with what is sought; one that writes the
--- core word of this number; one after which more than so many bytes of a text came out; or one after
--- which the word of this number of a drive isn't this one
+-- core word of this number; one after which more than so many bytes of a text came out; or one
+-- after which the word of this number of a drive isn't this one
 abbrev pub is_watched_at : Past → Watchpoint → ℕ → Bool
 is_watched_at p (watch.Act sought) t = is_sought_at p sought t
 is_watched_at p (watch.Write number) t = is_written p number t

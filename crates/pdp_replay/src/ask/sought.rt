@@ -26,9 +26,9 @@ pub enum Sought {
     /// A trap of an instruction, such as EMT or an odd address, belongs to its instruction and
     /// isn't one.
     PendingTrap,
-    /// A trap through this vector (octal, bytes): one of the turn's own instruction or of its fetch,
-    /// such as EMT (30) or an odd address (4), the trace trap (14), or the stack trap (4). If the
-    /// sequence of the trap becomes the red one, through 4, its own vector counts.
+    /// A trap through this vector (octal, bytes): one of the turn's own instruction or of its
+    /// fetch, such as EMT (30) or an odd address (4), the trace trap (14), or the stack trap (4).
+    /// If the sequence of the trap becomes the red one, through 4, its own vector counts.
     Trap { vector: u16 },
     /// A turn that meets all of these conditions.
     Where { conditions: TurnConditions },
