@@ -15,6 +15,7 @@ ghost use Rattle.pdp_replay.specs.Ask.Reads.{is_read_by_disk, is_spanned, log_of
 ghost use Rattle.pdp_replay.specs.Ask.Reads.{processor_read, read_in, reads_core, reads_end};
 ghost use Rattle.pdp_replay.specs.Ask.Reads.{reads_in_turns, words_spanned};
 ghost use Rattle.pdp_replay.specs.Ask.Reads.{AreReadsFrom, GoesOnLogging, IsLoggedState};
+ghost use Rattle.pdp_replay.specs.Ask.Reads.{RunsLogging};
 
 use crate::ask::Told;
 use crate::ask::disk_completions::DiskTurn;
@@ -225,10 +226,8 @@ fn list_reads(
         → MOST_READS ≤ length reads.items) }
     ensures end { IfOk result (λ reads. branch.new.machine.state.turn ≡ reads_end reads.items to) }
     ensures most { IfOk result (λ reads. length reads.items ≤ MOST_READS) }
-    ensures least { OnOk result (branch.old.machine.state.turn ≤ branch.new.machine.state.turn) }
-    ensures within_to { OnOk result (branch.new.machine.state.turn ≤ to) }
-    ensures ran { OnOk result (MetersTurns
-        (branch.new.machine.state.turn - branch.old.machine.state.turn) meter.old meter.new) }
+    ensures on { OnOk result (RunsLogging to script.now (log_of_first_read (number * 2))
+        branch.old.machine.state branch.new.machine.state meter.old meter.new) }
     ensures counted { meter.old ≤ meter.new }
     ensures ran_to { meter.new ≤ meter.old + (to - branch.old.machine.state.turn) }
 {

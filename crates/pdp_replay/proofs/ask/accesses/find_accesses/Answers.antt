@@ -36,7 +36,7 @@ returns-clause-reached c =
 pub returns-clause-kept : goal.returns-clause-kept
 returns-clause-kept c = λ p same run. kept_metered p c.logged_branch.new.self c.list_accesses.new.meter (c.logged_branch.ensures.kept p same run)
 
--- a stride is above 0, so none is run where the log is refused
+-- no turn is run before the log is made, and a stride is above 0
 pub returns-in_err-log-clause-bound : goal.returns-in_err-log-clause-bound
 returns-in_err-log-clause-bound c =
     let positive = c.requires.run.is.run.kept.states.checkpoints.positive in
