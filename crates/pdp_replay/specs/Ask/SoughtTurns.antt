@@ -67,10 +67,10 @@ is_act_sought (Trap vector) told = is_trap_through vector told.trap
 is_act_sought (Where conditions) told = all_fit conditions told.act
 
 -- does a search for it look at each turn? No burst passes turns of it
-abbrev pub is_stepped : Sought → Bool
-is_stepped (Trap vector) = true
-is_stepped (Where conditions) = all_stepped conditions
-is_stepped _ = false
+abbrev pub is_sought_by_step : Sought → Bool
+is_sought_by_step (Trap vector) = true
+is_sought_by_step (Where conditions) = all_stepped conditions
+is_sought_by_step _ = false
 
 -- is turn t with these events in this world what is sought?
 abbrev pub turn_is_sought : Sought → ℕ → List Event → World → Bool

@@ -1,6 +1,6 @@
 -- What a search watches for, turn by turn [P].
-use Rattle.std.specs.Prelude.{ℕ, ◌≡◌, ◌+◌, ◌-◌, ◌<◌, ◌≤◌, ◌==◌, ◌&&◌, Bool, true, false, List, length, nat_lt}
-use Rattle.std.specs.Prelude.{Option, None, Some, not}
+use Rattle.std.specs.Prelude.{ℕ, ◌≡◌, ◌+◌, ◌-◌, ◌<◌, ◌≤◌, ◌==◌, ◌&&◌, Bool, true, false, List}
+use Rattle.std.specs.Prelude.{length, nat_lt, Option, None, Some, not}
 use Rattle.pdp_store.specs.declared.Stamp.{Stamp}
 use Rattle.pdp_unibus.specs.declared.event.Event.{Event}
 use Rattle.pdp_cpu.specs.Turns.CalmTurns.{StampStays, after_calm_turns, word_stamp}
@@ -14,8 +14,7 @@ use Rattle.pdp_replay.specs.Run.States.{disk_of, state_at}
 use Rattle.pdp_replay.specs.Ask.DiskChanges.{word_on}
 use Rattle.pdp_replay.specs.Ask.Searches.{IsFirst}
 use Rattle.pdp_replay.specs.Ask.SoughtTurns.{NoneIsSought, is_act_sought, is_sought_at}
-use Rattle.pdp_replay.specs.Ask.SoughtTurns.{is_state_sought}
-use Rattle.pdp_replay.specs.Ask.SoughtTurns.{is_stepped as is_sought_by_step}
+use Rattle.pdp_replay.specs.Ask.SoughtTurns.{is_sought_by_step, is_state_sought}
 use Rattle.pdp_replay.specs.Ask.TextParts.{is_out_after}
 use Rattle.pdp_replay.specs.Ask.Writes.{is_written}
 use Rattle.pdp_replay.specs.declared.ask.text_part.TextKind.{TextKind}

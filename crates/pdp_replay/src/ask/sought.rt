@@ -3,8 +3,9 @@ ghost use Rattle.pdp_cpu.specs.Meters.{Counts};
 ghost use Rattle.pdp_cpu.specs.Turns.CalmTurns.{after_calm_turns};
 ghost use Rattle.pdp_replay.specs.Past.Setup.{SetupData};
 ghost use Rattle.pdp_replay.specs.Ask.SoughtTurns.{is_act_sought, is_interrupt, is_mode};
-ghost use Rattle.pdp_replay.specs.Ask.SoughtTurns.{is_pending_trap, is_state_sought, is_stepped};
-ghost use Rattle.pdp_replay.specs.Ask.SoughtTurns.{is_trap_through, sought_checked, NoneIsSought};
+ghost use Rattle.pdp_replay.specs.Ask.SoughtTurns.{is_pending_trap, is_sought_by_step};
+ghost use Rattle.pdp_replay.specs.Ask.SoughtTurns.{is_state_sought, is_trap_through};
+ghost use Rattle.pdp_replay.specs.Ask.SoughtTurns.{sought_checked, NoneIsSought};
 ghost use Rattle.pdp_replay.specs.Ask.TurnConditions.{is_instruction, AreUnmet};
 
 use crate::ask::turn_condition::{
@@ -80,7 +81,7 @@ impl Sought {
 
     /// Whether a search looks at each turn, since `pass` never runs one.
     pub(crate) fn is_stepped(self) -> bool
-        ensures { result ≡ is_stepped self }
+        ensures { result ≡ is_sought_by_step self }
     {
         match self {
             Sought::Trap { .. } => true,
