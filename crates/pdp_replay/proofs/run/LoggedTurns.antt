@@ -1,5 +1,5 @@
 -- Turns of a machine that keeps a log are those of the run, and the log stays of its kind.
-use Rattle.std.proofs.Common.{◌≡◌, ◌∙◌, ◌+◌, ◌++◌, ◌∷◌, [], ℕ, Bool, true, false, List, Option, None, Some, ap, ap₂, refl, sym, nat_lt, ◌&&◌, length, if◌then◌else◌}
+use Rattle.std.proofs.Common.{◌≡◌, ◌∙◌, ◌+◌, ◌-◌, ◌<◌, ◌≤◌, ◌++◌, ◌∷◌, [], ℕ, Bool, true, false, List, Option, None, Some, ap, ap₂, arith, refl, sym, nat_lt, ◌&&◌, length, if◌then◌else◌}
 use Rattle.pdp_store.specs.CycleLogs.{KeptCycles, keeps, log_with, without_cycles}
 use Rattle.pdp_store.specs.declared.cycle_log.BusCycle.{BusCycle}
 use Rattle.pdp_unibus.proofs.Logged.{begun_logged}
@@ -14,9 +14,10 @@ use Rattle.pdp_cpu.specs.Handbook.Turn.{at_turn, course_at, one_turn}
 use Rattle.pdp_script.specs.Entries.{events_at}
 use Rattle.pdp_script.specs.Script.{ScriptData}
 use Rattle.pdp_replay.specs.Past.{Past}
+use Rattle.pdp_replay.specs.Run.KeptRuns.{MetersTurns}
 use Rattle.pdp_replay.specs.Run.States.{at}
 use Rattle.pdp_replay.specs.Ask.DiskCompletions.{disk_turn}
-use Rattle.pdp_replay.specs.Ask.Reads.{IsLoggedState}
+use Rattle.pdp_replay.specs.Ask.Reads.{GoesOnLogging, IsLoggedState, RunsLogging}
 use Rattle.pdp_replay.proofs.run.States.{at_next}
 
 -- what a log keeps, and for how many it has room, stays whatever is put into it
@@ -102,3 +103,33 @@ pub kind_stays : (script : ScriptData) (m now : MachineState) → now ≡ logged
 kind_stays script m now is =
     ap (λ (s : MachineState). without_cycles s.world.bus.log) is
     ∙ turn_keeps_kind m.turn (events_at script.entries m.turn) (world_with_log m.world (without_cycles m.world.bus.log))
+
+-- a machine that ran no turn with its log, one that ran one more, and what was counted if memory was refused in that one
+pub logs_nowhere : (to : ℕ) (script : ScriptData) (log : KeptCycles) (m : MachineState) (metered : ℕ) → m.turn ≤ to → without_cycles m.world.bus.log ≡ log
+    → RunsLogging to script log m m metered metered
+logs_nowhere to script log m metered order kind =
+    record { way = λ p same here. here; least = omega arith; most = order; ran = omega arith; grows = omega arith; log_is = kind }
+
+pub logs_further : (to : ℕ) (script : ScriptData) (log : KeptCycles) (first m now : MachineState) (metered counted more : ℕ)
+    → RunsLogging to script log first m metered counted → m.turn < to → GoesOnLogging script m now → now.turn ≡ m.turn + 1
+    → MetersTurns (now.turn - m.turn) counted more → without_cycles now.world.bus.log ≡ log → RunsLogging to script log first now metered more
+logs_further to script log first m now metered counted more before left way one ran kind =
+    let least = before.least in
+    let was = before.ran in
+    let grows = before.grows in
+    record {
+      way = λ p same here. way p same (before.way p same here);
+      least = omega (arith, least, one);
+      most = omega (arith, one, left);
+      ran = omega (arith, one, was, ran, least);
+      grows = omega (arith, grows, ran);
+      log_is = kind;
+    }
+
+pub logs_at_most : (to : ℕ) (script : ScriptData) (log : KeptCycles) (first m : MachineState) (now metered counted more : ℕ)
+    → RunsLogging to script log first m metered counted → m.turn < to → now ≤ m.turn + 1 → MetersTurns (now - m.turn) counted more
+    → more ≤ metered + (to - first.turn)
+logs_at_most to script log first m now metered counted more before left one ran =
+    let least = before.least in
+    let was = before.ran in
+    omega (arith, least, was, left, one, ran)

@@ -1,8 +1,8 @@
 -- The reads of a word of core in some turns [P].
-use Rattle.std.specs.Prelude.{ℕ, ◌≡◌, ◌+◌, ◌-◌, ◌*◌, ◌&&◌, Bool, true, false, List, [], Option}
+use Rattle.std.specs.Prelude.{ℕ, ◌≡◌, ◌+◌, ◌-◌, ◌*◌, ◌≤◌, ◌&&◌, Bool, true, false, List, [], Option}
 use Rattle.std.specs.Prelude.{None, Some, min, nat_le, nat_lt, option_map, slice_get, slice_index}
 use Rattle.std.specs.Prelude.{if◌then◌else◌}
-use Rattle.pdp_store.specs.CycleLogs.{KeptCycles}
+use Rattle.pdp_store.specs.CycleLogs.{KeptCycles, without_cycles}
 use Rattle.pdp_store.specs.declared.Agent.TheVariants.{Cpu, Disk}
 use Rattle.pdp_store.specs.declared.cycle_log.BusCycle.{BusCycle}
 use Rattle.pdp_rk11.specs.Handbook.Completion.{core_word_of_bus_address}
@@ -14,6 +14,7 @@ use Rattle.pdp_cpu.specs.Handbook.MachineState.{MachineState, after_turn, state_
 use Rattle.pdp_script.specs.Entries.{events_at}
 use Rattle.pdp_script.specs.Script.{ScriptData}
 use Rattle.pdp_replay.specs.Past.{Past}
+use Rattle.pdp_replay.specs.Run.KeptRuns.{MetersTurns}
 use Rattle.pdp_replay.specs.Run.States.{at, state_at}
 use Rattle.pdp_replay.specs.Ask.DiskCompletions.{disk_turn_at, has_completion}
 use Rattle.pdp_replay.specs.Ask.Listed.{in_turns, list_end}
@@ -90,6 +91,18 @@ IsLoggedState p m = m ≡ state_with_log m.world.bus.log (at p m.turn)
 abbrev pub GoesOnLogging : ScriptData → MachineState → MachineState → Type 0
 GoesOnLogging script before after = (p : Past) → p.script ≡ script → IsLoggedState p before
     → IsLoggedState p after
+
+-- A machine that keeps a log was run with this script from one state to another, of turn `to` at
+-- the latest, and a meter from one count to another: it counted each turn that was run. The log
+-- keeps what this one does.
+pub record RunsLogging (to : ℕ) (script : ScriptData) (log : KeptCycles)
+    (before after : MachineState) (metered counted : ℕ) : Type 0 where
+  pub way : GoesOnLogging script before after
+  pub least : before.turn ≤ after.turn
+  pub most : after.turn ≤ to
+  pub ran : MetersTurns (after.turn - before.turn) metered counted
+  pub grows : metered ≤ counted
+  pub log_is : without_cycles after.world.bus.log ≡ log
 
 -- these are the reads of the turns from a machine's on and before another
 abbrev pub AreReadsFrom : ℕ → ScriptData → ℕ → MachineState → List WordRead → Type 0

@@ -22,8 +22,8 @@ use Rattle.pdp_replay.specs.declared.ask.sought.Sought.{Sought}
 use Rattle.pdp_replay.specs.declared.ask.sought.Sought.TheVariants.{Instruction, Interrupt}
 use Rattle.pdp_replay.specs.declared.ask.sought.Sought.TheVariants.{PendingTrap, Trap, Where}
 use Rattle.pdp_replay.specs.Ask.Searches.{search_checked}
-use Rattle.pdp_replay.specs.Ask.TurnConditions.{all_fit, all_met_in, conditions_checked}
-use Rattle.pdp_replay.specs.Ask.TurnConditions.{is_instruction}
+use Rattle.pdp_replay.specs.Ask.TurnConditions.{all_fit, all_met_in, all_stepped}
+use Rattle.pdp_replay.specs.Ask.TurnConditions.{conditions_checked, is_instruction}
 use Rattle.pdp_replay.specs.Ask.Writes.{then_checked}
 
 -- is an act the interrupt through this vector (octal, bytes)?
@@ -65,6 +65,12 @@ is_act_sought (Interrupt vector) told = is_interrupt vector told.act
 is_act_sought PendingTrap told = is_pending_trap told.act
 is_act_sought (Trap vector) told = is_trap_through vector told.trap
 is_act_sought (Where conditions) told = all_fit conditions told.act
+
+-- does a search for it look at each turn? No burst passes turns of it
+abbrev pub is_sought_by_step : Sought → Bool
+is_sought_by_step (Trap vector) = true
+is_sought_by_step (Where conditions) = all_stepped conditions
+is_sought_by_step _ = false
 
 -- is turn t with these events in this world what is sought?
 abbrev pub turn_is_sought : Sought → ℕ → List Event → World → Bool

@@ -1,7 +1,6 @@
 -- What a search watches for, turn by turn [P].
 use Rattle.std.specs.Prelude.{ℕ, ◌≡◌, ◌+◌, ◌-◌, ◌<◌, ◌≤◌, ◌==◌, ◌&&◌, Bool, true, false, List}
-use Rattle.std.specs.Prelude.{length, nat_lt}
-use Rattle.std.specs.Prelude.{Option, None, Some, not}
+use Rattle.std.specs.Prelude.{length, nat_lt, Option, None, Some, not}
 use Rattle.pdp_store.specs.declared.Stamp.{Stamp}
 use Rattle.pdp_unibus.specs.declared.event.Event.{Event}
 use Rattle.pdp_cpu.specs.Turns.CalmTurns.{StampStays, after_calm_turns, word_stamp}
@@ -15,7 +14,7 @@ use Rattle.pdp_replay.specs.Run.States.{disk_of, state_at}
 use Rattle.pdp_replay.specs.Ask.DiskChanges.{word_on}
 use Rattle.pdp_replay.specs.Ask.Searches.{IsFirst}
 use Rattle.pdp_replay.specs.Ask.SoughtTurns.{NoneIsSought, is_act_sought, is_sought_at}
-use Rattle.pdp_replay.specs.Ask.SoughtTurns.{is_state_sought}
+use Rattle.pdp_replay.specs.Ask.SoughtTurns.{is_sought_by_step, is_state_sought}
 use Rattle.pdp_replay.specs.Ask.TextParts.{is_out_after}
 use Rattle.pdp_replay.specs.Ask.Writes.{is_written}
 use Rattle.pdp_replay.specs.declared.ask.text_part.TextKind.{TextKind}
@@ -25,8 +24,8 @@ use Rattle.pdp_replay.specs.declared.ask.watch.Watchpoint.TheVariants as watch
 use Rattle.pdp_replay.specs.declared.run.kept_run.KeptRun.{KeptRun}
 
 -- is turn t what a search watches for? A turn that begins with what is sought; one that writes the
--- core word of this number; one after which more than so many bytes of a text came out; or one after
--- which the word of this number of a drive isn't this one
+-- core word of this number; one after which more than so many bytes of a text came out; or one
+-- after which the word of this number of a drive isn't this one
 abbrev pub is_watched_at : Past → Watchpoint → ℕ → Bool
 is_watched_at p (watch.Act sought) t = is_sought_at p sought t
 is_watched_at p (watch.Write number) t = is_written p number t
@@ -69,6 +68,11 @@ is_met (watch.Output kind number) possible t told now = nat_lt number (length (b
     now.state))
 is_met (watch.Change drive number word) possible t told now =
     not (word == word_on drive number now.state.world)
+
+-- does a search for it look at each turn? No burst passes turns of it
+abbrev pub is_stepped : Watchpoint → Bool
+is_stepped (watch.Act sought) = is_sought_by_step sought
+is_stepped _ = false
 
 -- of a machine's next n turns without events none is watched for, but maybe the last, if that
 -- writes the word

@@ -1,10 +1,9 @@
 //! What some turns have in them, with each cycle of the processor on the bus.
 
-ghost use Rattle.std.specs.Prelude.{◌≡◌, ◌+◌, ◌-◌, ◌<◌, ◌≤◌, ◌++◌, drop, length, map, min, true};
+ghost use Rattle.std.specs.Prelude.{◌≡◌, ◌+◌, ◌-◌, ◌<◌, ◌≤◌, ◌++◌, length, map, min};
 ghost use Rattle.std.specs.Prelude.{false, IfOk, IsErr, OnOk};
 ghost use Rattle.pdp_store.specs.CycleLogs.{without_cycles};
 ghost use Rattle.pdp_cpu.specs.KeptTexts.{without_turns};
-ghost use Rattle.pdp_cpu.specs.Handbook.Regs.{regs_of};
 ghost use Rattle.pdp_script.specs.Refusal.{for_memory, question_answer, result_map};
 ghost use Rattle.pdp_replay.specs.Past.{Past};
 ghost use Rattle.pdp_replay.specs.Run.Branches.{IsKeptOfSize, IsLookedAt, IsRunOfSize};
@@ -13,10 +12,10 @@ ghost use Rattle.pdp_replay.specs.Ask.Answer.{question_checked};
 ghost use Rattle.pdp_replay.specs.Ask.Known.{IsWithinBound, LeavesPast};
 ghost use Rattle.pdp_replay.specs.Ask.Told.{IsToldOf};
 ghost use Rattle.pdp_replay.specs.Ask.Accesses.{accesses_end, completion_detail_if};
-ghost use Rattle.pdp_replay.specs.Ask.Accesses.{details_in_turns};
-ghost use Rattle.pdp_replay.specs.Ask.DiskCompletions.{has_completion};
+ghost use Rattle.pdp_replay.specs.Ask.Accesses.{details_in_turns, details_told, log_of_all};
 ghost use Rattle.pdp_replay.specs.Ask.Accesses.{AreDetailsFrom, EndsAccesses, HasCyclesOf};
-ghost use Rattle.pdp_replay.specs.Ask.Accesses.{details_told, IsToldTurn, log_of_all};
+ghost use Rattle.pdp_replay.specs.Ask.Accesses.{IsToldTurn};
+ghost use Rattle.pdp_replay.specs.Ask.DiskCompletions.{has_completion};
 ghost use Rattle.pdp_replay.specs.Ask.Reads.{GoesOnLogging};
 ghost use Rattle.pdp_replay.specs.declared.ask.accesses.TurnDetail.TheVariants as detail;
 ghost use Rattle.pdp_replay.specs.declared.ask.question.Question.TheVariants as question;
@@ -100,9 +99,9 @@ impl Engine {
         ensures reached { IfOk result (λ found. found.value.reached
             ≡ accesses_end self.old.past (turn - count) turn) }
 
-        // It ran at most one stride of turns more than those asked about or past what was known.
-        ensures bound { OnOk result (IsWithinBound (turn - count) turn self.old
-            self.new.turns) }
+        // It ran at most one stride of turns more than those asked about or past what was known,
+        // also if it is then refused.
+        ensures bound { IsWithinBound (turn - count) turn self.old self.new.turns }
 
         // The turns are run apart: what it leaves is what a question about the first of them
         // leaves.
@@ -147,8 +146,8 @@ fn find_accesses(
         → found.reached ≡ accesses_end p first to) }
     ensures kept { KeepsRun script.now run.old run.new }
     ensures looked { IsLookedAt first run.old run.new }
-    ensures bound { OnOk result (run.new.meter + min first run.old.known + 1
-        ≤ run.old.meter + to + run.old.ladder.stride) }
+    ensures bound { run.new.meter + min first run.old.known + 1
+        ≤ run.old.meter + to + run.old.ladder.stride }
 {
     let log = CycleLog::new(alloc, None, MOST_CYCLES + 1)?;
     let mut branch = run.logged_branch(alloc, base_setup, script, log, first)?;
@@ -173,7 +172,7 @@ fn list_accesses(
         branch.old.machine.state found.details.items) }
     ensures reached { IfOk result (λ found. EndsAccesses to script.now branch.old.machine.state
         found.reached) }
-    ensures ran { OnOk result (meter.new ≤ meter.old + (to - branch.old.machine.state.turn)) }
+    ensures ran { meter.new ≤ meter.old + (to - branch.old.machine.state.turn) }
     ensures counted { meter.old ≤ meter.new }
 {
     let mut details = Vec::new(alloc);
@@ -197,7 +196,7 @@ fn list_accesses(
     })
 }
 
-/// A turn that a branch ran, but for what the branch still has of it.
+/// What is known of a turn that a branch ran before its text and its log are read.
 #[derive(Clone, Copy)]
 struct ToldTurn {
     head: TurnHead,

@@ -7,7 +7,7 @@ ghost use Rattle.pdp_script.specs.Refusal.{for_memory, question_answer, result_m
 ghost use Rattle.pdp_replay.specs.Past.{Past};
 ghost use Rattle.pdp_replay.specs.Run.Branches.{IsKeptOfSize, IsLookedAt, IsRunOfSize};
 ghost use Rattle.pdp_replay.specs.Run.KeptRuns.{KeepsRun, MetersTurns};
-ghost use Rattle.pdp_replay.specs.Ask.Known.{LeavesPast};
+ghost use Rattle.pdp_replay.specs.Ask.Known.{IsWithinBound, LeavesPast};
 ghost use Rattle.pdp_replay.specs.Ask.Searches.{EndsAfter};
 ghost use Rattle.pdp_replay.specs.Ask.Told.{IsToldOf};
 ghost use Rattle.pdp_replay.specs.Ask.Writes.{writes_checked};
@@ -15,6 +15,7 @@ ghost use Rattle.pdp_replay.specs.Ask.Reads.{is_read_by_disk, is_spanned, log_of
 ghost use Rattle.pdp_replay.specs.Ask.Reads.{processor_read, read_in, reads_core, reads_end};
 ghost use Rattle.pdp_replay.specs.Ask.Reads.{reads_in_turns, words_spanned};
 ghost use Rattle.pdp_replay.specs.Ask.Reads.{AreReadsFrom, GoesOnLogging, IsLoggedState};
+ghost use Rattle.pdp_replay.specs.Ask.Reads.{RunsLogging};
 
 use crate::ask::Told;
 use crate::ask::disk_completions::DiskTurn;
@@ -135,9 +136,11 @@ impl Engine {
         ensures reached { IfOk result (λ found. found.value.reached
             ≡ reads_end found.value.reads.items to) }
 
-        // It ran at most one stride of turns more than those searched or past what was known.
+        // It ran at most one stride of turns more than those searched or past what was known. If
+        // memory was refused, it may have searched all turns before turn `to`.
         ensures bound { IfOk result (λ found. self.new.turns + min from self.old.known + 1
             ≤ self.old.turns + found.value.reached + self.old.stride) }
+        ensures most { IsWithinBound from (max from to) self.old self.new.turns }
 
         // The turns that it searched are run apart: what it leaves is what a question about turn
         // `from` leaves.
@@ -187,6 +190,8 @@ fn find_reads(
     ensures looked { IsLookedAt from run.old run.new }
     ensures bound { IfOk result (λ found. run.new.meter + min from run.old.known + 1
         ≤ run.old.meter + found.reached + run.old.ladder.stride) }
+    ensures bound_to { run.new.meter + min from run.old.known + 1
+        ≤ run.old.meter + to + run.old.ladder.stride }
 {
     let log = CycleLog::new(alloc, Some(number as u32 * 2), 1)?;
     let mut branch = run.logged_branch(alloc, base_setup, script, log, from)?;
@@ -221,11 +226,10 @@ fn list_reads(
         → MOST_READS ≤ length reads.items) }
     ensures end { IfOk result (λ reads. branch.new.machine.state.turn ≡ reads_end reads.items to) }
     ensures most { IfOk result (λ reads. length reads.items ≤ MOST_READS) }
-    ensures least { OnOk result (branch.old.machine.state.turn ≤ branch.new.machine.state.turn) }
-    ensures within_to { OnOk result (branch.new.machine.state.turn ≤ to) }
-    ensures ran { OnOk result (MetersTurns
-        (branch.new.machine.state.turn - branch.old.machine.state.turn) meter.old meter.new) }
+    ensures on { OnOk result (RunsLogging to script.now (log_of_first_read (number * 2))
+        branch.old.machine.state branch.new.machine.state meter.old meter.new) }
     ensures counted { meter.old ≤ meter.new }
+    ensures ran_to { meter.new ≤ meter.old + (to - branch.old.machine.state.turn) }
 {
     let mut reads = Vec::new(alloc);
     while branch.machine.turns() < to && reads.len() < MOST_READS {
@@ -265,6 +269,7 @@ impl LoggedBranch {
             ≡ without_cycles self.old.machine.state.world.bus.log }
         ensures ran { MetersTurns (self.new.machine.state.turn - self.old.machine.state.turn)
             meter.old meter.new }
+        ensures one { self.new.machine.state.turn ≤ self.old.machine.state.turn + 1 }
     {
         let word = self.machine.word(number);
         let passed = self.pass(meter, script)?;

@@ -100,7 +100,7 @@ fn search_quiet(
     Ok(None)
 }
 
-/// The same, but only as long as the machine is calm, or only as long as it is idle.
+/// The same, but only as long as the machine is calm, or else as `search_one_by_one` does.
 #[inline(always)]
 fn search_some(
     machine: &mut PagedMachine,
@@ -121,11 +121,12 @@ fn search_some(
     if watch.pass(machine, words, meter, to) > 0 {
         return Ok(watch.last_met(machine));
     }
-    search_idle(machine, meter, watch, to)
+    search_one_by_one(machine, meter, watch, to)
 }
 
-/// The same, but only through the turns up to the first that isn't idle.
-fn search_idle(
+/// The same, but looks at turn after turn: at those up to the first that isn't idle, or at all if
+/// `Watchpoint::pass` never runs one.
+fn search_one_by_one(
     machine: &mut PagedMachine,
     meter: &mut Meter,
     watch: Watchpoint,
@@ -140,9 +141,10 @@ fn search_idle(
     ensures way { StaysQuietly to machine.old machine.new }
     ensures runs { SearchesTo to watch machine.old machine.new meter.old meter.new }
 {
+    let stepped = watch.is_stepped();
     while machine.turns() < to {
         let looked = look(machine, meter, &[], watch)?;
-        if looked.is_last() {
+        if looked.is_last(stepped) {
             return Ok(looked.found);
         }
     }
@@ -157,14 +159,15 @@ struct Looked {
 }
 
 impl Looked {
-    /// Whether idle turns end with this one: it isn't idle, or is watched for.
+    /// Whether the turns that are looked at one by one end with this one: it is watched for; or it
+    /// isn't idle, and not each turn is looked at (`stepped`).
     #[inline(always)]
-    fn is_last(self) -> bool
+    fn is_last(self, stepped: bool) -> bool
         ensures { result ≡ false → self.found ≡ None }
     {
         match self.act {
             Act::Idle => self.found.is_some(),
-            Act::Instr | Act::Trace | Act::Stack | Act::Irq(_) => true,
+            Act::Instr | Act::Trace | Act::Stack | Act::Irq(_) => !stepped || self.found.is_some(),
         }
     }
 }

@@ -3,12 +3,13 @@ ghost use Rattle.pdp_cpu.specs.Meters.{Counts};
 ghost use Rattle.pdp_cpu.specs.Turns.CalmTurns.{after_calm_turns};
 ghost use Rattle.pdp_replay.specs.Past.Setup.{SetupData};
 ghost use Rattle.pdp_replay.specs.Ask.SoughtTurns.{is_act_sought, is_interrupt, is_mode};
-ghost use Rattle.pdp_replay.specs.Ask.SoughtTurns.{is_pending_trap, is_state_sought, is_trap_through};
+ghost use Rattle.pdp_replay.specs.Ask.SoughtTurns.{is_pending_trap, is_sought_by_step};
+ghost use Rattle.pdp_replay.specs.Ask.SoughtTurns.{is_state_sought, is_trap_through};
 ghost use Rattle.pdp_replay.specs.Ask.SoughtTurns.{sought_checked, NoneIsSought};
 ghost use Rattle.pdp_replay.specs.Ask.TurnConditions.{is_instruction, AreUnmet};
 
 use crate::ask::turn_condition::{
-    TurnConditions, address_of, are_for, are_met_by, check_conditions, unmet_word,
+    TurnConditions, address_of, are_for, are_met_by, are_stepped, check_conditions, unmet_word,
 };
 use pdp_cpu::{Act, ActWithTrap, Meter, Mode, PagedMachine, WordTable};
 use pdp_script::Fault;
@@ -26,9 +27,9 @@ pub enum Sought {
     /// A trap of an instruction, such as EMT or an odd address, belongs to its instruction and
     /// isn't one.
     PendingTrap,
-    /// A trap through this vector (octal, bytes): one of the turn's own instruction or of its fetch,
-    /// such as EMT (30) or an odd address (4), the trace trap (14), or the stack trap (4). If the
-    /// sequence of the trap becomes the red one, through 4, its own vector counts.
+    /// A trap through this vector (octal, bytes): one of the turn's own instruction or of its
+    /// fetch, such as EMT (30) or an odd address (4), the trace trap (14), or the stack trap (4).
+    /// If the sequence of the trap becomes the red one, through 4, its own vector counts.
     Trap { vector: u16 },
     /// A turn that meets all of these conditions.
     Where { conditions: TurnConditions },
@@ -75,6 +76,17 @@ impl Sought {
             Sought::PendingTrap => is_pending_trap(told.act),
             Sought::Trap { vector } => is_trap_through(vector, told.trap),
             Sought::Where { conditions } => are_for(conditions, told.act),
+        }
+    }
+
+    /// Whether a search looks at each turn, since `pass` never runs one.
+    pub(crate) fn is_stepped(self) -> bool
+        ensures { result ≡ is_sought_by_step self }
+    {
+        match self {
+            Sought::Trap { .. } => true,
+            Sought::Where { conditions } => are_stepped(conditions),
+            Sought::Instruction { .. } | Sought::Interrupt { .. } | Sought::PendingTrap => false,
         }
     }
 

@@ -3,10 +3,12 @@
 ghost use Rattle.std.specs.Prelude.{◌≡◌, Some};
 ghost use Rattle.pdp_replay.specs.Past.Setup.{SetupData};
 ghost use Rattle.pdp_replay.specs.Ask.TurnConditions.{address_asked, address_if_there, all_fit};
-ghost use Rattle.pdp_replay.specs.Ask.TurnConditions.{all_met_in, checked_if_there};
-ghost use Rattle.pdp_replay.specs.Ask.TurnConditions.{condition_checked, conditions_checked, fits};
+ghost use Rattle.pdp_replay.specs.Ask.TurnConditions.{all_met_in, all_stepped};
+ghost use Rattle.pdp_replay.specs.Ask.TurnConditions.{checked_if_there, condition_checked};
+ghost use Rattle.pdp_replay.specs.Ask.TurnConditions.{conditions_checked, fits};
 ghost use Rattle.pdp_replay.specs.Ask.TurnConditions.{fits_if_there, is_met_if_there, is_met_in};
-ghost use Rattle.pdp_replay.specs.Ask.TurnConditions.{is_related, quantity_checked, quantity_in};
+ghost use Rattle.pdp_replay.specs.Ask.TurnConditions.{is_related, is_stepped_if_there};
+ghost use Rattle.pdp_replay.specs.Ask.TurnConditions.{quantity_checked, quantity_in};
 ghost use Rattle.pdp_replay.specs.Ask.TurnConditions.{unmet_word, unmet_word_if_there};
 ghost use Rattle.pdp_replay.specs.Ask.TurnConditions.{word_of_condition, word_of_quantity};
 
@@ -297,6 +299,30 @@ fn address_if_there(condition: Option<TurnCondition>) -> Option<u16>
     match condition {
         Some(TurnCondition::At { address }) => Some(address),
         _ => None,
+    }
+}
+
+/// Whether a search for these conditions looks at each turn: none is on the address of an
+/// instruction or on a word of core.
+pub(crate) fn are_stepped(conditions: TurnConditions) -> bool
+    ensures { result ≡ all_stepped conditions }
+{
+    let [first, second, third, fourth] = conditions;
+    is_stepped_if_there(first)
+        && is_stepped_if_there(second)
+        && is_stepped_if_there(third)
+        && is_stepped_if_there(fourth)
+}
+
+/// Whether a condition, if there is one, is on neither the address of an instruction nor a word of
+/// core.
+fn is_stepped_if_there(condition: Option<TurnCondition>) -> bool
+    ensures { result ≡ is_stepped_if_there condition }
+{
+    match condition {
+        Some(TurnCondition::At { .. }) => false,
+        Some(condition) => condition.word().is_none(),
+        None => true,
     }
 }
 

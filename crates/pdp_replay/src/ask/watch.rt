@@ -6,7 +6,7 @@ ghost use Rattle.pdp_replay.specs.Ask.Watches.{bytes_of, is_met, is_met_last, is
 ghost use Rattle.pdp_cpu.specs.Handbook.MachineState.{IsReady};
 ghost use Rattle.pdp_cpu.specs.Turns.TurnRun.{RunsTurn};
 ghost use Rattle.pdp_replay.specs.Ask.SoughtTurns.{act_with_trap};
-ghost use Rattle.pdp_replay.specs.Ask.Watches.{is_act_watched, is_possible};
+ghost use Rattle.pdp_replay.specs.Ask.Watches.{is_act_watched, is_possible, is_stepped};
 ghost use Rattle.pdp_replay.specs.Ask.Watches.{IsInside, PassesTo};
 ghost use Rattle.pdp_replay.specs.Run.States.{disk_of};
 ghost use Rattle.pdp_replay.specs.declared.ask.watch.Watchpoint.TheVariants.{Change, Output};
@@ -129,6 +129,17 @@ impl Watchpoint {
                 number,
                 word,
             } => pass_unchanged(machine, words, meter, to, drive, number, word),
+        }
+    }
+
+    /// Whether a search looks at each turn, since `pass` never runs one.
+    pub(crate) fn is_stepped(self) -> bool
+        ensures { result ≡ is_stepped self }
+    {
+        match self {
+            Watchpoint::Act(sought) => sought.is_stepped(),
+            Watchpoint::Write { .. } | Watchpoint::Output { .. } | Watchpoint::Change { .. } =>
+                false,
         }
     }
 

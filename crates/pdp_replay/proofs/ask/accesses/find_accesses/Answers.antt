@@ -35,3 +35,25 @@ returns-clause-reached c =
 
 pub returns-clause-kept : goal.returns-clause-kept
 returns-clause-kept c = λ p same run. kept_metered p c.logged_branch.new.self c.list_accesses.new.meter (c.logged_branch.ensures.kept p same run)
+
+-- no turn is run before the log is made, and a stride is above 0
+pub returns-in_err-log-clause-bound : goal.returns-in_err-log-clause-bound
+returns-in_err-log-clause-bound c =
+    let positive = c.requires.run.is.run.kept.states.checkpoints.positive in
+    let order = c.requires.order in
+    omega (arith, positive, order)
+
+pub returns-in_err-branch-clause-bound : goal.returns-in_err-branch-clause-bound
+returns-in_err-branch-clause-bound c =
+    let bound = c.logged_branch.ensures.bound in
+    let order = c.requires.order in
+    omega (arith, bound, order)
+
+pub returns-clause-bound : goal.returns-clause-bound
+returns-clause-bound c =
+    let some = c.requires.run in
+    let turn = at_first (goal.at.returns-clause-bound c).In_ok-branch some.past some.is in
+    let bound = c.logged_branch.ensures.bound in
+    let ran = c.list_accesses.ensures.ran in
+    let order = c.requires.order in
+    omega (arith, turn, bound, ran, order)

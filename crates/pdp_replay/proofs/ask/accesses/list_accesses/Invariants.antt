@@ -1,19 +1,12 @@
-use Rattle.std.proofs.Common.{◌≡◌, ◌+◌, ◌-◌, ◌≤◌}
-use Rattle.pdp_store.specs.CycleLogs.{without_cycles}
+use Rattle.std.proofs.Common.{◌≡◌, ◌+◌, ◌-◌}
 use Rattle.pdp_replay.specs.Past.{Past}
-use Rattle.pdp_replay.specs.Run.KeptRuns.{MetersTurns}
 use Rattle.pdp_replay.specs.Ask.Accesses.{AreDetailsFrom, accesses_end, log_of_all, turns_within}
-use Rattle.pdp_replay.specs.Ask.Reads.{GoesOnLogging, IsLoggedState}
+use Rattle.pdp_replay.specs.Ask.Reads.{IsLoggedState, RunsLogging}
 use Rattle.pdp_replay.proofs.ask.accesses.list_accesses.Given as goal
 
 abbrev pub invariant-loop-branch : goal.invariant-loop-branch
 invariant-loop-branch l = record {
-  way : GoesOnLogging l.script l.fn.branch.machine.state l.branch.machine.state;
-  started : l.fn.branch.machine.state.turn ≤ l.branch.machine.state.turn;
-  most : l.branch.machine.state.turn ≤ l.to;
-  ran : MetersTurns (l.branch.machine.state.turn - l.fn.branch.machine.state.turn) l.fn.meter l.meter;
-  counted : l.fn.meter ≤ l.meter;
-  log : without_cycles l.branch.machine.state.world.bus.log ≡ log_of_all;
+  on : RunsLogging l.to l.script log_of_all l.fn.branch.machine.state l.branch.machine.state l.fn.meter l.meter;
   listed : AreDetailsFrom l.branch.machine.state.turn l.script l.fn.branch.machine.state l.details.items;
   ends : (p : Past) → p.script ≡ l.script → IsLoggedState p l.fn.branch.machine.state
       → accesses_end p l.fn.branch.machine.state.turn l.to

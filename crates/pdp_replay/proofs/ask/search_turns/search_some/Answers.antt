@@ -20,8 +20,8 @@ still c none = c.pass.ensures.turns ∙ ap (λ n. after_calm_turns n c.args.mach
 pub last_met-requires-clause-inside : goal.last_met-requires-clause-inside
 last_met-requires-clause-inside c = inside (goal.at.last_met-requires-clause-inside c).After-pass
 
-pub search_idle-requires-clause-inside : goal.search_idle-requires-clause-inside
-search_idle-requires-clause-inside c = inside (goal.at.search_idle-requires-clause-inside c).After-pass
+pub search_one_by_one-requires-clause-inside : goal.search_one_by_one-requires-clause-inside
+search_one_by_one-requires-clause-inside c = inside (goal.at.search_one_by_one-requires-clause-inside c).After-pass
 
 pub returns-then-pass-gt0-clause-found : goal.returns-then-pass-gt0-clause-found
 returns-then-pass-gt0-clause-found c = λ p known quiet way.
@@ -61,13 +61,13 @@ pub returns-clause-found : goal.returns-clause-found
 returns-clause-found c =
     let none = c.if-pass-gt0.false in
     let same = still (goal.at.returns-clause-found c).After-pass (omega (arith, none)) in
-    subst (λ m. IfOk c.search_idle.result (IsFirstQuietly c.args.to c.args.watch m c.search_idle.new.machine)) same c.search_idle.ensures.found
+    subst (λ m. IfOk c.search_one_by_one.result (IsFirstQuietly c.args.to c.args.watch m c.search_one_by_one.new.machine)) same c.search_one_by_one.ensures.found
 
 pub returns-clause-way : goal.returns-clause-way
 returns-clause-way c =
     let none = c.if-pass-gt0.false in
     let same = still (goal.at.returns-clause-way c).After-pass (omega (arith, none)) in
-    subst (λ m. StaysQuietly c.args.to m c.search_idle.new.machine) same c.search_idle.ensures.way
+    subst (λ m. StaysQuietly c.args.to m c.search_one_by_one.new.machine) same c.search_one_by_one.ensures.way
 
 pub returns-clause-runs : goal.returns-clause-runs
 returns-clause-runs c =
@@ -75,7 +75,7 @@ returns-clause-runs c =
     let turn = c.pass.ensures.turn in
     let counted = c.pass.ensures.counted.0 in
     let grows = c.pass.ensures.counted.1 in
-    let runs = c.search_idle.ensures.runs in
+    let runs = c.search_one_by_one.ensures.runs in
     let least = runs.least in
     let ran = runs.ran in
     record {
