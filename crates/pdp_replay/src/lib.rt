@@ -21,10 +21,11 @@
 //!   [`Engine::next_change`] the first turn that changes a word of a drive,
 //!   [`Engine::disk_completions`] the functions of the disk that were completed, and
 //!   [`Engine::turn_of_byte`] the turn in which a byte was printed or punched, for every past and
-//!   whatever is kept. [`Engine::text_from`] returns what was printed or punched before a turn, from
-//!   one of its bytes on. [`Engine::accesses`] lists what some turns have in them, with each cycle
-//!   of the processor on the bus. The turns run for them are bounded: those of `last_at` are the ones from
-//!   the turn found on and two strides, where they were known.
+//!   whatever is kept. [`Engine::text_from`] returns what was printed or punched before a turn,
+//!   from one of its bytes on. [`Engine::accesses`] lists what some turns have in them, with each
+//!   cycle of the processor on the bus. The turns run for them are bounded, also if memory is
+//!   refused: those of `last_at` are the ones from the turn found on and two strides, where they
+//!   were known.
 //! - **Counts**: [`Engine::counts`] returns for each of some words of virtual addresses how many
 //!   turns began an instruction there, in the mode that is given. It runs each of the turns once.
 //! - **An edit that fades**: [`Engine::fades`] returns the least turn from which on the run with an
@@ -36,7 +37,7 @@
 //! - Each edit with its refusals in their order, what it leaves, and how far back it lowers the
 //!   known turn; no edit runs a turn (`set_core`, `revert_core`, `set_disk`, `use_eight_drives`,
 //!   `set_tape`, `set_delay`, `insert`, `alter`, `drop_event`). Patches keep the place in which
-//!   they were first given (`patches`, `patch_count`).
+//!   they were first given (`patch`, `patch_count`).
 //! - A patch of a word lowers the known turn to the first turn that accesses the page of the word,
 //!   and no further. Up to there the states of the run differ in that word alone
 //!   (`patches_reach_the_first_touch`, `first_touches_are_told`,
