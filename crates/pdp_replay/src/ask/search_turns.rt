@@ -6,6 +6,7 @@ ghost use Rattle.pdp_replay.specs.Ask.Watches.{IsFirstOnWay, IsFirstQuietly, IsF
 ghost use Rattle.pdp_replay.specs.Ask.Watches.{IsInside, SearchesTo, StaysOnWay, StaysQuietly};
 ghost use Rattle.pdp_replay.specs.Ask.Watches.{StaysWith};
 
+use crate::ask::Sought;
 use crate::ask::watch::{Watchpoint, turn_if};
 use crate::run::quiet_until;
 use pdp_cpu::{Act, Meter, PagedMachine, WordTable};
@@ -127,6 +128,33 @@ fn search_some(
 /// The same, but looks at turn after turn: at those up to the first that isn't idle, or at all if
 /// `Watchpoint::pass` never runs one.
 fn search_one_by_one(
+    machine: &mut PagedMachine,
+    meter: &mut Meter,
+    watch: Watchpoint,
+    to: u32,
+) -> Result<Option<u32>, NoMemory>
+    requires forward { machine.old.state.turn < to }
+    requires limit { to ≤ LAST_TURN }
+    requires inside { IsInside watch machine.old }
+    ensures found { IfOk result (IsFirstQuietly to watch machine.old machine.new) }
+    ensures ends { IfOk result (EndsAfter machine.new.state.turn) }
+    ensures on { OnOk result (machine.old.state.turn < machine.new.state.turn) }
+    ensures way { StaysQuietly to machine.old machine.new }
+    ensures runs { SearchesTo to watch machine.old machine.new meter.old meter.new }
+{
+    match watch {
+        // The compiler makes a loop for conditions alone, which doesn't ask the kind in each turn.
+        Watchpoint::Act(Sought::Where { conditions }) => {
+            let watch = Watchpoint::Act(Sought::Where { conditions });
+            look_on(machine, meter, watch, to)
+        }
+        _ => look_on(machine, meter, watch, to),
+    }
+}
+
+/// The loop of `search_one_by_one`.
+#[inline(always)]
+fn look_on(
     machine: &mut PagedMachine,
     meter: &mut Meter,
     watch: Watchpoint,

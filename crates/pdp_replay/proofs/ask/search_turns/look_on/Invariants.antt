@@ -3,7 +3,7 @@ use Rattle.pdp_replay.specs.Run.KeptRuns.{IsUnderWay, IsWithoutEvents}
 use Rattle.pdp_replay.specs.Past.{Past}
 use Rattle.pdp_replay.specs.Ask.Searches.{HoldsNowhere}
 use Rattle.pdp_replay.specs.Ask.Watches.{SearchesTo, StaysQuietly, is_watched_at}
-use Rattle.pdp_replay.proofs.ask.search_turns.search_one_by_one.Given as goal
+use Rattle.pdp_replay.proofs.ask.search_turns.look_on.Given as goal
 
 abbrev pub invariant-loop-watch : goal.invariant-loop-watch
 invariant-loop-watch l = record {
