@@ -2,8 +2,8 @@
  *
  * How fast turns run depends on where the jumps of the functions lie that run them (docs/SPEED.md,
  * "Where its jumps lie"). So each function begins at a multiple of 32: the places of its jumps then
- * depend on it alone, and not on what is linked before it. The bursts in this list begin 16 past
- * one, where they have fewer slow jumps. The number in a name stands for the types: #48a8.. for
+ * depend on it alone, and not on what is linked before it. The bursts in this list begin past one,
+ * where they have fewer slow jumps. The number in a name stands for the types: #48a8.. for
  * those without mapping, #a468.. for those with it.
  *
  * bench/jumps tells which place is the best for each burst. To try another one, change the number
@@ -13,8 +13,9 @@ SECTIONS
     .text.bursts : SUBALIGN(8) {
         . = ALIGN(32) + 16; *(".text.pdp_cpu::*::burst::<#48a8*")
         . = ALIGN(32) + 16; *(".text.pdp_cpu::*::burst_before::<#48a8*")
-        . = ALIGN(32) + 16; *(".text.pdp_cpu::*::burst_before::<#a468*")
-        . = ALIGN(32) + 16; *(".text.pdp_cpu::*::burst_to_write::<#48a8*")
+        . = ALIGN(32) + 8; *(".text.pdp_cpu::*::burst_before::<#a468*")
+        . = ALIGN(32) + 24; *(".text.pdp_cpu::*::burst_to_write::<#48a8*")
+        . = ALIGN(32) + 8; *(".text.pdp_cpu::*::burst_to_write::<#a468*")
     }
     .text : SUBALIGN(32) { *(.text .text.*) }
 }
